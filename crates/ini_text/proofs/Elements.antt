@@ -1,0 +1,134 @@
+-- Elements, as they are read.
+use Rattle.std.proofs.Common.{◌≡◌, ◌≢◌, ℕ, Bool, true, false, not, ◌||◌, eqb, eqb-true, List, [], ◌∷◌, ◌++◌, drop, refl, sym, ap, ◌∙◌, append_assoc, append-nil, subst, chars, ◌⊎◌, inl, inr}
+use Rattle.std.specs.Char.{is_whitespace}
+use Rattle.std.specs.List.{list_all}
+use Rattle.ini_text.specs.Characters.{line_feed, open_bracket, close_bracket, is_blank, is_line_feed, is_line_end, is_separator, is_comment_mark, BeginsWithNo}
+use Rattle.ini_text.specs.ElementParts.{IsKey}
+use Rattle.ini_text.specs.Elements.{Header, Pair, Gap, Element, ElementStops}
+use Rattle.ini_text.specs.Keys.{KeyFront}
+use Rattle.ini_text.specs.Positions.{starts_line, is_column_one}
+use Rattle.ini_text.specs.Readers.{Begins, Appended, StoppedBy}
+use Rattle.ini_text.specs.Scans.{run_of, skipped}
+use Rattle.ini_text.specs.Strings.{Str, StrStops, name_ends}
+use Rattle.ini_text.specs.Values.{Value, ValueStops}
+use Rattle.ini_text.specs.White.{trimmed}
+use Rattle.ini_text.specs.declared.error.ParseKind.TheVariants.{InlineComment, MissingKey}
+use Rattle.ini_text.specs.declared.option.ParseOption.{ParseOption}
+use Rattle.ini_text.specs.declared.parser.fault.Stop.{Stop}
+use Rattle.ini_text.specs.declared.parser.fault.Stop.TheVariants as stops
+use Rattle.ini_text.proofs.Keys.{Indented, endpoint_follows}
+use Rattle.ini_text.proofs.Scans.{run-skipped, run-all, skipped-no}
+
+either : (a b : Bool) → (a || b) ≡ true → (a ≡ true) ⊎ (b ≡ true)
+either true b h = inl refl
+either false b h = inr h
+
+pub blank_is_white : (c : ℕ) → is_blank c ≡ true → is_whitespace c ≡ true
+blank_is_white c h = elim (either (eqb c 32) (eqb c 9) h) [
+  | inl q ↦ subst (λ x. is_whitespace x ≡ true) (sym (eqb-true c 32 q)) refl
+  | inr q ↦ subst (λ x. is_whitespace x ≡ true) (sym (eqb-true c 9 q)) refl
+]
+
+or_false : (a : Bool) → (a || false) ≡ true → a ≡ true
+or_false true h = refl
+or_false false h = cc
+
+not_false : (a : Bool) → not a ≡ false → a ≡ true
+not_false true h = refl
+not_false false h = cc
+
+module _ {o : ParseOption} {b : List ℕ} where
+  -- gaps
+  pub white_gap : {t after : List ℕ} {c : ℕ} → t ≡ c ∷ after → is_whitespace c ≡ true → (is_blank c ≡ true → starts_line b ≡ false) → Begins t after (λ s. Element o b s after [])
+  white_gap {c = c} is white inside = record { source = c ∷ []; holds = Element.gap (Gap.white white inside); whole = sym is }
+
+  pub blank_line : {t start after : List ℕ} {c : ℕ} → Indented b t start → start ≡ c ∷ after → is_line_end c ≡ true → Begins t after (λ s. Element o b s after [])
+  blank_line {t} {after = after} {c = c} i is ends = record {
+    source = run_of is_blank t ++ c ∷ [];
+    holds = Element.gap (Gap.blank_line c i.indentation ends);
+    whole = append_assoc (run_of is_blank t) (c ∷ []) after ∙ ap (λ x. run_of is_blank t ++ x) (sym is) ∙ i.whole;
+  }
+
+  pub blanks_before_header : {t start after : List ℕ} {c : ℕ} → Indented b t start → start ≡ c ∷ after → c ≡ open_bracket → Begins t start (λ s. Element o b s start [])
+  blanks_before_header {t} {after = after} i is bracket = record {
+    source = run_of is_blank t;
+    holds = subst (λ x. Element o b (run_of is_blank t) x []) (sym (is ∙ ap (λ x. x ∷ after) bracket)) (Element.gap (Gap.before_header i.indentation));
+    whole = i.whole;
+  }
+
+  pub blanks_at_end : {t start : List ℕ} → Indented b t start → start ≡ [] → Begins t start (λ s. Element o b s start [])
+  blanks_at_end {t} i none = record { source = run_of is_blank t; holds = subst (λ x. Element o b (run_of is_blank t) x []) (sym none) (Element.dropped_blanks i.indentation); whole = i.whole }
+
+  -- comments
+  comment_end : {c : ℕ} (run rest : List ℕ) {u : List ℕ} → is_column_one b ≡ true → is_comment_mark c ≡ true → list_all (λ x. not (is_line_feed x)) run ≡ true
+      → BeginsWithNo (λ x. not (is_line_feed x)) rest → u ≡ drop 1 rest → Begins (c ∷ (run ++ rest)) u (λ s. Element o b s u [])
+  comment_end {c} run [] one marks all n is =
+      record { source = c ∷ run; holds = subst (λ x. Element o b (c ∷ run) x []) (sym is) (Element.last_comment one marks all); whole = ap (λ x. c ∷ (run ++ x)) is }
+  comment_end {c} run (l ∷ rest) {u} one marks all n is =
+      let same : l ≡ line_feed = eqb-true l 10 (not_false (eqb l 10) n) in
+      record {
+        source = c ∷ (run ++ line_feed ∷ []);
+        holds = Element.comment run one marks all;
+        whole = ap (λ x. c ∷ x) (append_assoc run (line_feed ∷ []) u ∙ ap (λ x. run ++ x) (ap (λ x. line_feed ∷ x) is ∙ ap (λ x. x ∷ rest) (sym same)));
+      }
+
+  pub comment_read : {t after rest u : List ℕ} {c : ℕ} → t ≡ c ∷ after → is_column_one b ≡ true → is_comment_mark c ≡ true
+      → rest ≡ skipped (λ x. not (is_line_feed x)) after → u ≡ drop 1 rest → Begins t u (λ s. Element o b s u [])
+  comment_read {after = after} {rest = rest} {u = u} {c = c} first one marks e is =
+      let p : ℕ → Bool = λ x. not (is_line_feed x) in
+      subst (λ x. Begins x u (λ s. Element o b s u [])) (ap (λ x. c ∷ (run_of p after ++ x)) e ∙ ap (λ x. c ∷ x) (run-skipped p after) ∙ sym first)
+      (comment_end (run_of p after) rest one marks (run-all p after) (subst (BeginsWithNo p) (sym e) (skipped-no p after)) is)
+
+  pub late_comment : {t after : List ℕ} {c : ℕ} → t ≡ c ∷ after → is_comment_mark c ≡ true → is_column_one b ≡ false → Begins t after (λ s. ElementStops o b s after InlineComment)
+  late_comment {c = c} is marks late = record { source = c ∷ []; holds = ElementStops.late_comment marks late; whole = sym is }
+
+  -- headers
+  pub header_read : {t end new name u : List ℕ} → Appended [] new t end (λ s v. Str o.enabled_escape name_ends s end v) → name ≡ trimmed new → u ≡ drop 1 end
+      → Begins (open_bracket ∷ t) u (λ s. Element o b s u (Header name ∷ []))
+  header_read {end = end} {u = u} read is_name is =
+      let f = endpoint_follows read.holds refl in
+      let bracket : f.0 ≡ close_bracket = eqb-true f.0 93 (or_false (eqb f.0 93) f.3) in
+      let end_is : end ≡ close_bracket ∷ u = f.2 ∙ ap (λ c. c ∷ f.1) bracket ∙ ap (λ x. close_bracket ∷ x) (sym (is ∙ ap (drop 1) f.2)) in
+      record {
+        source = open_bracket ∷ (read.source ++ close_bracket ∷ []);
+        holds = subst (λ x. Element o b (open_bracket ∷ (read.source ++ close_bracket ∷ [])) u (Header x ∷ [])) (sym (is_name ∙ ap trimmed read.appended))
+            (Element.header (subst (λ x. Str o.enabled_escape name_ends read.source x read.value) end_is read.holds));
+        whole = ap (λ x. open_bracket ∷ x) (append_assoc read.source (close_bracket ∷ []) u ∙ ap (λ x. read.source ++ x) (sym end_is) ∙ read.whole);
+      }
+
+  -- pairs
+  separator_at : {t key rest u : List ℕ} → (k : IsKey o b t key rest) → u ≡ drop 1 rest → rest ≡ k.separator ∷ u
+  separator_at k is = k.begins ∙ ap (λ y. k.separator ∷ y) (sym (is ∙ ap (drop 1) k.begins))
+
+  pub empty_key : {t key rest u : List ℕ} → IsKey o b t key rest → u ≡ drop 1 rest → key ≡ [] → Begins t u (λ s. ElementStops o b s u MissingKey)
+  empty_key {key = key} {u = u} k is none =
+      let at = separator_at k is in
+      record {
+        source = k.source ++ k.separator ∷ [];
+        holds = ElementStops.no_key (subst (KeyFront o b k.source (k.separator ∷ u)) none (subst (λ r. KeyFront o b k.source r key) at k.front)) k.separates;
+        whole = append_assoc k.source (k.separator ∷ []) u ∙ ap (λ r. k.source ++ r) (sym at) ∙ k.whole;
+      }
+
+  pub pair_read : {t key rest u end v : List ℕ} → IsKey o b t key rest → u ≡ drop 1 rest → key ≢ [] → Begins u end (λ s. Value o s end v) → Begins t end (λ s. Element o b s end (Pair key v ∷ []))
+  pair_read {key = key} {end = end} k is some value =
+      let at = separator_at k is in
+      record {
+        source = k.source ++ k.separator ∷ value.source;
+        holds = Element.pair (subst (λ x. KeyFront o b k.source (k.separator ∷ x) key) (sym value.whole) (subst (λ r. KeyFront o b k.source r key) at k.front)) some k.separates value.holds;
+        whole = append_assoc k.source (k.separator ∷ value.source) end ∙ ap (λ x. k.source ++ k.separator ∷ x) value.whole ∙ ap (λ r. k.source ++ r) (sym at) ∙ k.whole;
+      }
+
+module _ (o : ParseOption) (b t : List ℕ) where
+  pub header_stops : (stop : Stop) → StoppedBy (StrStops o.enabled_escape name_ends) t stop → StoppedBy (ElementStops o b) (open_bracket ∷ t) stop
+  header_stops stops.Memory s = tt
+  header_stops (stops.Fault fault r) s = record { source = open_bracket ∷ s.source; holds = ElementStops.in_header s.holds; whole = ap (λ x. open_bracket ∷ x) s.whole }
+
+  pub value_stops : {key rest u : List ℕ} (stop : Stop) → IsKey o b t key rest → u ≡ drop 1 rest → key ≢ [] → StoppedBy (ValueStops o) u stop → StoppedBy (ElementStops o b) t stop
+  value_stops stops.Memory k is some s = tt
+  value_stops {key = key} (stops.Fault fault r) k is some s =
+      let at = separator_at k is in
+      record {
+        source = k.source ++ k.separator ∷ s.source;
+        holds = ElementStops.in_value (subst (λ x. KeyFront o b k.source (k.separator ∷ x) key) (sym s.whole) (subst (λ r. KeyFront o b k.source r key) at k.front)) some k.separates s.holds;
+        whole = append_assoc k.source (k.separator ∷ s.source) (chars r.now) ∙ ap (λ x. k.source ++ k.separator ∷ x) s.whole ∙ ap (λ r. k.source ++ r) (sym at) ∙ k.whole;
+      }

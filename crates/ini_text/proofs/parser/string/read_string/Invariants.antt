@@ -1,0 +1,17 @@
+use Rattle.std.proofs.Common.{◌≡◌, length, chars}
+use denote.Text.{Utf8}
+use denote.Shadow.{shadow}
+use Rattle.ini_text.specs.Faults.{ends_of}
+use Rattle.ini_text.specs.Readers.{Appended}
+use Rattle.ini_text.specs.Scans.{text_of}
+use Rattle.ini_text.specs.Strings.{Row}
+use Rattle.ini_text.proofs.parser.string.read_string.Given as goal
+
+abbrev pub decreases-pieces : goal.decreases-pieces
+decreases-pieces l = length (chars l.rest)
+
+abbrev pub invariant-pieces : goal.invariant-pieces
+invariant-pieces l = record {
+  text : shadow (Utf8 l.rest);
+  row : Appended (text_of l.fn.out) (text_of l.out) (chars l.fn.text) (chars l.rest) (Row l.escapes (ends_of l.ends));
+}

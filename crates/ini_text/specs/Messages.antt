@@ -1,0 +1,12 @@
+-- The fault in words.
+use Rattle.std.specs.Prelude.{codes, ◌≡◌, ℕ, List, ⊤}
+use Rattle.ini_text.specs.declared.error.ParseKind.{ParseKind}
+use Rattle.ini_text.specs.declared.error.ParseKind.TheVariants.{UnknownCharacter, InlineComment, MissingKey, CrAlone}
+
+-- four kinds have one fixed message; the messages of the others say what was expected
+abbrev pub HasMessage : ParseKind → List ℕ → Type 0
+HasMessage UnknownCharacter message = message ≡ codes "unknown character in \\xHH form"
+HasMessage InlineComment message = message ≡ codes "doesn't support inline comment"
+HasMessage MissingKey message = message ≡ codes "missing key"
+HasMessage CrAlone message = message ≡ codes "\\r is not followed by \\n"
+HasMessage _ message = ⊤

@@ -1,0 +1,12 @@
+-- The options that are used where none are given.
+use Rattle.std.specs.Prelude.{true, false}
+use Rattle.ini_text.specs.declared.option.ParseOption.{ParseOption}
+
+-- quotes and escapes on, multiline values and kept indentation off
+abbrev pub default_parse_option : ParseOption
+default_parse_option = record {
+  enabled_quote = true;
+  enabled_escape = true;
+  enabled_indented_mutiline_value = false;
+  enabled_preserve_key_leading_whitespace = false;
+}

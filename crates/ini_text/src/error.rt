@@ -1,0 +1,86 @@
+//! What is refused, and why. This file knows no grammar and no device.
+ghost use Rattle.std.specs.Prelude.{◌≡◌, Some, alloc_error};
+ghost use Rattle.ini_text.specs.Refusals.{printed_fault};
+ghost use Rattle.ini_text.specs.declared.error.Error.TheVariants.{Memory};
+
+use std::alloc::{AllocError, AllocFailed};
+use std::borrow::CowStr;
+use std::{fmt, io};
+use thiserror::Error;
+
+/// What is wrong where reading a text stops.
+#[derive(Clone, Copy, PartialEq, Eq, Debug)]
+pub enum ParseKind {
+    /// The text ends within a name, a key, quotes or an escape.
+    EndOfText,
+    /// Among the four units of `\x`, a backslash is followed by a character other than LF.
+    BrokenEscape,
+    /// The four units of `\x` spell no character.
+    UnknownCharacter,
+    /// `;` or `#` stands where an item may begin, but not in column one.
+    InlineComment,
+    /// A separator follows an empty key.
+    MissingKey,
+    /// In a multiline value, CR without LF stands in the place of an empty line.
+    CrAlone,
+}
+
+/// Where and why reading a text stopped.
+///
+/// `line` and `col` count from 1, in characters. They are the place of the character that was looked at, or the place
+/// behind the last character where the text ended. LF alone ends a line here; CR counts as a character.
+#[derive(Debug, Drop)]
+pub struct ParseError {
+    pub line: usize,
+    pub col: usize,
+    /// The fault in words, always a constant.
+    pub msg: CowStr<'static>,
+    pub kind: ParseKind,
+}
+
+/// Prints the line, a colon, the column, a space and the message.
+impl fmt::Display for ParseError {
+    ghost output = { λ e. Some (printed_fault e) };
+
+    fn fmt<W: fmt::Write>(&self, f: &mut fmt::Formatter<W>) -> fmt::Result {
+        write!(f, "{}:{} {}", self.line, self.col, self.msg)
+    }
+}
+
+impl std::error::Error for ParseError {}
+
+/// Every refusal of reading, editing and writing.
+#[derive(Debug, Drop, Error)]
+pub enum Error {
+    /// A device answered a fault.
+    #[error(transparent)]
+    Io(#[from] io::Error),
+    /// The text breaks the grammar.
+    #[error(transparent)]
+    Parse(#[from] ParseError),
+    /// Memory was refused.
+    #[error("out of memory")]
+    Memory(AllocError),
+    /// The bytes are no UTF-8.
+    #[error("the input is not UTF-8")]
+    NotUtf8,
+    /// A write took no bytes of a piece that had some.
+    #[error("a write took no bytes")]
+    NoProgress,
+}
+
+impl From<AllocError> for Error {
+    ghost from_gives = { λ _ e. e ≡ Memory alloc_error };
+
+    fn from(refused: AllocError) -> Error {
+        Error::Memory(refused)
+    }
+}
+
+impl<T: Drop> From<AllocFailed<T>> for Error {
+    ghost from_gives = { λ _ e. e ≡ Memory alloc_error };
+
+    fn from(_refused: AllocFailed<T>) -> Error {
+        Error::Memory(AllocError)
+    }
+}

@@ -1,0 +1,10 @@
+//! What a text gives. This file knows no text.
+
+/// One item of a text.
+#[derive(Debug, Drop)]
+pub enum Item {
+    /// The name of a section that begins here.
+    Header(String),
+    /// A key and its value, of the section that began last.
+    Pair(String, String),
+}

@@ -1,0 +1,30 @@
+//! How a text is read.
+ghost use Rattle.std.specs.Prelude.{◌≡◌};
+ghost use Rattle.ini_text.specs.Options.{default_parse_option};
+
+/// What the reader of a text allows.
+#[derive(Clone, Copy)]
+pub struct ParseOption {
+    /// A part of a value may stand in double or single quotes.
+    pub enabled_quote: bool,
+    /// A backslash begins an escape. Without it only a backslash before LF is special, and both go.
+    pub enabled_escape: bool,
+    /// A value goes on over the lines below it that begin with a space or a tab.
+    pub enabled_indented_mutiline_value: bool,
+    /// The spaces and tabs before a key belong to it.
+    pub enabled_preserve_key_leading_whitespace: bool,
+}
+
+/// Quotes and escapes are read; multiline values and kept indentation are off.
+impl Default for ParseOption {
+    ghost is_default = { λ o. o ≡ default_parse_option };
+
+    fn default() -> ParseOption {
+        ParseOption {
+            enabled_quote: true,
+            enabled_escape: true,
+            enabled_indented_mutiline_value: false,
+            enabled_preserve_key_leading_whitespace: false,
+        }
+    }
+}

@@ -1,0 +1,191 @@
+//! The parser: the items of a text, one at a time. This file knows fronts, elements and refusals, and no production.
+//!
+//! Each file below has one production, in the order in which a text is read: characters and runs, strings, trims, lines,
+//! values, elements; and beside them why reading stops, and where.
+ghost use Rattle.std.specs.Prelude.{◌≡◌, chars, [], None, Some, Ok, IfSome, IsOkAnd, IsErrAnd, OnErr, MatchResult};
+ghost use Rattle.ini_text.specs.Fronts.{IsRest};
+ghost use Rattle.ini_text.specs.Parser.{AnswersItem, FindsItem, IsStopOf, KeepsRefusal, StopIsWithin, Tells, refusal_of};
+
+use crate::error::{Error, ParseError, ParseKind};
+use crate::item::Item;
+use crate::option::ParseOption;
+use crate::parser::element::read_element;
+use crate::parser::fault::Stop;
+use crate::parser::position::position;
+use crate::parser::scan::{front_before, split_first};
+use std::alloc::{AllocError, Global};
+use std::borrow::CowStr;
+use std::marker::Model;
+
+mod element;
+mod fault;
+mod line;
+mod position;
+mod scan;
+mod string;
+mod trim;
+mod value;
+
+/// What a parser answers from then on.
+#[derive(Clone, Copy)]
+enum Refusal {
+    Memory,
+    Parse {
+        kind: ParseKind,
+        line: usize,
+        column: usize,
+        message: &'static str,
+    },
+}
+
+impl Refusal {
+    /// The refusal as an error, made anew without memory.
+    fn error(self) -> Error
+        ensures { Tells (refusal_of self) result }
+    {
+        match self {
+            Refusal::Memory => Error::Memory(AllocError),
+            Refusal::Parse {
+                kind,
+                line,
+                column,
+                message,
+            } => Error::Parse(ParseError {
+                line,
+                col: column,
+                msg: CowStr::Borrowed(message),
+                kind,
+            }),
+        }
+    }
+}
+
+/// Gives the items of a text one by one.
+///
+/// A clause sees where a parser stands: its options, the text, the front of the text that was read, and the refusal that
+/// it has answered.
+#[derive(Drop)]
+pub struct Parser<'a> {
+    alloc: Global,
+    text: &'a str,
+    rest: &'a str,
+    option: ParseOption,
+    refusal: Option<Refusal>,
+}
+
+impl<'a> Model for Parser<'a> {
+    ghost use Rattle.std.specs.Prelude.{chars};
+    ghost use Rattle.std.specs.Option.{option_map};
+    ghost use Rattle.ini_text.specs.Fronts.{front_of, IsRest};
+    ghost use Rattle.ini_text.specs.Parser.{Place, refusal_of};
+
+    ghost Value = { Place };
+
+    ghost view = { λ p. record {
+      option = p.option;
+      text = chars p.text.now;
+      front = front_of (chars p.text.now) (chars p.rest.now);
+      refusal = option_map refusal_of p.refusal;
+    } };
+
+    ghost invariant = { λ p. IsRest (chars p.text.now) (chars p.rest.now) };
+}
+
+impl<'a> Parser<'a> {
+    /// A parser at the front of a text. It takes no memory.
+    pub fn new(alloc: Global, text: &'a str, opt: ParseOption) -> Self
+        ensures option { result.option ≡ opt }
+        ensures text { result.text ≡ chars text.now }
+        ensures front { result.front ≡ [] }
+        ensures refusal { result.refusal ≡ None }
+    {
+        Parser {
+            alloc,
+            text,
+            rest: text,
+            option: opt,
+            refusal: None,
+        }
+    }
+
+    /// The next item, and `None` at the text's end.
+    ///
+    /// The text is refused by `Error::Parse` where reading it stops, and by `Error::Memory` for want of memory. After a
+    /// refusal the parser stays where it was, and answers the same refusal from then on.
+    pub fn next_item(&mut self) -> Result<Option<Item>, Error>
+        ensures option { self.new.option ≡ self.old.option }
+        ensures text { self.new.text ≡ self.old.text }
+        ensures item { self.old.refusal ≡ None → AnswersItem self.old.option self.old.text self.old.front self.new.front result }
+        ensures ended { self.old.refusal ≡ None → self.old.front ≡ self.old.text → result ≡ Ok None }
+
+        // A refusal is kept, and told again.
+        ensures refused_again { IfSome self.old.refusal (λ refusal. IsErrAnd result (Tells refusal)) }
+        ensures refusal { KeepsRefusal self.old.refusal self.new.refusal result }
+        ensures stays { OnErr result (self.new.front ≡ self.old.front) }
+    {
+        if let Some(refusal) = self.refusal {
+            return Err(refusal.error());
+        }
+        match find_item(self.alloc, self.text, self.rest, self.option) {
+            Ok((item, rest)) => {
+                self.rest = rest;
+                Ok(item)
+            }
+            Err(refusal) => {
+                self.refusal = Some(refusal);
+                Err(refusal.error())
+            }
+        }
+    }
+}
+
+/// The first item of what is left of a text, and what follows it.
+fn find_item<'a>(
+    alloc: Global,
+    text: &'a str,
+    start: &'a str,
+    option: ParseOption,
+) -> Result<(Option<Item>, &'a str), Refusal>
+    requires { IsRest (chars text.now) (chars start.now) }
+    ensures item { FindsItem option (chars text.now) (chars start.now) result }
+    ensures ended { chars start.now ≡ [] → IsOkAnd result (λ p. p.0 ≡ None) }
+{
+    let mut rest = start;
+    'elements: while let Some((c, after)) = split_first(rest) {
+        let (given, end) = match read_element(
+            alloc,
+            front_before(text, rest),
+            rest,
+            c,
+            after,
+            option,
+        ) {
+            Ok(step) => step,
+            Err(stop) => return Err(refuse(text, stop)),
+        };
+        if let Some(item) = given {
+            return Ok((Some(item), end));
+        }
+        rest = end;
+    }
+    Ok((None, rest))
+}
+
+/// The refusal of a text that stops before a rest of it.
+fn refuse(text: &str, stop: Stop<'_>) -> Refusal
+    requires { StopIsWithin (chars text.now) stop }
+    ensures { IsStopOf (chars text.now) stop.entry result }
+{
+    match stop {
+        Stop::Memory => Refusal::Memory,
+        Stop::Fault(fault, rest) => {
+            let (line, column) = position(front_before(text, rest));
+            Refusal::Parse {
+                kind: fault.kind(),
+                line,
+                column,
+                message: fault.message(),
+            }
+        }
+    }
+}

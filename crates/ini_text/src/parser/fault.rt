@@ -1,0 +1,105 @@
+//! Why reading stops, before its place is known as a line and a column. This file knows the messages, and no text.
+ghost use Rattle.std.specs.Prelude.{◌≡◌};
+ghost use Rattle.ini_text.specs.Faults.{kind_of, ends_of};
+ghost use Rattle.ini_text.specs.Messages.{HasMessage};
+ghost use Rattle.ini_text.specs.Strings.{is_endpoint};
+
+use crate::error::ParseKind;
+use std::alloc::AllocError;
+
+/// Where a string ends.
+#[derive(Clone, Copy)]
+pub(crate) enum Endpoints {
+    Name,
+    Key,
+    DoubleQuotes,
+    SingleQuotes,
+    Plain,
+}
+
+impl Endpoints {
+    pub(crate) fn contain(self, c: char) -> bool
+        ensures { result ≡ is_endpoint (ends_of self) c }
+    {
+        match self {
+            Endpoints::Name => c == ']',
+            Endpoints::Key => c == '=' || c == ':',
+            Endpoints::DoubleQuotes => c == '"',
+            Endpoints::SingleQuotes => c == '\'',
+            Endpoints::Plain => c == '\n' || c == '\r',
+        }
+    }
+
+    pub(crate) fn contain_text_end(self) -> bool
+        ensures { result ≡ (ends_of self).text }
+    {
+        matches!(self, Endpoints::Plain)
+    }
+
+    fn expected(self) -> &'static str {
+        match self {
+            Endpoints::Name => "expecting \"[Some(']')]\" but found EOF.",
+            Endpoints::Key => "expecting \"[Some('='), Some(':')]\" but found EOF.",
+            Endpoints::DoubleQuotes => "expecting \"[Some('\"')]\" but found EOF.",
+            Endpoints::SingleQuotes => "expecting \"[Some('\\'')]\" but found EOF.",
+            Endpoints::Plain => "expecting \"[Some('\\n'), Some('\\r'), None]\" but found EOF.",
+        }
+    }
+}
+
+/// What is wrong at a stop.
+#[derive(Clone, Copy)]
+pub(crate) enum Fault {
+    /// The text ends before one of the endpoints.
+    EndOfText(Endpoints),
+    BrokenEscape,
+    UnknownCharacter,
+    InlineComment,
+    MissingKey,
+    CrAlone,
+}
+
+impl Fault {
+    pub(crate) fn kind(self) -> ParseKind
+        ensures { result ≡ kind_of self }
+    {
+        match self {
+            Fault::EndOfText(_) => ParseKind::EndOfText,
+            Fault::BrokenEscape => ParseKind::BrokenEscape,
+            Fault::UnknownCharacter => ParseKind::UnknownCharacter,
+            Fault::InlineComment => ParseKind::InlineComment,
+            Fault::MissingKey => ParseKind::MissingKey,
+            Fault::CrAlone => ParseKind::CrAlone,
+        }
+    }
+
+    pub(crate) fn message(self) -> &'static str
+        ensures { HasMessage (kind_of self) result.now }
+    {
+        match self {
+            Fault::EndOfText(ends) => ends.expected(),
+            Fault::BrokenEscape => "expecting \"\\n\" after a backslash in \\xHH form",
+            Fault::UnknownCharacter => "unknown character in \\xHH form",
+            Fault::InlineComment => "doesn't support inline comment",
+            Fault::MissingKey => "missing key",
+            Fault::CrAlone => "\\r is not followed by \\n",
+        }
+    }
+}
+
+/// Why a reader stops: for want of memory, or by a fault before what is left of the text.
+#[derive(Drop)]
+pub(crate) enum Stop<'a> {
+    Memory,
+    Fault(Fault, &'a str),
+}
+
+impl From<AllocError> for Stop<'_> {
+    ghost use Rattle.ini_text.specs.declared.parser.fault.Stop.TheVariants.{Memory};
+
+    ghost from_gives = { λ _ e. e ≡ Memory };
+
+    fn from(_: AllocError) -> Self {
+        Stop::Memory
+    }
+}

@@ -1,0 +1,54 @@
+//! Lines of a value: quoted parts, and then one plain part to the line's end. This file knows strings, and no key.
+ghost use Rattle.std.specs.Prelude.{◌≡◌, ◌∷◌, true, false, chars, MatchOption};
+ghost use Rattle.ini_text.specs.Characters.{is_mark, BeginsWithNo};
+ghost use Rattle.ini_text.specs.Faults.{ends_of};
+ghost use Rattle.ini_text.specs.Lines.{BeginsPlain, Line, LineStops};
+ghost use Rattle.ini_text.specs.Quotes.{BeginsQuoted};
+ghost use Rattle.ini_text.specs.Readers.{Appends};
+ghost use Rattle.ini_text.specs.Scans.{text_of};
+ghost use Rattle.ini_text.specs.Strings.{quote_ends};
+
+use crate::option::ParseOption;
+use crate::parser::fault::{Endpoints, Stop};
+use crate::parser::scan::{after_first, split_first};
+use crate::parser::string::read_string;
+use crate::parser::trim::trim_from;
+use std::alloc::Global;
+
+/// Where the quoted part that begins here ends, and what follows its mark.
+fn split_mark(text: &str, option: ParseOption) -> Option<(Endpoints, &str)>
+    ensures { MatchOption result (BeginsPlain option (chars text.now)) (λ p. BeginsQuoted option (chars text.now) (ends_of p.0) (chars p.1.now)) }
+{
+    let (c, after) = split_first(text)?;
+    if !option.enabled_quote {
+        return None;
+    }
+    match c {
+        '"' => Some((Endpoints::DoubleQuotes, after)),
+        '\'' => Some((Endpoints::SingleQuotes, after)),
+        _ => None,
+    }
+}
+
+/// Appends the value of a line, and gives what follows the line, from its end on.
+pub(crate) fn read_line<'a>(
+    alloc: Global,
+    out: &mut String,
+    text: &'a str,
+    option: ParseOption,
+    is_first: bool,
+) -> Result<&'a str, Stop<'a>>
+    ensures { Appends (Line option is_first) (LineStops option) (text_of out.old) (text_of out.new) (chars text.now) result }
+{
+    let mut rest = text;
+    let mut is_quoted = false;
+    'parts: while let Some((ends, after)) = split_mark(rest, option) {
+        let end = read_string(out, after, option.enabled_escape, ends)?;
+        rest = after_first(end);
+        is_quoted = true;
+    }
+    let start = out.len();
+    let end = read_string(out, rest, option.enabled_escape, Endpoints::Plain)?;
+    trim_from(alloc, out, start, is_first && !is_quoted)?;
+    Ok(end)
+}

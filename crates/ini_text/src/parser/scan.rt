@@ -1,0 +1,152 @@
+//! Characters and runs of them at the ends of a text. This file knows kinds of characters, and no production.
+ghost use Rattle.std.specs.Prelude.{◌≡◌, ◌∷◌, ◌++◌, ◌≤◌, [], true, chars, drop, length, MatchOption, OnOk};
+ghost use Rattle.std.specs.List.{list_all, prefix_len};
+ghost use Rattle.ini_text.specs.Characters.{line_feed, is_line_end, BeginsWithNo};
+ghost use Rattle.ini_text.specs.Positions.{last_or, starts_line, is_column_one};
+ghost use Rattle.ini_text.specs.Fronts.{IsRest, front_of};
+ghost use Rattle.ini_text.specs.Scans.{is_in, skipped, is_plain, text_of};
+ghost use Rattle.ini_text.specs.Faults.{ends_of};
+
+use crate::parser::fault::Endpoints;
+use std::alloc::AllocError;
+
+/// A kind of characters that are gone over together.
+#[derive(Clone, Copy)]
+pub(crate) enum Class {
+    Blank,
+    InlineWhite,
+    LineFeed,
+    NoLineFeed,
+}
+
+impl Class {
+    pub(crate) fn contain(self, c: char) -> bool
+        ensures { result ≡ is_in self c }
+    {
+        match self {
+            Class::Blank => c == ' ' || c == '\t',
+            Class::InlineWhite => c.is_whitespace() && !is_line_end(c),
+            Class::LineFeed => c == '\n',
+            Class::NoLineFeed => c != '\n',
+        }
+    }
+}
+
+/// Whether a character ends a line.
+pub(crate) fn is_line_end(c: char) -> bool
+    ensures { result ≡ is_line_end c }
+{
+    c == '\n' || c == '\r'
+}
+
+/// The first character of a text, and what follows it.
+pub(crate) fn split_first(text: &str) -> Option<(char, &str)>
+    ensures { MatchOption result (chars text.now ≡ []) (λ p. chars text.now ≡ p.0 ∷ chars p.1.now) }
+{
+    let mut characters = text.chars();
+    let first = characters.next()?;
+    Some((first, characters.as_str()))
+}
+
+/// The last character of a text, and what stands before it.
+pub(crate) fn split_last(text: &str) -> Option<(&str, char)>
+    ensures { MatchOption result (chars text.now ≡ []) (λ p. chars text.now ≡ chars p.0.now ++ p.1 ∷ []) }
+{
+    let mut characters = text.chars();
+    let last = characters.next_back()?;
+    Some((characters.as_str(), last))
+}
+
+/// What follows the first character.
+pub(crate) fn after_first(text: &str) -> &str
+    ensures { chars result.now ≡ drop 1 (chars text.now) }
+{
+    match split_first(text) {
+        Some((_, after)) => after,
+        None => text,
+    }
+}
+
+/// What follows the characters of a class that begin a text.
+pub(crate) fn skip(text: &str, class: Class) -> &str
+    ensures { chars result.now ≡ skipped (is_in class) (chars text.now) }
+{
+    let mut rest = text;
+    'characters: while let Some((c, after)) = split_first(rest) {
+        if !class.contain(c) {
+            return rest;
+        }
+        rest = after;
+    }
+    rest
+}
+
+fn is_plain(ends: Endpoints, byte: u8) -> bool
+    ensures { result ≡ is_plain (ends_of ends) byte }
+{
+    byte != b'\\' && !ends.contain(char::from(byte))
+}
+
+fn run_len(bytes: &[u8], ends: Endpoints) -> usize
+    ensures len { result ≡ prefix_len (is_plain (ends_of ends)) bytes.now }
+    ensures within { result ≤ length bytes.now }
+{
+    bytes.iter().take_while(|b| is_plain(ends, **b)).count()
+}
+
+/// The characters at the front of a text that are neither a backslash nor an endpoint, and what follows them.
+pub(crate) fn split_run(text: &str, ends: Endpoints) -> (&str, &str)
+    ensures parts { chars text.now ≡ chars result.0.now ++ chars result.1.now }
+    ensures run { list_all (is_plain (ends_of ends)) (chars result.0.now) ≡ true }
+    ensures stops { BeginsWithNo (is_plain (ends_of ends)) (chars result.1.now) }
+{
+    text.split_at(run_len(text.as_bytes(), ends))
+}
+
+/// Appends a character.
+pub(crate) fn push(out: &mut String, c: char) -> Result<(), AllocError>
+    ensures { OnOk result (text_of out.new ≡ text_of out.old ++ c ∷ []) }
+{
+    out.push(c)
+}
+
+/// Appends a text.
+pub(crate) fn push_text(out: &mut String, text: &str) -> Result<(), AllocError>
+    ensures { OnOk result (text_of out.new ≡ text_of out.old ++ chars text.now) }
+{
+    out.push_str(text)
+}
+
+/// The part of a text before the rest of it.
+pub(crate) fn front_before<'a>(text: &'a str, rest: &str) -> &'a str
+    requires { IsRest (chars text.now) (chars rest.now) }
+    ensures { chars result.now ≡ front_of (chars text.now) (chars rest.now) }
+{
+    let (front, _) = text.split_at(text.len() - rest.len());
+    front
+}
+
+/// The last character of a front, and LF where it is empty.
+#[tactic(auto, using(crate::proofs::Scans::last_or_append))]
+fn last_or_line_feed(front: &str) -> char
+    ensures { result ≡ last_or line_feed (chars front.now) }
+{
+    match split_last(front) {
+        Some((_, c)) => c,
+        None => '\n',
+    }
+}
+
+/// Whether a line starts behind a front.
+pub(crate) fn starts_line(front: &str) -> bool
+    ensures { result ≡ starts_line (chars front.now) }
+{
+    is_line_end(last_or_line_feed(front))
+}
+
+/// Whether column one is behind a front.
+pub(crate) fn is_column_one(front: &str) -> bool
+    ensures { result ≡ is_column_one (chars front.now) }
+{
+    last_or_line_feed(front) == '\n'
+}

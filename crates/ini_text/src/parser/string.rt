@@ -1,0 +1,136 @@
+//! Strings: rows of pieces up to an endpoint. This file knows escapes, and nothing of lines, keys or names.
+ghost use Rattle.std.specs.Prelude.{◌≡◌, ◌∷◌, [], chars, true, unwrap_or};
+ghost use Rattle.ini_text.specs.Characters.{backslash, letter_x};
+ghost use Rattle.ini_text.specs.Faults.{ends_of};
+ghost use Rattle.ini_text.specs.Pieces.{control, spelled, spelled_by, Escape, EscapeStops};
+ghost use Rattle.ini_text.specs.Readers.{Appends};
+ghost use Rattle.ini_text.specs.Scans.{text_of};
+ghost use Rattle.ini_text.specs.Strings.{Str, StrStops};
+ghost use Rattle.ini_text.specs.Units.{ReadsUnit};
+
+use crate::parser::fault::{Endpoints, Fault, Stop};
+use crate::parser::scan::{push, push_text, split_first, split_run};
+
+/// Appends the value of a string up to an endpoint, and gives what follows it, from its endpoint on.
+pub(crate) fn read_string<'a>(
+    out: &mut String,
+    text: &'a str,
+    escapes: bool,
+    ends: Endpoints,
+) -> Result<&'a str, Stop<'a>>
+    ensures { Appends (Str escapes (ends_of ends)) (StrStops escapes (ends_of ends)) (text_of out.old) (text_of out.new) (chars text.now) result }
+{
+    let mut rest = text;
+    'pieces: loop {
+        let (run, stop) = split_run(rest, ends);
+        push_text(out, run)?;
+        let Some((c, after)) = split_first(stop) else {
+            if ends.contain_text_end() {
+                return Ok(stop);
+            }
+            return Err(Stop::Fault(Fault::EndOfText(ends), stop));
+        };
+        if c != '\\' {
+            return Ok(stop);
+        }
+        let Some((d, behind)) = split_first(after) else {
+            if !ends.contain_text_end() {
+                return Err(Stop::Fault(Fault::EndOfText(ends), after));
+            }
+            push(out, '\\')?;
+            return Ok(after);
+        };
+        rest = read_escape(out, d, behind, escapes, ends)?;
+    }
+}
+
+/// Appends what a backslash and the character after it stand for, and gives what follows the escape.
+fn read_escape<'a>(
+    out: &mut String,
+    c: char,
+    after: &'a str,
+    escapes: bool,
+    ends: Endpoints,
+) -> Result<&'a str, Stop<'a>>
+    ensures { Appends (λ s r v. Escape escapes s v) (λ s r k. (escapes ≡ true) × EscapeStops s r k) (text_of out.old) (text_of out.new) (backslash ∷ c ∷ chars after.now) result }
+{
+    if c == '\n' {
+        return Ok(after);
+    }
+    if !escapes {
+        push(out, '\\')?;
+        push(out, c)?;
+        return Ok(after);
+    }
+    if c == 'x' {
+        return read_coded(out, after, ends);
+    }
+    push(out, escaped_value(c))?;
+    Ok(after)
+}
+
+/// What a backslash and a character other than `x` or LF stand for.
+fn escaped_value(c: char) -> char
+    ensures { result ≡ unwrap_or (control c) c }
+{
+    match c {
+        '0' => '\0',
+        'a' => '\u{7}',
+        'b' => '\u{8}',
+        't' => '\t',
+        'r' => '\r',
+        'n' => '\n',
+        _ => c,
+    }
+}
+
+/// Appends the character that the four units behind `\x` spell.
+fn read_coded<'a>(out: &mut String, text: &'a str, ends: Endpoints) -> Result<&'a str, Stop<'a>>
+    ensures { Appends (λ s r v. Escape true s v) EscapeStops (text_of out.old) (text_of out.new) (backslash ∷ letter_x ∷ chars text.now) result }
+{
+    let (a, rest) = read_unit(text, ends)?;
+    let (b, rest) = read_unit(rest, ends)?;
+    let (c, rest) = read_unit(rest, ends)?;
+    let (d, rest) = read_unit(rest, ends)?;
+    let Some(value) = spelled_by(a, b, c, d) else {
+        return Err(Stop::Fault(Fault::UnknownCharacter, rest));
+    };
+    push(out, value)?;
+    Ok(rest)
+}
+
+/// A unit: a character other than a backslash, or a backslash and LF, which is `None`.
+fn read_unit(text: &str, ends: Endpoints) -> Result<(Option<char>, &str), Stop<'_>>
+    ensures { ReadsUnit (chars text.now) result }
+{
+    let Some((c, after)) = split_first(text) else {
+        return Err(Stop::Fault(Fault::EndOfText(ends), text));
+    };
+    if c != '\\' {
+        return Ok((Some(c), after));
+    }
+    let Some((d, behind)) = split_first(after) else {
+        return Err(Stop::Fault(Fault::EndOfText(ends), after));
+    };
+    if d == '\n' {
+        return Ok((None, behind));
+    }
+    Err(Stop::Fault(Fault::BrokenEscape, behind))
+}
+
+/// The character that four units spell.
+fn spelled_by(a: Option<char>, b: Option<char>, c: Option<char>, d: Option<char>) -> Option<char>
+    ensures { result ≡ spelled_by (a ∷ b ∷ c ∷ d ∷ []) }
+{
+    spelled(a?, b?, c?, d?)
+}
+
+/// The character that four characters spell.
+#[tactic(auto, unfolding(crate::specs::Pieces::spelled))]
+fn spelled(a: char, b: char, c: char, d: char) -> Option<char>
+    ensures { result ≡ spelled a b c d }
+{
+    let first = if a == '+' { 0 } else { a.to_digit(16)? };
+    let value = first * 0x1000 + b.to_digit(16)? * 0x100 + c.to_digit(16)? * 0x10 + d.to_digit(16)?;
+    char::from_u32(value)
+}

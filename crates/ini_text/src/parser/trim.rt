@@ -1,0 +1,48 @@
+//! White space and line feeds at the ends of what was read. This file knows trims alone.
+ghost use Rattle.std.specs.Prelude.{◌≡◌, ◌≤◌, ◌++◌, true, false, chars, take, drop, string_bytes, string_len, OnOk, IfOk};
+ghost use Rattle.std.specs.Str.{IsCharBoundary};
+ghost use Rattle.ini_text.specs.Scans.{text_of, trimmed_at, begins_white};
+ghost use Rattle.ini_text.specs.White.{drop_line_feeds, without_outer_line_feeds};
+
+use crate::parser::scan::{Class, push_text, skip, split_first, split_last};
+use std::alloc::{AllocError, Global};
+
+/// Whether a text begins with white space.
+fn begins_white(text: &str) -> bool
+    ensures { result ≡ begins_white (chars text.now) }
+{
+    match split_first(text) {
+        Some((c, _)) => c.is_whitespace(),
+        None => false,
+    }
+}
+
+/// Trims what stands from `start` on, at its end or at both ends.
+pub(crate) fn trim_from(
+    alloc: Global,
+    out: &mut String,
+    start: usize,
+    both: bool,
+) -> Result<(), AllocError>
+    requires { IsCharBoundary (string_bytes out.old) start }
+    ensures { OnOk result (text_of out.new ≡ chars (take start (string_bytes out.old)) ++ trimmed_at both (chars (drop start (string_bytes out.old)))) }
+{
+    let part = &out.as_str()[start..];
+    if both && begins_white(part) {
+        let trimmed = String::from_str(alloc, part.trim())?;
+        out.truncate(start);
+        return push_text(out, trimmed.as_str());
+    }
+    let kept = part.trim_end().len();
+    out.truncate(start + kept);
+    Ok(())
+}
+
+/// Trims a text, at its end or at both ends.
+pub(crate) fn trim(alloc: Global, text: String, both: bool) -> Result<String, AllocError>
+    ensures { IfOk result (λ trimmed. text_of trimmed ≡ trimmed_at both (text_of text)) }
+{
+    let mut text = text;
+    trim_from(alloc, &mut text, 0, both)?;
+    Ok(text)
+}

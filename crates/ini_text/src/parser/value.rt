@@ -1,0 +1,118 @@
+//! Values: a line, and in multiline values the lines with which it goes on. This file knows lines, and no key.
+ghost use Rattle.std.specs.Prelude.{◌≡◌, ◌∷◌, ◌++◌, chars, MatchOption, MatchResult, IfOk};
+ghost use Rattle.ini_text.specs.Characters.{carriage_return, is_line_end};
+ghost use Rattle.ini_text.specs.Readers.{Appends};
+ghost use Rattle.ini_text.specs.Scans.{text_of};
+ghost use Rattle.ini_text.specs.ValueParts.{AfterLineEnd, AfterCr, MakesValue};
+ghost use Rattle.ini_text.specs.Values.{MoreLines, MoreLinesStop};
+ghost use Rattle.ini_text.specs.White.{drop_line_feeds, without_outer_line_feeds};
+
+use crate::option::ParseOption;
+use crate::parser::fault::{Fault, Stop};
+use crate::parser::line::read_line;
+use crate::parser::scan::{Class, push, skip, split_first, split_last};
+use std::alloc::{AllocError, Global};
+
+/// The value that begins behind a separator, and what follows it.
+pub(crate) fn read_value<'a>(
+    alloc: Global,
+    text: &'a str,
+    option: ParseOption,
+) -> Result<(String, &'a str), Stop<'a>>
+    ensures { MakesValue option (chars text.now) result }
+{
+    let mut value = String::new(alloc);
+    let start = skip(text, Class::InlineWhite);
+    let end = read_line(alloc, &mut value, start, option, true)?;
+    if !option.enabled_indented_mutiline_value {
+        return Ok((value, end));
+    }
+    let Some(next) = after_line_end(end) else {
+        return Ok((trim_line_feeds(alloc, value.as_str())?, end));
+    };
+    let rest = read_more(alloc, &mut value, next, option)?;
+    Ok((trim_line_feeds(alloc, value.as_str())?, rest))
+}
+
+/// What follows a line end, if the text begins with one.
+fn after_line_end(text: &str) -> Option<&str>
+    ensures { AfterLineEnd (chars text.now) result }
+{
+    let (c, after) = split_first(text)?;
+    if c == '\n' {
+        return Some(after);
+    }
+    if c != '\r' {
+        return None;
+    }
+    let Some((d, end)) = split_first(after) else {
+        return Some(after);
+    };
+    if d == '\n' {
+        return Some(end);
+    }
+    Some(after)
+}
+
+/// What follows an empty line behind its CR.
+fn after_cr(text: &str) -> Result<&str, Stop<'_>>
+    ensures { AfterCr (chars text.now) result }
+{
+    match split_first(text) {
+        None => Err(Stop::Fault(Fault::CrAlone, text)),
+        Some(('\n', end)) => Ok(end),
+        Some((_, end)) => Err(Stop::Fault(Fault::CrAlone, end)),
+    }
+}
+
+/// Appends the lines with which a value goes on behind its first line end, and gives what follows them.
+fn read_more<'a>(
+    alloc: Global,
+    out: &mut String,
+    text: &'a str,
+    option: ParseOption,
+) -> Result<&'a str, Stop<'a>>
+    ensures { Appends (MoreLines option) (MoreLinesStop option) (text_of out.old) (text_of out.new) (chars text.now) result }
+{
+    let mut rest = text;
+    'lines: while let Some((c, after)) = split_first(rest) {
+        if c == '\n' {
+            push(out, '\n')?;
+            rest = after;
+        } else if c == '\r' {
+            rest = after_cr(after)?;
+            push(out, '\n')?;
+        } else if Class::Blank.contain(c) {
+            push(out, '\n')?;
+            let end = read_line(alloc, out, skip(rest, Class::InlineWhite), option, false)?;
+            let Some(next) = after_line_end(end) else {
+                return Ok(end);
+            };
+            rest = next;
+        } else {
+            return Ok(rest);
+        }
+    }
+    Ok(rest)
+}
+
+/// A copy of a text without the line feeds at its ends.
+fn trim_line_feeds(alloc: Global, text: &str) -> Result<String, AllocError>
+    ensures { IfOk result (λ trimmed. text_of trimmed ≡ without_outer_line_feeds (chars text.now)) }
+{
+    String::from_str(alloc, without_line_feeds(text))
+}
+
+/// The part of a text without the line feeds at its ends.
+fn without_line_feeds(text: &str) -> &str
+    ensures { chars result.now ≡ without_outer_line_feeds (chars text.now) }
+{
+    let mut rest = skip(text, Class::LineFeed);
+    'ends: while let Some((before, c)) = split_last(rest) {
+        if c != '\n' {
+            return rest;
+        }
+        rest = before;
+    }
+    rest
+}
