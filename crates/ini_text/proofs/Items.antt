@@ -2,7 +2,7 @@
 use Rattle.std.proofs.Common.{◌≡◌, ◌<◌, ◌≤◌, ℕ, Bool, List, [], ◌∷◌, ◌++◌, length, refl, sym, ap, ◌∙◌, append_assoc, append-nil, subst, subst₂, chars, arith, length-append, Bor}
 use Rattle.ini_text.specs.Characters.{is_blank, BeginsWith}
 use Rattle.ini_text.specs.Elements.{Given, Gap, Element, ElementStops}
-use Rattle.ini_text.specs.Faults.{kind_of}
+use Rattle.ini_text.specs.ParserFaults.{kind_of}
 use Rattle.ini_text.specs.Fronts.{front_of, IsRest}
 use Rattle.ini_text.specs.Parser.{Refused, memory, parse, Refuses, StopIsWithin, IsStopOf, Tells, refusal_of, StopsBehind}
 use Rattle.ini_text.specs.Messages.{HasMessage}

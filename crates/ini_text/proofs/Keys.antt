@@ -3,7 +3,7 @@ use Rattle.std.proofs.Common.{◌≡◌, ◌≢◌, ℕ, Bool, true, false, not,
 use Rattle.ini_text.specs.Characters.{open_bracket, is_blank, is_line_end, is_separator, BeginsWith, BeginsWithNo}
 use Rattle.ini_text.specs.ElementParts.{IsKey, TailStops, kept_blanks}
 use Rattle.ini_text.specs.Elements.{Element, ElementStops}
-use Rattle.ini_text.specs.Faults.{kind_of}
+use Rattle.ini_text.specs.ParserFaults.{kind_of}
 use Rattle.ini_text.specs.Fronts.{front_of, IsRest}
 use Rattle.ini_text.specs.Keys.{Indentation, begins_key, begins_indented_key, KeyFront}
 use Rattle.ini_text.specs.Pieces.{EscapeStops}

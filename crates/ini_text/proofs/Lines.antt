@@ -1,7 +1,7 @@
 -- A line, as it is read: quoted parts that grow at their end, and then the plain part.
 use Rattle.std.proofs.Common.{◌≡◌, ℕ, Bool, true, false, not, ◌&&◌, ◌||◌, eqb, eqb-true, List, [], ◌∷◌, ◌++◌, drop, refl, sym, ap, ◌∙◌, append_assoc, append-nil, chars, subst, subst₂}
 use Rattle.ini_text.specs.Characters.{is_mark}
-use Rattle.ini_text.specs.Faults.{kind_of}
+use Rattle.ini_text.specs.ParserFaults.{kind_of}
 use Rattle.ini_text.specs.Lines.{Quoted, BeginsPlain, Line, LineStops, plain_value}
 use Rattle.ini_text.specs.Quotes.{BeginsQuoted}
 use Rattle.ini_text.specs.Readers.{Begins, Appended, StoppedBy}

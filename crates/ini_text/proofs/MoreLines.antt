@@ -1,7 +1,7 @@
 -- The lines with which a value goes on, as they are read: whatever the rest gives completes the whole.
 use Rattle.std.proofs.Common.{◌≡◌, ◌≢◌, ◌<◌, ℕ, true, false, List, [], ◌∷◌, ◌++◌, length, refl, sym, ap, ◌∙◌, append_assoc, append-nil, subst, chars, arith, length-append, ne_eqb}
 use Rattle.ini_text.specs.Characters.{line_feed, carriage_return, is_blank, is_line_end, is_line_feed, is_inline_white, BeginsWithNo}
-use Rattle.ini_text.specs.Faults.{kind_of}
+use Rattle.ini_text.specs.ParserFaults.{kind_of}
 use Rattle.ini_text.specs.Lines.{Line, LineStops}
 use Rattle.ini_text.specs.Readers.{Begins, Appended, StoppedBy}
 use Rattle.ini_text.specs.Scans.{skipped}

@@ -9,7 +9,7 @@ use Rattle.std.proofs.lemmas.Str.{IsCharBoundary-before_ascii, IsCharBoundary-en
 use Rattle.std.proofs.Math.Seq.{drop-cons}
 use Rattle.std.proofs.lemmas.List.{drop_all}
 use Rattle.ini_text.specs.Scans.{is_plain}
-use Rattle.ini_text.specs.Faults.{ends_of}
+use Rattle.ini_text.specs.ParserFaults.{ends_of}
 use Rattle.ini_text.specs.Characters.{BeginsWithNo}
 use Rattle.ini_text.specs.declared.parser.fault.Endpoints.{Endpoints}
 use Rattle.ini_text.specs.declared.parser.fault.Endpoints.TheVariants.{Name, Key, DoubleQuotes, SingleQuotes, Plain}

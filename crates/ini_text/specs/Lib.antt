@@ -11,7 +11,7 @@ pub mod Keys
 pub mod Elements
 pub mod Texts
 pub mod Messages
-pub mod Faults
+pub mod ParserFaults
 pub mod Fronts
 pub mod Scans
 pub mod Readers

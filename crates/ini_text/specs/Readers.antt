@@ -1,7 +1,7 @@
 -- What the readers of productions answer: what they took off the front of a text, or where they stop.
 use Rattle.std.specs.Prelude.{◌≡◌, ℕ, List, ◌++◌, ⊤, chars, Result, MatchResult}
 use Rattle.std.specs.Borrow.{Bor}
-use Rattle.ini_text.specs.Faults.{kind_of}
+use Rattle.ini_text.specs.ParserFaults.{kind_of}
 use Rattle.ini_text.specs.declared.error.ParseKind.{ParseKind}
 use Rattle.ini_text.specs.declared.parser.fault.Stop.{Stop}
 use Rattle.ini_text.specs.declared.parser.fault.Stop.TheVariants as stops

@@ -23,6 +23,8 @@ mod line;
 mod position;
 mod scan;
 mod string;
+#[cfg(test)]
+mod tests;
 mod trim;
 mod value;
 

@@ -1,6 +1,6 @@
 //! Why reading stops, before its place is known as a line and a column. This file knows the messages, and no text.
 ghost use Rattle.std.specs.Prelude.{◌≡◌};
-ghost use Rattle.ini_text.specs.Faults.{kind_of, ends_of};
+ghost use Rattle.ini_text.specs.ParserFaults.{kind_of, ends_of};
 ghost use Rattle.ini_text.specs.Messages.{HasMessage};
 ghost use Rattle.ini_text.specs.Strings.{is_endpoint};
 

@@ -1,7 +1,7 @@
 //! Lines of a value: quoted parts, and then one plain part to the line's end. This file knows strings, and no key.
 ghost use Rattle.std.specs.Prelude.{◌≡◌, ◌∷◌, true, false, chars, MatchOption};
 ghost use Rattle.ini_text.specs.Characters.{is_mark, BeginsWithNo};
-ghost use Rattle.ini_text.specs.Faults.{ends_of};
+ghost use Rattle.ini_text.specs.ParserFaults.{ends_of};
 ghost use Rattle.ini_text.specs.Lines.{BeginsPlain, Line, LineStops};
 ghost use Rattle.ini_text.specs.Quotes.{BeginsQuoted};
 ghost use Rattle.ini_text.specs.Readers.{Appends};

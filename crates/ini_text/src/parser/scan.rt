@@ -5,7 +5,7 @@ ghost use Rattle.ini_text.specs.Characters.{line_feed, is_line_end, BeginsWithNo
 ghost use Rattle.ini_text.specs.Positions.{last_or, starts_line, is_column_one};
 ghost use Rattle.ini_text.specs.Fronts.{IsRest, front_of};
 ghost use Rattle.ini_text.specs.Scans.{is_in, skipped, is_plain, text_of};
-ghost use Rattle.ini_text.specs.Faults.{ends_of};
+ghost use Rattle.ini_text.specs.ParserFaults.{ends_of};
 
 use crate::parser::fault::Endpoints;
 use std::alloc::AllocError;

@@ -1,7 +1,7 @@
 //! Strings: rows of pieces up to an endpoint. This file knows escapes, and nothing of lines, keys or names.
 ghost use Rattle.std.specs.Prelude.{◌≡◌, ◌∷◌, [], chars, true, unwrap_or};
 ghost use Rattle.ini_text.specs.Characters.{backslash, letter_x};
-ghost use Rattle.ini_text.specs.Faults.{ends_of};
+ghost use Rattle.ini_text.specs.ParserFaults.{ends_of};
 ghost use Rattle.ini_text.specs.Pieces.{control, spelled, spelled_by, Escape, EscapeStops};
 ghost use Rattle.ini_text.specs.Readers.{Appends};
 ghost use Rattle.ini_text.specs.Scans.{text_of};

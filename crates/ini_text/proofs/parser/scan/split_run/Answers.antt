@@ -1,6 +1,6 @@
 use Rattle.std.proofs.Common.{◌≡◌, refl, sym, ap, ◌∙◌}
 use Rattle.ini_text.specs.Scans.{is_plain}
-use Rattle.ini_text.specs.Faults.{ends_of}
+use Rattle.ini_text.specs.ParserFaults.{ends_of}
 use Rattle.ini_text.proofs.Runs.{boundary, plain_wide, split_chars, run_chars, run_stops}
 use Rattle.ini_text.proofs.parser.scan.split_run.Goals as goal
 

@@ -1,7 +1,7 @@
 use Rattle.std.proofs.Common.{◌≡◌, length, chars}
 use denote.Text.{Utf8}
 use denote.Shadow.{shadow}
-use Rattle.ini_text.specs.Faults.{ends_of}
+use Rattle.ini_text.specs.ParserFaults.{ends_of}
 use Rattle.ini_text.specs.Readers.{Appended}
 use Rattle.ini_text.specs.Scans.{text_of}
 use Rattle.ini_text.specs.Strings.{Row}
