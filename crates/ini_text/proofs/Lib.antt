@@ -20,3 +20,7 @@ pub mod Items
 pub mod Derivations
 pub mod WorkedTexts
 pub mod WorkedRefusals
+pub mod EscapeTexts
+pub mod Progress
+pub mod Samples
+pub mod VerbatimRuns

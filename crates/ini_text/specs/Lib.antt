@@ -21,3 +21,10 @@ pub mod ValueParts
 pub mod Items
 pub mod ElementParts
 pub mod Parser
+pub mod Escapes
+pub mod Faults
+pub mod Gathered
+pub mod Policies
+pub mod Verbatim
+pub mod Watched
+pub mod WriteOptions

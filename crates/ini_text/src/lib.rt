@@ -1,12 +1,23 @@
-//! The text of INI files, one item at a time.
+//! The text of INI files: read one item at a time, and written, escaped, to devices that are watched.
 #![tactic(auto)]
 
+mod characters;
 mod error;
+mod escape;
 mod item;
 mod option;
 mod parser;
+mod policy;
+mod verbatim;
+mod watched;
+mod write;
+mod write_option;
 
 pub use error::{Error, ParseError, ParseKind};
 pub use item::Item;
 pub use option::ParseOption;
 pub use parser::Parser;
+pub use policy::EscapePolicy;
+pub use watched::Watched;
+pub use write::{write_escaped, write_raw};
+pub use write_option::{LineSeparator, WriteOption};

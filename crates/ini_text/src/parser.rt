@@ -6,13 +6,14 @@ ghost use Rattle.std.specs.Prelude.{◌≡◌, chars, [], None, Some, Ok, IfSome
 ghost use Rattle.ini_text.specs.Fronts.{IsRest};
 ghost use Rattle.ini_text.specs.Parser.{AnswersItem, FindsItem, IsStopOf, KeepsRefusal, StopIsWithin, Tells, refusal_of};
 
+use crate::characters::split_first;
 use crate::error::{Error, ParseError, ParseKind};
 use crate::item::Item;
 use crate::option::ParseOption;
 use crate::parser::element::read_element;
 use crate::parser::fault::Stop;
 use crate::parser::position::position;
-use crate::parser::scan::{front_before, split_first};
+use crate::parser::scan::front_before;
 use std::alloc::{AllocError, Global};
 use std::borrow::CowStr;
 use std::marker::Model;

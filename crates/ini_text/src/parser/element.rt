@@ -6,11 +6,12 @@ ghost use Rattle.ini_text.specs.Keys.{begins_key};
 ghost use Rattle.ini_text.specs.Positions.{starts_line};
 ghost use Rattle.ini_text.specs.Scans.{text_of};
 
+use crate::characters::split_first;
 use crate::item::Item;
 use crate::option::ParseOption;
 use crate::parser::fault::{Endpoints, Fault, Stop};
 use crate::parser::scan::{
-    Class, after_first, front_before, is_column_one, is_line_end, skip, split_first, starts_line,
+    Class, after_first, front_before, is_column_one, is_line_end, skip, starts_line,
 };
 use crate::parser::string::read_string;
 use crate::parser::trim::trim;

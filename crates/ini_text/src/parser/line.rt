@@ -8,9 +8,10 @@ ghost use Rattle.ini_text.specs.Readers.{Appends};
 ghost use Rattle.ini_text.specs.Scans.{text_of};
 ghost use Rattle.ini_text.specs.Strings.{quote_ends};
 
+use crate::characters::split_first;
 use crate::option::ParseOption;
 use crate::parser::fault::{Endpoints, Stop};
-use crate::parser::scan::{after_first, split_first};
+use crate::parser::scan::after_first;
 use crate::parser::string::read_string;
 use crate::parser::trim::trim_from;
 use std::alloc::Global;

@@ -7,6 +7,7 @@ ghost use Rattle.ini_text.specs.Fronts.{IsRest, front_of};
 ghost use Rattle.ini_text.specs.Scans.{is_in, skipped, is_plain, text_of};
 ghost use Rattle.ini_text.specs.ParserFaults.{ends_of};
 
+use crate::characters::split_first;
 use crate::parser::fault::Endpoints;
 use std::alloc::AllocError;
 
@@ -37,15 +38,6 @@ pub(crate) fn is_line_end(c: char) -> bool
     ensures { result ≡ is_line_end c }
 {
     c == '\n' || c == '\r'
-}
-
-/// The first character of a text, and what follows it.
-pub(crate) fn split_first(text: &str) -> Option<(char, &str)>
-    ensures { MatchOption result (chars text.now ≡ []) (λ p. chars text.now ≡ p.0 ∷ chars p.1.now) }
-{
-    let mut characters = text.chars();
-    let first = characters.next()?;
-    Some((first, characters.as_str()))
 }
 
 /// The last character of a text, and what stands before it.

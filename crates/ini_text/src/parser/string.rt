@@ -8,8 +8,9 @@ ghost use Rattle.ini_text.specs.Scans.{text_of};
 ghost use Rattle.ini_text.specs.Strings.{Str, StrStops};
 ghost use Rattle.ini_text.specs.Units.{ReadsUnit};
 
+use crate::characters::split_first;
 use crate::parser::fault::{Endpoints, Fault, Stop};
-use crate::parser::scan::{push, push_text, split_first, split_run};
+use crate::parser::scan::{push, push_text, split_run};
 
 /// Appends the value of a string up to an endpoint, and gives what follows it, from its endpoint on.
 pub(crate) fn read_string<'a>(

@@ -4,7 +4,8 @@ ghost use Rattle.std.specs.Str.{IsCharBoundary};
 ghost use Rattle.ini_text.specs.Scans.{text_of, trimmed_at, begins_white};
 ghost use Rattle.ini_text.specs.White.{drop_line_feeds, without_outer_line_feeds};
 
-use crate::parser::scan::{Class, push_text, skip, split_first, split_last};
+use crate::characters::split_first;
+use crate::parser::scan::{Class, push_text, skip, split_last};
 use std::alloc::{AllocError, Global};
 
 /// Whether a text begins with white space.

@@ -7,10 +7,11 @@ ghost use Rattle.ini_text.specs.ValueParts.{AfterLineEnd, AfterCr, MakesValue};
 ghost use Rattle.ini_text.specs.Values.{MoreLines, MoreLinesStop};
 ghost use Rattle.ini_text.specs.White.{drop_line_feeds, without_outer_line_feeds};
 
+use crate::characters::split_first;
 use crate::option::ParseOption;
 use crate::parser::fault::{Fault, Stop};
 use crate::parser::line::read_line;
-use crate::parser::scan::{Class, push, skip, split_first, split_last};
+use crate::parser::scan::{Class, push, skip, split_last};
 use std::alloc::{AllocError, Global};
 
 /// The value that begins behind a separator, and what follows it.

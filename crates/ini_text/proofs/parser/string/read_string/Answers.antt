@@ -11,37 +11,37 @@ pieces-init c = record { text = search rules; row = nothing_yet Row.none }
 pub returns-then-contain_text_end : goal.returns-then-contain_text_end
 returns-then-contain_text_end c =
     string_at_end (and_run _ c.pieces.invariant.row c.in_ok-push_text.ensures c.split_run.ensures.parts c.split_run.ensures.run)
-    c.in_default.ensures (sym c.contain_text_end.ensures ∙ c.if-contain_text_end.true)
+    c.in_default.ensures.characters (sym c.contain_text_end.ensures ∙ c.if-contain_text_end.true)
 
 pub returns-in_default : goal.returns-in_default
 returns-in_default c =
     ends_early (and_run _ c.pieces.invariant.row c.in_ok-push_text.ensures c.split_run.ensures.parts c.split_run.ensures.run)
-    c.in_default.ensures (sym c.contain_text_end.ensures ∙ c.if-contain_text_end.false)
+    c.in_default.ensures.characters (sym c.contain_text_end.ensures ∙ c.if-contain_text_end.false)
 
 pub returns-then-c-ne92 : goal.returns-then-c-ne92
 returns-then-c-ne92 c =
     string_at_endpoint (and_run _ c.pieces.invariant.row c.in_ok-push_text.ensures c.split_run.ensures.parts c.split_run.ensures.run)
-    c.in-Some.ensures c.if-c-ne92.true c.split_run.ensures.stops
+    c.in-Some.ensures.characters c.if-c-ne92.true c.split_run.ensures.stops
 
 pub returns-then-not-contain_text_end : goal.returns-then-not-contain_text_end
 returns-then-not-contain_text_end c =
     ends_behind_backslash (and_run _ c.pieces.invariant.row c.in_ok-push_text.ensures c.split_run.ensures.parts c.split_run.ensures.run)
-    c.in-Some.ensures c.if-c-ne92.false c.in_default-split_first.ensures (sym c.contain_text_end-in_default-split_first.ensures ∙ c.if-not-contain_text_end.true)
+    c.in-Some.ensures.characters c.if-c-ne92.false c.in_default-split_first.ensures.characters (sym c.contain_text_end-in_default-split_first.ensures ∙ c.if-not-contain_text_end.true)
 
 pub returns-in_default-split_first : goal.returns-in_default-split_first
 returns-in_default-split_first c =
     lone_backslash (and_run _ c.pieces.invariant.row c.in_ok-push_text.ensures c.split_run.ensures.parts c.split_run.ensures.run)
-    c.in-Some.ensures c.if-c-ne92.false c.in_default-split_first.ensures (sym c.contain_text_end-in_default-split_first.ensures ∙ c.if-not-contain_text_end.false) c.in_ok-push.ensures
+    c.in-Some.ensures.characters c.if-c-ne92.false c.in_default-split_first.ensures.characters (sym c.contain_text_end-in_default-split_first.ensures ∙ c.if-not-contain_text_end.false) c.in_ok-push.ensures
 
 pub returns-in_err-rest : goal.returns-in_err-rest
 returns-in_err-rest c =
     let p = err_from_is_err_and c.from_residual-in_err-rest.result c.from_residual-in_err-rest.ensures.1 in
     rw (p.1, p.2) (escape_stops _ (and_run _ c.pieces.invariant.row c.in_ok-push_text.ensures c.split_run.ensures.parts c.split_run.ensures.run)
-    (behind_backslash c.in-Some.ensures c.if-c-ne92.false c.in-Some-split_first.ensures) c.in_err-rest.ensures)
+    (behind_backslash c.in-Some.ensures.characters c.if-c-ne92.false c.in-Some-split_first.ensures.characters) c.in_err-rest.ensures)
 
 pub pieces-preserved : goal.pieces-preserved
 pieces-preserved c = record {
   text = search rules;
   row = and_escape (and_run _ c.pieces.invariant.row c.in_ok-push_text.ensures c.split_run.ensures.parts c.split_run.ensures.run)
-      (behind_backslash c.in-Some.ensures c.if-c-ne92.false c.in-Some-split_first.ensures) c.in_ok-rest.ensures;
+      (behind_backslash c.in-Some.ensures.characters c.if-c-ne92.false c.in-Some-split_first.ensures.characters) c.in_ok-rest.ensures;
 }

@@ -2,7 +2,7 @@ use Rattle.ini_text.proofs.MoreLines.{cr_alone, cr_at_end}
 use Rattle.ini_text.proofs.parser.value.after_cr.Goals as goal
 
 pub returns-in-None : goal.returns-in-None
-returns-in-None c = λ o. cr_at_end c.in-None.ensures
+returns-in-None c = λ o. cr_at_end c.in-None.ensures.characters
 
 pub returns-in-Some : goal.returns-in-Some
-returns-in-Some c = λ o. cr_alone c.in-Some.ensures c.in-Some.field-0-0-test.1
+returns-in-Some c = λ o. cr_alone c.in-Some.ensures.characters c.in-Some.field-0-0-test.1

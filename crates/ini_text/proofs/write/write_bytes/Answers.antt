@@ -1,0 +1,14 @@
+use Rattle.std.proofs.Common.{rules}
+use Rattle.ini_text.proofs.Progress.{under_way_kept, under_way_past}
+use Rattle.ini_text.proofs.write.write_bytes.Goals as goal
+
+pub returns-in_err-taken-clause-front : goal.returns-in_err-taken-clause-front
+returns-in_err-taken-clause-front g c =
+    under_way_kept _ c.pieces.invariant.under_way c.in_err-taken.ensures.bytes
+
+pub pieces-preserved : goal.pieces-preserved
+pieces-preserved g c = record {
+  clear = search rules;
+  same_device = search rules;
+  under_way = under_way_past c.in_ok-taken.taken c.pieces.invariant.under_way c.in_ok-taken.ensures.bytes;
+}
