@@ -24,3 +24,12 @@ pub mod EscapeTexts
 pub mod Progress
 pub mod Samples
 pub mod VerbatimRuns
+pub mod WalkReaders
+pub mod WalkStrings
+pub mod WalkLines
+pub mod WalkRuns
+pub mod WalkValues
+pub mod WalkElements
+pub mod OneOutcome
+pub mod OneAhead
+pub mod OneRefusal

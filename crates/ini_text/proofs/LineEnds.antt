@@ -60,7 +60,7 @@ lead {t} h = record {
   whole = ap (λ x. run_of is_inline_white t ++ x) h ∙ run-skipped is_inline_white t;
 }
 
-blank_inline : (c : ℕ) → is_blank c ≡ true → is_inline_white c ≡ true
+pub blank_inline : (c : ℕ) → is_blank c ≡ true → is_inline_white c ≡ true
 blank_inline c h = elim (either (eqb c 32) (eqb c 9) h) [
   | inl q ↦ subst (λ x. is_inline_white x ≡ true) (sym (eqb-true c 32 q)) refl
   | inr q ↦ subst (λ x. is_inline_white x ≡ true) (sym (eqb-true c 9 q)) refl

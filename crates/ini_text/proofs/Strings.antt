@@ -27,7 +27,7 @@ pub behind_backslash : {t after behind : List ℕ} {c d : ℕ} → t ≡ c ∷ a
 behind_backslash {after = after} first same next = ap (λ x. backslash ∷ x) (sym next) ∙ ap (λ x. x ∷ after) (sym same) ∙ sym first
 
 module _ {e : Bool} {ends : Ends} where
-  row-append : {s v t w : List ℕ} → Row e ends s v → Row e ends t w → Row e ends (s ++ t) (v ++ w)
+  pub row-append : {s v t w : List ℕ} → Row e ends s v → Row e ends t w → Row e ends (s ++ t) (v ++ w)
   row-append Row.none more = more
   row-append (Row.raw other inside rest) more = Row.raw other inside (row-append rest more)
   row-append {t = t} {w = w} (Row.escape {p = p} {w = q} {s = s} {v = v} escape rest) more =

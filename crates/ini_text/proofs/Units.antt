@@ -43,7 +43,7 @@ unit_broken t cs ds c d e b f other = record {
 }
 
 -- several units
-units-append : {s t : List ℕ} {us vs : List (Option ℕ)} → Units s us → Units t vs → Units (s ++ t) (us ++ vs)
+pub units-append : {s t : List ℕ} {us vs : List (Option ℕ)} → Units s us → Units t vs → Units (s ++ t) (us ++ vs)
 units-append Units.none more = more
 units-append (Units.character other rest) more = Units.character other (units-append rest more)
 units-append (Units.folded rest) more = Units.folded (units-append rest more)

@@ -28,3 +28,4 @@ pub mod Policies
 pub mod Verbatim
 pub mod Watched
 pub mod WriteOptions
+pub mod Laws

@@ -5,6 +5,7 @@ mod characters;
 mod error;
 mod escape;
 mod item;
+pub mod laws;
 mod option;
 mod parser;
 mod policy;
