@@ -1,7 +1,7 @@
 -- How what was read and appended is put together.
-use Rattle.std.proofs.Common.{◌≡◌, ℕ, List, [], ◌∷◌, ◌++◌, refl, sym, ap, ◌∙◌, append_assoc, append-nil, chars, subst}
+use Rattle.std.proofs.Common.{◌≡◌, ℕ, List, [], ◌++◌, refl, sym, ap, ◌∙◌, append_assoc, append-nil, chars, subst}
 use Rattle.std.proofs.lemmas.Str.{chars-nil}
-use Rattle.ini_text.specs.Readers.{Begins, Appended, StoppedBy}
+use Rattle.ini_text.specs.Readers.{Appended, StoppedBy}
 use Rattle.ini_text.specs.ParserFaults.{kind_of}
 use Rattle.ini_text.specs.declared.error.ParseKind.{ParseKind}
 use Rattle.ini_text.specs.declared.parser.fault.Stop.{Stop}

@@ -1,8 +1,8 @@
 -- Elements, as they are read.
-use Rattle.std.proofs.Common.{◌≡◌, ◌≢◌, ℕ, Bool, true, false, not, ◌||◌, eqb, eqb-true, List, [], ◌∷◌, ◌++◌, drop, refl, sym, ap, ◌∙◌, append_assoc, append-nil, subst, chars, ◌⊎◌, inl, inr}
+use Rattle.std.proofs.Common.{◌≡◌, ◌≢◌, ℕ, Bool, true, false, not, ◌||◌, eqb, eqb-true, List, [], ◌∷◌, ◌++◌, drop, refl, sym, ap, ◌∙◌, append_assoc, subst, chars, ◌⊎◌, inl, inr}
 use Rattle.std.specs.Char.{is_whitespace}
 use Rattle.std.specs.List.{list_all}
-use Rattle.ini_text.specs.Characters.{line_feed, open_bracket, close_bracket, is_blank, is_line_feed, is_line_end, is_separator, is_comment_mark, BeginsWithNo}
+use Rattle.ini_text.specs.Characters.{line_feed, open_bracket, close_bracket, is_blank, is_line_feed, is_line_end, is_comment_mark, BeginsWithNo}
 use Rattle.ini_text.specs.ElementParts.{IsKey}
 use Rattle.ini_text.specs.Elements.{Header, Pair, Gap, Element, ElementStops}
 use Rattle.ini_text.specs.Keys.{KeyFront}

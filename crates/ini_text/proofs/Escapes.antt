@@ -1,5 +1,5 @@
 -- An escape, as it is read.
-use Rattle.std.proofs.Common.{◌≡◌, ◌≢◌, ℕ, Bool, true, false, not, List, [], ◌∷◌, ◌++◌, refl, sym, ap, ◌∙◌, append_assoc, append-nil, chars, subst, Option, Some, None, unwrap_or, Bor, Result, Ok, Err, MatchResult}
+use Rattle.std.proofs.Common.{◌≡◌, ◌≢◌, ℕ, Bool, true, false, List, [], ◌∷◌, ◌++◌, refl, sym, ap, ◌∙◌, append_assoc, append-nil, subst, Option, Some, None, unwrap_or, Bor, Result, Ok, Err}
 use Rattle.ini_text.specs.Characters.{backslash, line_feed, letter_x}
 use Rattle.ini_text.specs.Pieces.{Escape, EscapeStops, control}
 use Rattle.ini_text.specs.Readers.{Appended, Appends}

@@ -1,10 +1,9 @@
 -- From one element to the next, up to an item.
-use Rattle.std.proofs.Common.{◌≡◌, ◌<◌, ◌≤◌, ℕ, Bool, List, [], ◌∷◌, ◌++◌, length, refl, sym, ap, ◌∙◌, append_assoc, append-nil, subst, subst₂, chars, arith, length-append, Bor}
+use Rattle.std.proofs.Common.{◌≡◌, ◌<◌, ◌≤◌, ℕ, Bool, List, [], ◌∷◌, ◌++◌, length, sym, ap, ◌∙◌, append_assoc, append-nil, subst, subst₂, chars, arith, length-append}
 use Rattle.ini_text.specs.Characters.{is_blank, BeginsWith}
 use Rattle.ini_text.specs.Elements.{Given, Gap, Element, ElementStops}
-use Rattle.ini_text.specs.ParserFaults.{kind_of}
 use Rattle.ini_text.specs.Fronts.{front_of, IsRest}
-use Rattle.ini_text.specs.Parser.{Refused, memory, parse, Refuses, StopIsWithin, IsStopOf, Tells, refusal_of, StopsBehind}
+use Rattle.ini_text.specs.Parser.{memory, parse, Refuses, StopIsWithin, IsStopOf, Tells, refusal_of, StopsBehind}
 use Rattle.ini_text.specs.Messages.{HasMessage}
 use Rattle.ini_text.specs.declared.error.ParseKind.{ParseKind}
 use Rattle.ini_text.specs.Positions.{line_of, column_of}
@@ -14,7 +13,6 @@ use Rattle.ini_text.specs.declared.error.Error.{Error}
 use Rattle.ini_text.specs.declared.error.Error.TheVariants as errors
 use Rattle.ini_text.specs.declared.option.ParseOption.{ParseOption}
 use Rattle.ini_text.specs.declared.parser.Refusal.{Refusal}
-use Rattle.ini_text.specs.declared.parser.Refusal.TheVariants as refusals
 use Rattle.ini_text.specs.declared.parser.fault.Stop.{Stop}
 use Rattle.ini_text.specs.declared.parser.fault.Stop.TheVariants as stops
 use Rattle.ini_text.proofs.Fronts.{front_grows}

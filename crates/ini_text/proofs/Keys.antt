@@ -1,6 +1,6 @@
 -- Keys, as they are read.
-use Rattle.std.proofs.Common.{◌≡◌, ◌≢◌, ℕ, Bool, true, false, not, ◌||◌, eqb, ne_eqb, List, [], ◌∷◌, ◌++◌, drop, refl, sym, ap, ◌∙◌, append_assoc, append-nil, subst, chars, if◌then◌else◌}
-use Rattle.ini_text.specs.Characters.{open_bracket, is_blank, is_line_end, is_separator, BeginsWith, BeginsWithNo}
+use Rattle.std.proofs.Common.{◌≡◌, ◌≢◌, ℕ, Bool, true, false, not, ◌||◌, eqb, ne_eqb, List, [], ◌∷◌, ◌++◌, refl, sym, ap, ◌∙◌, append_assoc, append-nil, subst, if◌then◌else◌}
+use Rattle.ini_text.specs.Characters.{open_bracket, is_blank, is_line_end, BeginsWith, BeginsWithNo}
 use Rattle.ini_text.specs.ElementParts.{IsKey, TailStops, kept_blanks}
 use Rattle.ini_text.specs.Elements.{Element, ElementStops}
 use Rattle.ini_text.specs.ParserFaults.{kind_of}

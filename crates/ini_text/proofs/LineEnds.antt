@@ -1,5 +1,5 @@
 -- Line ends, as they are read, and leads.
-use Rattle.std.proofs.Common.{◌≡◌, ◌≢◌, ◌≤◌, ℕ, Bool, true, false, ◌||◌, cond, eqb, List, [], ◌∷◌, ◌++◌, length, refl, sym, ap, ◌∙◌, subst, arith, ne_eqb, eqb-true, ◌⊎◌, inl, inr}
+use Rattle.std.proofs.Common.{◌≡◌, ◌≢◌, ◌≤◌, ℕ, Bool, true, false, ◌||◌, eqb, List, [], ◌∷◌, ◌++◌, length, refl, sym, ap, ◌∙◌, subst, arith, ne_eqb, eqb-true, ◌⊎◌, inl, inr}
 use Rattle.std.proofs.lemmas.Bool.{cond-true}
 use Rattle.ini_text.specs.Characters.{line_feed, carriage_return, is_blank, is_line_end, is_line_feed, is_inline_white, BeginsWith, BeginsWithNo}
 use Rattle.ini_text.specs.Lines.{Line}

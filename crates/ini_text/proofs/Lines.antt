@@ -4,13 +4,13 @@ use Rattle.ini_text.specs.Characters.{is_mark}
 use Rattle.ini_text.specs.ParserFaults.{kind_of}
 use Rattle.ini_text.specs.Lines.{Quoted, BeginsPlain, Line, LineStops, plain_value}
 use Rattle.ini_text.specs.Quotes.{BeginsQuoted}
-use Rattle.ini_text.specs.Readers.{Begins, Appended, StoppedBy}
+use Rattle.ini_text.specs.Readers.{Appended, StoppedBy}
 use Rattle.ini_text.specs.Scans.{trimmed_at}
 use Rattle.ini_text.specs.Strings.{Ends, Str, StrStops, quote_ends, plain_ends}
 use Rattle.ini_text.specs.declared.option.ParseOption.{ParseOption}
 use Rattle.ini_text.specs.declared.parser.fault.Stop.{Stop}
 use Rattle.ini_text.specs.declared.parser.fault.Stop.TheVariants as stops
-use Rattle.ini_text.proofs.Appending.{and_then, and_stops}
+use Rattle.ini_text.proofs.Appending.{and_stops}
 
 or_false : (b : Bool) → (b || false) ≡ true → b ≡ true
 or_false true h = refl

@@ -1,6 +1,6 @@
 -- The lines with which a value goes on, as they are read: whatever the rest gives completes the whole.
 use Rattle.std.proofs.Common.{◌≡◌, ◌≢◌, ◌<◌, ℕ, true, false, List, [], ◌∷◌, ◌++◌, length, refl, sym, ap, ◌∙◌, append_assoc, append-nil, subst, chars, arith, length-append, ne_eqb}
-use Rattle.ini_text.specs.Characters.{line_feed, carriage_return, is_blank, is_line_end, is_line_feed, is_inline_white, BeginsWithNo}
+use Rattle.ini_text.specs.Characters.{line_feed, carriage_return, is_blank, is_line_end, is_inline_white, BeginsWithNo}
 use Rattle.ini_text.specs.ParserFaults.{kind_of}
 use Rattle.ini_text.specs.Lines.{Line, LineStops}
 use Rattle.ini_text.specs.Readers.{Begins, Appended, StoppedBy}
@@ -12,7 +12,7 @@ use Rattle.ini_text.specs.declared.error.ParseKind.TheVariants.{CrAlone}
 use Rattle.ini_text.specs.declared.option.ParseOption.{ParseOption}
 use Rattle.ini_text.specs.declared.parser.fault.Stop.{Stop}
 use Rattle.ini_text.specs.declared.parser.fault.Stop.TheVariants as stops
-use Rattle.ini_text.proofs.LineEnds.{nothing, no_line_end, line_end-some, line-closes, lead, BlankLead, blank_lead}
+use Rattle.ini_text.proofs.LineEnds.{line_end-some, line-closes, lead, blank_lead}
 
 -- the text t begins with further lines before r, and their value completes `new`, which began as `old`
 pub record Completes (o : ParseOption) (old t new r v : List ℕ) : Type 0 where

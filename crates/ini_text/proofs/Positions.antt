@@ -1,10 +1,10 @@
 -- What a loop over a front counts, and its position.
 use Rattle.std.proofs.Common.{◌≡◌, ◌≢◌, ℕ, ◌+◌, Bool, true, false, ◌||◌, cond, eqb, List, [], ◌∷◌, length, refl, sym, ap, ◌∙◌, arith, count_by, ne_eqb, eq-eqb, subst, ◌≤◌, chars, IsUtf8}
 use Rattle.std.proofs.lemmas.Str.{encodes-chars, length-le-encodes}
-use Rattle.std.proofs.lemmas.Bool.{cond-true, cond-false}
+use Rattle.std.proofs.lemmas.Bool.{cond-false}
 use Rattle.std.specs.List.{list_any, fold}
 use Rattle.ini_text.specs.Characters.{line_feed, is_line_feed}
-use Rattle.ini_text.specs.Positions.{last_line, line_of, column_of}
+use Rattle.ini_text.specs.Positions.{last_line, column_of}
 
 -- the column behind a text that begins at column n
 abbrev pub column_from : ℕ → List ℕ → ℕ

@@ -1,10 +1,9 @@
 -- Runs at the front of a text, and the front before a rest.
-use Rattle.std.proofs.Common.{◌≡◌, ◌≢◌, ◌≤◌, ℕ, ◌-◌, ◌+◌, Bool, true, false, ◌&&◌, ◌||◌, cond, eqb, List, [], ◌∷◌, ◌++◌, length, take, drop, refl, sym, ap, ◌∙◌, append-nil, append_assoc, arith, length-append, subst, chars, IsUtf8, IsCharBoundary, encode_utf8, encode_utf8_all, Option, Some, None, unwrap_or, MatchOption, not}
+use Rattle.std.proofs.Common.{◌≡◌, ◌≤◌, ℕ, ◌-◌, Bool, true, false, ◌&&◌, cond, List, [], ◌∷◌, ◌++◌, length, take, refl, sym, ap, ◌∙◌, append-nil, arith, length-append, subst, chars, IsUtf8, IsCharBoundary, encode_utf8, encode_utf8_all}
 use Rattle.std.proofs.lemmas.Bool.{cond-true, cond-false, cond_both}
 use Rattle.std.proofs.lemmas.Str.{chars-append, chars-encodes, chars-nil, encodes-append, encodes-chars, scalars-chars, IsCharBoundary-at_seam, length-le-encodes, cons_from_encodes}
 use Rattle.std.proofs.Math.Seq.{take-append_seam}
 use Rattle.std.specs.Str.{all_scalars}
-use Rattle.std.specs.Char.{IsScalar}
 use Rattle.std.specs.List.{list_all}
 use lib.Utf8.{scalar}
 use Rattle.ini_text.specs.Characters.{BeginsWith, BeginsWithNo}

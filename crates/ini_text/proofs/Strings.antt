@@ -1,5 +1,5 @@
 -- A string, as it is read: a row of pieces that grows at its end.
-use Rattle.std.proofs.Common.{◌≡◌, ◌≢◌, ℕ, Bool, true, false, ◌&&◌, not, List, [], ◌∷◌, ◌++◌, refl, sym, ap, ◌∙◌, append_assoc, append-nil, chars, subst, eqb, ne_eqb, eq-eqb, true≢false}
+use Rattle.std.proofs.Common.{◌≡◌, ◌≢◌, ℕ, Bool, true, false, ◌&&◌, not, List, [], ◌∷◌, ◌++◌, refl, sym, ap, ◌∙◌, append_assoc, append-nil, subst, eqb, ne_eqb, eq-eqb, true≢false}
 use Rattle.std.specs.List.{list_all}
 use Rattle.ini_text.specs.Characters.{backslash, BeginsWithNo}
 use Rattle.ini_text.specs.Pieces.{Escape, EscapeStops}

@@ -1,5 +1,5 @@
 -- Trimming a text trims its characters.
-use Rattle.std.proofs.Common.{◌≡◌, ℕ, Bool, true, false, ◌&&◌, ◌==◌, cond, List, [], ◌∷◌, length, refl, sym, ap, ◌∙◌, subst, chars, IsUtf8, IsCharBoundary, ◌++◌, ◌+◌, ◌≤◌, ◌⊎◌, inl, inr, take, drop, arith, length-append, take-append-drop, Result, Ok, Err, OnOk}
+use Rattle.std.proofs.Common.{◌≡◌, ℕ, Bool, true, false, ◌&&◌, ◌==◌, List, [], ◌∷◌, length, refl, sym, ap, ◌∙◌, subst, chars, IsUtf8, IsCharBoundary, ◌++◌, ◌+◌, ◌≤◌, ◌⊎◌, inl, inr, take, drop, arith, length-append, take-append-drop, Result, Ok, Err, OnOk}
 use Rattle.std.specs.declared.alloc.AllocError.{AllocError}
 use Rattle.std.proofs.lemmas.Bool.{cond_both, cond-true, cond-false}
 use Rattle.std.proofs.lemmas.Str.{chars-encodes, scalars-chars, chars-append, IsUtf8-append, IsUtf8-take, IsCharBoundary-from_take}

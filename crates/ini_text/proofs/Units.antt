@@ -1,8 +1,7 @@
 -- The units of an escape, as they are read one by one.
-use Rattle.std.proofs.Common.{◌≡◌, ◌≢◌, ℕ, ◌<◌, List, [], ◌∷◌, ◌++◌, length, refl, sym, ap, ◌∙◌, append_assoc, append-nil, chars, subst, true, Option, Some, None, arith}
+use Rattle.std.proofs.Common.{◌≡◌, ◌≢◌, ℕ, ◌<◌, List, [], ◌∷◌, ◌++◌, length, refl, sym, ap, ◌∙◌, append_assoc, append-nil, chars, subst, true, Option, Some, None}
 use Rattle.ini_text.specs.Characters.{backslash, line_feed, letter_x}
-use Rattle.ini_text.specs.ParserFaults.{kind_of}
-use Rattle.ini_text.specs.Pieces.{Escape, Units, EscapeStops, spelled, spelled_by}
+use Rattle.ini_text.specs.Pieces.{Escape, Units, EscapeStops, spelled_by}
 use Rattle.ini_text.specs.Readers.{Begins, StoppedBy}
 use Rattle.ini_text.specs.Units.{UnitStops}
 use Rattle.ini_text.specs.declared.error.ParseKind.TheVariants.{EndOfText, BrokenEscape, UnknownCharacter}

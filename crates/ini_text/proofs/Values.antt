@@ -1,5 +1,5 @@
 -- A value, as it is read.
-use Rattle.std.proofs.Common.{◌≡◌, ℕ, true, false, List, [], ◌∷◌, ◌++◌, refl, sym, ap, ◌∙◌, append_assoc, append-nil, subst, subst₂, chars}
+use Rattle.std.proofs.Common.{◌≡◌, ℕ, true, false, List, [], ◌++◌, sym, ap, ◌∙◌, append_assoc, append-nil, subst, subst₂, chars}
 use Rattle.ini_text.specs.Characters.{is_line_end, is_inline_white, BeginsWithNo}
 use Rattle.ini_text.specs.Lines.{Line, LineStops}
 use Rattle.ini_text.specs.Readers.{Begins, Appended, StoppedBy}

@@ -1,5 +1,5 @@
 -- Reading an element by the character with which it begins: the reader serves the proofs alone.
-use Rattle.std.proofs.Common.{◌≤◌, ◌≡◌, ◌≢◌, ℕ, Bool, true, false, not, ◌&&◌, ◌||◌, ◌==◌, if◌then◌else◌, List, [], ◌∷◌, ◌++◌, length, length-append, arith, drop, refl, sym, ap, ◌∙◌, subst, append_assoc, append-nil, eqb-true, inl, inr}
+use Rattle.std.proofs.Common.{◌≡◌, ◌≢◌, ℕ, Bool, true, false, not, ◌&&◌, ◌||◌, ◌==◌, if◌then◌else◌, List, [], ◌∷◌, ◌++◌, drop, refl, sym, ap, ◌∙◌, subst, append_assoc, append-nil, eqb-true, inl, inr}
 use Rattle.std.proofs.Math.Bool.{or-false}
 use Rattle.std.proofs.lemmas.Bool.{cases_Bool, cond-true, and_parts, or_parts, not-true}
 use Rattle.std.specs.Char.{is_whitespace}
@@ -7,7 +7,7 @@ use Rattle.std.specs.List.{list_all}
 use Rattle.ini_text.specs.declared.option.ParseOption.{ParseOption}
 use Rattle.ini_text.specs.declared.error.ParseKind.{ParseKind}
 use Rattle.ini_text.specs.declared.error.ParseKind.TheVariants.{EndOfText, InlineComment, MissingKey}
-use Rattle.ini_text.specs.Characters.{tab, line_feed, carriage_return, space, hash, semicolon, open_bracket, close_bracket, is_line_feed, is_line_end, is_blank, is_separator, is_comment_mark, BeginsWith, BeginsWithNo}
+use Rattle.ini_text.specs.Characters.{line_feed, carriage_return, hash, semicolon, open_bracket, close_bracket, is_line_feed, is_line_end, is_blank, is_separator, is_comment_mark, BeginsWith, BeginsWithNo}
 use Rattle.ini_text.specs.Positions.{starts_line, is_column_one}
 use Rattle.ini_text.specs.White.{trimmed, end_trimmed}
 use Rattle.ini_text.specs.Pieces.{EscapeStops}
@@ -18,7 +18,7 @@ use Rattle.ini_text.specs.Elements.{Given, Header, Pair, Gap, Element, ElementSt
 use Rattle.ini_text.proofs.WalkReaders.{Answer, found, stopped, Says, IsReader}
 use Rattle.ini_text.proofs.WalkStrings.{StringSays, string, string-reads}
 use Rattle.ini_text.proofs.Elements.{blank_is_white}
-use Rattle.ini_text.proofs.WalkRuns.{either_true, BeginsWith-some, run-finds, run-sound}
+use Rattle.ini_text.proofs.WalkRuns.{either_true, run-finds, run-sound}
 use Rattle.ini_text.specs.Scans.{run_of, skipped}
 use Rattle.ini_text.proofs.WalkValues.{value, value-reads}
 

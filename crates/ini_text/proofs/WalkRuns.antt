@@ -1,5 +1,5 @@
 -- The run of characters that pass a test, at a text's front: the functions serve the proofs alone.
-use Rattle.std.proofs.Common.{◌≤◌, ◌≡◌, ℕ, Bool, true, false, ◌||◌, length, arith, if◌then◌else◌, List, [], ◌∷◌, ◌++◌, refl, ap, inl, inr}
+use Rattle.std.proofs.Common.{◌≤◌, ◌≡◌, ℕ, Bool, true, false, ◌||◌, length, arith, List, [], ◌∷◌, ◌++◌, refl, ap, inl, inr}
 use Rattle.std.proofs.lemmas.Bool.{cases_Bool, and_parts}
 use Rattle.std.specs.List.{list_all}
 use Rattle.ini_text.specs.Characters.{BeginsWith, BeginsWithNo}

@@ -1,20 +1,20 @@
 -- Reading a value by its first line, and then by steps that each take a line: the reader serves the proofs alone.
-use Rattle.std.proofs.Common.{◌≤◌, ◌≡◌, ◌≢◌, ℕ, ◌<◌, Bool, true, false, ◌==◌, if◌then◌else◌, List, [], ◌∷◌, ◌++◌, length, inl, inr, refl, sym, ap, ◌∙◌, subst, append_assoc, append-nil, length-append, arith, ne_eqb, eqb-true}
+use Rattle.std.proofs.Common.{◌≡◌, ◌≢◌, ℕ, ◌<◌, Bool, true, false, ◌==◌, if◌then◌else◌, List, [], ◌∷◌, ◌++◌, length, inl, inr, refl, sym, ap, ◌∙◌, subst, append_assoc, append-nil, length-append, arith, ne_eqb, eqb-true}
 use Rattle.std.proofs.Math.Bool.{or-false}
 use Rattle.std.proofs.lemmas.Bool.{cases_Bool, cond-true, cond_both, and_parts, or_parts}
 use Rattle.std.specs.List.{list_all}
-use Rattle.ini_text.proofs.LineEnds.{blank_inline, line_end-some}
+use Rattle.ini_text.proofs.LineEnds.{blank_inline}
 use Rattle.ini_text.specs.declared.option.ParseOption.{ParseOption}
 use Rattle.ini_text.specs.declared.error.ParseKind.{ParseKind}
 use Rattle.ini_text.specs.declared.error.ParseKind.TheVariants.{CrAlone}
-use Rattle.ini_text.specs.Characters.{tab, space, line_feed, carriage_return, is_blank, is_line_feed, is_line_end, is_inline_white, BeginsWith, BeginsWithNo}
+use Rattle.ini_text.specs.Characters.{line_feed, carriage_return, is_blank, is_line_feed, is_line_end, is_inline_white, BeginsWith, BeginsWithNo}
 use Rattle.ini_text.specs.White.{Lead, without_outer_line_feeds}
 use Rattle.ini_text.specs.Strings.{plain_ends, Closes, Str}
 use Rattle.ini_text.specs.Lines.{Line}
 use Rattle.ini_text.specs.Values.{LineEnd, MoreLines, Value, MoreLinesStop, ValueStops}
 use Rattle.ini_text.proofs.WalkReaders.{Answer, found, stopped, prepend, Says, IsReader, Step, more, ends, Steps, StepSays, prefixed, read_by, reads_by}
 use Rattle.ini_text.proofs.WalkLines.{LineSays, line, line-reads}
-use Rattle.ini_text.proofs.WalkRuns.{either_true, BeginsWith-some, run-finds, run-sound}
+use Rattle.ini_text.proofs.WalkRuns.{BeginsWith-some, run-finds, run-sound}
 use Rattle.ini_text.specs.Scans.{run_of, skipped}
 
 -- what follows the line end with which the text begins

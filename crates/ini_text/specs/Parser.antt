@@ -2,7 +2,7 @@
 use Rattle.std.specs.Prelude.{◌≡◌, ℕ, ◌<◌, List, [], ◌∷◌, ◌++◌, length, ⊤, chars, Option, Some, None, Result, Ok, Err, IsSomeAnd, MatchOption, MatchResult}
 use Rattle.std.specs.Borrow.{Bor}
 use Rattle.std.specs.Cow.{cow_str_bytes}
-use Rattle.ini_text.specs.Elements.{Given, ElementStops}
+use Rattle.ini_text.specs.Elements.{ElementStops}
 use Rattle.ini_text.specs.ParserFaults.{kind_of}
 use Rattle.ini_text.specs.Fronts.{front_of, IsRest}
 use Rattle.ini_text.specs.Items.{item_of}

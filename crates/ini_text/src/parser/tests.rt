@@ -3,31 +3,43 @@ use crate::error::{Error, ParseKind};
 use crate::item::Item;
 use crate::option::ParseOption;
 use crate::parser::Parser;
-use std::alloc::Global;
+use std::alloc::{AllocError, Global};
 use std::test::Fail;
 
+/// An item in brackets.
+fn shown(alloc: Global, item: Item) -> Result<String, AllocError> {
+    match item {
+        Item::Header(name) => format!(in alloc; "[{name}]"),
+        Item::Pair(key, value) => format!(in alloc; "<{key}|{value}>"),
+    }
+}
+
+/// The kind and the place of a refusal.
+fn place(alloc: Global, refusal: Error) -> Result<String, AllocError> {
+    match refusal {
+        Error::Parse(fault) => format!(in alloc;
+            "{:?} at {}:{}",
+            fault.kind, fault.line, fault.col
+        ),
+        other => other.to_string(alloc),
+    }
+}
+
 /// The items of a text, each in brackets, and then the refusal, if there is one.
-fn told(alloc: Global, text: &str, option: ParseOption) -> Result<String, Fail> {
+fn told(alloc: Global, text: &str, option: ParseOption) -> Result<String, AllocError> {
     let mut out = String::new(alloc);
     let mut parser = Parser::new(alloc, text, option);
     for _ in 0..1000u32 {
         match parser.next_item() {
+            Ok(Some(item)) => out.push_str(shown(alloc, item)?.as_str())?,
             Ok(None) => return Ok(out),
-            Ok(Some(Item::Header(name))) => out.push_str(format!(in alloc; "[{name}]")?.as_str())?,
-            Ok(Some(Item::Pair(key, value))) => out.push_str(format!(in alloc;
-                "<{key}|{value}>"
-            )?.as_str())?,
-            Err(Error::Parse(fault)) => {
-                out.push_str(format!(in alloc;
-                    "{:?} at {}:{}",
-                    fault.kind, fault.line, fault.col
-                )?.as_str())?;
+            Err(refusal) => {
+                out.push_str(place(alloc, refusal)?.as_str())?;
                 return Ok(out);
             }
-            Err(refusal) => return Err(Fail::from(refusal)),
         }
     }
-    Err(Fail::from("items without end"))
+    Ok(out)
 }
 
 fn with_multiline_values() -> ParseOption {
@@ -216,17 +228,17 @@ fn refusals_are_told_again(rt: HostRuntime) -> Result<(), Fail> {
     Ok(())
 }
 
-/// The message of the refusal of a text.
-fn message(alloc: Global, text: &str, option: ParseOption) -> Result<String, Fail> {
+/// The refusal of a text, printed.
+fn printed(alloc: Global, text: &str, option: ParseOption) -> Result<String, AllocError> {
     let mut parser = Parser::new(alloc, text, option);
     for _ in 0..1000u32 {
         match parser.next_item() {
-            Ok(None) => return Err(Fail::from("no refusal")),
             Ok(Some(_)) => {}
-            Err(refusal) => return Ok(refusal.to_string(alloc)?),
+            Ok(None) => return Ok(String::new(alloc)),
+            Err(refusal) => return refusal.to_string(alloc),
         }
     }
-    Err(Fail::from("items without end"))
+    Ok(String::new(alloc))
 }
 
 #[test]
@@ -251,10 +263,10 @@ fn messages(rt: HostRuntime) -> Result<(), Fail> {
         ("k=v\r# c", "1:6 doesn't support inline comment"),
         ("=v", "1:2 missing key"),
     ] {
-        let got = message(rt.alloc(), text, ParseOption::default())?;
+        let got = printed(rt.alloc(), text, ParseOption::default())?;
         assert_eq!(rt; got.as_str(), want, "at {text:?}");
     }
-    let got = message(rt.alloc(), "k=v\n\r", with_multiline_values())?;
+    let got = printed(rt.alloc(), "k=v\n\r", with_multiline_values())?;
     assert_eq!(rt; got.as_str(), "2:2 \\r is not followed by \\n");
     Ok(())
 }

@@ -1,6 +1,6 @@
-use Rattle.std.proofs.Common.{◌≡◌, ◌≤◌, [], List, length, chars, ap, ◌∙◌, sym, rules, arith, subst}
+use Rattle.std.proofs.Common.{chars, sym, rules, arith, subst}
 use Rattle.ini_text.specs.Elements.{Element, ElementStops}
-use Rattle.ini_text.specs.Fronts.{front_of, IsRest}
+use Rattle.ini_text.specs.Fronts.{front_of}
 use Rattle.ini_text.specs.Items.{given}
 use Rattle.ini_text.specs.Readers.{Begins, StoppedBy}
 use Rattle.ini_text.specs.Texts.{Reads}

@@ -1,5 +1,5 @@
 use Rattle.std.proofs.Common.{chars, ap, ◌∙◌, sym}
-use Rattle.std.proofs.lemmas.Bool.{cond-true, cond-false}
+use Rattle.std.proofs.lemmas.Bool.{cond-false}
 use Rattle.std.proofs.lemmas.Str.{chars-nil}
 use Rattle.ini_text.proofs.parser.element.begin_key.Goals as goal
 

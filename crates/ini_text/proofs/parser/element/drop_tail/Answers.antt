@@ -1,4 +1,4 @@
-use Rattle.std.proofs.Common.{◌≡◌, ◌∙◌, ap, chars, subst}
+use Rattle.std.proofs.Common.{◌∙◌, ap, chars, subst}
 use Rattle.ini_text.specs.Readers.{StoppedBy}
 use Rattle.ini_text.specs.Strings.{StrStops, key_ends}
 use Rattle.ini_text.specs.declared.parser.fault.Stop.TheVariants as stops

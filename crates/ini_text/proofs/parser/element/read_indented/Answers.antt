@@ -1,5 +1,4 @@
-use Rattle.std.proofs.Common.{◌≡◌, chars, ap, ◌∙◌, sym, true, false}
-use Rattle.ini_text.specs.Characters.{is_line_end}
+use Rattle.std.proofs.Common.{chars, ap, ◌∙◌, sym}
 use Rattle.ini_text.specs.ElementParts.{kept_blanks}
 use Rattle.ini_text.proofs.Elements.{blanks_at_end, blank_line, blanks_before_header}
 use Rattle.ini_text.proofs.Keys.{indented, key_begins, indented_key, tail_stops}

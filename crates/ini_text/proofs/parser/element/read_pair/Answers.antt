@@ -1,4 +1,4 @@
-use Rattle.std.proofs.Common.{◌≡◌, ◌≢◌, [], length, chars, string_bytes, sym, ◌∙◌, eqb-true, eq-eqb, true≢false}
+use Rattle.std.proofs.Common.{◌≢◌, [], chars, string_bytes, sym, ◌∙◌, eqb-true, eq-eqb, true≢false}
 use Rattle.std.proofs.lemmas.Result.{err_from_is_err_and}
 use Rattle.std.proofs.lemmas.Str.{IsUtf8-string_bytes}
 use Rattle.ini_text.specs.Scans.{text_of}

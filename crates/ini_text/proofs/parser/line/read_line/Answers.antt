@@ -1,4 +1,4 @@
-use Rattle.std.proofs.Common.{◌≡◌, ◌++◌, ◌&&◌, not, ◌∙◌, ap, sym, refl, rules, string_bytes, IsCharBoundary, subst, chars, take, drop, length}
+use Rattle.std.proofs.Common.{◌≡◌, ◌++◌, ◌&&◌, not, ◌∙◌, ap, sym, rules, string_bytes, IsCharBoundary, subst, chars, take, drop, length}
 use Rattle.std.proofs.lemmas.Result.{err_from_is_err_and}
 use Rattle.std.proofs.lemmas.Str.{IsUtf8-string_bytes}
 use Rattle.ini_text.specs.Lines.{Quoted}

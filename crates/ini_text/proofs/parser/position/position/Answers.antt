@@ -1,4 +1,4 @@
-use Rattle.std.proofs.Common.{◌≡◌, length, chars, ap, ◌∙◌, sym, rules, arith, refl}
+use Rattle.std.proofs.Common.{length, chars, ap, ◌∙◌, sym, rules, arith, refl}
 use Rattle.ini_text.proofs.Positions.{column-front, column-feed, line-feed, characters_fit}
 use Rattle.ini_text.proofs.parser.position.position.Goals as goal
 

@@ -1,4 +1,4 @@
-use Rattle.std.proofs.Common.{◌≡◌, ◌+◌, ◌≤◌, ◌<◌, ◌^◌, length, chars, count_by}
+use Rattle.std.proofs.Common.{◌≡◌, ◌+◌, ◌<◌, ◌^◌, length, chars, count_by}
 use denote.Text.{Utf8}
 use denote.Shadow.{shadow}
 use Rattle.ini_text.specs.Characters.{is_line_feed}

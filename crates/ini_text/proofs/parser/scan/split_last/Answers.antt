@@ -1,5 +1,4 @@
 use Rattle.std.proofs.Common.{◌∙◌, ap, sym, length, ◌++◌, encode_utf8}
-use Rattle.std.proofs.lemmas.Result.{err_from_is_err_and}
 use Rattle.ini_text.proofs.Scans.{no_chars, last_chars}
 use Rattle.ini_text.proofs.parser.scan.split_last.Goals as goal
 

@@ -1,4 +1,4 @@
-use Rattle.std.proofs.Common.{◌≡◌, refl, sym, ap, ◌∙◌}
+use Rattle.std.proofs.Common.{refl}
 use Rattle.ini_text.specs.Scans.{is_plain}
 use Rattle.ini_text.specs.ParserFaults.{ends_of}
 use Rattle.ini_text.proofs.Runs.{boundary, plain_wide, split_chars, run_chars, run_stops}

@@ -1,7 +1,3 @@
-use Rattle.std.proofs.Common.{◌≡◌, ◌∷◌, [], ◌∙◌, ◌++◌, sym, refl, ap, append-nil, append_assoc, true}
-use Rattle.ini_text.specs.Characters.{backslash}
-use Rattle.ini_text.specs.Pieces.{Escape, EscapeStops}
-use Rattle.ini_text.specs.Scans.{text_of}
 use Rattle.ini_text.proofs.Escapes.{folded, kept, one_character, with_units}
 use Rattle.ini_text.proofs.parser.string.read_escape.Goals as goal
 

@@ -1,4 +1,3 @@
-use Rattle.std.proofs.Common.{chars}
 use Rattle.ini_text.proofs.Units.{unit_end, unit_character, unit_cut, unit_folded, unit_broken}
 use Rattle.ini_text.proofs.parser.string.read_unit.Goals as goal
 

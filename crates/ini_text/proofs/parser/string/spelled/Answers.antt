@@ -1,4 +1,4 @@
-use Rattle.std.proofs.Common.{◌≡◌, ◌||◌, eqb, Some, None, true, refl, ap}
+use Rattle.std.proofs.Common.{◌≡◌, ◌||◌, eqb, true, refl}
 use Rattle.std.specs.Char.{is_digit}
 use Rattle.ini_text.specs.Characters.{plus}
 use Rattle.ini_text.specs.Pieces.{first_digit}

@@ -1,4 +1,4 @@
-use Rattle.std.proofs.Common.{◌≡◌, [], ◌∷◌, ◌++◌, chars, ap, ◌∙◌, sym, rules, append_assoc, append-nil, subst}
+use Rattle.std.proofs.Common.{[], ◌∷◌, ◌++◌, chars, ap, ◌∙◌, sym, rules, append_assoc, append-nil, subst}
 use Rattle.std.proofs.lemmas.Result.{err_from_is_err_and}
 use Rattle.ini_text.specs.Characters.{line_feed, is_blank, is_line_end, BeginsWithNo}
 use Rattle.ini_text.specs.Scans.{text_of}

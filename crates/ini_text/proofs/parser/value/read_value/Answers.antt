@@ -1,9 +1,5 @@
-use Rattle.std.proofs.Common.{◌≡◌, ◌∙◌, ap, sym, chars, subst, []}
+use Rattle.std.proofs.Common.{◌∙◌, ap, chars}
 use Rattle.std.proofs.lemmas.Result.{err_from_is_err_and}
-use Rattle.std.proofs.lemmas.Str.{chars-nil}
-use Rattle.ini_text.specs.Lines.{Line}
-use Rattle.ini_text.specs.Readers.{Appended}
-use Rattle.ini_text.specs.Scans.{text_of}
 use Rattle.ini_text.specs.White.{without_outer_line_feeds}
 use Rattle.ini_text.proofs.Appending.{from_nothing}
 use Rattle.ini_text.proofs.Values.{one_line, value_to_end, value_of_lines, first_line_stops, later_line_stops}
