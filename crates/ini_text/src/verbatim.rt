@@ -33,6 +33,8 @@ fn begins_escaped(policy: EscapePolicy, byte: u8) -> bool
     ensures { result ≡ begins_escaped policy byte }
 {
     match byte {
+        // What no policy escapes comes first: these are most bytes of most texts.
+        b' '..=b'"' | b'$'..=b'9' | b'<' | b'>'..=b'[' | b']'..=b'~' => false,
         0x00..=0x7F => policy.should_escape(char::from(byte)),
         0x80..=0xBF => false,
         0xC0..=0xEF => policy.should_escape('\u{80}'),

@@ -76,7 +76,11 @@ pub(crate) fn skip(text: &str, class: Class) -> &str
 fn is_plain(ends: Endpoints, byte: u8) -> bool
     ensures { result ≡ is_plain (ends_of ends) byte }
 {
-    byte != b'\\' && !ends.contain(char::from(byte))
+    // No string ends at a letter, a digit, a space or beyond ASCII: these are most bytes of most texts.
+    match byte {
+        b' ' | b'0'..=b'9' | b'?'..=b'[' | b'^'..=0xFF => true,
+        _ => byte != b'\\' && !ends.contain(char::from(byte)),
+    }
 }
 
 fn run_len(bytes: &[u8], ends: Endpoints) -> usize

@@ -1,0 +1,3 @@
+pub mod PlaceLemmas
+pub mod DistinctLemmas
+pub mod RingLemmas

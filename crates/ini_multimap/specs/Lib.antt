@@ -1,0 +1,6 @@
+pub mod Iter
+pub mod KeyLaws
+pub mod Keys
+pub mod Lends
+pub mod Pairs
+pub mod Places

@@ -1,0 +1,17 @@
+//! A multimap that keeps the order of insertion: pairs of a key and a value, of which several may
+//! have one key.
+//!
+//! A `Multimap` is seen as the list of its pairs, and each call as a function on that list. Which
+//! keys are the same is said by the key type alone (`MapKey`), and what a look-up asks for by a
+//! `Probe`. The crate knows neither texts nor documents; it stands on `std` alone.
+#![tactic(auto)]
+
+mod key;
+mod multimap;
+#[cfg(test)]
+mod tests;
+mod walk;
+
+pub use key::{MapKey, Probe};
+pub use multimap::{Multimap, Refused};
+pub use walk::{IntoIter, Iter, IterMut, Keys, Removed, Values, ValuesMut};
