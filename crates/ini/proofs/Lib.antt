@@ -1,0 +1,10 @@
+pub mod EditLemmas
+pub mod EverySection
+pub mod LastSection
+pub mod ListLemmas
+pub mod Marks
+pub mod PropertyLemmas
+pub mod Reading
+pub mod SectionLemmas
+pub mod TextLemmas
+pub mod Writing

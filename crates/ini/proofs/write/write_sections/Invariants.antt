@@ -1,0 +1,7 @@
+use Rattle.ini.specs.Written.{written, written_sections}
+use Rattle.ini.proofs.Writing.{Writing}
+use Rattle.ini.proofs.write.write_sections.Given as goal
+
+abbrev pub invariant-loop-name : goal.invariant-loop-name
+invariant-loop-name g l =
+    Writing g.W.Write.contents l.fn.out l.out (written l.document l.option) (written_sections l.option l.earlier l.name-iterator)

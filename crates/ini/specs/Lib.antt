@@ -1,0 +1,13 @@
+pub mod Texts
+pub mod Properties
+pub mod Documents
+pub mod Edits
+pub mod Equality
+pub mod Walks
+pub mod Lends
+pub mod Loading
+pub mod Written
+pub mod Writes
+pub mod Pieces
+pub mod Entries
+pub mod Setter

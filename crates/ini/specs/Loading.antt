@@ -1,0 +1,78 @@
+-- What loading a text or bytes answers.
+use Rattle.std.specs.Prelude.{◌≡◌, ℕ, Bool, if◌then◌else◌, nat_eq, List, [], ◌∷◌, drop, length, Result, Err, ⊤}
+use Rattle.std.specs.List.{starts_with}
+use Rattle.std.specs.Str.{IsUtf8, chars}
+use Rattle.std.specs.Cow.{cow_str_bytes}
+use Rattle.ini_text.specs.Elements.{Given}
+use Rattle.ini_text.specs.Messages.{HasMessage}
+use Rattle.ini_text.specs.Positions.{column_of, line_of}
+use Rattle.ini_text.specs.Texts.{Derives, Stops}
+use Rattle.ini_text.specs.declared.error.Error.{Error}
+use Rattle.ini_text.specs.declared.error.Error.TheVariants.{Io, Memory, NoProgress, NotUtf8, Parse}
+use Rattle.ini_text.specs.declared.error.ParseError.{ParseError}
+use Rattle.ini_text.specs.declared.option.ParseOption.{ParseOption}
+use Rattle.ini.specs.Texts.{Text}
+use Rattle.ini.specs.Documents.{Document, document_of}
+
+-- it is the document of the items that the text derives
+pub record IsDocumentOf (o : ParseOption) (T : Text) (d : Document) : Type 0 where
+  pub items : List Given
+  pub derives : Derives o T items
+  pub document : d ≡ document_of items
+
+-- reading the text stops at the end of a front, and the error tells kind, line, column and message
+pub record IsStopOf (o : ParseOption) (T : Text) (e : ParseError) : Type 0 where
+  pub front : Text
+  pub stops : Stops o T e.kind front
+  pub line : e.line ≡ line_of front
+  pub column : e.col ≡ column_of front
+  pub message : HasMessage e.kind (cow_str_bytes e.msg)
+
+-- what holds of a parse fault, if it is one
+abbrev pub IfParse : {X : Type 0} → Result X Error → (ParseError → Type 0) → Type 0
+IfParse (Err (Parse e)) P = P e
+IfParse _ P = ⊤
+
+-- the text was refused, or memory was
+abbrev pub IsParseOrMemory : Error → Type 0
+IsParseOrMemory (Parse _) = ⊤
+IsParseOrMemory (Memory _) = ⊤
+IsParseOrMemory _ = ⊥
+
+-- a mark: the bytes EF BB BF
+abbrev pub mark : List ℕ
+mark = 0xEF ∷ 0xBB ∷ 0xBF ∷ []
+
+-- the bytes without one mark at their front
+abbrev pub without_mark : List ℕ → List ℕ
+without_mark bytes = if starts_with nat_eq bytes mark then drop (length mark) bytes else bytes
+
+-- the bytes that are read as a text
+abbrev pub text_bytes : Bool → List ℕ → List ℕ
+text_bytes drop_mark bytes = if drop_mark then without_mark bytes else bytes
+
+-- the bytes are UTF-8, and P holds of their text
+abbrev pub IsTextWith : (Text → Type 0) → List ℕ → Type 0
+IsTextWith P bytes = IsUtf8 bytes × P (chars bytes)
+
+-- the bytes were no text
+abbrev pub IsNotUtf8 : {X : Type 0} → Result X Error → Type 0
+IsNotUtf8 (Err NotUtf8) = ⊤
+IsNotUtf8 _ = ⊥
+
+-- what holds once the device was read to its end
+abbrev pub OnReadThrough : {X : Type 0} → Result X Error → Type 0 → Type 0
+OnReadThrough (Err (Io _)) P = ⊤
+OnReadThrough (Err (Memory _)) P = ⊤
+OnReadThrough _ P = P
+
+-- the device failed, or memory was refused
+abbrev pub IsIoOrMemory : Error → Type 0
+IsIoOrMemory (Io _) = ⊤
+IsIoOrMemory (Memory _) = ⊤
+IsIoOrMemory _ = ⊥
+
+-- every refusal but that of a writer
+abbrev pub IsReadRefusal : Error → Type 0
+IsReadRefusal NoProgress = ⊥
+IsReadRefusal _ = ⊤

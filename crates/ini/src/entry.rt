@@ -1,0 +1,144 @@
+//! A name's place in a document: vacant, or occupied by its first section. This file knows the calls of a document.
+ghost use Rattle.std.specs.Prelude.{◌≡◌, ◌++◌, ◌∷◌, [], IfErr, IfOk, IsSome, MatchOption, None, OnErr, OnOk, Some, unwrap_or, ⊤};
+ghost use Rattle.std.specs.Borrow.{sem};
+ghost use Rattle.ini.specs.Texts.{name_of};
+ghost use Rattle.ini.specs.Documents.{first_section};
+
+use crate::document::{Ini, SectionKey};
+use crate::iter::lent;
+use crate::properties::Properties;
+
+/// What a refused entry hands back.
+#[derive(Debug, Drop)]
+pub struct NoRoom {
+    /// The properties that were to go in.
+    pub value: Properties,
+}
+
+/// A name's place in a document.
+#[derive(Drop)]
+pub enum SectionEntry<'a> {
+    /// No section has the name.
+    Vacant(SectionVacantEntry<'a>),
+    /// A section has it.
+    Occupied(SectionOccupiedEntry<'a>),
+}
+
+/// The place of a name that no section has.
+#[derive(Drop)]
+pub struct SectionVacantEntry<'a> {
+    ini: &'a mut Ini,
+    name: SectionKey,
+    ghost absent: { first_section (name_of name) ini.now ≡ None },
+}
+
+/// The place of a name that a section has.
+#[derive(Drop)]
+pub struct SectionOccupiedEntry<'a> {
+    ini: &'a mut Ini,
+    name: SectionKey,
+    ghost present: { IsSome (first_section (name_of name) ini.now) },
+}
+
+impl Ini {
+    ghost use Rattle.ini.specs.Entries.{MatchEntry, entry_document, entry_name};
+
+    /// The name's place: occupied where a section of the name is there. Takes no memory.
+    pub fn entry(&mut self, name: SectionKey) -> SectionEntry<'_>
+        ensures same_document { (entry_document result).ghost_name ≡ self.entry.ghost_name }
+        ensures unchanged { (entry_document result).now ≡ self.old }
+        ensures name { entry_name result ≡ name_of name }
+        ensures found { MatchEntry result (first_section (name_of name) self.old ≡ None) (IsSome (first_section (name_of name) self.old)) }
+    {
+        if self.section(lent(&name)).is_some() {
+            SectionEntry::Occupied(SectionOccupiedEntry { ini: self, name })
+        } else {
+            SectionEntry::Vacant(SectionVacantEntry { ini: self, name })
+        }
+    }
+}
+
+impl<'a> SectionEntry<'a> {
+    ghost use Rattle.ini.specs.Entries.{MatchEntry, entry_document, entry_lends_ok, entry_name};
+
+    /// The first section of the name, for writing; where there is none one with these properties is opened last.
+    ///
+    /// Refused, for want of memory alone, it hands them back, and the document stays as it was. An occupied entry is never
+    /// refused.
+    pub fn or_insert(self, value: Properties) -> Result<&'a mut Properties, NoRoom>
+        ensures* writes_back { sem 𝓛 (entry_lends_ok self.entry result) }
+        ensures value { IfOk result (λ section. section.now ≡ unwrap_or (first_section (entry_name self.entry) (entry_document self.entry).now) value) }
+        ensures handed_back { IfErr result (λ refused. refused.value ≡ value) }
+        ensures refused_only_if_vacant { OnErr result (first_section (entry_name self.entry) (entry_document self.entry).now ≡ None) }
+    {
+        match self {
+            SectionEntry::Vacant(entry) => entry.insert(value),
+            SectionEntry::Occupied(entry) => Ok(entry.into_mut()),
+        }
+    }
+
+    /// As `or_insert` of what the closure answers, which is called only where the entry is vacant.
+    pub fn or_insert_with<F: FnOnce() -> Properties>(
+        self,
+        default: F,
+    ) -> Result<&'a mut Properties, NoRoom>
+        requires { MatchEntry self (F.pre default) ⊤ }
+        ensures* writes_back { sem 𝓛 (entry_lends_ok self.entry result) }
+        ensures value { IfOk result (λ section. MatchOption (first_section (entry_name self.entry) (entry_document self.entry).now) (F.post default section.now) (λ found. section.now ≡ found)) }
+        ensures handed_back { IfErr result (λ refused. F.post default refused.value) }
+        ensures refused_only_if_vacant { OnErr result (first_section (entry_name self.entry) (entry_document self.entry).now ≡ None) }
+    {
+        match self {
+            SectionEntry::Vacant(entry) => entry.insert(default()),
+            SectionEntry::Occupied(entry) => Ok(entry.into_mut()),
+        }
+    }
+}
+
+impl<'a> SectionVacantEntry<'a> {
+    ghost use Rattle.ini.specs.Entries.{Vacant, entry_lends_ok};
+
+    /// Opens the section with these properties, last.
+    ///
+    /// Refused, for want of memory alone, it hands them back, and the document stays as it was.
+    pub fn insert(self, value: Properties) -> Result<&'a mut Properties, NoRoom>
+        ensures* writes_back { sem 𝓛 (entry_lends_ok (Vacant self.entry) result) }
+        ensures value { IfOk result (λ section. section.now ≡ value) }
+        ensures handed_back { IfErr result (λ refused. refused.value ≡ value) }
+    {
+        let SectionVacantEntry { ini, name } = self;
+        ini.open_section(name, value)
+    }
+}
+
+impl<'a> SectionOccupiedEntry<'a> {
+    ghost use Rattle.ini.specs.Entries.{Occupied, entry_lends};
+
+    /// The first section of the name, for writing.
+    pub fn into_mut(self) -> &'a mut Properties
+        ensures* writes_back { sem 𝓛 (entry_lends (Occupied self.entry) result) }
+        ensures section { first_section (name_of self.entry.name) self.entry.ini.now ≡ Some result.now }
+    {
+        let SectionOccupiedEntry { ini, name } = self;
+        ini.first_section_mut(&name)
+    }
+
+    /// Opens another section of the name, last.
+    ///
+    /// Refused, for want of memory alone, it hands the properties back, and the document stays as it was.
+    pub fn append(&mut self, value: Properties) -> Result<(), NoRoom>
+        ensures same_document { self.new.ini.ghost_name ≡ self.old.ini.ghost_name }
+        ensures name { self.new.name ≡ self.old.name }
+        ensures appended { OnOk result (self.new.ini.now ≡ self.old.ini.now ++ (name_of self.old.name, value) ∷ []) }
+        ensures unchanged { OnErr result (self.new.ini.now ≡ self.old.ini.now) }
+        ensures handed_back { IfErr result (λ refused. refused.value ≡ value) }
+    {
+        match self.name.clone() {
+            Ok(name) => self.ini.append_section(name, value),
+            Err(_) => Err(NoRoom { value }),
+        }
+    }
+}
+
+#[cfg(test)]
+mod tests;

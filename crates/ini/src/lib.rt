@@ -1,0 +1,27 @@
+//! Documents of INI files: texts in, edits, texts out.
+//!
+//! An `Ini` is seen as the list of its sections, each a name and the list of its pairs; a text as the list of its
+//! characters. Loading puts the items of a text into sections, writing puts sections into a text; what a text means and how
+//! a name, a key or a value is written is said by `ini_text`, where each pair stands by `ini_multimap`.
+#![tactic(auto)]
+
+mod document;
+mod entry;
+mod iter;
+mod load;
+mod properties;
+mod setter;
+mod write;
+
+pub use document::{Ini, SectionKey};
+pub use entry::{NoRoom, SectionEntry, SectionOccupiedEntry, SectionVacantEntry};
+pub use ini_text::{
+    Error, EscapePolicy, LineSeparator, ParseError, ParseKind, ParseOption, Watched, WriteOption,
+    write_escaped, write_raw,
+};
+pub use iter::{
+    PropertiesIntoIter, PropertyIter, PropertyIterMut, PropertyValues, RemovedValues, SectionAll,
+    SectionAllMut, SectionIntoIter, SectionIter, SectionIterMut, SectionNames,
+};
+pub use properties::{Properties, PropertyKey};
+pub use setter::{LentName, SectionName, SectionSetter};

@@ -1,0 +1,142 @@
+//! Edits of the sections of one name, one after another. This file knows the edits of a document, and how a name is lent.
+ghost use Rattle.std.specs.Prelude.{◌≡◌, IfOk, IsOkUnless, Option, None, alloc_error};
+ghost use Rattle.std.specs.Borrow.{sem};
+ghost use Rattle.std.specs.Option.{option_map};
+ghost use Rattle.std.specs.Str.{chars};
+ghost use Rattle.ini.specs.Texts.{Text, str_name, str_text};
+ghost use Rattle.ini.specs.Documents.{value_in};
+ghost use Rattle.ini.specs.Edits.{add_in, delete_in_all, set_in};
+ghost use Rattle.ini.specs.Setter.{lent_name, rests_if_refused};
+
+use crate::document::Ini;
+use ini_text::Error;
+
+/// What stands for the name of a section.
+pub trait SectionName: Copy + Drop {
+    // The name that it stands for.
+    ghost section_name: { Self → Option Text };
+
+    /// The name; `None` is the general section's.
+    fn name(&self) -> Option<&str>
+        ensures { str_name result ≡ section_name self.now };
+}
+
+/// A name that is lent.
+#[derive(Clone, Copy)]
+pub struct LentName<'n> {
+    named: bool,
+    text: &'n str,
+}
+
+impl<'n> LentName<'n> {
+    fn new(name: Option<&'n str>) -> LentName<'n>
+        ensures { lent_name result ≡ str_name name.entry }
+    {
+        match name {
+            Some(text) => LentName { named: true, text },
+            None => LentName {
+                named: false,
+                text: "",
+            },
+        }
+    }
+}
+
+impl<'n> SectionName for LentName<'n> {
+    ghost section_name = { lent_name };
+
+    fn name(&self) -> Option<&str> {
+        if self.named { Some(self.text) } else { None }
+    }
+}
+
+/// Edits the sections of one name of a document.
+///
+/// `set` and `add` hand the setter on, so that edits are chained: `setter.set("k", "v")?.set("j", "w")?`.
+#[derive(Drop)]
+pub struct SectionSetter<'a, N = LentName<'a>> {
+    ini: &'a mut Ini,
+    name: N,
+}
+
+impl Ini {
+    /// A setter for the sections of the name. Takes no memory.
+    pub fn with_section<'a>(&'a mut self, name: Option<&'a str>) -> SectionSetter<'a>
+        ensures same_document { result.ini.ghost_name ≡ self.entry.ghost_name }
+        ensures document { result.ini.now ≡ self.old }
+        ensures name { lent_name result.name ≡ str_name name.entry }
+    {
+        SectionSetter {
+            ini: self,
+            name: LentName::new(name),
+        }
+    }
+
+    /// A setter for the general sections. Takes no memory.
+    pub fn with_general_section(&mut self) -> SectionSetter<'_>
+        ensures same_document { result.ini.ghost_name ≡ self.entry.ghost_name }
+        ensures document { result.ini.now ≡ self.old }
+        ensures name { lent_name result.name ≡ None }
+    {
+        self.with_section(None)
+    }
+}
+
+impl<'a, N: SectionName> SectionSetter<'a, N> {
+    /// Sets the value of the key in the first section of the name, as `Properties::insert` does; where there is no such
+    /// section a new one with that pair is opened last. The setter is handed on.
+    ///
+    /// Refused, for want of memory alone, the document stays as it was, and the setter is gone.
+    pub fn set(self, key: &str, value: &str) -> Result<SectionSetter<'a, N>, Error>
+        ensures same_document { IfOk result (λ s. s.ini.ghost_name ≡ self.entry.ini.ghost_name) }
+        ensures set { IfOk result (λ s. s.ini.now ≡ set_in (N.section_name self.entry.name) (chars key.now) (chars value.now) self.entry.ini.now) }
+        ensures name { IfOk result (λ s. s.name ≡ self.entry.name) }
+        ensures only_memory { IsOkUnless result (Error.Memory alloc_error) }
+        ensures* unchanged { sem 𝓛 (rests_if_refused self.entry.ini result) }
+    {
+        let SectionSetter { ini, name } = self;
+        match ini.set(name.name(), key, value) {
+            Ok(()) => Ok(SectionSetter { ini, name }),
+            Err(refused) => Err(refused),
+        }
+    }
+
+    /// Appends the pair to the first section of the name; where there is none a new one with that pair is opened last. The
+    /// setter is handed on.
+    ///
+    /// Refused, for want of memory alone, the document stays as it was, and the setter is gone.
+    pub fn add(self, key: &str, value: &str) -> Result<SectionSetter<'a, N>, Error>
+        ensures same_document { IfOk result (λ s. s.ini.ghost_name ≡ self.entry.ini.ghost_name) }
+        ensures added { IfOk result (λ s. s.ini.now ≡ add_in (N.section_name self.entry.name) (chars key.now) (chars value.now) self.entry.ini.now) }
+        ensures name { IfOk result (λ s. s.name ≡ self.entry.name) }
+        ensures only_memory { IsOkUnless result (Error.Memory alloc_error) }
+        ensures* unchanged { sem 𝓛 (rests_if_refused self.entry.ini result) }
+    {
+        let SectionSetter { ini, name } = self;
+        match ini.add(name.name(), key, value) {
+            Ok(()) => Ok(SectionSetter { ini, name }),
+            Err(refused) => Err(refused),
+        }
+    }
+
+    /// Takes the first pair of the key out of every section of the name.
+    pub fn delete(&mut self, key: &str) -> &mut Self
+        ensures same_reference { result.ghost_name ≡ self.entry.ghost_name }
+        ensures same_document { result.now.ini.ghost_name ≡ self.old.ini.ghost_name }
+        ensures deleted { result.now.ini.now ≡ delete_in_all (N.section_name self.old.name) (chars key.now) self.old.ini.now }
+        ensures name { result.now.name ≡ self.old.name }
+    {
+        self.ini.delete_from_all(self.name.name(), key);
+        self
+    }
+
+    /// The first value of the key in the first section of the name.
+    pub fn get(&self, key: &str) -> Option<&str>
+        ensures { option_map str_text result ≡ value_in (N.section_name self.now.name) (chars key.now) self.now.ini.now }
+    {
+        self.ini.get_from(self.name.name(), key)
+    }
+}
+
+#[cfg(test)]
+mod tests;

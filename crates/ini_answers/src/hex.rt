@@ -1,0 +1,52 @@
+//! Texts in hexadecimal: two lower-case digits for each byte of their UTF-8.
+ghost use Rattle.std.specs.Prelude.{◌<◌};
+
+use std::alloc::{AllocError, Global};
+use std::io::{self, ErrorKind};
+
+fn digit(value: u8) -> char
+    requires { value < 16 }
+{
+    if value < 10 {
+        char::from(b'0' + value)
+    } else {
+        char::from(b'a' + (value - 10))
+    }
+}
+
+/// Appends a text in hexadecimal.
+pub fn push_hex(line: &mut String, text: &str) -> Result<(), AllocError> {
+    for byte in text.bytes() {
+        line.push(digit(byte / 16))?;
+        line.push(digit(byte % 16))?;
+    }
+    Ok(())
+}
+
+fn byte(high: u8, low: u8) -> Option<u8> {
+    let high = char::from(high).to_digit(16)?;
+    let low = char::from(low).to_digit(16)?;
+    u8::try_from(high * 16 + low).ok()
+}
+
+/// The text that stands in hexadecimal.
+///
+/// # Errors
+///
+/// `InvalidInput` where the digits are no bytes or the bytes no UTF-8, and refused memory.
+pub fn text_of_hex(alloc: Global, digits: &str) -> io::Result<String> {
+    let mut bytes = Vec::with_capacity(alloc, digits.len() / 2)?;
+    for pair in digits.as_bytes().chunks(2) {
+        match pair {
+            [high, low] => match byte(*high, *low) {
+                Some(byte) => bytes.push(byte)?,
+                None => return Err(ErrorKind::InvalidInput.into()),
+            },
+            _ => return Err(ErrorKind::InvalidInput.into()),
+        }
+    }
+    match String::from_utf8(bytes) {
+        Ok(text) => Ok(text),
+        Err(_) => Err(ErrorKind::InvalidInput.into()),
+    }
+}

@@ -1,0 +1,122 @@
+"""Texts that tell readers of INI files apart, and the smallest text of each declared departure.
+
+The texts stand by the rule that each is about. What they give is asked of the Rust crate, never of this library.
+"""
+import grammar
+from grammar import DEFAULT, INLINE_WHITE
+from texts import SETTINGS
+
+BETWEEN_ITEMS = [
+    "", "\n\n\n", " ", "\t \t", " \n", "k", "  k", "  k\nj", "  k\nj=v", "a=b\n\u3000k=v", "a=b\n\x0b[s]\n", "a=b\n\x0b# c",
+    "a=b\n \x0bk=v", "a=b\n\t[s]\n", "a=b\r\t[s]\rc=d", "a=b\n \n  c=d", "a=b\r\n \r\n  c=d",
+    "[s]  \n", "[s] k=v", "[s]\t\tk=v", "a=b\n  ", "a=b\n\t#x=y\n", "[a]\n  # x\nk=v\n", "a=b\n\u00a0k=v",
+    "[SectionA]\nKey1=Value1\n\n\t  [SectionB]\n\t  Key2=Value2", "\n\n\n\r\n  key1=value1\n\tkey2=value2\nkey3=value3\n[Section]\nkeyA=valueA",
+]  # fmt: skip
+
+COMMENTS = [
+    "; c", "# c\n", "#\rk=v", "#\r\nk=v", "# a\\\nk=v", "k=v\r# c\n", "[s] ; c", "[s]#c", "\n\n; c\nk=v", "k=v ; c", "k=v\n;\n#\nj=w",
+    "\n[section name] # comment in section line\n", "k=v\n# [s]\nj=w", "k=v\r\n; c\r\nj=w",
+]  # fmt: skip
+
+HEADERS = [
+    "[s]", "[ s ]", "[\u3000s\u2003]", "[]", "[ ]\nk=v", "[s", "[s\n]", "[s\r\nt]k=v", "[a]]=b", "[[a]]", "[a\\]b]", "[a\\\nb]", "[a\\nb]",
+    "[\\ a\\t]", "[a\\x0041]", "[a\\", "[a\\x004", "[a=b:c]", "[;#]", "[a][b]c=d", "[s]\n[s]\nk=v\n[t]\n[s]\nk=w", "[[*]]\t\t\na = b\n",
+    "[a]\\", "[\"a]\"]", "k=1\nk=2\n[s]\nk=3\nk=4\n[s]\nk=5\n[t]", "[é\U0001f431",
+]  # fmt: skip
+
+KEYS = [
+    "k=v", "k:v", "k =v", " k = v ", "k\n=v", "abc\nk=v", "a b=c", "=v", ":", "  :v", "a\\=b=c", "a\\:b:c",
+    "\\[a]=b", "\\;a=b", "\\#=x", "\"k\"=v", "'k'=v", "k]=v", "]=v", "k\\\nj=v", "k\\\r\nj=v", "\\x006b=v", "\\ k=v", "k\\ =v",
+    "k\u3000=v", "k\t=v", "k\\t=v", "k\\\\=v", "\\x3d=v", "k\\", "k\\x00", "a=b\n  k\\", "a=b\n  \\x00", "a=b\n \\k=v", "\n\n\n=", "[s]=v",
+]  # fmt: skip
+
+INDENTED = [
+    "a=b\n  k=v", "a=b\n\tk\t=v", "a=b\n \t k =v\n", "a=b\n  \\tk=v", "a=b\n \u2003k=v", "a=b\n  k\n  j=v", "a=b\r k=v", "a=b\n =v", "a=b\n  \\ =v",
+    "a=b\n  ;x=y", "a=b\n\n\n  c=d\n", " \tk = v", "a=b\n\x0b k=v", "a=b\n k\\\n j=v", "[section]\nkey1=value1\n  key2=value2\n    key3=value3\n",
+    "[profile dev]\nservices=my-services\n\n[services my-services]\ndynamodb=\n  endpoint_url=http://localhost:8000\n",
+]  # fmt: skip
+
+VALUES = [
+    "k=", "k=\n", "k= \t", "k=\n\nj=w", "k= v w ", "k=\u3000v\u3000", "k==v", "k=:v", "k=v=w", "k=v\rj=w", "k=v\r\nj=w", "k=\\ v\\ ",
+    "k=\\tv\\t", "k=v\\", "k=v\\\n", "k=a\\\nb", "k=a\\\n  b", "k=a\\\r\nb=c", "k=a\\\rb", "k=[v]", "k=#v", "k= ;v", "k=v\x0bw", "k=\x0b\x0cv\x0c",
+    "path=C:\\Windows\\Some\\Folder\\", "Key3=C:\\Windows\nlocation=Guangzhou=world", "k=\rj", "k=v\r",
+]  # fmt: skip
+
+ESCAPES = [
+    "k=\\0\\a\\b\\t\\r\\ne", "k=\\f\\v\\e\\\"\\'\\;", "k=\\X0041", "k=\\x0041", "k=\\x00e9\\x00C9", "k=\\xd7ff\\xe000", "k=\\xD800", "k=\\xdfff",
+    "k=\\xFFFF", "k=\\x0000", "k=\\x+041", "k=\\x+fFf", "k=\\x-041", "k=\\x++41", "k=\\x004+", "k=\\x 041", "k=\\x1f431", "k=\\x004", "k=\\x",
+    "k=\\x00\n1", "k=\\x00\\\n1", "k=\\x004\\\n1", "k=\\x004\\\nj=v", "k=\\x004\r", "k=\\x00é1", "k=\\x00\uff141", "k=\\x0041\\x0042", "k=\\\\x0041",
+    "k=\\x0123\\x4567\\x89ab\\xcdef\\xABCD\\xEF01", "k=\\\\", "k=\\\\\\", "k=\\é", "\n\\x", "[\\xgggg]", "k=a\\x",
+    "\n\b\x44\b=\n~~=1\n>\b\b=\n[]]$[=\nK[\n\n\n=\\xDFFFFF~=\n",
+]  # fmt: skip
+
+QUOTES = [
+    'k="v"', "k='v'", 'k="a""b" c', "k=\"a\"'b' c ", 'k= "a" "b"', 'k="a', "k='a", 'k="a\n b"\n', 'k="a\r\nb"', 'k="" ', 'k="  a  "  ',
+    'k="a\\"b"', "k='a\\'b'", 'k="a\\\nb"', 'k="a\\', 'k="a\\n"', 'k="\\x0041"', 'k="\\x00"', 'k=a"b"', "k=\"a'b\"", "k='a\"b'",
+    'k=\\"a"', 'k="a" ; c', 'k="a"=b', '"k"="v"', 'k="]=:;#"', 'k=\u00a0"a"', 'k="a"\\ b', 'k="a"\\', "k=\"a\nb\"'", 'k="a"\n"b"=c',
+    "Key2='Single Quote' with extra value\nKey='x", "\n[Foo]\nKey=   \"  quoted with whitespace \"  \n        ",
+    "[Test]\nComment[tr]=\u0130nternet'e eri\u015fin\n",
+]  # fmt: skip
+
+MULTILINE = [
+    "k=v\n w", "k=v\n\tw", "k=v\r w", "k=v\n\n w", "k=v\n\r\n w", "k=v\n\r w", "k=v\n\rx", "k=v\n\r", "k=v\r\r\n w", "k=v\n \n w", "k=v\n  \n",
+    "k=v\n w\n\nx=y", "k=\n u\n v\n", "k=\n\n u", "k=v\n  # c", "k=v\n ; c\n x", "k=v\n [s]", "k=v\n \"w\" x ", 'k="v"\n w', 'k="v\n w"\n x',
+    'k="\n\nv\n\n"', 'k="\nv" \n', "k=v\\\n w", "k=v \\\n w", "k=v\n w\\\n x\ny=z", "k=v\n \u3000w", "k=v\n \x0b\n w", "k=v\n\x0b\n w", "k=v\n w=x",
+    "k=v\n \\ w", "k=v\n w \\n", "k=\\nv\\n", "k=v\n \\nw", "a=1\n  b=2\n", "k=v\n 'a\n", "k=v\r\n[s]\r\nj=w\r\n", "k=v\n\n\n[s]", "k=v\n  \\x00",
+    "\n[Foo]\nbar =\n    u\n    v\n\nbaz = w\n  x # intentional trailing whitespace below\n   y \n\n z #2\nbla = a\n",
+]  # fmt: skip
+
+CHARACTERS = [
+    f"k={INLINE_WHITE}v{INLINE_WHITE}",
+    "\ufeff[Test]Key=Value\n", "k=\u2028v\u2028", "k=a\u2028b", "k=v\u2028j=w", "k=\u200bv\u1fff", "k=\ufeffv", "k=\x1cv\x1f", "k=\x00", "k=\u180ev",
+    "k=\x85v\x85", "k=\u1680v\u202f", "ключ=значение", "k=\U0001f431", "é=ü\nß", "\U0001f431\U0001f431", "a=é\\xd800", "é\r\n\r\nü\\",
+    "k=e\u0301\u0301",
+]  # fmt: skip
+
+MULTILINE_ON = DEFAULT._replace(multiline=True)
+INDENT_ON = DEFAULT._replace(indent=True)
+
+# The texts, beside the options by which they are asked first.
+TELLING = (
+    (DEFAULT, BETWEEN_ITEMS + COMMENTS + HEADERS + KEYS),
+    (INDENT_ON, INDENTED),
+    (DEFAULT, VALUES + ESCAPES + QUOTES),
+    (MULTILINE_ON, MULTILINE),
+    (DEFAULT, CHARACTERS + list(SETTINGS)),
+)
+
+
+def loaded(*items):
+    """The line of a document: its pairs, and before those of a section its name."""
+    words = ["ok G"]
+    for item in items:
+        words.append("S" + item.encode().hex() if isinstance(item, str) else "=".join(text.encode().hex() for text in item))
+    return " ".join(words)
+
+
+NO_ENDPOINT = "expecting \"[Some('='), Some(':')]\" but found EOF."
+
+# Each departure: the option set, the smallest text that shows it, the answer here, and the crate's.
+DEPARTURES_SHOWN = (
+    (grammar.WHITE_AT_START, DEFAULT, "\x0b", loaded(), f"err 1:2 {NO_ENDPOINT}"),
+    (grammar.WHITE_AT_START, DEFAULT, "\x0b#", "err 1:3 doesn't support inline comment", f"err 1:3 {NO_ENDPOINT}"),
+    (grammar.WHITE_AT_START, DEFAULT, "\x0b[a]", loaded("a"), f"err 1:5 {NO_ENDPOINT}"),
+    (grammar.WHITE_AT_START, INDENT_ON, "\x0bk=", loaded(("k", "")), loaded(("\x0bk", ""))),
+    (grammar.WHITE_BEHIND_BLANK_LINE, DEFAULT, "\t\n\u00a0", loaded(), f"err 2:2 {NO_ENDPOINT}"),
+    (grammar.BLANKS_AT_START, DEFAULT, "\n k", loaded(), f"err 2:3 {NO_ENDPOINT}"),
+    (grammar.BLANKS_AT_START, INDENT_ON, "\n k=", loaded((" k", "")), loaded(("k", ""))),
+    (grammar.BLANKS_BEHIND_BLANK_LINE, DEFAULT, " \n\n k", loaded(), f"err 3:3 {NO_ENDPOINT}"),
+    (grammar.BLANKS_BEHIND_COMMENT, DEFAULT, ";\n k", loaded(), f"err 2:3 {NO_ENDPOINT}"),
+    (grammar.BLANKS_BEHIND_COMMENT, INDENT_ON, ";\n k=", loaded((" k", "")), loaded(("k", ""))),
+    (grammar.BAD_ESCAPE_DROPPED, DEFAULT, " \\x\\\r", 'err 1:6 expecting "\\n" after a backslash in \\xHH form', loaded()),
+    (grammar.BAD_ESCAPE_DROPPED, DEFAULT, " \\xZZZZ=v", "err 1:8 unknown character in \\xHH form", loaded(("Z", "v"))),
+    (grammar.CR_LF_TWICE, MULTILINE_ON, "k=v\r\n w", loaded(("k", "v\nw")), loaded(("k", "v\n\nw"))),
+    (grammar.MESSAGE_CUT_SHORT, DEFAULT, "\\x\\", f"err 1:4 {NO_ENDPOINT}", 'err 1:4 expecting "\\\\n" but found "None".'),
+    (
+        grammar.MESSAGE_BROKEN,
+        DEFAULT,
+        "\\x\\k",
+        'err 1:5 expecting "\\n" after a backslash in \\xHH form',
+        "err 1:5 expecting \"\\\\n\" but found \"Some('k')\".",
+    ),
+)

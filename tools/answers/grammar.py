@@ -1,0 +1,317 @@
+"""The line grammar as a reader in Python, which can also go the Rust crate's way at each declared departure.
+
+`Reader(text, option).answer()` is the line that the grammar derives for a text, in the form that `ini_answers` prints.
+`Reader(text, option, departures).answer()` is that line where, at the departures named, the text is read as rust-ini
+0.21.3 reads it. So a difference between the two programs is declared exactly where the first line is the one's and, for
+some departures, the second line is the other's.
+"""
+from typing import NamedTuple
+
+BLANKS = " \t"
+LINE_ENDS = "\n\r"
+WHITE = "\t\n\x0b\x0c\r \x85\xa0\u1680" + "".join(map(chr, range(0x2000, 0x200B))) + "\u2028\u2029\u202f\u205f\u3000"
+INLINE_WHITE = "".join(c for c in WHITE if c not in LINE_ENDS)
+ESCAPES = {"0": "\0", "a": "\a", "b": "\b", "t": "\t", "r": "\r", "n": "\n"}
+HEXADECIMAL = frozenset("0123456789abcdefABCDEF")
+
+# Where a string ends, and what a refusal at the text's end says there. Only a plain part may end with the text.
+NAME, KEY, DOUBLE, SINGLE, PLAIN = "]", "=:", '"', "'", "\n\r"
+EXPECTED = {
+    NAME: "[Some(']')]",
+    KEY: "[Some('='), Some(':')]",
+    DOUBLE: "[Some('\"')]",
+    SINGLE: "[Some('\\'')]",
+    PLAIN: "[Some('\\n'), Some('\\r'), None]",
+}
+
+# The departures, each by what the crate does.
+WHITE_AT_START = "at the text's start, white other than blanks and line ends begins a key"
+WHITE_BEHIND_BLANK_LINE = "behind a line of blanks, white other than blanks and line ends begins a key"
+BLANKS_AT_START = "behind one line end at the text's start, blanks are no indentation"
+BLANKS_BEHIND_BLANK_LINE = "behind a line of blanks and one line end, blanks are no indentation"
+BLANKS_BEHIND_COMMENT = "behind a comment, blanks are no indentation"
+BAD_ESCAPE_DROPPED = "a bad escape in an indented key drops the key, and is not refused"
+CR_LF_TWICE = "CR LF within a multiline value counts as two line ends"
+MESSAGE_CUT_SHORT = "an escape cut short behind a backslash has a message of its own"
+MESSAGE_BROKEN = "the message of a broken escape shows the character"
+DEPARTURES = (
+    WHITE_AT_START,
+    WHITE_BEHIND_BLANK_LINE,
+    BLANKS_AT_START,
+    BLANKS_BEHIND_BLANK_LINE,
+    BLANKS_BEHIND_COMMENT,
+    BAD_ESCAPE_DROPPED,
+    CR_LF_TWICE,
+    MESSAGE_CUT_SHORT,
+    MESSAGE_BROKEN,
+)
+
+
+class Option(NamedTuple):
+    escape: bool
+    quote: bool
+    multiline: bool
+    indent: bool
+
+    def flags(self):
+        return "".join(str(int(flag)) for flag in self)
+
+    def changes(self):
+        """How many of the options are not as they are by default."""
+        return sum(one != other for one, other in zip(self, DEFAULT))
+
+
+DEFAULT = Option(escape=True, quote=True, multiline=False, indent=False)
+
+
+class Stop(Exception):
+    """Reading stops: the character that was looked at is the last of the first `front` characters."""
+
+    def __init__(self, front, message):
+        self.front = front
+        self.message = message
+
+
+class EndOfText(Stop):
+    """A string meets the text's end where that is no endpoint."""
+
+
+class BadEscape(Stop):
+    """The units of `\\x` are broken, or spell no character."""
+
+
+def shown(c):
+    """A character as Rust's debug form has it."""
+    named = {"\0": "\\0", "\t": "\\t", "\r": "\\r", "\n": "\\n", "'": "\\'", "\\": "\\\\"}
+    if c in named:
+        return named[c]
+    return c if c.isprintable() else "\\u{%x}" % ord(c)
+
+
+def spelled(units):
+    """The character that four units spell, or None."""
+    digits = units[1:] if units[0] == "+" else units
+    if not HEXADECIMAL.issuperset(digits):
+        return None
+    number = int(digits, 16)
+    return None if 0xD800 <= number <= 0xDFFF else chr(number)
+
+
+class Reader:
+    """Reads one text. `seen` collects the departures that were met on the way."""
+
+    def __init__(self, text, option, departures=()):
+        self.text = text
+        self.option = option
+        self.departures = departures
+        self.seen = set()
+        self.at = 0
+        # The departures that wait right here for white and for blanks behind a line end, if any.
+        self.waiting = (WHITE_AT_START, BLANKS_AT_START)
+        self.words = ["ok G"]
+
+    def answer(self):
+        try:
+            while self.at < len(self.text):
+                self.read_element()
+        except Stop as stop:
+            front = self.text[: stop.front]
+            line = 1 + front.count("\n")
+            column = len(front) - front.rfind("\n")
+            return f"err {line}:{column} {stop.message}"
+        return " ".join(self.words)
+
+    def departs(self, departure):
+        if departure not in self.departures:
+            return False
+        self.seen.add(departure)
+        return True
+
+    def next_is(self, characters):
+        return self.at < len(self.text) and self.text[self.at] in characters
+
+    def skip(self, characters):
+        while self.next_is(characters):
+            self.at += 1
+
+    # Between items, and items.
+
+    def read_element(self):
+        c = self.text[self.at]
+        waiting, self.waiting = self.waiting, None
+        if c in BLANKS and (self.at == 0 or self.text[self.at - 1] in LINE_ENDS):
+            self.read_indented()
+        elif c in LINE_ENDS:
+            self.at += 1
+            self.skip_blanks_if(waiting and waiting[1])
+        elif c in WHITE:
+            if c not in BLANKS and waiting and self.departs(waiting[0]):
+                self.read_pair("")
+            else:
+                self.at += 1
+        elif c in ";#":
+            self.read_comment()
+        elif c == "[":
+            self.read_header()
+        else:
+            self.read_pair("")
+
+    def skip_blanks_if(self, departure):
+        if self.next_is(BLANKS) and self.departs(departure):
+            self.skip(BLANKS)
+
+    def read_comment(self):
+        if self.at > 0 and self.text[self.at - 1] != "\n":
+            raise Stop(self.at + 1, "doesn't support inline comment")
+        end = self.text.find("\n", self.at)
+        self.at = len(self.text) if end < 0 else end + 1
+        self.skip_blanks_if(BLANKS_BEHIND_COMMENT)
+
+    def read_header(self):
+        self.at += 1
+        name = self.read_string(NAME).strip(WHITE)
+        self.at += 1
+        self.words.append("S" + name.encode().hex())
+
+    def read_indented(self):
+        start = self.at
+        self.skip(BLANKS)
+        if self.next_is(LINE_ENDS):
+            self.at += 1
+            self.waiting = (WHITE_BEHIND_BLANK_LINE, BLANKS_BEHIND_BLANK_LINE)
+        elif self.next_is("["):
+            self.read_header()
+        else:
+            self.read_indented_key(self.text[start : self.at])
+
+    def read_indented_key(self, indentation):
+        try:
+            self.read_pair(indentation)
+        except BadEscape as stop:
+            if not self.departs(BAD_ESCAPE_DROPPED):
+                raise
+            self.at = stop.front - 1
+            self.skip(BLANKS)
+
+    def read_pair(self, indentation):
+        try:
+            key = self.read_string(KEY)
+        except EndOfText:
+            if not indentation:
+                raise
+            self.at = len(self.text)
+            return
+        key = (indentation + key).rstrip(WHITE) if self.option.indent else key.strip(WHITE)
+        if not key:
+            raise Stop(self.at + 1, "missing key")
+        self.at += 1
+        try:
+            value = self.read_value()
+        except BadEscape as stop:
+            # Only a key is dropped with its bad escape.
+            raise Stop(stop.front, stop.message) from None
+        self.words.append(key.encode().hex() + "=" + value.encode().hex())
+
+    # Values.
+
+    def read_value(self):
+        value = self.read_line(is_first=True)
+        if not self.option.multiline:
+            return value
+        return (value + self.read_more_lines()).strip("\n")
+
+    def read_line(self, is_first):
+        self.skip(INLINE_WHITE)
+        quoted = ""
+        trims_both = is_first
+        while self.option.quote and self.next_is("\"'"):
+            quote = self.text[self.at]
+            self.at += 1
+            quoted += self.read_string(quote)
+            self.at += 1
+            trims_both = False
+        plain = self.read_string(PLAIN)
+        return quoted + (plain.strip(WHITE) if trims_both else plain.rstrip(WHITE))
+
+    def read_more_lines(self):
+        more = ""
+        while self.next_is(LINE_ENDS):
+            self.take_line_end()
+            more += self.read_empty_lines()
+            if not self.next_is(BLANKS):
+                break
+            more += "\n" + self.read_line(is_first=False)
+        return more
+
+    def take_line_end(self):
+        is_pair = self.text.startswith("\r\n", self.at)
+        self.at += 2 if is_pair and not self.departs(CR_LF_TWICE) else 1
+
+    def read_empty_lines(self):
+        lines = ""
+        while self.next_is(LINE_ENDS):
+            if self.text[self.at] == "\r":
+                self.at += 1
+                if not self.next_is("\n"):
+                    raise Stop(min(self.at + 1, len(self.text)), "\\r is not followed by \\n")
+            self.at += 1
+            lines += "\n"
+        return lines
+
+    # Strings.
+
+    def read_string(self, ends):
+        pieces = []
+        while not self.next_is(ends):
+            if self.at == len(self.text):
+                if ends == PLAIN:
+                    break
+                raise self.end_of_text(ends)
+            c = self.text[self.at]
+            self.at += 1
+            pieces.append(self.read_escape(ends) if c == "\\" else c)
+        return "".join(pieces)
+
+    def end_of_text(self, ends):
+        return EndOfText(len(self.text), f'expecting "{EXPECTED[ends]}" but found EOF.')
+
+    def read_escape(self, ends):
+        """What a backslash and what follows it give."""
+        if self.at == len(self.text):
+            return "\\"
+        c = self.text[self.at]
+        self.at += 1
+        if c == "\n":
+            return ""
+        if not self.option.escape:
+            return "\\" + c
+        if c == "x":
+            return self.read_units(ends)
+        return ESCAPES.get(c, c)
+
+    def read_units(self, ends):
+        units = ""
+        for _ in range(4):
+            if self.at == len(self.text):
+                raise self.end_of_text(ends)
+            units += self.text[self.at]
+            self.at += 1
+            if units[-1] == "\\":
+                self.take_line_feed(ends)
+        character = spelled(units)
+        if character is None:
+            raise BadEscape(self.at, "unknown character in \\xHH form")
+        return character
+
+    def take_line_feed(self, ends):
+        """The line feed behind a backslash among the units."""
+        if self.at == len(self.text):
+            if self.departs(MESSAGE_CUT_SHORT):
+                raise EndOfText(self.at, 'expecting "\\\\n" but found "None".')
+            raise self.end_of_text(ends)
+        c = self.text[self.at]
+        self.at += 1
+        if c != "\n":
+            shows = self.departs(MESSAGE_BROKEN)
+            crate = f"expecting \"\\\\n\" but found \"Some('{shown(c)}')\"."
+            raise BadEscape(self.at, crate if shows else 'expecting "\\n" after a backslash in \\xHH form')
