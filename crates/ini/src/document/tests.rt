@@ -263,7 +263,10 @@ fn duplicate_sections(rt: HostRuntime) -> Result<(), Fail> {
     let text =
         "\n[Peer]\nfoo = a\nbar = b\n\n[Peer]\nfoo = c\nbar = d\n\n[Peer]\nfoo = e\nbar = f\n";
     let document = Ini::load_from_str(alloc, text)?;
-    assert_eq!(rt; document.section_all(Some("Peer")).count(), 3);
+    let mut peers = document.section_all(Some("Peer"));
+    let third = peers.nth(2).ok_or("no third section")?;
+    assert_eq!(rt; third.get("foo"), Some("e"));
+    assert!(rt; peers.next().is_none());
     let want = "[general][Peer]foo=a;bar=b;[Peer]foo=c;bar=d;[Peer]foo=e;bar=f;";
     assert_eq!(rt; shown(alloc, &document)?.as_str(), want);
     Ok(())

@@ -132,7 +132,7 @@ fn edits_are_written_one_after_another(rt: HostRuntime) -> Result<(), Fail> {
     let alloc = rt.alloc();
     let mut document = Ini::load_from_str(alloc, "[p]\nk=1\n[q]\n[p]\nk=2\n")?;
     assert_eq!(rt; document.len(), 3);
-    assert_eq!(rt; document.iter().count(), 4);
+    assert_eq!(rt; document.iter().size_hint(), (4, Some(4)));
     let copy = document.clone()?;
     let (key, value) = (String::from_str(alloc, "k")?, String::from_str(alloc, "9")?);
     document.set_to(Some("p"), key, value)?;
