@@ -139,6 +139,3 @@ impl<'a> SectionOccupiedEntry<'a> {
         }
     }
 }
-
-#[cfg(test)]
-mod tests;

@@ -137,6 +137,3 @@ impl<'a, N: SectionName> SectionSetter<'a, N> {
         self.ini.get_from(self.name.name(), key)
     }
 }
-
-#[cfg(test)]
-mod tests;
