@@ -1,5 +1,5 @@
 -- What loading a text or bytes answers.
-use Rattle.std.specs.Prelude.{◌≡◌, ℕ, Bool, if◌then◌else◌, nat_eq, List, [], ◌∷◌, drop, length, Result, Err, ⊤}
+use Rattle.std.specs.Prelude.{◌≡◌, ℕ, Bool, if◌then◌else◌, nat_eq, List, [], ◌∷◌, drop, length, Option, IfSome, Result, Err, ⊤}
 use Rattle.std.specs.List.{starts_with}
 use Rattle.std.specs.Str.{IsUtf8, chars}
 use Rattle.std.specs.Cow.{cow_str_bytes}
@@ -55,7 +55,18 @@ text_bytes drop_mark bytes = if drop_mark then without_mark bytes else bytes
 abbrev pub IsTextWith : (Text → Type 0) → List ℕ → Type 0
 IsTextWith P bytes = IsUtf8 bytes × P (chars bytes)
 
--- the bytes were no text
+-- the same of a reader's bytes, without a mark if it is dropped, where it is known which they are
+abbrev pub IsDocumentOfBytes : ParseOption → Bool → Option (List ℕ) → Document → Type 0
+IsDocumentOfBytes o drop_mark known d = IfSome known (λ bytes. IsTextWith (λ T. IsDocumentOf o T d) (text_bytes drop_mark bytes))
+
+abbrev pub IsStopOfBytes : ParseOption → Bool → Option (List ℕ) → ParseError → Type 0
+IsStopOfBytes o drop_mark known e = IfSome known (λ bytes. IsTextWith (λ T. IsStopOf o T e) (text_bytes drop_mark bytes))
+
+-- a reader's bytes are no text
+abbrev pub AreNoText : Bool → Option (List ℕ) → Type 0
+AreNoText drop_mark known = IfSome known (λ bytes. ¬ (IsUtf8 (text_bytes drop_mark bytes)))
+
+-- they were refused as no text
 abbrev pub IsNotUtf8 : {X : Type 0} → Result X Error → Type 0
 IsNotUtf8 (Err NotUtf8) = ⊤
 IsNotUtf8 _ = ⊥

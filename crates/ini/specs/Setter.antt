@@ -11,6 +11,14 @@ use Rattle.ini.specs.contracts.document.Ini.{the_row}
 abbrev pub lent_name : LentName → Option Text
 lent_name n = if n.named then Some (chars n.text.now) else None
 
+-- the document that a setter edits
+abbrev pub setter_document : {N : Type 0} → SectionSetter N → MutBor Document
+setter_document s = s.ini
+
+-- the name that it edits the sections of
+abbrev pub setter_name : {N : Type 0} → SectionSetter N → N
+setter_name s = s.name
+
 -- refused, the document stays; else it ends as what the setter that is handed on leaves
 abbrev pub rests_if_refused : {N E : Type 0} → MutBor Document → Result (SectionSetter N) E → Fml
-rests_if_refused d r = follows_if the_row the_row d.ghost_name (name_if_ok (λ s. s.ini.ghost_name) r) (λ w. w) d.now
+rests_if_refused d r = follows_if the_row the_row d.ghost_name (name_if_ok (λ s. (setter_document s).ghost_name) r) (λ w. w) d.now

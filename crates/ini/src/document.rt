@@ -483,6 +483,3 @@ impl<'a> IntoIterator for &'a mut Ini {
         self.iter_mut()
     }
 }
-
-#[cfg(test)]
-mod tests;

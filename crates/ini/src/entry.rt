@@ -112,12 +112,12 @@ impl<'a> SectionVacantEntry<'a> {
 }
 
 impl<'a> SectionOccupiedEntry<'a> {
-    ghost use Rattle.ini.specs.Entries.{Occupied, entry_lends};
+    ghost use Rattle.ini.specs.Entries.{Occupied, entry_document, entry_lends, entry_name};
 
     /// The first section of the name, for writing.
     pub fn into_mut(self) -> &'a mut Properties
         ensures* writes_back { sem 𝓛 (entry_lends (Occupied self.entry) result) }
-        ensures section { first_section (name_of self.entry.name) self.entry.ini.now ≡ Some result.now }
+        ensures section { first_section (entry_name (Occupied self.entry)) (entry_document (Occupied self.entry)).now ≡ Some result.now }
     {
         let SectionOccupiedEntry { ini, name } = self;
         ini.first_section_mut(&name)
@@ -127,10 +127,10 @@ impl<'a> SectionOccupiedEntry<'a> {
     ///
     /// Refused, for want of memory alone, it hands the properties back, and the document stays as it was.
     pub fn append(&mut self, value: Properties) -> Result<(), NoRoom>
-        ensures same_document { self.new.ini.ghost_name ≡ self.old.ini.ghost_name }
-        ensures name { self.new.name ≡ self.old.name }
-        ensures appended { OnOk result (self.new.ini.now ≡ self.old.ini.now ++ (name_of self.old.name, value) ∷ []) }
-        ensures unchanged { OnErr result (self.new.ini.now ≡ self.old.ini.now) }
+        ensures same_document { (entry_document (Occupied self.new)).ghost_name ≡ (entry_document (Occupied self.old)).ghost_name }
+        ensures name { entry_name (Occupied self.new) ≡ entry_name (Occupied self.old) }
+        ensures appended { OnOk result ((entry_document (Occupied self.new)).now ≡ (entry_document (Occupied self.old)).now ++ (entry_name (Occupied self.old), value) ∷ []) }
+        ensures unchanged { OnErr result ((entry_document (Occupied self.new)).now ≡ (entry_document (Occupied self.old)).now) }
         ensures handed_back { IfErr result (λ refused. refused.value ≡ value) }
     {
         match self.name.clone() {

@@ -1,14 +1,13 @@
 //! Documents from texts, and from the bytes of a reader. This file folds the items of a text; of characters it knows the
 //! mark alone that may stand before a text.
-ghost use Rattle.std.specs.Prelude.{◌≡◌, ◌<◌, ◌↔◌, length, chars, false, IfOk, IfErr, IfSome, IsOkUnless, OnOk, alloc_error};
+ghost use Rattle.std.specs.Prelude.{◌≡◌, ◌<◌, ◌↔◌, length, chars, false, true, IfOk, IfErr, IfSome, IsOkUnless, OnOk, alloc_error};
 ghost use Rattle.std.specs.Io.KnownBytes.{IsAtEnd};
-ghost use Rattle.std.specs.Str.{IsUtf8};
 ghost use Rattle.ini_text.specs.Faults.{IsIo, faults_in};
 ghost use Rattle.ini_text.specs.Items.{item_of};
 ghost use Rattle.ini_text.specs.Options.{default_parse_option};
 ghost use Rattle.ini_text.specs.Watched.{IsClear, SameDevice, device_now, failure_count, stall_count};
 ghost use Rattle.ini.specs.Documents.{with_item};
-ghost use Rattle.ini.specs.Loading.{IfParse, IsDocumentOf, IsIoOrMemory, IsNotUtf8, IsParseOrMemory, IsReadRefusal, IsStopOf, IsTextWith, OnReadThrough, text_bytes, without_mark};
+ghost use Rattle.ini.specs.Loading.{AreNoText, IfParse, IsDocumentOf, IsDocumentOfBytes, IsIoOrMemory, IsNotUtf8, IsParseOrMemory, IsReadRefusal, IsStopOf, IsStopOfBytes, OnReadThrough, without_mark};
 
 use crate::document::Ini;
 use crate::properties::Properties;
@@ -60,9 +59,9 @@ impl Ini {
     /// The document of a reader's bytes, by the default options. A mark at their front is text. The rest is as
     /// `read_watched` has it.
     pub fn read_from<R: Read>(alloc: Global, reader: &mut R) -> Result<Ini, Error>
-        ensures document { IfOk result (λ d. IfSome (R.remaining reader.old) (IsTextWith (λ T. IsDocumentOf default_parse_option T d))) }
-        ensures fault { IfParse result (λ e. IfSome (R.remaining reader.old) (IsTextWith (λ T. IsStopOf default_parse_option T e))) }
-        ensures not_utf8 { IsNotUtf8 result → IfSome (R.remaining reader.old) (λ bytes. ¬ (IsUtf8 bytes)) }
+        ensures document { IfOk result (IsDocumentOfBytes default_parse_option false (R.remaining reader.old)) }
+        ensures fault { IfParse result (IsStopOfBytes default_parse_option false (R.remaining reader.old)) }
+        ensures not_utf8 { IsNotUtf8 result → AreNoText false (R.remaining reader.old) }
         ensures end { OnReadThrough result (IsAtEnd (R.remaining reader.new)) }
         ensures only { IfErr result IsReadRefusal }
     {
@@ -72,9 +71,9 @@ impl Ini {
     /// The document of a reader's bytes, by the default options but without escapes. A mark at their front is text. The
     /// rest is as `read_watched` has it.
     pub fn read_from_noescape<R: Read>(alloc: Global, reader: &mut R) -> Result<Ini, Error>
-        ensures document { IfOk result (λ d. IfSome (R.remaining reader.old) (IsTextWith (λ T. IsDocumentOf (record default_parse_option { enabled_escape = false }) T d))) }
-        ensures fault { IfParse result (λ e. IfSome (R.remaining reader.old) (IsTextWith (λ T. IsStopOf (record default_parse_option { enabled_escape = false }) T e))) }
-        ensures not_utf8 { IsNotUtf8 result → IfSome (R.remaining reader.old) (λ bytes. ¬ (IsUtf8 bytes)) }
+        ensures document { let option = record default_parse_option { enabled_escape = false } in IfOk result (IsDocumentOfBytes option false (R.remaining reader.old)) }
+        ensures fault { let option = record default_parse_option { enabled_escape = false } in IfParse result (IsStopOfBytes option false (R.remaining reader.old)) }
+        ensures not_utf8 { IsNotUtf8 result → AreNoText false (R.remaining reader.old) }
         ensures end { OnReadThrough result (IsAtEnd (R.remaining reader.new)) }
         ensures only { IfErr result IsReadRefusal }
     {
@@ -91,9 +90,9 @@ impl Ini {
         reader: &mut R,
         opt: ParseOption,
     ) -> Result<Ini, Error>
-        ensures document { IfOk result (λ d. IfSome (R.remaining reader.old) (IsTextWith (λ T. IsDocumentOf opt T d))) }
-        ensures fault { IfParse result (λ e. IfSome (R.remaining reader.old) (IsTextWith (λ T. IsStopOf opt T e))) }
-        ensures not_utf8 { IsNotUtf8 result → IfSome (R.remaining reader.old) (λ bytes. ¬ (IsUtf8 bytes)) }
+        ensures document { IfOk result (IsDocumentOfBytes opt false (R.remaining reader.old)) }
+        ensures fault { IfParse result (IsStopOfBytes opt false (R.remaining reader.old)) }
+        ensures not_utf8 { IsNotUtf8 result → AreNoText false (R.remaining reader.old) }
         ensures end { OnReadThrough result (IsAtEnd (R.remaining reader.new)) }
         ensures only { IfErr result IsReadRefusal }
     {
@@ -107,9 +106,9 @@ impl Ini {
         reader: &mut R,
         opt: ParseOption,
     ) -> Result<Ini, Error>
-        ensures document { IfOk result (λ d. IfSome (R.remaining reader.old) (λ bytes. IsTextWith (λ T. IsDocumentOf opt T d) (without_mark bytes))) }
-        ensures fault { IfParse result (λ e. IfSome (R.remaining reader.old) (λ bytes. IsTextWith (λ T. IsStopOf opt T e) (without_mark bytes))) }
-        ensures not_utf8 { IsNotUtf8 result → IfSome (R.remaining reader.old) (λ bytes. ¬ (IsUtf8 (without_mark bytes))) }
+        ensures document { IfOk result (IsDocumentOfBytes opt true (R.remaining reader.old)) }
+        ensures fault { IfParse result (IsStopOfBytes opt true (R.remaining reader.old)) }
+        ensures not_utf8 { IsNotUtf8 result → AreNoText true (R.remaining reader.old) }
         ensures end { OnReadThrough result (IsAtEnd (R.remaining reader.new)) }
         ensures only { IfErr result IsReadRefusal }
     {
@@ -132,9 +131,9 @@ impl Ini {
     ) -> Result<Ini, Error>
         requires { IsClear reader.old }
         ensures same_device { SameDevice reader.old reader.new }
-        ensures document { IfOk result (λ d. IfSome (R.remaining (device_now reader.old)) (λ bytes. IsTextWith (λ T. IsDocumentOf opt T d) (text_bytes drop_mark bytes))) }
-        ensures fault { IfParse result (λ e. IfSome (R.remaining (device_now reader.old)) (λ bytes. IsTextWith (λ T. IsStopOf opt T e) (text_bytes drop_mark bytes))) }
-        ensures not_utf8 { IsNotUtf8 result → IfSome (R.remaining (device_now reader.old)) (λ bytes. ¬ (IsUtf8 (text_bytes drop_mark bytes))) }
+        ensures document { IfOk result (IsDocumentOfBytes opt drop_mark (R.remaining (device_now reader.old))) }
+        ensures fault { IfParse result (IsStopOfBytes opt drop_mark (R.remaining (device_now reader.old))) }
+        ensures not_utf8 { IsNotUtf8 result → AreNoText drop_mark (R.remaining (device_now reader.old)) }
         ensures end { OnReadThrough result (IsAtEnd (R.remaining (device_now reader.new))) }
         ensures failures { failure_count reader.new ≡ faults_in result }
         ensures stalls { stall_count reader.new ≡ 0 }
@@ -196,6 +195,3 @@ fn push_item(alloc: Global, document: &mut Ini, item: Item) -> Result<(), Error>
         Item::Pair(key, value) => document.push_pair(key, value),
     }
 }
-
-#[cfg(test)]
-mod tests;

@@ -287,6 +287,3 @@ impl<'a> IntoIterator for &'a mut Properties {
         self.iter_mut()
     }
 }
-
-#[cfg(test)]
-mod tests;

@@ -6,7 +6,7 @@ ghost use Rattle.std.specs.Str.{chars};
 ghost use Rattle.ini.specs.Texts.{Text, str_name, str_text};
 ghost use Rattle.ini.specs.Documents.{value_in};
 ghost use Rattle.ini.specs.Edits.{add_in, delete_in_all, set_in};
-ghost use Rattle.ini.specs.Setter.{lent_name, rests_if_refused};
+ghost use Rattle.ini.specs.Setter.{lent_name, rests_if_refused, setter_document, setter_name};
 
 use crate::document::Ini;
 use ini_text::Error;
@@ -62,9 +62,9 @@ pub struct SectionSetter<'a, N = LentName<'a>> {
 impl Ini {
     /// A setter for the sections of the name. Takes no memory.
     pub fn with_section<'a>(&'a mut self, name: Option<&'a str>) -> SectionSetter<'a>
-        ensures same_document { result.ini.ghost_name ≡ self.entry.ghost_name }
-        ensures document { result.ini.now ≡ self.old }
-        ensures name { lent_name result.name ≡ str_name name.entry }
+        ensures same_document { (setter_document result).ghost_name ≡ self.entry.ghost_name }
+        ensures document { (setter_document result).now ≡ self.old }
+        ensures name { lent_name (setter_name result) ≡ str_name name.entry }
     {
         SectionSetter {
             ini: self,
@@ -74,9 +74,9 @@ impl Ini {
 
     /// A setter for the general sections. Takes no memory.
     pub fn with_general_section(&mut self) -> SectionSetter<'_>
-        ensures same_document { result.ini.ghost_name ≡ self.entry.ghost_name }
-        ensures document { result.ini.now ≡ self.old }
-        ensures name { lent_name result.name ≡ None }
+        ensures same_document { (setter_document result).ghost_name ≡ self.entry.ghost_name }
+        ensures document { (setter_document result).now ≡ self.old }
+        ensures name { lent_name (setter_name result) ≡ None }
     {
         self.with_section(None)
     }
@@ -88,11 +88,11 @@ impl<'a, N: SectionName> SectionSetter<'a, N> {
     ///
     /// Refused, for want of memory alone, the document stays as it was, and the setter is gone.
     pub fn set(self, key: &str, value: &str) -> Result<SectionSetter<'a, N>, Error>
-        ensures same_document { IfOk result (λ s. s.ini.ghost_name ≡ self.entry.ini.ghost_name) }
-        ensures set { IfOk result (λ s. s.ini.now ≡ set_in (N.section_name self.entry.name) (chars key.now) (chars value.now) self.entry.ini.now) }
-        ensures name { IfOk result (λ s. s.name ≡ self.entry.name) }
+        ensures same_document { IfOk result (λ s. (setter_document s).ghost_name ≡ (setter_document self.entry).ghost_name) }
+        ensures set { IfOk result (λ s. (setter_document s).now ≡ set_in (N.section_name (setter_name self.entry)) (chars key.now) (chars value.now) (setter_document self.entry).now) }
+        ensures name { IfOk result (λ s. setter_name s ≡ setter_name self.entry) }
         ensures only_memory { IsOkUnless result (Error.Memory alloc_error) }
-        ensures* unchanged { sem 𝓛 (rests_if_refused self.entry.ini result) }
+        ensures* unchanged { sem 𝓛 (rests_if_refused (setter_document self.entry) result) }
     {
         let SectionSetter { ini, name } = self;
         match ini.set(name.name(), key, value) {
@@ -106,11 +106,11 @@ impl<'a, N: SectionName> SectionSetter<'a, N> {
     ///
     /// Refused, for want of memory alone, the document stays as it was, and the setter is gone.
     pub fn add(self, key: &str, value: &str) -> Result<SectionSetter<'a, N>, Error>
-        ensures same_document { IfOk result (λ s. s.ini.ghost_name ≡ self.entry.ini.ghost_name) }
-        ensures added { IfOk result (λ s. s.ini.now ≡ add_in (N.section_name self.entry.name) (chars key.now) (chars value.now) self.entry.ini.now) }
-        ensures name { IfOk result (λ s. s.name ≡ self.entry.name) }
+        ensures same_document { IfOk result (λ s. (setter_document s).ghost_name ≡ (setter_document self.entry).ghost_name) }
+        ensures added { IfOk result (λ s. (setter_document s).now ≡ add_in (N.section_name (setter_name self.entry)) (chars key.now) (chars value.now) (setter_document self.entry).now) }
+        ensures name { IfOk result (λ s. setter_name s ≡ setter_name self.entry) }
         ensures only_memory { IsOkUnless result (Error.Memory alloc_error) }
-        ensures* unchanged { sem 𝓛 (rests_if_refused self.entry.ini result) }
+        ensures* unchanged { sem 𝓛 (rests_if_refused (setter_document self.entry) result) }
     {
         let SectionSetter { ini, name } = self;
         match ini.add(name.name(), key, value) {
@@ -122,9 +122,9 @@ impl<'a, N: SectionName> SectionSetter<'a, N> {
     /// Takes the first pair of the key out of every section of the name.
     pub fn delete(&mut self, key: &str) -> &mut Self
         ensures same_reference { result.ghost_name ≡ self.entry.ghost_name }
-        ensures same_document { result.now.ini.ghost_name ≡ self.old.ini.ghost_name }
-        ensures deleted { result.now.ini.now ≡ delete_in_all (N.section_name self.old.name) (chars key.now) self.old.ini.now }
-        ensures name { result.now.name ≡ self.old.name }
+        ensures same_document { (setter_document result.now).ghost_name ≡ (setter_document self.old).ghost_name }
+        ensures deleted { (setter_document result.now).now ≡ delete_in_all (N.section_name (setter_name self.old)) (chars key.now) (setter_document self.old).now }
+        ensures name { setter_name result.now ≡ setter_name self.old }
     {
         self.ini.delete_from_all(self.name.name(), key);
         self
@@ -132,7 +132,7 @@ impl<'a, N: SectionName> SectionSetter<'a, N> {
 
     /// The first value of the key in the first section of the name.
     pub fn get(&self, key: &str) -> Option<&str>
-        ensures { option_map str_text result ≡ value_in (N.section_name self.now.name) (chars key.now) self.now.ini.now }
+        ensures { option_map str_text result ≡ value_in (N.section_name (setter_name self.now)) (chars key.now) (setter_document self.now).now }
     {
         self.ini.get_from(self.name.name(), key)
     }

@@ -227,6 +227,3 @@ fn write_sections<W: Write>(
     }
     Ok(())
 }
-
-#[cfg(test)]
-mod tests;

@@ -1,8 +1,8 @@
--- How the units of an escape are read.
-use Rattle.std.specs.Prelude.{ℕ, ◌<◌, List, [], ◌∷◌, ◌++◌, length, chars, Option, Result, MatchResult}
+-- How escapes and their units are read.
+use Rattle.std.specs.Prelude.{ℕ, ◌<◌, ◌==◌, Bool, if◌then◌else◌, List, [], ◌∷◌, ◌++◌, length, chars, Option, Result, MatchResult, unwrap_or}
 use Rattle.std.specs.Borrow.{Bor}
-use Rattle.ini_text.specs.Characters.{backslash, letter_x}
-use Rattle.ini_text.specs.Pieces.{Units, EscapeStops}
+use Rattle.ini_text.specs.Characters.{backslash, letter_x, line_feed}
+use Rattle.ini_text.specs.Pieces.{Units, EscapeStops, control}
 use Rattle.ini_text.specs.Readers.{Begins, StoppedBy}
 use Rattle.ini_text.specs.declared.error.ParseKind.{ParseKind}
 use Rattle.ini_text.specs.declared.parser.fault.Stop.{Stop}
@@ -14,3 +14,10 @@ UnitStops s r kind = (u : List ℕ) (us : List (Option ℕ)) → Units u us → 
 -- one unit was read
 abbrev pub ReadsUnit : List ℕ → Result (Option ℕ × Bor (List ℕ)) Stop → Type 0
 ReadsUnit t r = MatchResult r (λ p. Begins t (chars p.1.now) (λ s. Units s (p.0 ∷ []))) (StoppedBy UnitStops t)
+
+-- what a backslash and the character behind it stand for, where that is not the x of a code
+abbrev pub escaped_value : Bool → ℕ → List ℕ
+escaped_value escapes c =
+    if c == line_feed then []
+    else if escapes then unwrap_or (control c) c ∷ []
+    else backslash ∷ c ∷ []

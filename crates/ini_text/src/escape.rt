@@ -1,4 +1,5 @@
-//! The escapes of characters. Those in a row are gathered, so that they reach a device together. This file knows no device.
+//! The escapes of characters, gathered with what stands between them, so that they reach a device together. This file knows
+//! no device.
 ghost use Rattle.std.specs.Prelude.{◌≡◌, ◌+◌, ◌/◌, ◌%◌, ◌++◌, ◌<◌, ◌≤◌, [], not, length, chars, IfSome, MatchOption};
 ghost use Rattle.std.specs.Char.{digit_char};
 ghost use Rattle.ini_text.specs.Characters.{BeginsWithNo};
@@ -8,6 +9,7 @@ ghost use Rattle.ini_text.specs.declared.escape.TheConstants.{ROOM};
 
 use crate::characters::split_first;
 use crate::policy::EscapePolicy;
+use crate::verbatim::split_verbatim;
 
 // How many bytes are gathered at most.
 const ROOM: usize = 64;
@@ -15,7 +17,7 @@ const ROOM: usize = 64;
 // How long an escape is at most: a backslash, `x` and six digits.
 const LONGEST: usize = 8;
 
-/// The escapes of characters in a row.
+/// Escapes and the characters between them, on their way out.
 #[derive(Drop)]
 pub(crate) struct Escapes {
     bytes: [u8; ROOM],
@@ -26,19 +28,28 @@ pub(crate) struct Escapes {
 impl Escapes {
     ghost use Rattle.ini_text.specs.Gathered.{gathered};
 
-    /// The escapes of the characters at the front of a text, as many as have room, and what follows them; nothing at the
-    /// end of the text.
-    pub(crate) fn split(text: &str, policy: EscapePolicy) -> Option<(Escapes, &str)>
+    /// Nothing yet.
+    pub(crate) fn new() -> Escapes
+        ensures { gathered result ≡ [] }
+    {
+        Escapes {
+            bytes: [0; ROOM],
+            len: 0,
+        }
+    }
+
+    /// Gathers anew the front of a text that begins with a character that is escaped, as much as has room, and gives what
+    /// follows; nothing at the end of the text.
+    pub(crate) fn gather<'a>(&mut self, text: &'a str, policy: EscapePolicy) -> Option<&'a str>
         requires { BeginsWithNo (λ c. not (is_escaped policy c)) (chars text.now) }
         ensures bytes { MatchOption result (chars text.now ≡ [])
-            (λ p. escaped_bytes policy text.now ≡ gathered p.0 ++ escaped_bytes policy p.1.now) }
-        ensures shorter { IfSome result (λ p. length p.1.now < length text.now) }
+            (λ rest. escaped_bytes policy text.now ≡ gathered self.new ++ escaped_bytes policy rest.now) }
+        ensures shorter { IfSome result (λ rest. length rest.now < length text.now) }
     {
         let (first, following) = split_first(text)?;
-        let mut escapes = Escapes::new();
-        escapes.push(first);
-        let rest = escapes.take_front(following, policy);
-        Some((escapes, rest))
+        self.len = 0;
+        self.push(first);
+        Some(self.take_front(following, policy))
     }
 
     /// The escapes as they go out.
@@ -48,31 +59,24 @@ impl Escapes {
         &self.bytes[..self.len]
     }
 
-    // No escape yet.
-    fn new() -> Escapes
-        ensures { gathered result ≡ [] }
-    {
-        Escapes {
-            bytes: [0; ROOM],
-            len: 0,
-        }
-    }
-
-    // Takes the escaped characters at the front of a text, as many as have room, and answers what follows.
+    // Gathers more of a text, the characters between two escapes together, as much as has room, and gives what follows.
     fn take_front<'a>(&mut self, text: &'a str, policy: EscapePolicy) -> &'a str
         ensures bytes { gathered self.old ++ escaped_bytes policy text.now
             ≡ gathered self.new ++ escaped_bytes policy result.now }
         ensures shorter { length result.now ≤ length text.now }
     {
         let mut rest = text;
-        'characters: while self.len <= ROOM - LONGEST {
-            match split_first(rest) {
-                Some((c, following)) if policy.should_escape(c) => {
-                    self.push(c);
-                    rest = following;
-                }
-                _ => return rest,
+        'escapes: while self.len <= ROOM - LONGEST {
+            let (run, after) = split_verbatim(rest, policy);
+            if run.len() > ROOM - LONGEST - self.len {
+                return rest;
             }
+            self.append(run.as_bytes());
+            let Some((c, following)) = split_first(after) else {
+                return after;
+            };
+            self.push(c);
+            rest = following;
         }
         rest
     }

@@ -33,7 +33,8 @@ pub fn write_raw<W: Write>(text: &str, out: &mut Watched<'_, W>) -> Result<(), E
 
 /// Writes a text escaped. Takes no memory, and an empty text makes no call of the device.
 ///
-/// The characters between two escapes are handed to the device together, as they stand in the text.
+/// Escapes are gathered with the characters between them; where these are many they are handed to the device together, as
+/// they stand in the text.
 ///
 /// # Errors
 ///
@@ -54,11 +55,12 @@ pub fn write_escaped<W: Write>(
     ensures no_progress { IsNoProgress result ↔ (stall_count out.old < stall_count out.new) }
     ensures only { IfErr result IsIoOrNoProgress }
 {
+    let mut escapes = Escapes::new();
     let mut rest = text;
     'runs: loop {
         let (run, after) = split_verbatim(rest, policy);
         write_raw(run, out)?;
-        let Some((escapes, following)) = Escapes::split(after, policy) else {
+        let Some(following) = escapes.gather(after, policy) else {
             return Ok(());
         };
         write_bytes(escapes.as_bytes(), out)?;

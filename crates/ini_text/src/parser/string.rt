@@ -1,16 +1,17 @@
 //! Strings: rows of pieces up to an endpoint. This file knows escapes, and nothing of lines, keys or names.
-ghost use Rattle.std.specs.Prelude.{◌≡◌, ◌∷◌, [], chars, true, unwrap_or};
+ghost use Rattle.std.specs.Prelude.{◌≡◌, ◌∷◌, ◌++◌, [], chars, true, unwrap_or, IfSome, OnOk};
 ghost use Rattle.ini_text.specs.Characters.{backslash, letter_x};
 ghost use Rattle.ini_text.specs.ParserFaults.{ends_of};
 ghost use Rattle.ini_text.specs.Pieces.{control, spelled, spelled_by, Escape, EscapeStops};
-ghost use Rattle.ini_text.specs.Readers.{Appends};
+ghost use Rattle.ini_text.specs.Readers.{Appends, Begins};
 ghost use Rattle.ini_text.specs.Scans.{text_of};
 ghost use Rattle.ini_text.specs.Strings.{Str, StrStops};
-ghost use Rattle.ini_text.specs.Units.{ReadsUnit};
+ghost use Rattle.ini_text.specs.Units.{ReadsUnit, escaped_value};
 
 use crate::characters::split_first;
 use crate::parser::fault::{Endpoints, Fault, Stop};
 use crate::parser::scan::{push, push_text, split_run};
+use std::alloc::AllocError;
 
 /// Appends the value of a string up to an endpoint, and gives what follows it, from its endpoint on.
 pub(crate) fn read_string<'a>(
@@ -41,33 +42,27 @@ pub(crate) fn read_string<'a>(
             push(out, '\\')?;
             return Ok(after);
         };
-        rest = read_escape(out, d, behind, escapes, ends)?;
+        rest = if escapes && d == 'x' {
+            read_coded(out, behind, ends)?
+        } else {
+            push_escaped(out, d, escapes)?;
+            behind
+        };
     }
 }
 
-/// Appends what a backslash and the character after it stand for, and gives what follows the escape.
-fn read_escape<'a>(
-    out: &mut String,
-    c: char,
-    after: &'a str,
-    escapes: bool,
-    ends: Endpoints,
-) -> Result<&'a str, Stop<'a>>
-    ensures { Appends (λ s r v. Escape escapes s v) (λ s r k. (escapes ≡ true) × EscapeStops s r k) (text_of out.old) (text_of out.new) (backslash ∷ c ∷ chars after.now) result }
+/// Appends what a backslash and a character stand for, other than the `x` of a code.
+fn push_escaped(out: &mut String, c: char, escapes: bool) -> Result<(), AllocError>
+    ensures { OnOk result (text_of out.new ≡ text_of out.old ++ escaped_value escapes c) }
 {
     if c == '\n' {
-        return Ok(after);
+        return Ok(());
     }
     if !escapes {
         push(out, '\\')?;
-        push(out, c)?;
-        return Ok(after);
+        return push(out, c);
     }
-    if c == 'x' {
-        return read_coded(out, after, ends);
-    }
-    push(out, escaped_value(c))?;
-    Ok(after)
+    push(out, escaped_value(c))
 }
 
 /// What a backslash and a character other than `x` or LF stand for.
@@ -89,6 +84,10 @@ fn escaped_value(c: char) -> char
 fn read_coded<'a>(out: &mut String, text: &'a str, ends: Endpoints) -> Result<&'a str, Stop<'a>>
     ensures { Appends (λ s r v. Escape true s v) EscapeStops (text_of out.old) (text_of out.new) (backslash ∷ letter_x ∷ chars text.now) result }
 {
+    if let Some((value, rest)) = split_coded(text) {
+        push(out, value)?;
+        return Ok(rest);
+    }
     let (a, rest) = read_unit(text, ends)?;
     let (b, rest) = read_unit(rest, ends)?;
     let (c, rest) = read_unit(rest, ends)?;
@@ -98,6 +97,17 @@ fn read_coded<'a>(out: &mut String, text: &'a str, ends: Endpoints) -> Result<&'
     };
     push(out, value)?;
     Ok(rest)
+}
+
+/// The character that the four characters behind `\x` spell, and what follows them.
+fn split_coded(text: &str) -> Option<(char, &str)>
+    ensures { IfSome result (λ p. Begins (backslash ∷ letter_x ∷ chars text.now) (chars p.1.now) (λ s. Escape true s (p.0 ∷ []))) }
+{
+    let (a, rest) = split_first(text)?;
+    let (b, rest) = split_first(rest)?;
+    let (c, rest) = split_first(rest)?;
+    let (d, rest) = split_first(rest)?;
+    Some((spelled(a, b, c, d)?, rest))
 }
 
 /// A unit: a character other than a backslash, or a backslash and LF, which is `None`.

@@ -1,14 +1,16 @@
-use Rattle.std.proofs.Common.{◌++◌, ap, sym, ◌∙◌, append_assoc, rules}
+use Rattle.std.proofs.Common.{◌++◌, ap, ◌∙◌, append_assoc, rules}
 use Rattle.ini_text.specs.Gathered.{gathered}
-use Rattle.ini_text.proofs.EscapeTexts.{escaped-next}
+use Rattle.ini_text.proofs.EscapeTexts.{escaped-first, escaped-next}
 use Rattle.ini_text.proofs.escape.Escapes.take_front.Goals as goal
 
-pub characters-preserved : goal.characters-preserved
-characters-preserved c =
-    let is_escaped = sym c.should_escape.ensures ∙ c.if-should_escape.true in
-    let next = escaped-next c.args.policy c.in-Some.c _ _ c.in-Some.ensures.characters is_escaped in
+pub escapes-preserved : goal.escapes-preserved
+escapes-preserved c =
+    let parts = c.in-Some.ensures.characters in
+    let next = escaped-next c.args.policy c.in-Some.c _ _ parts (escaped-first c.args.policy c.in-Some.c _ _ parts c.split_verbatim.ensures.next) in
+    let split = c.split_verbatim.ensures.bytes ∙ ap (λ l. c.split_verbatim.result.0.now ++ l) next in
     record {
       is_text = search rules;
-      bytes = rw (c.push.ensures, append_assoc) (c.characters.invariant.bytes ∙ ap (λ l. gathered c.characters.self ++ l) next);
+      bytes = rw (c.push.ensures, c.append.ensures.gathered, c.as_bytes.ensures.value, append_assoc (gathered c.escapes.self ++ c.split_verbatim.result.0.now), append_assoc (gathered c.escapes.self))
+          (c.escapes.invariant.bytes ∙ ap (λ l. gathered c.escapes.self ++ l) split);
       shorter = search rules;
     }

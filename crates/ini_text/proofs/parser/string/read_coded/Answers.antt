@@ -5,7 +5,7 @@ use Rattle.ini_text.proofs.parser.string.read_coded.Goals as goal
 
 pub returns-in_err-a : goal.returns-in_err-a
 returns-in_err-a c =
-    let p = err_from_is_err_and c.from_residual.result c.from_residual.ensures.1 in
+    let p = err_from_is_err_and c.from_residual-in_err-a.result c.from_residual-in_err-a.ensures.1 in
     rw (p.1, p.2) (units_stop (no_unit _) (omega arith) _ c.in_err-a.ensures)
 
 pub returns-in_err-b : goal.returns-in_err-b
@@ -23,11 +23,15 @@ returns-in_err-d c =
     let p = err_from_is_err_and c.from_residual-in_err-d.result c.from_residual-in_err-d.ensures.1 in
     rw (p.1, p.2) (units_stop (one_more_unit (one_more_unit c.in_ok-a.ensures c.in_ok-b.ensures) c.in_ok-c.ensures) (omega arith) _ c.in_err-d.ensures)
 
-pub returns-in_default : goal.returns-in_default
-returns-in_default c =
-    four_unknown (one_more_unit (one_more_unit (one_more_unit c.in_ok-a.ensures c.in_ok-b.ensures) c.in_ok-c.ensures) c.in_ok-d.ensures) refl (sym c.in_default.ensures)
+pub returns-in_default-spelled_by : goal.returns-in_default-spelled_by
+returns-in_default-spelled_by c =
+    four_unknown (one_more_unit (one_more_unit (one_more_unit c.in_ok-a.ensures c.in_ok-b.ensures) c.in_ok-c.ensures) c.in_ok-d.ensures) refl (sym c.in_default-spelled_by.ensures)
+
+pub returns-in-Some : goal.returns-in-Some
+returns-in-Some c =
+    record { source = c.in-Some.ensures.source; value = c.in-Some.value ∷ []; holds = c.in-Some.ensures.holds; whole = c.in-Some.ensures.whole; appended = c.in_ok-push.ensures }
 
 pub returns : goal.returns
 returns c =
-    let read = four_spell (one_more_unit (one_more_unit (one_more_unit c.in_ok-a.ensures c.in_ok-b.ensures) c.in_ok-c.ensures) c.in_ok-d.ensures) (sym c.in-Some.ensures) in
-    record { source = read.source; value = c.in-Some.value ∷ []; holds = read.holds; whole = read.whole; appended = c.in_ok-push.ensures }
+    let read = four_spell (one_more_unit (one_more_unit (one_more_unit c.in_ok-a.ensures c.in_ok-b.ensures) c.in_ok-c.ensures) c.in_ok-d.ensures) (sym c.in-Some-spelled_by.ensures) in
+    record { source = read.source; value = c.in-Some-spelled_by.value ∷ []; holds = read.holds; whole = read.whole; appended = c.in_ok-push-2.ensures }

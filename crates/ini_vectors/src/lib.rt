@@ -1,0 +1,38 @@
+//! Tests over the public calls of the other crates: texts and bytes in, edits, texts and bytes out.
+//!
+//! Expected answers come from the format's description and from the Rust crate, never from this program. A test that has
+//! the name of one of the Rust crate's tests asks what that one asks.
+#![tactic(auto)]
+
+#[cfg(test)]
+mod bytes;
+#[cfg(test)]
+mod comments;
+#[cfg(test)]
+mod devices;
+#[cfg(test)]
+mod documents;
+#[cfg(test)]
+mod entries;
+#[cfg(test)]
+mod escapes;
+#[cfg(test)]
+mod indentation;
+#[cfg(test)]
+mod lines;
+#[cfg(test)]
+mod multiline;
+#[cfg(test)]
+mod order;
+#[cfg(test)]
+mod properties;
+#[cfg(test)]
+mod setters;
+#[cfg(test)]
+mod show;
+#[cfg(test)]
+mod strings;
+#[cfg(test)]
+mod walks;
+#[cfg(test)]
+mod writing;
