@@ -1,10 +1,10 @@
 -- An edit of the first section of a name, by what stands there.
 use Rattle.std.proofs.Common.{◌≡◌, ◌∙◌, Bool, true, false, cond, List, [], ◌∷◌, ◌++◌, Option, None, Some, IsSome, Result, Ok, Err, OnOk, OnErr, subst, refl, sym, ap, arith, append-nil}
 use Rattle.std.proofs.lemmas.Bool.{false≢true}
-use Rattle.std.specs.Map.{lookup, set_value}
+use Rattle.std.specs.Map.{set_value}
 use Rattle.ini.specs.Texts.{Text, is_name, is_text}
 use Rattle.ini.specs.Properties.{Pairs, inserted, removed}
-use Rattle.ini.specs.Documents.{Document, first_section, value_in}
+use Rattle.ini.specs.Documents.{Document, first_section}
 use Rattle.ini.specs.Edits.{add_in, delete_in, edit_section, replace_in, set_in}
 
 module _ (name : Option Text) (f : Pairs → Pairs) (last : Document) where

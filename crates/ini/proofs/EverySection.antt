@@ -1,11 +1,11 @@
 -- An edit of every section of a name, one after another.
-use Rattle.std.proofs.Common.{◌≡◌, ◌∙◌, ℕ, zero, suc, ◌+◌, ◌≤◌, Bool, true, false, cond, List, [], ◌∷◌, length, map, slice_get, Option, None, Some, String, refl, sym, ap, arith}
+use Rattle.std.proofs.Common.{◌≡◌, ℕ, zero, suc, ◌≤◌, Bool, cond, List, [], ◌∷◌, length, map, slice_get, Option, None, Some, String, refl, arith}
 use Rattle.std.specs.Borrow.{Bor}
 use Rattle.ini_multimap.specs.Keys.{name_fits}
 use Rattle.ini_multimap.specs.Pairs.{set_nth_value, values_at}
-use Rattle.ini.specs.Texts.{IsTextName, Text, name_of, str_name}
+use Rattle.ini.specs.Texts.{IsTextName, Text, str_name}
 use Rattle.ini.specs.Properties.{Pairs, removed}
-use Rattle.ini.specs.Documents.{Document, sections_of}
+use Rattle.ini.specs.Documents.{sections_of}
 use Rattle.ini.specs.Edits.{delete_in_all}
 use Rattle.ini.proofs.TextLemmas.{same_name}
 

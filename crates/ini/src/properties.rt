@@ -129,12 +129,13 @@ impl Properties {
         self.pairs.remove(key)
     }
 
-    /// Takes out all pairs of the key, and hands their values out.
+    /// Takes out all pairs of the key, and hands their values out, in order.
     ///
-    /// Refused, for want of memory alone, it changes nothing.
+    /// Refused, for want of memory alone, it changes nothing. Where no pair has the key it takes no memory.
     pub fn remove_all(&mut self, key: &str) -> Result<RemovedValues, Error>
         ensures values { IfOk result (λ removed. removed ≡ values (chars key.now) self.old) }
         ensures removed { OnOk result (self.new ≡ all_removed (chars key.now) self.old) }
+        ensures refused_only_if_there { OnErr result (IsSome (first_value (chars key.now) self.old)) }
         ensures unchanged { OnErr result (self.new ≡ self.old) }
         ensures only_memory { IsOkUnless result (Error.Memory alloc_error) }
     {

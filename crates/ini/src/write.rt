@@ -107,13 +107,13 @@ fn write_name<W: Write>(
     let Some(name) = name else {
         return Ok(());
     };
-    let line = [
+    let header = [
         Piece::Raw("["),
         Piece::Escaped(name),
         Piece::Raw("]"),
         Piece::Raw(option.line_separator.as_str()),
     ];
-    write_pieces(&line, option.escape_policy, out)
+    write_pieces(&header, option.escape_policy, out)
 }
 
 // An empty line before pairs, where an earlier section had some.

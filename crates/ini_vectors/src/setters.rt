@@ -77,6 +77,16 @@ fn set_replaces_what_was_added(rt: HostRuntime) -> Result<(), Fail> {
 }
 
 #[test]
+fn insert_replaces_what_was_added(rt: HostRuntime) -> Result<(), Fail> {
+    let alloc = rt.alloc();
+    let mut document = show::document(alloc, "[foo]\na=1\na=2\n")?;
+    let section = document.section_mut(Some("foo")).ok_or("no section")?;
+    section.insert("a", "3")?;
+    assert_eq!(rt; show::text(alloc, &document)?.as_str(), "[foo]\na=3\n");
+    Ok(())
+}
+
+#[test]
 fn remove_leaves_what_was_added_later(rt: HostRuntime) -> Result<(), Fail> {
     let alloc = rt.alloc();
     let mut document = Ini::new(alloc)?;

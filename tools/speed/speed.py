@@ -1,0 +1,143 @@
+#!/usr/bin/env python3
+"""Measures the time and memory of `ini_tool fmt` beside other programs that do the same.
+
+    speed.py inputs FOLDER MEGABYTES
+    speed.py compare FOLDER PROGRAM PROGRAM ..
+
+`inputs` writes seven settings files of about that size into FOLDER; they are the same each time.
+
+`compare` runs each PROGRAM (a command of one or more words that reads a settings file and writes it formatted) seven times
+on each file of FOLDER, in turn, and prints for each program the shortest user and system time, the peak of memory, and the
+ratio of the time to the last program's. It stops where two programs write different bytes.
+"""
+import argparse
+import hashlib
+import itertools
+import os
+import pathlib
+import random
+import shlex
+import subprocess
+import sys
+
+KEYS = "name path port host user group level timeout retry cache mode color format shell editor address".split()
+VALUES = ["true", "false", "8080", "/usr/local/share/data", "a few words, unquoted", "0.25"]
+RUNS = 7
+
+
+def settings(chance):
+    """Short sections, each below a comment."""
+    for number in itertools.count():
+        yield f"\n; part {number}\n[{chance.choice(KEYS)} {number}]\n"
+        for key in chance.sample(KEYS, 8):
+            yield f"{key} = {chance.choice(VALUES)}\n"
+
+
+def one_section(_):
+    """One section with many distinct keys."""
+    yield "[one]\n"
+    for number in itertools.count():
+        yield f"key {number}=its value {number}\n"
+
+
+def repeated(chance):
+    """One section name and few keys, again and again."""
+    while True:
+        yield "[peer]\n"
+        for key in "abcdefgh":
+            yield f"{key}=192.168.0.{chance.randrange(256)}\n"
+
+
+def long_values(chance):
+    """Values of some two thousand letters."""
+    while True:
+        yield f"{chance.choice(KEYS)}=" + "Sphinx of black quartz, judge my vow. " * 50 + "\n"
+
+
+def escaped(chance):
+    """Values full of escapes."""
+    while True:
+        yield f"{chance.choice(KEYS)}=" + r"x\ty\n\x00e9\\z\=w " * 8 + "\n"
+
+
+def unicode(chance):
+    """Values beyond ASCII."""
+    while True:
+        yield f"{chance.choice(KEYS)}=" + "çilek 樹莓 brûlée Ğüneş " * 6 + "\n"
+
+
+def quoted(chance):
+    """Values with quoted parts."""
+    while True:
+        yield f"{chance.choice(KEYS)} = \"a 'quoted' part # with marks\" 'and another' and the rest\n"
+
+
+INPUTS = [settings, one_section, repeated, long_values, escaped, unicode, quoted]
+
+
+def write_inputs(folder, megabytes):
+    """Writes each input, line by line, until it has its size."""
+    folder.mkdir(parents=True, exist_ok=True)
+    for lines in INPUTS:
+        left = megabytes * 1_000_000
+        with open(folder / f"{lines.__name__}.ini", "w", encoding="utf-8", newline="") as out:
+            for line in lines(random.Random(1)):
+                out.write(line)
+                left -= len(line.encode())
+                if left <= 0:
+                    break
+
+
+def run(program, path):
+    """Seconds of user and system time, and megabytes at the peak, of one run."""
+    with open(path, "rb") as source, open(os.devnull, "wb") as out:
+        process = subprocess.Popen(shlex.split(program), stdin=source, stdout=out)
+        _, status, usage = os.wait4(process.pid, 0)
+    if status != 0:
+        sys.exit(f"{program} failed on {path}")
+    return usage.ru_utime + usage.ru_stime, usage.ru_maxrss / 1024
+
+
+def digest(program, path):
+    """A hash of what the program writes. It is read in pieces, since a child begins with its parent's memory."""
+    seen = hashlib.sha256()
+    with open(path, "rb") as source:
+        process = subprocess.Popen(shlex.split(program), stdin=source, stdout=subprocess.PIPE)
+        while piece := process.stdout.read(0x10000):
+            seen.update(piece)
+        process.wait()
+    return seen.hexdigest()
+
+
+def compare(folder, programs):
+    """Prints a line for each input."""
+    for path in sorted(folder.glob("*.ini")):
+        if len({digest(program, path) for program in programs}) != 1:
+            sys.exit(f"the programs write different bytes for {path}")
+        best = {program: (float("inf"), 0) for program in programs}
+        for _, program in itertools.product(range(RUNS), programs):
+            best[program] = min(best[program], run(program, path))
+        last = best[programs[-1]][0]
+        shown = [f"{seconds:.3f} s {peak:4.0f} MB x{seconds / last:.2f}" for seconds, peak in best.values()]
+        print(f"{path.stem:12}", " | ".join(shown))
+
+
+def main():
+    """Reads the words."""
+    parser = argparse.ArgumentParser(description=__doc__, formatter_class=argparse.RawDescriptionHelpFormatter)
+    commands = parser.add_subparsers(required=True, dest="command")
+    inputs = commands.add_parser("inputs")
+    inputs.add_argument("folder", type=pathlib.Path)
+    inputs.add_argument("megabytes", type=float)
+    beside = commands.add_parser("compare")
+    beside.add_argument("folder", type=pathlib.Path)
+    beside.add_argument("programs", nargs="+")
+    words = parser.parse_args()
+    if words.command == "inputs":
+        write_inputs(words.folder, words.megabytes)
+    else:
+        compare(words.folder, words.programs)
+
+
+if __name__ == "__main__":
+    main()
