@@ -212,6 +212,7 @@ impl Ini {
     }
 }
 
+// The sections in order.
 fn write_sections<W: Write>(
     document: &Ini,
     option: &WriteOption,

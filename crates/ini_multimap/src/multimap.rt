@@ -1,4 +1,5 @@
-//! The multimap, kept as one list of pairs: a look-up asks the probe about each in turn.
+//! The multimap, kept as one list of pairs: a look-up asks the probe about each in turn. This file
+//! knows keys by `==` and by probes, and no code of a key.
 //!
 //! A growing call makes its room before anything changes, so a refused one changes nothing.
 ghost use Rattle.std.specs.Prelude.{◌-◌, ◌≡◌, ◌+◌, ◌<◌, ◌≤◌, ◌==◌, [], ◌∷◌, ◌++◌, length, filter, not, IsSome, IfOk, IfErr, OnOk, OnErr, MatchOption, IfNone, slice_get, Some, None};

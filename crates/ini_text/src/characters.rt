@@ -1,4 +1,4 @@
-//! A text, one character at a time.
+//! A text, one character at a time. This file knows no kinds of characters.
 ghost use Rattle.std.specs.Prelude.{◌≡◌, ◌<◌, [], ◌∷◌, length, chars, MatchOption, IfSome};
 
 /// The first character of a text, and what follows it.

@@ -27,14 +27,17 @@ pub enum ParseKind {
 
 /// Where and why reading a text stopped.
 ///
-/// `line` and `col` count from 1, in characters. They are the place of the character that was looked at, or the place
-/// behind the last character where the text ended. LF alone ends a line here; CR counts as a character.
+/// The place is the one behind the character that was looked at, or behind the last one where the text ended. Lines and
+/// columns count from 1, and columns count characters. LF alone ends a line here; CR counts as a character.
 #[derive(Debug, Drop)]
 pub struct ParseError {
+    /// The line of the place.
     pub line: usize,
+    /// The column of the place, which is behind the character that was looked at: `=v` is refused at 1:2.
     pub col: usize,
     /// The fault in words, always a constant.
     pub msg: CowStr<'static>,
+    /// What is wrong, for a program to tell refusals apart.
     pub kind: ParseKind,
 }
 

@@ -1,4 +1,4 @@
-//! How a text is read.
+//! How a text is read. This file knows no text.
 ghost use Rattle.std.specs.Prelude.{◌≡◌};
 ghost use Rattle.ini_text.specs.Options.{default_parse_option};
 
@@ -7,7 +7,8 @@ ghost use Rattle.ini_text.specs.Options.{default_parse_option};
 pub struct ParseOption {
     /// A part of a value may stand in double or single quotes.
     pub enabled_quote: bool,
-    /// A backslash begins an escape. Without it only a backslash before LF is special, and both go.
+    /// A backslash begins an escape. Without it a backslash and the character behind it stay, and that character ends
+    /// nothing; before LF both go, with and without it.
     pub enabled_escape: bool,
     /// A value goes on over the lines below it that begin with a space or a tab.
     pub enabled_indented_mutiline_value: bool,

@@ -1,4 +1,4 @@
-//! The walks over the sections of one name, and over names.
+//! The walks over the sections of one name, and over names. This file knows the multimap's walks over values and keys.
 ghost use Rattle.std.specs.Prelude.{◌≡◌};
 ghost use Rattle.std.specs.Iterator.{YieldsFirstBy, YieldsLastBy, YieldsFirstMut, YieldsFirstRef, YieldsLastMut, YieldsLastRef, item_count};
 ghost use Rattle.ini_multimap.specs.Iter.{values_mut_rest};

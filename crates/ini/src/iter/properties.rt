@@ -1,4 +1,4 @@
-//! The walks over pairs, and over the values of one key.
+//! The walks over pairs, and over the values of one key. This file knows the multimap's walks, and nothing of sections.
 ghost use Rattle.std.specs.Prelude.{◌≡◌, length, IfSome, Some};
 ghost use Rattle.std.specs.Iterator.{YieldsFirstBy, YieldsLastBy, item_count, at_most, UpTo};
 ghost use Rattle.std.specs.Iterator.SizeHint.{IsWithinCount};

@@ -1,4 +1,4 @@
-//! The walks over sections.
+//! The walks over sections, and how a name is lent. This file knows the multimap's walks over pairs.
 ghost use Rattle.std.specs.Prelude.{◌≡◌, length, IfSome, Some};
 ghost use Rattle.std.specs.Iterator.{YieldsFirstBy, YieldsLastBy, item_count, at_most, UpTo};
 ghost use Rattle.std.specs.Iterator.SizeHint.{IsWithinCount};

@@ -1,4 +1,4 @@
-//! The walk over the distinct keys.
+//! The walk over the distinct keys. This file knows keys by `==`, and no values.
 ghost use Rattle.std.specs.Prelude.{◌≡◌};
 ghost use Rattle.std.specs.Iterator.{item_count, YieldsFirstRef, YieldsLastRef};
 ghost use Rattle.std.specs.List.{list_any};

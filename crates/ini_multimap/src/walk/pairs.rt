@@ -1,4 +1,5 @@
-//! The walks over every pair: lent, lent for writing, and by value.
+//! The walks over every pair: lent, lent for writing, and by value. This file doesn't know what
+//! makes keys the same.
 ghost use Rattle.std.specs.Iterator.{UpTo};
 ghost use Rattle.std.specs.Iterator.SizeHint.{IsWithinCount};
 ghost use Rattle.std.specs.Prelude.{IfSome, Some, ◌≡◌, length};

@@ -1,4 +1,5 @@
-//! The walks over the values of one key: lent, lent for writing, and taken out.
+//! The walks over the values of one key: lent, lent for writing, and taken out. This file knows
+//! keys by a probe alone.
 ghost use Rattle.std.specs.Prelude.{◌≡◌};
 ghost use Rattle.std.specs.Iterator.{item_count, YieldsFirst, YieldsLast, YieldsFirstRef, YieldsLastRef, YieldsFirstMut, YieldsLastMut};
 ghost use Rattle.ini_multimap.specs.Pairs.{values_at};

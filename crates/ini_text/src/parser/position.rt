@@ -1,4 +1,4 @@
-//! Lines and columns, counted once a text is refused.
+//! Lines and columns, counted once a text is refused. This file knows LF alone, and not why reading stopped.
 ghost use Rattle.std.specs.Prelude.{◌≡◌, chars};
 ghost use Rattle.ini_text.specs.Positions.{line_of, column_of};
 
