@@ -1,39 +1,39 @@
-//! The policies by class of character.
+//! The policies at the first and the last characters of each class.
 use super::EscapePolicy;
 
+/// Characters of each class: basic, reserved, up to U+FFFF and above; and others, which no policy escapes.
+const CHARACTERS: &'static str =
+    "\0\x1F\\\x7F#:;=\u{80}\u{D7FF}\u{E000}\u{FFFF}\u{10000}\u{10FFFF} \"'[]~";
+
 #[test]
-fn classes_by_policy(rt: HostRuntime) {
+fn each_policy_escapes_its_classes(rt: HostRuntime) {
     let rows = [
-        (EscapePolicy::Nothing, [false, false, false, false]),
-        (EscapePolicy::Basics, [true, false, false, false]),
-        (EscapePolicy::BasicsUnicode, [true, false, true, false]),
+        (EscapePolicy::Nothing, ""),
+        (EscapePolicy::Basics, "\0\x1F\\\x7F"),
+        (
+            EscapePolicy::BasicsUnicode,
+            "\0\x1F\\\x7F\u{80}\u{D7FF}\u{E000}\u{FFFF}",
+        ),
         (
             EscapePolicy::BasicsUnicodeExtended,
-            [true, false, true, true],
+            "\0\x1F\\\x7F\u{80}\u{D7FF}\u{E000}\u{FFFF}\u{10000}\u{10FFFF}",
         ),
-        (EscapePolicy::Reserved, [true, true, false, false]),
-        (EscapePolicy::ReservedUnicode, [true, true, true, false]),
+        (EscapePolicy::Reserved, "\0\x1F\\\x7F#:;="),
+        (
+            EscapePolicy::ReservedUnicode,
+            "\0\x1F\\\x7F#:;=\u{80}\u{D7FF}\u{E000}\u{FFFF}",
+        ),
         (
             EscapePolicy::ReservedUnicodeExtended,
-            [true, true, true, true],
+            "\0\x1F\\\x7F#:;=\u{80}\u{D7FF}\u{E000}\u{FFFF}\u{10000}\u{10FFFF}",
         ),
-        (EscapePolicy::Everything, [true, true, true, true]),
+        (
+            EscapePolicy::Everything,
+            "\0\x1F\\\x7F#:;=\u{80}\u{D7FF}\u{E000}\u{FFFF}\u{10000}\u{10FFFF}",
+        ),
     ];
-    for (policy, [basic, reserved, unicode, extended]) in rows {
-        for c in ['\\', '\0', '\x1F', '\x7F'] {
-            assert_eq!(rt; policy.should_escape(c), basic, "{policy:?} at {c:?}");
-        }
-        for c in [';', '#', '=', ':'] {
-            assert_eq!(rt; policy.should_escape(c), reserved, "{policy:?} at {c:?}");
-        }
-        for c in ['\u{80}', '\u{D7FF}', '\u{E000}', '\u{FFFF}'] {
-            assert_eq!(rt; policy.should_escape(c), unicode, "{policy:?} at {c:?}");
-        }
-        for c in ['\u{10000}', '\u{10FFFF}'] {
-            assert_eq!(rt; policy.should_escape(c), extended, "{policy:?} at {c:?}");
-        }
-        for c in [' ', '~', '"', '\'', '[', ']', 'x', '0'] {
-            assert!(rt; !policy.should_escape(c), "{policy:?} at {c:?}");
-        }
+    for (policy, want) in rows {
+        let escaped = CHARACTERS.chars().filter(|c| policy.should_escape(*c));
+        assert!(rt; escaped.eq(want.chars()), "{policy:?}");
     }
 }
