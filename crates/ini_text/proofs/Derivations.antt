@@ -19,6 +19,7 @@ use Rattle.ini_text.specs.Elements.Given.{Header, Pair}
 use Rattle.ini_text.specs.Texts.{Reads, Derives, Stops}
 use Rattle.ini_text.specs.declared.option.ParseOption.{ParseOption}
 use Rattle.ini_text.specs.declared.error.ParseKind.{ParseKind}
+use Rattle.ini_text.proofs.Items.{reads-append}
 
 -- behind the front b, the rest t of a text gives the items
 pub data RestGives (o : ParseOption) : List ℕ → List ℕ → List Given → Type 0 where
@@ -39,17 +40,11 @@ rest_reads {b = b} e (RestGives.give {s = s} {r = r} x rest) = Reads.step e x (r
 pub derives : {o : ParseOption} {T : List ℕ} {items : List Given} → RestGives o [] T items → Derives o T items
 derives rest = rest_reads refl rest
 
--- two rows of elements joined
-reads_append : {o : ParseOption} {T b c d : List ℕ} {xs ys : List Given} → Reads o T b xs c → Reads o T c ys d → Reads o T b (xs ++ ys) d
-reads_append (Reads.stay r e) y = y
-reads_append {o} {T} {b} {d = d} {ys = ys} (Reads.step {gives = gives} {items = items} e x rest) y =
-    subst (λ l. Reads o T b l d) (sym (append_assoc gives items ys)) (Reads.step e x (reads_append rest y))
-
 rest_stops : {o : ParseOption} {T b t f : List ℕ} {items : List Given} {kind : ParseKind} → Reads o T [] items b → T ≡ b ++ t → RestStops o b t kind f → Stops o T kind f
 rest_stops before e (RestStops.stop x) = Stops.stops before e x
 rest_stops {b = b} before e (RestStops.past {s = s} {r = r} x rest) =
     let more = e ∙ sym (append_assoc b s r) in
-    rest_stops (reads_append before (Reads.step e x (Reads.stay r more))) more rest
+    rest_stops (reads-append before (Reads.step e x (Reads.stay r more))) more rest
 
 pub stops : {o : ParseOption} {T f : List ℕ} {kind : ParseKind} → RestStops o [] T kind f → Stops o T kind f
 stops {T = T} rest = rest_stops (Reads.stay T refl) refl rest

@@ -1,5 +1,7 @@
 -- Elements, as they are read.
-use Rattle.std.proofs.Common.{◌≡◌, ◌≢◌, ℕ, Bool, true, false, not, ◌||◌, eqb, eqb-true, List, [], ◌∷◌, ◌++◌, drop, refl, sym, ap, ◌∙◌, append_assoc, subst, chars, ◌⊎◌, inl, inr}
+use Rattle.std.proofs.Common.{◌≡◌, ◌≢◌, ℕ, Bool, true, false, not, eqb, eqb-true, List, [], ◌∷◌, ◌++◌, drop, refl, sym, ap, ◌∙◌, append_assoc, subst, chars, inl, inr}
+use Rattle.std.proofs.Math.Bool.{or-false}
+use Rattle.std.proofs.lemmas.Bool.{not-false, or_cases}
 use Rattle.std.specs.Char.{is_whitespace}
 use Rattle.std.specs.List.{list_all}
 use Rattle.ini_text.specs.Characters.{line_feed, open_bracket, close_bracket, is_blank, is_line_feed, is_line_end, is_comment_mark, BeginsWithNo}
@@ -19,23 +21,11 @@ use Rattle.ini_text.specs.declared.parser.fault.Stop.TheVariants as stops
 use Rattle.ini_text.proofs.Keys.{Indented, endpoint_follows}
 use Rattle.ini_text.proofs.Scans.{run-skipped, run-all, skipped-no}
 
-either : (a b : Bool) → (a || b) ≡ true → (a ≡ true) ⊎ (b ≡ true)
-either true b h = inl refl
-either false b h = inr h
-
 pub blank_is_white : (c : ℕ) → is_blank c ≡ true → is_whitespace c ≡ true
-blank_is_white c h = elim (either (eqb c 32) (eqb c 9) h) [
+blank_is_white c h = elim (or_cases (eqb c 32) (eqb c 9) h) [
   | inl q ↦ subst (λ x. is_whitespace x ≡ true) (sym (eqb-true c 32 q)) refl
   | inr q ↦ subst (λ x. is_whitespace x ≡ true) (sym (eqb-true c 9 q)) refl
 ]
-
-or_false : (a : Bool) → (a || false) ≡ true → a ≡ true
-or_false true h = refl
-or_false false h = cc
-
-not_false : (a : Bool) → not a ≡ false → a ≡ true
-not_false true h = refl
-not_false false h = cc
 
 module _ {o : ParseOption} {b : List ℕ} where
   -- gaps
@@ -65,7 +55,7 @@ module _ {o : ParseOption} {b : List ℕ} where
   comment_end {c} run [] one marks all n is =
       record { source = c ∷ run; holds = subst (λ x. Element o b (c ∷ run) x []) (sym is) (Element.last_comment one marks all); whole = ap (λ x. c ∷ (run ++ x)) is }
   comment_end {c} run (l ∷ rest) {u} one marks all n is =
-      let same : l ≡ line_feed = eqb-true l 10 (not_false (eqb l 10) n) in
+      let same : l ≡ line_feed = eqb-true l 10 (not-false (eqb l 10) n) in
       record {
         source = c ∷ (run ++ line_feed ∷ []);
         holds = Element.comment run one marks all;
@@ -87,7 +77,7 @@ module _ {o : ParseOption} {b : List ℕ} where
       → Begins (open_bracket ∷ t) u (λ s. Element o b s u (Header name ∷ []))
   header_read {end = end} {u = u} read is_name is =
       let f = endpoint_follows read.holds refl in
-      let bracket : f.0 ≡ close_bracket = eqb-true f.0 93 (or_false (eqb f.0 93) f.3) in
+      let bracket : f.0 ≡ close_bracket = eqb-true f.0 93 (sym (or-false (eqb f.0 93)) ∙ f.3) in
       let end_is : end ≡ close_bracket ∷ u = f.2 ∙ ap (λ c. c ∷ f.1) bracket ∙ ap (λ x. close_bracket ∷ x) (sym (is ∙ ap (drop 1) f.2)) in
       record {
         source = open_bracket ∷ (read.source ++ close_bracket ∷ []);

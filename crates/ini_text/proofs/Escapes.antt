@@ -4,7 +4,7 @@ use Rattle.std.proofs.lemmas.Bool.{eqb-true, eq-eqb, false≢true}
 use Rattle.ini_text.specs.Characters.{backslash, line_feed, letter_x}
 use Rattle.ini_text.specs.Pieces.{Escape, EscapeStops, control, spelled}
 use Rattle.ini_text.specs.Readers.{Appended, Begins, StoppedBy}
-use Rattle.ini_text.specs.Units.{escaped_value}
+use Rattle.ini_text.specs.Units.{value_behind_backslash}
 use Rattle.ini_text.specs.declared.parser.fault.Stop.{Stop}
 use Rattle.ini_text.specs.declared.parser.fault.Stop.TheVariants as stops
 
@@ -20,11 +20,11 @@ escape_of e c true h other = subst (λ x. Escape e (backslash ∷ x ∷ []) []) 
 escape_of true c false h other = value_of c (control c) refl (λ same. false≢true (sym h ∙ eq-eqb c line_feed same)) (other refl)
 escape_of false c false h other = Escape.kept refl (λ same. false≢true (sym h ∙ eq-eqb c line_feed same))
 
-pub one_character : {e : Bool} {old new after : List ℕ} {c : ℕ} → (e ≡ true → c ≢ letter_x) → new ≡ old ++ escaped_value e c
+pub one_character : {e : Bool} {old new after : List ℕ} {c : ℕ} → (e ≡ true → c ≢ letter_x) → new ≡ old ++ value_behind_backslash e c
     → Appended old new (backslash ∷ c ∷ after) after (λ s v. Escape e s v)
 one_character {e} {c = c} other pushed = record {
   source = backslash ∷ c ∷ [];
-  value = escaped_value e c;
+  value = value_behind_backslash e c;
   holds = escape_of e c (eqb c line_feed) refl other;
   whole = refl;
   appended = pushed;

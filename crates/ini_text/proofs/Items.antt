@@ -1,6 +1,6 @@
 -- From one element to the next, up to an item.
-use Rattle.std.proofs.Common.{◌≡◌, ◌<◌, ◌≤◌, ℕ, Bool, List, [], ◌∷◌, ◌++◌, length, sym, ap, ◌∙◌, append_assoc, append-nil, subst, subst₂, chars, arith, length-append}
-use Rattle.ini_text.specs.Characters.{is_blank, BeginsWith}
+use Rattle.std.proofs.Common.{◌≡◌, ◌<◌, ◌≤◌, ℕ, List, [], ◌∷◌, ◌++◌, length, sym, ap, ◌∙◌, append_assoc, append-nil, subst, subst₂, chars, arith, length-append}
+use Rattle.ini_text.specs.Characters.{is_blank}
 use Rattle.ini_text.specs.Elements.{Given, Gap, Element, ElementStops}
 use Rattle.ini_text.specs.Fronts.{front_of, IsRest}
 use Rattle.ini_text.specs.Parser.{memory, parse, Refuses, StopIsWithin, IsStopOf, Tells, refusal_of, StopsBehind}
@@ -16,6 +16,7 @@ use Rattle.ini_text.specs.declared.parser.Refusal.{Refusal}
 use Rattle.ini_text.specs.declared.parser.fault.Stop.{Stop}
 use Rattle.ini_text.specs.declared.parser.fault.Stop.TheVariants as stops
 use Rattle.ini_text.proofs.Fronts.{front_grows}
+use Rattle.ini_text.proofs.WalkRuns.{BeginsWith-some}
 
 -- two rows of elements joined
 pub reads-append : {o : ParseOption} {T b c d : List ℕ} {xs ys : List Given} → Reads o T b xs c → Reads o T c ys d → Reads o T b (xs ++ ys) d
@@ -23,13 +24,9 @@ reads-append (Reads.stay r e) more = more
 reads-append {o} {T} {d = d} {ys = ys} (Reads.step {b = b} {s = s} {r = r} {c = c} {gives = gives} {items = items} e x rest) more =
     subst (λ l. Reads o T b l d) (sym (append_assoc gives items ys)) (Reads.step e x (reads-append rest more))
 
-some_length : (test : ℕ → Bool) (w : List ℕ) → BeginsWith test w → 1 ≤ length w
-some_length test [] h = cc
-some_length test (c ∷ w) h = omega arith
-
 gap-some : {b s r : List ℕ} → Gap b s r → 1 ≤ length s
 gap-some (Gap.blank_line {w = w} c i ends) = omega (arith, length-append w (c ∷ []))
-gap-some (Gap.before_header {w = w} i) = some_length is_blank w i.some
+gap-some (Gap.before_header {w = w} i) = BeginsWith-some is_blank w i.some
 gap-some (Gap.white is inside) = omega arith
 
 -- an element isn't empty
@@ -39,8 +36,8 @@ element-some (Element.comment s one marks all) = omega arith
 element-some (Element.last_comment one marks all) = omega arith
 element-some (Element.header str) = omega arith
 element-some (Element.pair {k = k} {s = s} {m = m} front some separates value) = omega (arith, length-append k (m ∷ s))
-element-some (Element.dropped_blanks {w = w} i) = some_length is_blank w i.some
-element-some (Element.dropped_key {w = w} {s = s} i begins str) = omega (arith, length-append w s, some_length is_blank w i.some)
+element-some (Element.dropped_blanks {w = w} i) = BeginsWith-some is_blank w i.some
+element-some (Element.dropped_key {w = w} {s = s} i begins str) = omega (arith, length-append w s, BeginsWith-some is_blank w i.some)
 
 -- behind the rest of a text, an element moves the parser on
 pub record Moved (o : ParseOption) (T b rest after : List ℕ) (gives : List Given) : Type 0 where

@@ -1,5 +1,6 @@
 -- Keys, as they are read.
 use Rattle.std.proofs.Common.{◌≡◌, ◌≢◌, ℕ, Bool, true, false, not, ◌||◌, eqb, ne_eqb, List, [], ◌∷◌, ◌++◌, refl, sym, ap, ◌∙◌, append_assoc, append-nil, subst, if◌then◌else◌}
+use Rattle.std.proofs.Math.Bool.{or-false}
 use Rattle.ini_text.specs.Characters.{open_bracket, is_blank, is_line_end, BeginsWith, BeginsWithNo}
 use Rattle.ini_text.specs.ElementParts.{IsKey, TailStops, kept_blanks}
 use Rattle.ini_text.specs.Elements.{Element, ElementStops}
@@ -29,11 +30,6 @@ endpoint_follows {r = []} (Str.closed row h) n = let z : true ≡ false = sym h 
 endpoint_follows {r = c ∷ t} (Str.closed row h) n = (c, t, refl, h)
 endpoint_follows (Str.lone row h) n = let z : true ≡ false = sym h ∙ n in cc
 
-one_of : (a b : Bool) → (a || (b || false)) ≡ true → (a || b) ≡ true
-one_of true b h = refl
-one_of false true h = refl
-one_of false false h = cc
-
 -- the key that a key front gives of its string
 key_value : (kept : Bool) (v : List ℕ) → trimmed_at (not kept) v ≡ (if kept then end_trimmed v else trimmed v)
 key_value true v = refl
@@ -55,7 +51,7 @@ unindented_key {o} {b} {rest = rest} begins read is =
           (KeyFront.unindented (subst (BeginsWith begins_key) (sym read.whole) begins) read.holds);
       whole = read.whole;
       begins = f.2;
-      separates = one_of (eqb f.0 61) (eqb f.0 58) f.3;
+      separates = rw (or-false (eqb f.0 58)) at f.3;
     }
 
 pub unindented_stops : (o : ParseOption) (b t : List ℕ) (stop : Stop) → BeginsWith begins_key t → StoppedBy (StrStops o.enabled_escape key_ends) t stop → StoppedBy (ElementStops o b) t stop
@@ -103,7 +99,7 @@ indented_key {o} {b} {t} {rest = rest} i begins blanks read is =
           (KeyFront.indented i.indentation (subst (BeginsWith begins_indented_key) (sym read.whole) begins) read.holds);
       whole = append_assoc w read.source rest ∙ ap (λ x. w ++ x) read.whole ∙ i.whole;
       begins = f.2;
-      separates = one_of (eqb f.0 61) (eqb f.0 58) f.3;
+      separates = rw (or-false (eqb f.0 58)) at f.3;
     }
 
 -- a string that meets the text's end leaves nothing
@@ -113,10 +109,10 @@ escape_at_end (EscapeStops.cut_in_unit units few) e = refl
 escape_at_end (EscapeStops.broken units few other) e = cc
 escape_at_end (EscapeStops.unknown units four none) e = cc
 
-string_at_end : {e : Bool} {ends : Ends} {s r : List ℕ} {k : ParseKind} → StrStops e ends s r k → k ≡ EndOfText → r ≡ []
-string_at_end (StrStops.at_end row h) e = refl
-string_at_end (StrStops.after_backslash row h) e = refl
-string_at_end (StrStops.in_escape row on stop) e = escape_at_end stop e
+pub stopped_at_end : {e : Bool} {ends : Ends} {s r : List ℕ} {k : ParseKind} → StrStops e ends s r k → k ≡ EndOfText → r ≡ []
+stopped_at_end (StrStops.at_end row h) e = refl
+stopped_at_end (StrStops.after_backslash row h) e = refl
+stopped_at_end (StrStops.in_escape row on stop) e = escape_at_end stop e
 
 pub tail_stops : {o : ParseOption} {b t start : List ℕ} (stop : Stop) → Indented b t start → BeginsWith begins_indented_key start → StoppedBy (StrStops o.enabled_escape key_ends) start stop
     → TailStops o b t start stop
@@ -126,7 +122,7 @@ tail_stops {t = t} stop i begins s = record { blanks = run_of is_blank t; indent
 pub tail_dropped : {o : ParseOption} {b t start rest blanks : List ℕ} → Indentation b blanks → blanks ++ start ≡ t → BeginsWith begins_indented_key start
     → Begins start rest (λ s. StrStops o.enabled_escape key_ends s rest EndOfText) → Begins t rest (λ s. Element o b s rest [])
 tail_dropped {o} {b} {rest = rest} {blanks = w} indentation whole begins s =
-    let none : rest ≡ [] = string_at_end s.holds refl in
+    let none : rest ≡ [] = stopped_at_end s.holds refl in
     record {
       source = w ++ s.source;
       holds = subst (λ x. Element o b (w ++ s.source) x []) (sym none)

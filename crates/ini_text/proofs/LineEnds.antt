@@ -1,6 +1,7 @@
 -- Line ends, as they are read, and leads.
-use Rattle.std.proofs.Common.{◌≡◌, ◌≢◌, ◌≤◌, ℕ, Bool, true, false, ◌||◌, eqb, List, [], ◌∷◌, ◌++◌, length, refl, sym, ap, ◌∙◌, subst, arith, ne_eqb, eqb-true, ◌⊎◌, inl, inr}
-use Rattle.std.proofs.lemmas.Bool.{cond-true}
+use Rattle.std.proofs.Common.{◌≡◌, ◌≢◌, ◌≤◌, ℕ, Bool, true, eqb, List, [], ◌∷◌, ◌++◌, length, refl, sym, ap, ◌∙◌, subst, arith, ne_eqb, eqb-true, inl, inr}
+use Rattle.std.proofs.Math.Bool.{or-false}
+use Rattle.std.proofs.lemmas.Bool.{cond-true, or_cases}
 use Rattle.ini_text.specs.Characters.{line_feed, carriage_return, is_blank, is_line_end, is_line_feed, is_inline_white, BeginsWith, BeginsWithNo}
 use Rattle.ini_text.specs.Lines.{Line}
 use Rattle.ini_text.specs.Readers.{Begins}
@@ -39,14 +40,11 @@ line_end-some LineEnd.cr_lf = omega arith
 line_end-some (LineEnd.cr n) = omega arith
 
 -- a line ends at a line end or with the text
-two : (a b : Bool) → (a || (b || false)) ≡ true → (a || b) ≡ true
-two true b h = refl
-two false true h = refl
-two false false h = cc
-
 string-closes : {e : Bool} {s r v : List ℕ} → Str e plain_ends s r v → BeginsWithNo is_line_end r → r ≡ []
 string-closes {r = []} (Str.closed w h) n = refl
-string-closes {r = c ∷ t} (Str.closed w h) n = let z = sym (two (eqb c 10) (eqb c 13) h) ∙ n in cc
+string-closes {r = c ∷ t} (Str.closed w h) n =
+    let ends : is_line_end c ≡ true = rw (or-false (eqb c 13)) at h in
+    let z = sym ends ∙ n in cc
 string-closes (Str.lone w h) n = refl
 
 pub line-closes : {o : ParseOption} {first : Bool} {s r v : List ℕ} → Line o first s r v → BeginsWithNo is_line_end r → r ≡ []
@@ -61,14 +59,10 @@ lead {t} h = record {
 }
 
 pub blank_inline : (c : ℕ) → is_blank c ≡ true → is_inline_white c ≡ true
-blank_inline c h = elim (either (eqb c 32) (eqb c 9) h) [
+blank_inline c h = elim (or_cases (eqb c 32) (eqb c 9) h) [
   | inl q ↦ subst (λ x. is_inline_white x ≡ true) (sym (eqb-true c 32 q)) refl
   | inr q ↦ subst (λ x. is_inline_white x ≡ true) (sym (eqb-true c 9 q)) refl
 ]
-  where
-    either : (a b : Bool) → (a || b) ≡ true → (a ≡ true) ⊎ (b ≡ true)
-    either true b h = inl refl
-    either false b h = inr h
 
 -- a lead that begins with a blank
 pub record BlankLead (rest start : List ℕ) : Type 0 where

@@ -1,5 +1,6 @@
 -- A line, as it is read: quoted parts that grow at their end, and then the plain part.
-use Rattle.std.proofs.Common.{◌≡◌, ℕ, Bool, true, false, not, ◌&&◌, ◌||◌, eqb, eqb-true, List, [], ◌∷◌, ◌++◌, drop, refl, sym, ap, ◌∙◌, append_assoc, append-nil, chars, subst, subst₂}
+use Rattle.std.proofs.Common.{◌≡◌, ℕ, Bool, true, not, ◌&&◌, eqb, eqb-true, List, [], ◌∷◌, ◌++◌, drop, sym, ap, ◌∙◌, append_assoc, append-nil, chars, subst, subst₂}
+use Rattle.std.proofs.Math.Bool.{or-false}
 use Rattle.ini_text.specs.Characters.{is_mark}
 use Rattle.ini_text.specs.ParserFaults.{kind_of}
 use Rattle.ini_text.specs.Lines.{Quoted, BeginsPlain, Line, LineStops, plain_value}
@@ -12,15 +13,11 @@ use Rattle.ini_text.specs.declared.parser.fault.Stop.{Stop}
 use Rattle.ini_text.specs.declared.parser.fault.Stop.TheVariants as stops
 use Rattle.ini_text.proofs.Appending.{and_stops}
 
-or_false : (b : Bool) → (b || false) ≡ true → b ≡ true
-or_false true h = refl
-or_false false h = cc
-
 -- what follows a string in quotes begins with their mark, and the string ends so before any text
 pub closed_by_mark : {e : Bool} {m : ℕ} {s r v : List ℕ} → Str e (quote_ends m) s r v → (t : List ℕ) × (r ≡ m ∷ t) × Str e (quote_ends m) s (m ∷ []) v
 closed_by_mark {r = []} (Str.closed row h) = cc
 closed_by_mark {e} {m = m} {s = s} {r = d ∷ r} {v = v} (Str.closed row h) =
-    let same : d ≡ m = eqb-true d m (or_false (eqb d m) h) in
+    let same : d ≡ m = eqb-true d m (sym (or-false (eqb d m)) ∙ h) in
     (r, ap (λ x. x ∷ r) same, subst (λ x. Str e (quote_ends m) s (x ∷ []) v) same (Str.closed row h))
 closed_by_mark (Str.lone row h) = cc
 

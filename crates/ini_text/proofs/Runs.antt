@@ -1,9 +1,9 @@
 -- Runs of bytes, as runs of characters.
-use Rattle.std.proofs.Common.{◌≡◌, ℕ, suc, ◌+◌, ◌<◌, ◌≤◌, Bool, true, false, ◌&&◌, List, [], ◌∷◌, ◌++◌, length, take, drop, refl, sym, ap, ◌∙◌, subst, arith, inl, inr, IsUtf8, IsCharBoundary, encode_utf8, encode_utf8_all, chars, take-append-drop, cond, get_or, one-add, true≢false}
+use Rattle.std.proofs.Common.{◌≡◌, ℕ, suc, ◌+◌, ◌<◌, ◌≤◌, Bool, true, false, List, [], ◌∷◌, ◌++◌, length, take, drop, refl, sym, ap, ◌∙◌, subst, arith, inl, inr, IsUtf8, IsCharBoundary, encode_utf8, encode_utf8_all, chars, take-append-drop, cond, get_or, one-add, true≢false}
 use Rattle.std.specs.List.{list_all, prefix_len}
 use Rattle.std.proofs.lemmas.List.Folds.{list_all-append}
 use Rattle.std.proofs.lemmas.List.Sums.{prefix_len-le-length, prefix_len_stops}
-use Rattle.std.proofs.lemmas.Bool.{cases_lt}
+use Rattle.std.proofs.lemmas.Bool.{cases_lt, and_parts}
 use Rattle.std.proofs.lemmas.Bool.Decides.{nat_tests}
 use Rattle.std.proofs.lemmas.Str.{IsCharBoundary-before_ascii, IsCharBoundary-end, encode_ascii, encodes-chars, IsUtf8-take, IsUtf8-drop, chars-append, chars_past_char, chars-nil}
 use Rattle.std.proofs.Math.Seq.{drop-cons}
@@ -14,16 +14,11 @@ use Rattle.ini_text.specs.Characters.{BeginsWithNo}
 use Rattle.ini_text.specs.declared.parser.fault.Endpoints.{Endpoints}
 use Rattle.ini_text.specs.declared.parser.fault.Endpoints.TheVariants.{Name, Key, DoubleQuotes, SingleQuotes, Plain}
 
-parts_true : (a b : Bool) → (a && b) ≡ true → (a ≡ true) × (b ≡ true)
-parts_true true true h = (refl, refl)
-parts_true true false h = cc
-parts_true false b h = cc
-
 chars_pass : (p : ℕ → Bool) → ((c : ℕ) → 128 ≤ c → p c ≡ true) → (cs : List ℕ) → list_all p (encode_utf8_all cs) ≡ true → list_all p cs ≡ true
 chars_pass p wide [] h = refl
 chars_pass p wide (c ∷ cs) h =
-    let both = parts_true (list_all p (encode_utf8 c)) (list_all p (encode_utf8_all cs)) (sym (list_all-append p (encode_utf8 c) (encode_utf8_all cs)) ∙ h) in
-    let here : p c ≡ true = elim (cases_lt c 128) [ inl low ↦ (parts_true (p c) true (ap (list_all p) (sym (encode_ascii c low)) ∙ both.0)).0 | inr high ↦ wide c high ] in
+    let both = and_parts (list_all p (encode_utf8 c)) (list_all p (encode_utf8_all cs)) (sym (list_all-append p (encode_utf8 c) (encode_utf8_all cs)) ∙ h) in
+    let here : p c ≡ true = elim (cases_lt c 128) [ inl low ↦ (and_parts (p c) true (ap (list_all p) (sym (encode_ascii c low)) ∙ both.0)).0 | inr high ↦ wide c high ] in
     rw (here, chars_pass p wide cs both.1) refl
 
 run_step : (p : ℕ → Bool) (b : Bool) (n x : ℕ) (xs : List ℕ) → p x ≡ b → list_all p (take n xs) ≡ true → list_all p (take (cond b (1 + n) 0) (x ∷ xs)) ≡ true

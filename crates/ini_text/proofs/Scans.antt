@@ -1,7 +1,7 @@
 -- Runs at the front of a text, and the front before a rest.
 use Rattle.std.proofs.Common.{◌≡◌, ◌≤◌, ℕ, ◌-◌, Bool, true, false, ◌&&◌, cond, List, [], ◌∷◌, ◌++◌, length, take, refl, sym, ap, ◌∙◌, append-nil, arith, length-append, subst, chars, IsUtf8, IsCharBoundary, encode_utf8, encode_utf8_all}
 use Rattle.std.proofs.lemmas.Bool.{cond-true, cond-false, cond_both}
-use Rattle.std.proofs.lemmas.Str.{chars-append, chars-encodes, chars-nil, encodes-append, encodes-chars, scalars-chars, IsCharBoundary-at_seam, length-le-encodes, cons_from_encodes}
+use Rattle.std.proofs.lemmas.Str.{chars-append, chars-encodes, encodes-append, encodes-chars, scalars-chars, IsCharBoundary-at_seam, length-le-encodes, cons_from_encodes}
 use Rattle.std.proofs.Math.Seq.{take-append_seam}
 use Rattle.std.specs.Str.{all_scalars}
 use Rattle.std.specs.List.{list_all}
@@ -77,10 +77,6 @@ front_chars t r x u v h q =
 pub last_or_append : (d c : ℕ) (xs : List ℕ) → last_or d (xs ++ c ∷ []) ≡ c
 last_or_append d c [] = refl
 last_or_append d c (x ∷ xs) = last_or_append x c xs
-
-pub no_chars : (t : List ℕ) → length t ≡ 0 → chars t ≡ []
-no_chars [] h = chars-nil
-no_chars (b ∷ t) h = absurd (omega arith)
 
 cancel : (a b c : List ℕ) → a ++ b ≡ a ++ c → b ≡ c
 cancel [] b c h = h

@@ -1,8 +1,8 @@
 -- Where the run at the front of a text ends that a policy leaves as it is, found by the bytes.
-use Rattle.std.proofs.Common.{◌≡◌, ℕ, ◌+◌, ◌/◌, ◌<◌, ◌≤◌, Bool, true, false, not, ◌&&◌, List, [], ◌∷◌, ◌++◌, refl, sym, ap, ◌∙◌, length, take, drop, get_or, arith, cond, inl, inr, IsUtf8, IsCharBoundary, chars, encode_utf8_all, get_or-drop, length-drop, take-append-drop, one-add, add-zero}
+use Rattle.std.proofs.Common.{◌≡◌, ℕ, ◌+◌, ◌/◌, ◌<◌, ◌≤◌, Bool, true, false, not, List, [], ◌∷◌, ◌++◌, refl, sym, ap, ◌∙◌, length, take, drop, get_or, arith, cond, inl, inr, IsUtf8, IsCharBoundary, chars, encode_utf8_all, get_or-drop, length-drop, take-append-drop, one-add, add-zero}
 use lib.Utf8.{encode, next}
 use Rattle.std.specs.List.{list_all, position_or_len}
-use Rattle.std.proofs.lemmas.Bool.{cases_lt}
+use Rattle.std.proofs.lemmas.Bool.{cases_lt, and_parts}
 use Rattle.std.proofs.lemmas.Bool.Decides.{nat_tests}
 use Rattle.std.proofs.lemmas.Grind.{flat_map-append}
 use Rattle.std.proofs.lemmas.List.Folds.{list_all-append}
@@ -57,10 +57,6 @@ first_of policy c =
         | inr above ↦ elim (cases_lt c 0x1_0000) [ inl below ↦ first_of_three policy c above below | inr above ↦ first_of_four policy c above ]
       ]
     ]
-
-and_parts : (a b : Bool) → (a && b) ≡ true → (a ≡ true) × (b ≡ true)
-and_parts true b both = (refl, both)
-and_parts false b both = cc
 
 -- characters none of whose bytes begins one that is escaped
 escaped-passed : (policy : EscapePolicy) (text : List ℕ) → list_all (λ b. not (begins_escaped policy b)) (encode_utf8_all text) ≡ true → escaped policy text ≡ text

@@ -1,7 +1,7 @@
 -- Reading an element by the character with which it begins: the reader serves the proofs alone.
 use Rattle.std.proofs.Common.{◌≡◌, ◌≢◌, ℕ, Bool, true, false, not, ◌&&◌, ◌||◌, ◌==◌, if◌then◌else◌, List, [], ◌∷◌, ◌++◌, drop, refl, sym, ap, ◌∙◌, subst, append_assoc, append-nil, eqb-true, inl, inr}
 use Rattle.std.proofs.Math.Bool.{or-false}
-use Rattle.std.proofs.lemmas.Bool.{cases_Bool, cond-true, and_parts, or_parts, not-true}
+use Rattle.std.proofs.lemmas.Bool.{cases_Bool, cond-true, and_parts, or_parts, not-true, not-false}
 use Rattle.std.specs.Char.{is_whitespace}
 use Rattle.std.specs.List.{list_all}
 use Rattle.ini_text.specs.declared.option.ParseOption.{ParseOption}
@@ -10,7 +10,6 @@ use Rattle.ini_text.specs.declared.error.ParseKind.TheVariants.{EndOfText, Inlin
 use Rattle.ini_text.specs.Characters.{line_feed, carriage_return, hash, semicolon, open_bracket, close_bracket, is_line_feed, is_line_end, is_blank, is_separator, is_comment_mark, BeginsWith, BeginsWithNo}
 use Rattle.ini_text.specs.Positions.{starts_line, is_column_one}
 use Rattle.ini_text.specs.White.{trimmed, end_trimmed}
-use Rattle.ini_text.specs.Pieces.{EscapeStops}
 use Rattle.ini_text.specs.Strings.{Str, StrStops, name_ends, key_ends}
 use Rattle.ini_text.specs.Values.{Value, ValueStops}
 use Rattle.ini_text.specs.Keys.{Indentation, begins_key, begins_indented_key, KeyFront}
@@ -18,6 +17,7 @@ use Rattle.ini_text.specs.Elements.{Given, Header, Pair, Gap, Element, ElementSt
 use Rattle.ini_text.proofs.WalkReaders.{Answer, found, stopped, Says, IsReader}
 use Rattle.ini_text.proofs.WalkStrings.{StringSays, string, string-reads}
 use Rattle.ini_text.proofs.Elements.{blank_is_white}
+use Rattle.ini_text.proofs.Keys.{stopped_at_end}
 use Rattle.ini_text.proofs.WalkRuns.{either_true, run-finds, run-sound}
 use Rattle.ini_text.specs.Scans.{run_of, skipped}
 use Rattle.ini_text.proofs.WalkValues.{value, value-reads}
@@ -113,17 +113,6 @@ module _ (o : ParseOption) (b : List ℕ) where
   name-bracket {r = m ∷ x} (Str.closed k h) = (x, ap (λ y. y ∷ x) (eqb-true m 93 (rw or-false at h)))
   name-bracket (Str.lone k h) = cc
 
-  ends_text : {s r : List ℕ} {k : ParseKind} → StrStops o.enabled_escape key_ends s r k → k ≡ EndOfText → r ≡ []
-  ends_text (StrStops.at_end x h) q = refl
-  ends_text (StrStops.after_backslash x h) q = refl
-  ends_text (StrStops.in_escape x on stops) q = within stops q
-    where
-      within : {p r : List ℕ} {k : ParseKind} → EscapeStops p r k → k ≡ EndOfText → r ≡ []
-      within (EscapeStops.cut_short u l) q = refl
-      within (EscapeStops.cut_in_unit u l) q = refl
-      within (EscapeStops.broken u l n) q = cc
-      within (EscapeStops.unknown u l n) q = cc
-
   behind_separator-sound : {k r : List ℕ} {m : ℕ} (key : List ℕ) → KeyFront o b k (m ∷ r) key → is_separator m ≡ true
       → ElementSays (k ++ m ∷ r) (behind_separator key r)
   behind_separator-sound {k} {r} {m} [] front sep = (k ++ m ∷ [], ElementStops.no_key front sep, append_assoc k (m ∷ []) r)
@@ -160,7 +149,7 @@ module _ (o : ParseOption) (b : List ℕ) where
 
       by : (k : ParseKind) → StrStops o.enabled_escape key_ends s r k → BeginsWith begins_indented_key (s ++ r) → ElementSays (w ++ t) (dropped r k)
       by EndOfText stops begins =
-          let none : r ≡ [] = ends_text stops refl in
+          let none : r ≡ [] = stopped_at_end stops refl in
           let key = Element.dropped_key ind (rw (none, append-nil s) at begins) (subst (λ y. StrStops o.enabled_escape key_ends s y EndOfText) none stops) in
           (w ++ s, subst (λ y. Element o b (w ++ s) y []) (sym none) key, whole)
       by k stops begins = (w ++ s, ElementStops.in_indented_key ind begins stops (λ q. cc), whole)
@@ -190,12 +179,8 @@ module _ (o : ParseOption) (b : List ℕ) where
       → ElementSays (c ∷ (s ++ rest)) (found [] (drop 1 rest))
   comment-sound c s [] one mark all other = (c ∷ s, Element.last_comment one mark all, refl)
   comment-sound c s (l ∷ rest) one mark all other =
-      let feed : l ≡ line_feed = eqb-true l 10 (not_false (l == line_feed) other) in
+      let feed : l ≡ line_feed = eqb-true l 10 (not-false (l == line_feed) other) in
       rw feed (c ∷ (s ++ line_feed ∷ []), Element.comment s one mark all, ap (λ y. c ∷ y) (append_assoc s (line_feed ∷ []) rest))
-    where
-      not_false : (a : Bool) → not a ≡ false → a ≡ true
-      not_false true h = refl
-      not_false false h = cc
 
   mark-sound : (c : ℕ) (cs : List ℕ) → is_comment_mark c ≡ true
       → ElementSays (c ∷ cs) (if is_column_one b then found [] (drop 1 (skipped is_comment_part cs)) else stopped cs InlineComment)

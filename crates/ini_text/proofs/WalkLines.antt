@@ -1,23 +1,18 @@
 -- Reading a line by steps that each take a quoted part, and then the plain part: the reader serves the proofs alone.
-use Rattle.std.proofs.Common.{◌≡◌, ℕ, Bool, true, false, ◌&&◌, ◌==◌, if◌then◌else◌, List, [], ◌∷◌, ◌++◌, drop, inl, inr, refl, sym, ap, ◌∙◌, subst, subst₂, append_assoc, append-nil, length-append, arith, ne_eqb, eq-eqb, eqb-true}
-use Rattle.std.proofs.Math.Bool.{or-false}
+use Rattle.std.proofs.Common.{◌≡◌, ℕ, Bool, true, false, ◌&&◌, if◌then◌else◌, List, [], ◌∷◌, ◌++◌, drop, inl, inr, refl, sym, ap, ◌∙◌, subst, subst₂, append_assoc, append-nil, length-append, arith, ne_eqb}
 use Rattle.std.proofs.lemmas.Bool.{cases_Bool, and_parts}
 use Rattle.ini_text.specs.declared.option.ParseOption.{ParseOption}
 use Rattle.ini_text.specs.declared.error.ParseKind.{ParseKind}
 use Rattle.ini_text.specs.Characters.{is_mark}
 use Rattle.ini_text.specs.Strings.{quote_ends, plain_ends, Str, StrStops}
 use Rattle.ini_text.specs.Lines.{Quoted, BeginsPlain, plain_value, Line, LineStops}
+use Rattle.ini_text.proofs.Lines.{closed_by_mark}
 use Rattle.ini_text.proofs.WalkReaders.{Answer, found, stopped, prepend, prepend-nil, prepend-prepend, Says, IsReader, Step, more, ends, Steps, StepSays, read_by, reads_by}
 use Rattle.ini_text.proofs.WalkStrings.{StringSays, string, string-reads}
 
 -- a string before its mark
 Str-before : {e : Bool} {m : ℕ} {s v r : List ℕ} (t : List ℕ) → Str e (quote_ends m) s (m ∷ r) v → Str e (quote_ends m) s (m ∷ t) v
 Str-before t (Str.closed k h) = Str.closed k h
-
-Str-mark : {e : Bool} {m : ℕ} {s r v : List ℕ} → Str e (quote_ends m) s r v → (t : List ℕ) × (r ≡ m ∷ t) × Str e (quote_ends m) s (m ∷ []) v
-Str-mark {r = []} (Str.closed k h) = cc
-Str-mark {m = m} {r = d ∷ r} (Str.closed k h) = (r, ap (λ x. x ∷ r) (eqb-true d m (sym (or-false (d == m)) ∙ h)), Str.closed k (rw (eq-eqb m m refl) refl))
-Str-mark (Str.lone k h) = cc
 
 abbrev pub LineSays : ParseOption → Bool → List ℕ → Answer ℕ → Type 0
 LineSays o first t a = Says (Line o first) (LineStops o) t a
@@ -75,7 +70,7 @@ module _ (o : ParseOption) where
       → PartSays (m ∷ t) (behind_mark a)
   behind-sound m t on mark (stopped r k) (s, stops, h) = (m ∷ s, PartsStop.stop Quoted.none on mark stops, ap (λ y. m ∷ y) h)
   behind-sound m t on mark (found v r) (s, str, h) =
-      let x = Str-mark str in
+      let x = closed_by_mark str in
       let whole : s ++ m ∷ x.0 ≡ t = ap (λ y. s ++ y) (sym x.1) ∙ h in
       rw (x.1, ← whole) (omega (arith, length-append s (m ∷ x.0)), behind on mark x.2 x.0)
 

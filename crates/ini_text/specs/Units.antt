@@ -16,8 +16,8 @@ abbrev pub ReadsUnit : List ℕ → Result (Option ℕ × Bor (List ℕ)) Stop �
 ReadsUnit t r = MatchResult r (λ p. Begins t (chars p.1.now) (λ s. Units s (p.0 ∷ []))) (StoppedBy UnitStops t)
 
 -- what a backslash and the character behind it stand for, where that is not the x of a code
-abbrev pub escaped_value : Bool → ℕ → List ℕ
-escaped_value escapes c =
+abbrev pub value_behind_backslash : Bool → ℕ → List ℕ
+value_behind_backslash escapes c =
     if c == line_feed then []
     else if escapes then unwrap_or (control c) c ∷ []
     else backslash ∷ c ∷ []

@@ -6,7 +6,7 @@ ghost use Rattle.ini_text.specs.Pieces.{control, spelled, spelled_by, Escape, Es
 ghost use Rattle.ini_text.specs.Readers.{Appends, Begins};
 ghost use Rattle.ini_text.specs.Scans.{text_of};
 ghost use Rattle.ini_text.specs.Strings.{Str, StrStops};
-ghost use Rattle.ini_text.specs.Units.{ReadsUnit, escaped_value};
+ghost use Rattle.ini_text.specs.Units.{ReadsUnit, value_behind_backslash};
 
 use crate::characters::split_first;
 use crate::parser::fault::{Endpoints, Fault, Stop};
@@ -53,7 +53,7 @@ pub(crate) fn read_string<'a>(
 
 /// Appends what a backslash and a character stand for, other than the `x` of a code.
 fn push_escaped(out: &mut String, c: char, escapes: bool) -> Result<(), AllocError>
-    ensures { OnOk result (text_of out.new ≡ text_of out.old ++ escaped_value escapes c) }
+    ensures { OnOk result (text_of out.new ≡ text_of out.old ++ value_behind_backslash escapes c) }
 {
     if c == '\n' {
         return Ok(());

@@ -1,9 +1,10 @@
 use Rattle.std.proofs.Common.{◌∙◌, ap, sym, length, ◌++◌, encode_utf8}
-use Rattle.ini_text.proofs.Scans.{no_chars, last_chars}
+use Rattle.ini_text.proofs.Appends.{no_characters}
+use Rattle.ini_text.proofs.Scans.{last_chars}
 use Rattle.ini_text.proofs.parser.scan.split_last.Goals as goal
 
 pub returns-in_err-last : goal.returns-in_err-last
-returns-in_err-last c = rw c.from_residual.ensures (no_chars c.args.text.now (ap length (sym c.chars-characters.ensures.rest) ∙ c.in_err-last.ensures.steps.0))
+returns-in_err-last c = rw c.from_residual.ensures (no_characters c.args.text.now (ap length (sym c.chars-characters.ensures.rest) ∙ c.in_err-last.ensures.steps.0))
 
 pub returns : goal.returns
 returns c = last_chars c.args.text.now c.as_str.result.now c.in_ok-last.last c.utf8.text c.as_str.utf8
