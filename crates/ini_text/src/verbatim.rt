@@ -32,9 +32,12 @@ fn run_len(bytes: &[u8], policy: EscapePolicy) -> usize
 fn begins_escaped(policy: EscapePolicy, byte: u8) -> bool
     ensures { result ≡ begins_escaped policy byte }
 {
+    // What no policy escapes comes first, small letters before the rest: these are most bytes of most texts.
+    if byte > b'\\' && byte < 0x7F {
+        return false;
+    }
     match byte {
-        // What no policy escapes comes first: these are most bytes of most texts.
-        b' '..=b'"' | b'$'..=b'9' | b'<' | b'>'..=b'[' | b']'..=b'~' => false,
+        b' '..=b'"' | b'$'..=b'9' | b'<' | b'>'..=b'[' => false,
         0x00..=0x7F => policy.should_escape(char::from(byte)),
         0x80..=0xBF => false,
         0xC0..=0xEF => policy.should_escape('\u{80}'),

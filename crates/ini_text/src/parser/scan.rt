@@ -76,9 +76,12 @@ pub(crate) fn skip(text: &str, class: Class) -> &str
 fn is_plain(ends: Endpoints, byte: u8) -> bool
     ensures { result ≡ is_plain (ends_of ends) byte }
 {
-    // No string ends at a letter, a digit, a space or beyond ASCII: these are most bytes of most texts.
+    // No string ends at a letter, a digit, a space or beyond ASCII: these are most bytes of most texts, small letters first.
+    if byte > b']' {
+        return true;
+    }
     match byte {
-        b' ' | b'0'..=b'9' | b'?'..=b'[' | b'^'..=0xFF => true,
+        b' ' | b'0'..=b'9' | b'?'..=b'[' => true,
         _ => byte != b'\\' && !ends.contain(char::from(byte)),
     }
 }
