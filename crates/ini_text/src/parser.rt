@@ -21,6 +21,7 @@ use std::marker::Model;
 mod element;
 mod fault;
 mod line;
+mod pair;
 mod position;
 mod scan;
 mod string;

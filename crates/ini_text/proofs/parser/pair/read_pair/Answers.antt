@@ -4,7 +4,7 @@ use Rattle.std.proofs.lemmas.Str.{IsUtf8-string_bytes}
 use Rattle.ini_text.specs.Scans.{text_of}
 use Rattle.ini_text.proofs.Appends.{no_characters, some_characters}
 use Rattle.ini_text.proofs.Elements.{empty_key, pair_read, value_stops}
-use Rattle.ini_text.proofs.parser.element.read_pair.Goals as goal
+use Rattle.ini_text.proofs.parser.pair.read_pair.Goals as goal
 
 pub returns-then-is_empty : goal.returns-then-is_empty
 returns-then-is_empty c =

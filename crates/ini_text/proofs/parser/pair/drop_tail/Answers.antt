@@ -3,7 +3,7 @@ use Rattle.ini_text.specs.Readers.{StoppedBy}
 use Rattle.ini_text.specs.Strings.{StrStops, key_ends}
 use Rattle.ini_text.specs.declared.parser.fault.Stop.TheVariants as stops
 use Rattle.ini_text.proofs.Keys.{tail_dropped, tail_refused, not_at_end}
-use Rattle.ini_text.proofs.parser.element.drop_tail.Goals as goal
+use Rattle.ini_text.proofs.parser.pair.drop_tail.Goals as goal
 
 pub returns-in-EndOfText : goal.returns-in-EndOfText
 returns-in-EndOfText c =

@@ -2,7 +2,7 @@ use Rattle.std.proofs.Common.{chars}
 use Rattle.std.proofs.lemmas.Result.{err_from_is_err_and}
 use Rattle.ini_text.proofs.Appending.{from_nothing}
 use Rattle.ini_text.proofs.Keys.{unindented_key, unindented_stops}
-use Rattle.ini_text.proofs.parser.element.read_unindented.Goals as goal
+use Rattle.ini_text.proofs.parser.pair.read_unindented.Goals as goal
 
 pub returns-in_err-rest : goal.returns-in_err-rest
 returns-in_err-rest c =

@@ -1,0 +1,115 @@
+//! Pairs: keys, indented or not, and what follows them; and what else a line may give that begins with blanks. This file
+//! knows strings and values.
+ghost use Rattle.std.specs.Prelude.{◌≡◌, ◌∷◌, ◌++◌, chars, true, IfOk};
+ghost use Rattle.ini_text.specs.Characters.{BeginsWith, is_blank};
+ghost use Rattle.ini_text.specs.ElementParts.{IsElement, IsKey, TailStops, kept_blanks};
+ghost use Rattle.ini_text.specs.Keys.{begins_key};
+ghost use Rattle.ini_text.specs.Positions.{starts_line};
+ghost use Rattle.ini_text.specs.Scans.{text_of};
+
+use crate::characters::split_first;
+use crate::item::Item;
+use crate::option::ParseOption;
+use crate::parser::fault::{Endpoints, Fault, Stop};
+use crate::parser::scan::{Class, after_first, front_before, is_line_end, skip};
+use crate::parser::string::read_string;
+use crate::parser::trim::trim;
+use crate::parser::value::read_value;
+use std::alloc::{AllocError, Global};
+
+/// A pair whose key isn't indented.
+pub(crate) fn read_unindented<'a>(
+    alloc: Global,
+    front: &str,
+    text: &'a str,
+    option: ParseOption,
+) -> Result<(Option<Item>, &'a str), Stop<'a>>
+    requires { BeginsWith begins_key (chars text.now) }
+    ensures { IsElement option (chars front.now) (chars text.now) result }
+{
+    let mut key = String::new(alloc);
+    let rest = read_string(&mut key, text, option.enabled_escape, Endpoints::Key)?;
+    let key = trim(alloc, key, !option.enabled_preserve_key_leading_whitespace)?;
+    read_pair(alloc, front, text, key, rest, option)
+}
+
+/// What a line gives that begins with blanks: a gap, a dropped tail, or a pair whose key is indented.
+pub(crate) fn read_indented<'a>(
+    alloc: Global,
+    front: &str,
+    text: &'a str,
+    option: ParseOption,
+) -> Result<(Option<Item>, &'a str), Stop<'a>>
+    requires begins { BeginsWith is_blank (chars text.now) }
+    requires line { starts_line (chars front.now) ≡ true }
+    ensures { IsElement option (chars front.now) (chars text.now) result }
+{
+    let start = skip(text, Class::Blank);
+    let Some((c, after)) = split_first(start) else {
+        return Ok((None, start));
+    };
+    if is_line_end(c) {
+        return Ok((None, after));
+    }
+    if c == '[' {
+        return Ok((None, start));
+    }
+    let mut key = begin_key(alloc, front_before(text, start), option)?;
+    match read_string(&mut key, start, option.enabled_escape, Endpoints::Key) {
+        Ok(rest) => {
+            let key = trim(alloc, key, !option.enabled_preserve_key_leading_whitespace)?;
+            read_pair(alloc, front, text, key, rest, option)
+        }
+        Err(stop) => drop_tail(front, text, start, option, stop),
+    }
+}
+
+/// What an indented key begins with: its blanks, where they are kept.
+fn begin_key(alloc: Global, blanks: &str, option: ParseOption) -> Result<String, AllocError>
+    ensures { IfOk result (λ key. text_of key ≡ kept_blanks option (chars blanks.now)) }
+{
+    if option.enabled_preserve_key_leading_whitespace {
+        return String::from_str(alloc, blanks);
+    }
+    Ok(String::new(alloc))
+}
+
+/// What is left of a text that ends within an indented key gives nothing; other stops stay.
+fn drop_tail<'a>(
+    front: &str,
+    text: &str,
+    start: &str,
+    option: ParseOption,
+    stop: Stop<'a>,
+) -> Result<(Option<Item>, &'a str), Stop<'a>>
+    requires { TailStops option (chars front.now) (chars text.now) (chars start.now) stop }
+    ensures { IsElement option (chars front.now) (chars text.now) result }
+{
+    match stop {
+        Stop::Memory => Err(Stop::Memory),
+        Stop::Fault(fault, rest) => match fault {
+            Fault::EndOfText(_) => Ok((None, rest)),
+            _ => Err(Stop::Fault(fault, rest)),
+        },
+    }
+}
+
+/// What follows a key, from its separator on.
+fn read_pair<'a>(
+    alloc: Global,
+    front: &str,
+    text: &str,
+    key: String,
+    rest: &'a str,
+    option: ParseOption,
+) -> Result<(Option<Item>, &'a str), Stop<'a>>
+    requires { IsKey option (chars front.now) (chars text.now) (text_of key) (chars rest.now) }
+    ensures { IsElement option (chars front.now) (chars text.now) result }
+{
+    let after = after_first(rest);
+    if key.is_empty() {
+        return Err(Stop::Fault(Fault::MissingKey, after));
+    }
+    let (value, end) = read_value(alloc, after, option)?;
+    Ok((Some(Item::Pair(key, value)), end))
+}
