@@ -73,6 +73,16 @@ CHARACTERS = [
     "k=e\u0301\u0301",
 ]  # fmt: skip
 
+# Texts that each of the sixteen sets of options loads as another document.
+APART = [
+    'k="a\\tb" c\n  w=\\x0041\n[s]\n  i=1\n',
+    "[\\ta]\n\tk\\0='v' w\n\tj=\"\\n\"\n[t]\n \ti=u\n",
+    "k='\\\\v'\r  w=\"x\"\r[s]\r  i=1\r",
+    '[profile "dev"]\ns3 =\n  most = \'2\\a0\'\n  path = "b"\n\n[t]\n  region = "eu"\n',
+    "k='\\a'\n x\n[s]\n  i=1\n  tail",
+    "[s]\n\ti='a\\0' b ; c\n\t\tj\n[t]\n\tk=\"\\;\"",
+]  # fmt: skip
+
 MULTILINE_ON = DEFAULT._replace(multiline=True)
 INDENT_ON = DEFAULT._replace(indent=True)
 
@@ -83,6 +93,7 @@ TELLING = (
     (DEFAULT, VALUES + ESCAPES + QUOTES),
     (MULTILINE_ON, MULTILINE),
     (DEFAULT, CHARACTERS + list(SETTINGS)),
+    (DEFAULT, APART),
 )
 
 

@@ -1,30 +1,35 @@
 #!/usr/bin/env python3
 """Compares `ini_answers` with the Rust crate that this library is a port of, rust-ini 0.21.3.
 
-    compare.py texts ANSWERS CRATE [--less N] [--random N] [--damaged N] [--seed N]
+    compare.py texts ANSWERS CRATE [--written] [--less N] [--random N] [--damaged N] [--seed N]
     compare.py departures ANSWERS CRATE
     compare.py stored CRATE FOLDER
 
-ANSWERS is the program `ini_answers`. CRATE is a program over the Rust crate that reads the same lines: for a text that is
-loaded it prints the same line, and for a refusal `err`, a space and the debug form of the crate's `ParseError`. Either may
-be a command of several words.
+ANSWERS is the program `ini_answers`. CRATE is the program over the Rust crate that build.py makes of crate_answers.rs: it
+reads the same lines, and answers in the same form. Either may be a command of several words.
 
 `texts` loads very many texts under all sixteen options by both programs: all short texts over some alphabets, texts with
-each character of Unicode, random longer texts, and settings files of five kinds, whole and damaged. That is some 230
-million answers and takes about a quarter of an hour; with `--less 1` the short texts are a character shorter and the
-characters fewer, which takes two minutes. It counts the texts, and the differences by declared departure, each with the
-smallest text that shows it. It prints every difference that is not declared; the status is 1 if there is one. A difference
-is declared only if the line grammar, by the reader in grammar.py, derives the one program's answer, and with some of the
-departures, read the crate's way, the other's.
+each character of Unicode, one by one and in runs, random longer texts, and settings files of five kinds, whole and damaged.
+That is 225 million answers and takes about a quarter of an hour; with `--less 1` the short texts are a character shorter
+and the characters that come one by one fewer, which is a tenth of it. It counts the texts, and the differences by declared
+departure, each with the smallest text that shows it. It prints every difference that is not declared; the status is 1 if
+there is one. A difference is declared only if the line grammar, by the reader in grammar.py, derives the one program's
+answer, and with some of the departures, read the crate's way, the other's.
+
+With `--written` both programs also write what they load. Each document that some options make of a text is written under
+all eight escape policies, with LF and with CR LF; every difference is printed, and the status is then 1. A document that
+several texts of one batch give is written once for that batch. What the two load differently, where a departure shows,
+isn't written. With `--less 1` the whole then takes a little over two minutes.
 
 `departures` shows the smallest text of each declared departure, with what both programs answer, and fails where that is
 not what cases.py says.
 
 `stored` writes the stored run of `ini_answers`, the files `stdin` and `stdout`, into FOLDER: the texts of cases.py, each
-under one option set for each answer that it has. What stands in `stdout` is what the crate answers. Lines where a
-departure shows are left out.
+under one option set for each answer that it has, and the questions of writing.py. What stands in `stdout` is what the
+crate answers. Lines where a departure shows are left out; the status is 1 if an option set has no line.
 """
 import argparse
+import collections
 import itertools
 import shlex
 import subprocess
@@ -32,20 +37,10 @@ import sys
 
 import cases
 import texts
+import writing
 from grammar import DEPARTURES, Option, Reader
 
 OPTIONS = sorted((Option(*flags) for flags in itertools.product((True, False), repeat=4)), key=Option.changes)
-
-# From the crate's debug form of a refusal to how a refusal prints.
-REWRITES = (
-    (b"err ParseError { line: ", b"err "),
-    (b", col: ", b":"),
-    (b', msg: "', b" "),
-    (b'" }\n', b"\n"),
-    (b"\\\\", b"\0"),
-    (b'\\"', b'"'),
-    (b"\0", b"\\"),
-)
 
 
 def answers(program, questions):
@@ -57,14 +52,6 @@ def answers(program, questions):
     return found
 
 
-def crate_answers(program, questions):
-    """The lines with which the crate's program answers, its refusals as they print."""
-    found = answers(program, questions)
-    for old, new in REWRITES:
-        found = found.replace(old, new)
-    return found
-
-
 def questions_of(batch):
     """All texts of a batch under all options, a line each."""
     lines = []
@@ -72,6 +59,19 @@ def questions_of(batch):
         head = option.flags() + " "
         lines.append(head + f"\n{head}".join(batch) + "\n")
     return "".join(lines).encode()
+
+
+def documents_of(questions, ours, crate):
+    """Of the questions on loading one for each document that both programs load alike."""
+    lines = zip(ours.splitlines(), crate.splitlines(), questions.splitlines(keepends=True))
+    asked = {one: question for one, other, question in lines if one == other and one.startswith(b"ok")}
+    return list(asked.values())
+
+
+def under_all_ways(questions):
+    """The questions on what is written of what questions on loading load, under each policy with each line end."""
+    heads = [way.encode() + b" " for way in writing.WAYS]
+    return b"".join(head + head.join(questions) for head in heads if questions)
 
 
 def smallest_set(text, option, crate, seen):
@@ -93,24 +93,44 @@ def explained(text, option, ours, crate):
     return smallest_set(text, option, crate, reader.seen)
 
 
+def differing(questions, ours, crate):
+    """The questions that have different answers, each with the two."""
+    if ours == crate:
+        return
+    for lines in zip(questions.splitlines(), ours.splitlines(), crate.splitlines()):
+        if lines[1] != lines[2]:
+            yield tuple(line.decode() for line in lines)
+
+
 class Tally:
     """What the comparison has found."""
 
-    def __init__(self):
+    def __init__(self, program, crate_program, writes):
+        self.program = program
+        self.crate_program = crate_program
+        self.writes = writes
         self.compared = 0
         self.undeclared = 0
         self.classes = {}
+        self.documents = 0
+        self.miswritten = 0
 
-    def compare(self, batch, program, crate_program):
+    def compare(self, batch):
         questions = questions_of(batch)
-        ours, crate = answers(program, questions), crate_answers(crate_program, questions)
+        ours, crate = answers(self.program, questions), answers(self.crate_program, questions)
         self.compared += len(batch) * len(OPTIONS)
-        if ours == crate:
-            return
-        lines = zip(questions.splitlines(), ours.splitlines(), crate.splitlines())
-        for question, one, other in lines:
-            if one != other:
-                self.note(question.decode(), one.decode(), other.decode())
+        for question, one, other in differing(questions, ours, crate):
+            self.note(question, one, other)
+        if self.writes:
+            self.compare_written(documents_of(questions, ours, crate))
+
+    def compare_written(self, loading):
+        questions = under_all_ways(loading)
+        ours, crate = answers(self.program, questions), answers(self.crate_program, questions)
+        self.documents += len(loading)
+        for question, one, other in differing(questions, ours, crate):
+            self.miswritten += 1
+            print(f"written: {question}\n    here   {one}\n    crate  {other}", flush=True)
 
     def note(self, question, ours, crate):
         flags, digits = question.split(" ")
@@ -134,13 +154,17 @@ class Tally:
             print(f"    {option.flags()} {text!r}\n    here   {ours}\n    crate  {crate}")
         total = sum(count for count, _ in self.classes.values())
         print(f"{self.compared} answers compared, {total} differ as declared, {self.undeclared} otherwise")
+        if self.writes:
+            count = self.documents * len(writing.WAYS)
+            print(f"{count} written texts of {self.documents} documents compared, {self.miswritten} differ")
 
 
 def compare_texts(arguments):
-    tally = Tally()
+    tally = Tally(arguments.answers, arguments.crate, arguments.written)
     sorts = {
         "short texts": texts.short_texts(arguments.less),
         "texts of each character": texts.each_character(arguments.less),
+        "texts of runs of characters": texts.character_runs(),
         "random texts": texts.made(texts.random_text, arguments.random, arguments.seed),
         "settings files": map(texts.hexadecimal, texts.SETTINGS),
         "damaged settings files": texts.made(texts.damaged_settings, arguments.damaged, arguments.seed),
@@ -148,11 +172,11 @@ def compare_texts(arguments):
     for sort, some in sorts.items():
         before = tally.compared
         for batch in texts.batches(some):
-            tally.compare(batch, arguments.answers, arguments.crate)
+            tally.compare(batch)
         count = tally.compared - before
         print(f"{count // len(OPTIONS)} {sort}, {count} answers", flush=True)
     tally.report()
-    return 1 if tally.undeclared else 0
+    return 1 if tally.undeclared or tally.miswritten else 0
 
 
 def question_of(option, text):
@@ -167,7 +191,7 @@ def show_departures(arguments):
     status = 0
     for departure, option, text, ours, crate in cases.DEPARTURES_SHOWN:
         question = question_of(option, text).encode()
-        found = (one_line(answers(arguments.answers, question)), one_line(crate_answers(arguments.crate, question)))
+        found = (one_line(answers(arguments.answers, question)), one_line(answers(arguments.crate, question)))
         declared = found == (ours, crate) and explained(text, option, ours, crate) == (departure,)
         print(f"{departure}\n    {option.flags()} {text!r}\n    here   {found[0]}\n    crate  {found[1]}")
         if not declared:
@@ -176,19 +200,35 @@ def show_departures(arguments):
     return status
 
 
+def departs(text, option, crate):
+    """Whether a departure shows in the crate's answer; a difference that is not declared ends the run."""
+    if Reader(text, option).answer() == crate:
+        return False
+    if Reader(text, option, DEPARTURES).answer() != crate:
+        sys.exit(f"not declared: {option.flags()} {text!r}: {crate}")
+    return True
+
+
 def telling_lines(program, text, first):
     """The lines of a text for the stored run, one for each answer, and the number of lines that a departure touches."""
     lines, departing = {}, 0
     for option in dict.fromkeys((first, *OPTIONS)):
         question = question_of(option, text)
-        crate = one_line(crate_answers(program, question.encode()))
-        if Reader(text, option).answer() == crate:
-            lines.setdefault(crate, question)
-        elif Reader(text, option, DEPARTURES).answer() == crate:
+        crate = one_line(answers(program, question.encode()))
+        if departs(text, option, crate):
             departing += 1
         else:
-            sys.exit(f"not declared: {option.flags()} {text!r}: {crate}")
+            lines.setdefault(crate, question)
     return [(question, crate + "\n") for crate, question in lines.items()], departing
+
+
+def writing_line(program, option, text, way):
+    """The line on what is written of a text for the stored run, or None where a departure shows in loading it."""
+    question = question_of(option, text)
+    if departs(text, option, one_line(answers(program, question.encode()))):
+        return None
+    question = f"{way} {question}"
+    return question, one_line(answers(program, question.encode())) + "\n"
 
 
 def store(arguments):
@@ -198,11 +238,18 @@ def store(arguments):
             more, touched = telling_lines(arguments.crate, text, first)
             lines += more
             departing += touched
+    loading = len(lines)
+    for option, text, way in writing.telling(OPTIONS):
+        line = writing_line(arguments.crate, option, text, way)
+        lines += [line] if line else []
+        departing += not line
     for column, name in enumerate(("stdin", "stdout")):
         with open(f"{arguments.folder}/{name}", "w", newline="") as file:
             file.writelines(line[column] for line in lines)
-    print(f"{len(lines)} lines stored, {departing} left out for a departure")
-    return 0
+    print(f"{len(lines)} lines stored, {len(lines) - loading} of them on writing; {departing} left out for a departure")
+    counts = collections.Counter(question.split()[0] for question, _ in lines[:loading])
+    print("on loading, by option set:", ", ".join(f"{option.flags()} {counts[option.flags()]}" for option in OPTIONS))
+    return 0 if all(counts[option.flags()] for option in OPTIONS) else 1
 
 
 def main():
@@ -212,6 +259,7 @@ def main():
     command.set_defaults(run=compare_texts)
     command.add_argument("answers")
     command.add_argument("crate")
+    command.add_argument("--written", action="store_true")
     for name, size in (("--less", 0), ("--random", 100_000), ("--damaged", 20_000), ("--seed", 1)):
         command.add_argument(name, type=int, default=size)
     command = commands.add_parser("departures")

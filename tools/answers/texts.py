@@ -149,6 +149,19 @@ def each_character(less):
             yield hexadecimal(f"a=b\n{c} k\\x00{c}1=\n")
 
 
+def raw_or_spelled(number):
+    """A character of a name, a key or a value, as it is where it says nothing there."""
+    return chr(number) if number >= 0x80 else f"\\x{number:04x}"
+
+
+def character_runs():
+    """Texts with all characters in names, keys and values, 64 in a run."""
+    for start in range(0, 0x110000, 64):
+        if not 0xD800 <= start <= 0xDFFF:
+            run = "|" + "".join(map(raw_or_spelled, range(start, start + 64))) + "|"
+            yield hexadecimal(f"{run}={run}\n[{run}]\n{run}={run}\n")
+
+
 def random_text(rng):
     """A text of some pieces and characters."""
     count = rng.randrange(6, 40)

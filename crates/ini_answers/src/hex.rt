@@ -1,4 +1,4 @@
-//! Texts in hexadecimal: two lower-case digits for each byte of their UTF-8.
+//! Bytes and texts in hexadecimal: two lower-case digits for each byte, of a text for each byte of its UTF-8.
 ghost use Rattle.std.specs.Prelude.{◌<◌};
 
 use std::alloc::{AllocError, Global};
@@ -14,9 +14,9 @@ fn digit(value: u8) -> char
     }
 }
 
-/// Appends a text in hexadecimal.
-pub fn push_hex(line: &mut String, text: &str) -> Result<(), AllocError> {
-    for byte in text.bytes() {
+/// Appends bytes in hexadecimal.
+pub fn push_hex(line: &mut String, bytes: &[u8]) -> Result<(), AllocError> {
+    for &byte in bytes {
         line.push(digit(byte / 16))?;
         line.push(digit(byte % 16))?;
     }

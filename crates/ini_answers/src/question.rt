@@ -1,6 +1,6 @@
-//! Questions: a text, and the options that it is to be loaded by.
+//! Questions: a text, the options that it is to be loaded by, and those that it is then to be written by.
 use crate::hex::text_of_hex;
-use ini::ParseOption;
+use ini::{EscapePolicy, LineSeparator, ParseOption, WriteOption};
 use std::alloc::Global;
 use std::io::{self, ErrorKind};
 
@@ -8,7 +8,10 @@ use std::io::{self, ErrorKind};
 #[derive(Drop)]
 pub struct Question {
     pub text: String,
-    pub option: ParseOption,
+    /// How the text is to be loaded.
+    pub reading: ParseOption,
+    /// How the loaded document is to be written, where its text is asked for and not the document itself.
+    pub writing: Option<WriteOption>,
 }
 
 fn flag(digit: u8) -> io::Result<bool> {
@@ -19,7 +22,7 @@ fn flag(digit: u8) -> io::Result<bool> {
     }
 }
 
-fn option_of_flags(flags: &str) -> io::Result<ParseOption> {
+fn reading_of_flags(flags: &str) -> io::Result<ParseOption> {
     let [escape, quote, multiline, indent] = flags.as_bytes() else {
         return Err(ErrorKind::InvalidInput.into());
     };
@@ -31,6 +34,36 @@ fn option_of_flags(flags: &str) -> io::Result<ParseOption> {
     })
 }
 
+fn policy_of_name(name: &str) -> io::Result<EscapePolicy> {
+    match name {
+        "Nothing" => Ok(EscapePolicy::Nothing),
+        "Basics" => Ok(EscapePolicy::Basics),
+        "BasicsUnicode" => Ok(EscapePolicy::BasicsUnicode),
+        "BasicsUnicodeExtended" => Ok(EscapePolicy::BasicsUnicodeExtended),
+        "Reserved" => Ok(EscapePolicy::Reserved),
+        "ReservedUnicode" => Ok(EscapePolicy::ReservedUnicode),
+        "ReservedUnicodeExtended" => Ok(EscapePolicy::ReservedUnicodeExtended),
+        "Everything" => Ok(EscapePolicy::Everything),
+        _ => Err(ErrorKind::InvalidInput.into()),
+    }
+}
+
+/// The line separator that writes a line end. `CR` is the one that writes LF, on every platform.
+fn separator_of_name(name: &str) -> io::Result<LineSeparator> {
+    match name {
+        "LF" => Ok(LineSeparator::CR),
+        "CRLF" => Ok(LineSeparator::CRLF),
+        _ => Err(ErrorKind::InvalidInput.into()),
+    }
+}
+
+fn split(line: &str) -> io::Result<(&str, &str)> {
+    match line.split_once(' ') {
+        Some(parts) => Ok(parts),
+        None => Err(ErrorKind::InvalidInput.into()),
+    }
+}
+
 impl Question {
     /// The question of a line.
     ///
@@ -38,38 +71,101 @@ impl Question {
     ///
     /// `InvalidInput` where the line is none, and refused memory.
     pub fn parse(alloc: Global, line: &str) -> io::Result<Question> {
-        let Some((flags, digits)) = line.split_once(' ') else {
-            return Err(ErrorKind::InvalidInput.into());
+        let (first, rest) = split(line)?;
+        let Some((second, rest)) = rest.split_once(' ') else {
+            return Question::of_words(alloc, first, rest, None);
         };
-        let option = option_of_flags(flags)?;
+        let (flags, digits) = split(rest)?;
+        let option = WriteOption {
+            escape_policy: policy_of_name(first)?,
+            line_separator: separator_of_name(second)?,
+            ..WriteOption::default()
+        };
+        Question::of_words(alloc, flags, digits, Some(option))
+    }
+
+    fn of_words(
+        alloc: Global,
+        flags: &str,
+        digits: &str,
+        writing: Option<WriteOption>,
+    ) -> io::Result<Question> {
+        let reading = reading_of_flags(flags)?;
         let text = text_of_hex(alloc, digits)?;
-        Ok(Question { text, option })
+        Ok(Question {
+            text,
+            reading,
+            writing,
+        })
     }
 }
 
 #[cfg(test)]
 mod tests {
     use super::Question;
+    use ini::{EscapePolicy, LineSeparator};
     use std::test::Fail;
 
     #[test]
     fn reads_flags_and_text(rt: HostRuntime) -> Result<(), Fail> {
         let question = Question::parse(rt.alloc(), "1001 6b3dC3a9")?;
         assert_eq!(rt; question.text.as_str(), "k=é");
-        assert!(rt; question.option.enabled_escape);
-        assert!(rt; !question.option.enabled_quote);
-        assert!(rt; !question.option.enabled_indented_mutiline_value);
-        assert!(rt; question.option.enabled_preserve_key_leading_whitespace);
+        assert!(rt; question.reading.enabled_escape);
+        assert!(rt; !question.reading.enabled_quote);
+        assert!(rt; !question.reading.enabled_indented_mutiline_value);
+        assert!(rt; question.reading.enabled_preserve_key_leading_whitespace);
+        assert!(rt; question.writing.is_none());
+        Ok(())
+    }
+
+    #[test]
+    fn reads_policy_and_line_end(rt: HostRuntime) -> Result<(), Fail> {
+        let rows = [
+            (
+                "Nothing LF 0000 6b",
+                EscapePolicy::Nothing,
+                LineSeparator::CR,
+            ),
+            (
+                "ReservedUnicode CRLF 0000 6b",
+                EscapePolicy::ReservedUnicode,
+                LineSeparator::CRLF,
+            ),
+        ];
+        for (line, policy, separator) in rows {
+            let question = Question::parse(rt.alloc(), line)?;
+            assert_eq!(rt; question.text.as_str(), "k");
+            let option = question.writing.expect(&rt, line);
+            assert_eq!(rt; option.escape_policy, policy, "at {line}");
+            assert_eq!(rt; option.line_separator, separator, "at {line}");
+            assert_eq!(rt; option.kv_separator, "=", "at {line}");
+        }
         Ok(())
     }
 
     #[test]
     fn refuses_other_lines(rt: HostRuntime) -> Result<(), Fail> {
         let lines = [
-            "", "1100", "110 6b", "11000 6b", "1102 6b", "1100 6", "1100 6g", "1100 c3", "1100  6b",
+            "",
+            "1100",
+            "110 6b",
+            "11000 6b",
+            "1102 6b",
+            "1100 6",
+            "1100 6g",
+            "1100 c3",
+            "1100  6b",
+            "Basics 1100 6b",
+            "Basics LF 1100",
+            "basics LF 1100 6b",
+            "Basics CR 1100 6b",
+            "Basics LF 110 6b",
+            "Basics LF 1100 6",
+            "Basics LF 1100 6b ",
+            "LF Basics 1100 6b",
         ];
         for line in lines {
-            assert!(rt; Question::parse(rt.alloc(), line).is_err());
+            assert!(rt; Question::parse(rt.alloc(), line).is_err(), "at {line}");
         }
         Ok(())
     }

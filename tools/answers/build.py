@@ -1,0 +1,43 @@
+#!/usr/bin/env python3
+"""Builds crate_answers.rs, the program by which the crate rust-ini answers the questions of `ini_answers`.
+
+    build.py SOURCE FOLDER [WORD ..]
+
+SOURCE is the folder of the crate's source, with its Cargo.toml: rust-ini 0.21.3 with its default features. FOLDER is made
+where it isn't there; the program is then FOLDER/target/release/crate_answers, and its path is printed. The further words
+go to `cargo build`, as `--offline` and `--config FILE` where the crate's own dependencies lie in a folder.
+"""
+import pathlib
+import subprocess
+import sys
+
+MANIFEST = """[package]
+name = "crate_answers"
+version = "0.1.0"
+edition = "2021"
+
+[[bin]]
+name = "crate_answers"
+path = "{program}"
+
+[dependencies]
+rust-ini = {{ path = "{source}" }}
+
+[workspace]
+"""
+
+
+def main():
+    if len(sys.argv) < 3:
+        sys.exit(__doc__)
+    source, folder = (pathlib.Path(word).resolve() for word in sys.argv[1:3])
+    program = pathlib.Path(__file__).resolve().with_name("crate_answers.rs")
+    folder.mkdir(parents=True, exist_ok=True)
+    (folder / "Cargo.toml").write_text(MANIFEST.format(program=program, source=source))
+    words = ["cargo", "build", "--release", "--quiet", "--target-dir", str(folder / "target"), *sys.argv[3:]]
+    subprocess.run(words, cwd=folder, check=True)
+    print(folder / "target/release/crate_answers")
+
+
+if __name__ == "__main__":
+    main()
