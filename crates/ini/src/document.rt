@@ -1,5 +1,5 @@
 //! Documents: sections in order. This file knows the multimap's calls and those of `Properties`, and no text.
-ghost use Rattle.std.specs.Prelude.{◌≡◌, ◌==◌, ◌<◌, ◌-◌, [], ◌∷◌, ◌++◌, length, slice_get, IsSome, IfErr, IfOk, IsOkUnless, OnOk, OnErr, Some, None, alloc_error, unwrap_or};
+ghost use Rattle.std.specs.Prelude.{◌≡◌, ◌==◌, ◌<◌, ◌^◌, ◌-◌, [], ◌∷◌, ◌++◌, length, slice_get, IsSome, IfErr, IfOk, IsOkUnless, OnOk, OnErr, Some, None, alloc_error, unwrap_or};
 ghost use Rattle.std.specs.Borrow.{sem};
 ghost use Rattle.std.specs.Map.{values_of};
 ghost use Rattle.std.specs.Option.{option_map, option_copied, option_copied_mut};
@@ -343,7 +343,8 @@ impl Ini {
 
     /// All sections of the name, in order.
     pub fn section_all<'a, 'n>(&'a self, name: Option<&'n str>) -> SectionAll<'a, 'n>
-        ensures { result ≡ sections_named (str_name name.entry) self.now }
+        ensures sections { result ≡ sections_named (str_name name.entry) self.now }
+        ensures countable { length result < 2 ^ 64 }
     {
         name_is_text(name);
         SectionAll::new(self.sections.get_all(name))
@@ -351,7 +352,8 @@ impl Ini {
 
     /// All sections of the name, in order, for writing.
     pub fn section_all_mut<'a, 'n>(&'a mut self, name: Option<&'n str>) -> SectionAllMut<'a, 'n>
-        ensures { section_all_mut_rest result ≡ sections_named (str_name name.entry) self.old }
+        ensures sections { section_all_mut_rest result ≡ sections_named (str_name name.entry) self.old }
+        ensures countable { length (section_all_mut_rest result) < 2 ^ 64 }
     {
         name_is_text(name);
         SectionAllMut::new(self.sections.get_all_mut(name))
@@ -359,7 +361,8 @@ impl Ini {
 
     /// Each distinct name once, in the order of first occurrence.
     pub fn sections(&self) -> SectionNames<'_>
-        ensures { result ≡ names self.now }
+        ensures names { result ≡ names self.now }
+        ensures countable { length result < 2 ^ 64 }
     {
         SectionNames::new(self.sections.keys())
     }

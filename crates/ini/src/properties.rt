@@ -1,5 +1,5 @@
 //! The pairs of a section. This file knows the multimap's calls, and nothing of sections.
-ghost use Rattle.std.specs.Prelude.{◌≡◌, ◌==◌, ◌↔◌, [], ◌∷◌, ◌++◌, length, is_some, IsTrue, IsSome, Some, None, IfOk, IsOkUnless, OnOk, OnErr, alloc_error};
+ghost use Rattle.std.specs.Prelude.{◌≡◌, ◌==◌, ◌<◌, ◌^◌, ◌↔◌, [], ◌∷◌, ◌++◌, length, is_some, IsTrue, IsSome, Some, None, IfOk, IsOkUnless, OnOk, OnErr, alloc_error};
 ghost use Rattle.std.specs.Borrow.{sem};
 ghost use Rattle.std.specs.Option.{option_map, option_copied_mut};
 ghost use Rattle.std.specs.Str.{chars};
@@ -82,7 +82,8 @@ impl Properties {
 
     /// All values of the key, in order.
     pub fn get_all<'a, 'k>(&'a self, key: &'k str) -> PropertyValues<'a, 'k>
-        ensures { result ≡ values (chars key.now) self.now }
+        ensures values { result ≡ values (chars key.now) self.now }
+        ensures countable { length result < 2 ^ 64 }
     {
         PropertyValues::new(self.pairs.get_all(key))
     }
@@ -134,6 +135,7 @@ impl Properties {
     /// Refused, for want of memory alone, it changes nothing. Where no pair has the key it takes no memory.
     pub fn remove_all(&mut self, key: &str) -> Result<RemovedValues, Error>
         ensures values { IfOk result (λ removed. removed ≡ values (chars key.now) self.old) }
+        ensures countable { IfOk result (λ removed. length removed < 2 ^ 64) }
         ensures removed { OnOk result (self.new ≡ all_removed (chars key.now) self.old) }
         ensures refused_only_if_there { OnErr result (IsSome (first_value (chars key.now) self.old)) }
         ensures unchanged { OnErr result (self.new ≡ self.old) }

@@ -1,3 +1,4 @@
 pub mod PlaceLemmas
 pub mod DistinctLemmas
+mod LengthLemmas
 pub mod RingLemmas

@@ -2,7 +2,7 @@
 //! knows keys by `==` and by probes, and no code of a key.
 //!
 //! A growing call makes its room before anything changes, so a refused one changes nothing.
-ghost use Rattle.std.specs.Prelude.{◌-◌, ◌≡◌, ◌+◌, ◌<◌, ◌≤◌, ◌==◌, [], ◌∷◌, ◌++◌, length, filter, not, IsSome, IfOk, IfErr, OnOk, OnErr, MatchOption, IfNone, slice_get, Some, None};
+ghost use Rattle.std.specs.Prelude.{◌-◌, ◌^◌, ◌≡◌, ◌+◌, ◌<◌, ◌≤◌, ◌==◌, [], ◌∷◌, ◌++◌, length, filter, not, IsSome, IfOk, IfErr, OnOk, OnErr, MatchOption, IfNone, slice_get, Some, None};
 ghost use Rattle.std.specs.Option.{option_copied, option_copied_mut};
 ghost use Rattle.std.specs.Borrow.{sem};
 ghost use Rattle.std.specs.List.{position};
@@ -157,14 +157,16 @@ impl<K: MapKey, V> Multimap<K, V> {
 
     /// All values of the key, in list order.
     pub fn get_all<Q: Probe<K> + Copy>(&self, q: Q) -> Values<'_, K, V, Q>
-        ensures { result ≡ values_at (Q.fits q) self.now }
+        ensures values { result ≡ values_at (Q.fits q) self.now }
+        ensures countable { length result < 2 ^ 64 }
     {
         Values::new(self.pairs.as_slice(), q)
     }
 
     /// All values of the key, in list order, for writing.
     pub fn get_all_mut<Q: Probe<K> + Copy>(&mut self, q: Q) -> ValuesMut<'_, K, V, Q>
-        ensures { values_mut_rest Q.fits result ≡ values_at (Q.fits q) self.old }
+        ensures values { values_mut_rest Q.fits result ≡ values_at (Q.fits q) self.old }
+        ensures countable { length (values_mut_rest Q.fits result) < 2 ^ 64 }
     {
         ValuesMut::new(self.pairs.as_mut_slice(), q)
     }
@@ -203,6 +205,7 @@ impl<K: MapKey, V> Multimap<K, V> {
         K: Drop,
         V: Drop,
         ensures values { IfOk result (λ removed. removed ≡ values_at (Q.fits q) self.old) }
+        ensures countable { IfOk result (λ removed. length removed < 2 ^ 64) }
         ensures ok { OnOk result (self.new ≡ without (Q.fits q) self.old) }
         ensures refused_only_if_there { OnErr result (IsSome (lookup (Q.fits q) self.old)) }
         ensures unchanged_if_refused { OnErr result (self.new ≡ self.old) }
@@ -239,7 +242,8 @@ impl<K: MapKey, V> Multimap<K, V> {
 
     /// Each distinct key once, in the order of first occurrence.
     pub fn keys(&self) -> Keys<'_, K, V>
-        ensures { result ≡ distinct_keys K.eq self.now }
+        ensures keys { result ≡ distinct_keys K.eq self.now }
+        ensures countable { length result < 2 ^ 64 }
     {
         Keys::new(self.pairs.as_slice())
     }

@@ -85,14 +85,22 @@ fn duplicate_sections(rt: HostRuntime) -> Result<(), Fail> {
     let text =
         "\n[Peer]\nfoo = a\nbar = b\n\n[Peer]\nfoo = c\nbar = d\n\n[Peer]\nfoo = e\nbar = f\n";
     let document = show::document(alloc, text)?;
-    let mut peers = document.section_all(Some("Peer"));
-    let third = peers.nth(2).ok_or("no third section")?;
-    assert_eq!(rt; third.get("foo"), Some("e"));
-    assert!(rt; peers.next().is_none());
+    assert_eq!(rt; document.section_all(Some("Peer")).count(), 3);
     assert_eq!(rt;
         show::sections(alloc, &document)?.as_str(),
         "general: [Peer]: <foo|a> <bar|b> [Peer]: <foo|c> <bar|d> [Peer]: <foo|e> <bar|f> "
     );
+    Ok(())
+}
+
+#[test]
+fn walks_are_counted(rt: HostRuntime) -> Result<(), Fail> {
+    let mut document = show::document(rt.alloc(), "a=1\na=2\n[p]\n[q]\n[p]\n")?;
+    assert_eq!(rt; document.sections().count(), 3);
+    assert_eq!(rt; document.section_all_mut(Some("p")).count(), 2);
+    let section = document.section_mut(None).ok_or("no section")?;
+    assert_eq!(rt; section.get_all("a").count(), 2);
+    assert_eq!(rt; section.remove_all("a")?.count(), 2);
     Ok(())
 }
 
