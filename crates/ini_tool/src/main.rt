@@ -92,7 +92,9 @@ pub fn run<R: Read, W: Write>(
 
 /// Prints how a run ended, where there is something to say: the usage, or the program's name and the refusal. A fault of
 /// the writer is dropped.
-pub fn tell<W: Write>(outcome: &Outcome, err: &mut W) {
+pub fn tell<W: Write>(outcome: &Outcome, err: &mut W)
+    ensures quiet { IsDone outcome.now → W.contents err.new ≡ W.contents err.old }
+{
     match outcome {
         Outcome::Done => {}
         Outcome::Usage => {
