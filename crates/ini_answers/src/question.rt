@@ -7,6 +7,7 @@ use std::io::{self, ErrorKind};
 /// What one line of the input asks.
 #[derive(Drop)]
 pub struct Question {
+    /// The text that is loaded.
     pub text: String,
     /// How the text is to be loaded.
     pub reading: ParseOption,
