@@ -99,6 +99,23 @@ fn runs_go_out_together(rt: HostRuntime) -> Result<(), Fail> {
     Ok(())
 }
 
+/// The number of calls that writing a run between two escapes makes.
+fn calls_between_escapes(alloc: Global, run: &str) -> Result<u64, Fail> {
+    let text = format!(in alloc; "\x1B{run}\x1B")?;
+    let mut device = Limited::new(alloc, usize::MAX, true);
+    write_escaped(&text, EscapePolicy::Basics, &mut Watched::new(&mut device))?;
+    Ok(device.calls)
+}
+
+#[test]
+fn a_run_is_not_parted(rt: HostRuntime) -> Result<(), Fail> {
+    for (length, calls) in [(0, 1), (20, 1), (100, 3), (10_000, 3)] {
+        let run = "a".repeat(rt.alloc(), length)?;
+        assert_eq!(rt; calls_between_escapes(rt.alloc(), &run)?, calls, "{length}");
+    }
+    Ok(())
+}
+
 #[test]
 fn an_empty_text_makes_no_call(rt: HostRuntime) -> Result<(), Fail> {
     let mut device = Limited::new(rt.alloc(), 0, true);
