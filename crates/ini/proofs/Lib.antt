@@ -8,3 +8,8 @@ pub mod Reading
 pub mod SectionLemmas
 pub mod TextLemmas
 pub mod Writing
+pub mod Each
+pub mod OfCharacters
+pub mod PlainTexts
+pub mod Inversion
+pub mod PlainDocuments

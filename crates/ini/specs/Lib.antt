@@ -11,3 +11,5 @@ pub mod Writes
 pub mod Pieces
 pub mod Entries
 pub mod Setter
+pub mod Plain
+pub mod Outcomes

@@ -5,9 +5,11 @@
 //! a name, a key or a value is written is said by `ini_text`, where each pair stands by `ini_multimap`.
 #![tactic(auto)]
 
+mod characters;
 mod document;
 mod entry;
 mod iter;
+pub mod laws;
 mod load;
 mod properties;
 mod setter;

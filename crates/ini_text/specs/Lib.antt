@@ -29,3 +29,5 @@ pub mod Verbatim
 pub mod Watched
 pub mod WriteOptions
 pub mod Laws
+pub mod Plain
+pub mod PlainLaws

@@ -19,6 +19,8 @@ mod escapes;
 #[cfg(test)]
 mod indentation;
 #[cfg(test)]
+mod inversion;
+#[cfg(test)]
 mod lines;
 #[cfg(test)]
 mod multiline;
