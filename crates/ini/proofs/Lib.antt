@@ -8,8 +8,8 @@ pub mod Reading
 pub mod SectionLemmas
 pub mod TextLemmas
 pub mod Writing
-pub mod Each
+pub mod EachLemmas
 pub mod OfCharacters
-pub mod PlainTexts
-pub mod Inversion
-pub mod PlainDocuments
+pub mod PlainTextLemmas
+pub mod InversionLemmas
+pub mod PlainSamples

@@ -28,12 +28,14 @@ abbrev pub HasOutcome : ParseOption → Text → Outcome → Type 0
 HasOutcome o T (loaded d) = IsDocumentOf o T d
 HasOutcome o T (refused kind line column) = IsRefusedAt o T kind line column
 
--- The outcome behind the document d, whose text has n line feeds: the sections of d and then those of the other document but
--- its first, which is the general one; or the refusal, n lines further down.
+-- The outcome behind the document d, whose text has n line feeds: the sections of d and then those of the other
+-- document but its first, which is the general one; or the refusal, n lines further down.
 abbrev pub after : Document → ℕ → Outcome → Outcome
 after d n (loaded e) = loaded (d ++ drop 1 e)
 after d n (refused kind line column) = refused kind (line + n) column
 
 -- what comes of Y comes of it behind the document's text, after the document
 abbrev pub Inverts : ParseOption → WriteOption → Document → Text → Type 0
-Inverts o w d Y = (x : Outcome) → HasOutcome o Y x → HasOutcome o (written d w ++ Y) (after d (count_by is_line_feed (written d w)) x)
+Inverts o w d Y =
+    let text = written d w in
+    (x : Outcome) → HasOutcome o Y x → HasOutcome o (text ++ Y) (after d (count_by is_line_feed text) x)

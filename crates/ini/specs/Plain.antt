@@ -7,11 +7,13 @@ use Rattle.ini_text.specs.declared.write_option.WriteOption.{WriteOption}
 use Rattle.ini.specs.Properties.{Pairs}
 use Rattle.ini.specs.Documents.{Document}
 
+-- a document, as these options write and read it
 pub record IsPlain (d : Document) (w : WriteOption) (o : ParseOption) : Type 0 where
-  -- one general section stands at the front, and each section behind it has a name, which is plain
+  -- one general section stands at the front
   pub general : Pairs
   pub named : Document
   pub sections : d ≡ (None, general) ∷ named
+  -- each section behind it has a name, and the name is plain
   pub names : All (λ s. IsSomeAnd s.0 (λ name. IsPlainName o w.escape_policy name)) named
   -- what stands between keys and values is = or : with only spaces and tabs around it
   pub separator : IsPlainSeparator (chars w.kv_separator.now)

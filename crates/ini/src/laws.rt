@@ -1,5 +1,5 @@
-//! Laws of documents, each the contract of a function that answers and changes nothing. They speak of the definitions alone;
-//! that a document is made of characters, which its type doesn't say, is found by a walk.
+//! Laws of documents, each the contract of a function that answers and changes nothing. They speak of the
+//! definitions alone; that a document is made of characters, which its type doesn't say, is found by a walk.
 ghost use Rattle.std.specs.Prelude.{◌≡◌, chars};
 ghost use Rattle.ini_text.specs.PlainLaws.{IsEmptyOrHeader};
 ghost use Rattle.ini.specs.Outcomes.{Inverts};
@@ -10,8 +10,8 @@ use crate::characters::is_of_characters;
 use crate::document::Ini;
 use ini_text::{ParseOption, WriteOption};
 
-/// The text of a plain document, with nothing or any text behind it that begins with an opening bracket, loads as the
-/// document's sections and then those of what follows, refusals moved down.
+/// The text of a plain document, with nothing or any text behind it that begins with an opening bracket, loads
+/// as the document's sections and then those of what follows, refusals moved down.
 pub fn inversion(document: &Ini, write: &WriteOption, read: ParseOption, follows: &str)
     requires plain { IsPlain document.now write.now read }
     requires follows { IsEmptyOrHeader (chars follows.now) }

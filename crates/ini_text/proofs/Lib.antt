@@ -33,10 +33,10 @@ pub mod WalkElements
 pub mod OneOutcome
 pub mod OneAhead
 pub mod OneRefusal
-pub mod Moved
-pub mod EscapePieces
-pub mod PlainTrims
-pub mod PlainLines
-pub mod PlainPairs
+pub mod MovedLemmas
+pub mod EscapePieceLemmas
+pub mod PlainTrimLemmas
+pub mod PlainLineLemmas
+pub mod PlainPairLemmas
 pub mod LawLemmas
 pub mod PlainSamples

@@ -9,31 +9,51 @@ use Rattle.ini_text.specs.Policies.{is_basic, is_escaped, is_extended}
 use Rattle.ini_text.specs.declared.option.ParseOption.{ParseOption}
 use Rattle.ini_text.specs.declared.policy.EscapePolicy.{EscapePolicy}
 use Rattle.ini_text.specs.declared.policy.EscapePolicy.TheVariants.{Nothing, Basics, Reserved, Everything}
-use Rattle.ini_text.proofs.EscapePieces.{basic-escaped}
+use Rattle.ini_text.proofs.EscapePieceLemmas.{basic-escaped}
 
--- Where escapes are on and the policy isn't `Nothing`, a text that has no escapes and needs none is one whose escapes are
--- read: so the two ways to be read back never mix in one document.
-all_so : (p q : ℕ → Bool) → ((c : ℕ) → p c ≡ true → q c ≡ true) → (text : List ℕ) → list_all p text ≡ true → list_all q text ≡ true
+-- Where escapes are on and the policy isn't `Nothing`, a text that has no escapes and needs none is one whose
+-- escapes are read: so the two ways to be read back never mix in one document.
+all_so : (p q : ℕ → Bool) → ((c : ℕ) → p c ≡ true → q c ≡ true) → (text : List ℕ) → list_all p text ≡ true
+    → list_all q text ≡ true
 all_so p q so [] h = refl
-all_so p q so (c ∷ cs) h = let parts = and_parts (p c) (list_all p cs) h in and_from (q c) (list_all q cs) (so c parts.0) (all_so p q so cs parts.1)
+all_so p q so (c ∷ cs) h =
+    let parts = and_parts (p c) (list_all p cs) h in and_from (q c) (list_all q cs) (so c parts.0)
+    (all_so p q so cs parts.1)
 
-no_letter : (policy : EscapePolicy) → policy ≢ Nothing → (c : ℕ) → not (is_escaped policy c) ≡ true → not (has_unread_letter c) ≡ true
-no_letter policy n c h = ap not (false_from_ne_true (has_unread_letter c) (λ e. both_ways (is_escaped policy c) (not-true (is_escaped policy c) h) (basic-escaped policy c n (elim (or_cases (eqb c 0x0B) (eqb c 0x0C) e) [
-  | inl q ↦ subst (λ x. is_basic x ≡ true) (sym (eqb-true c 0x0B q)) refl
-  | inr q ↦ subst (λ x. is_basic x ≡ true) (sym (eqb-true c 0x0C q)) refl
-]))))
+no_letter : (policy : EscapePolicy) → policy ≢ Nothing → (c : ℕ) → not (is_escaped policy c) ≡ true
+    → not (has_unread_letter c) ≡ true
+no_letter policy n c h =
+    ap not (false_from_ne_true (has_unread_letter c)
+    (λ e. both_ways (is_escaped policy c) (not-true (is_escaped policy c) h)
+    (basic-escaped policy c n (elim (or_cases (eqb c 0x0B) (eqb c 0x0C) e) [
+      | inl q ↦ subst (λ x. is_basic x ≡ true) (sym (eqb-true c 0x0B q)) refl
+      | inr q ↦ subst (λ x. is_basic x ≡ true) (sym (eqb-true c 0x0C q)) refl
+    ]))))
 
-pub reads_none : (o : ParseOption) (policy : EscapePolicy) (text : List ℕ) → o.enabled_escape ≡ true → policy ≢ Nothing → HasNoEscapes policy text → HasReadEscapes o policy text
+pub reads_none : (o : ParseOption) (policy : EscapePolicy) (text : List ℕ) → o.enabled_escape ≡ true
+    → policy ≢ Nothing → HasNoEscapes policy text → HasReadEscapes o policy text
 reads_none o policy text on n none = record {
   escapes = on;
   escaping = n;
   no_unread_letter = all_so _ (λ c. not (has_unread_letter c)) (no_letter policy n) text none.no_escaped;
-  no_extended = all_so _ (λ c. not (is_extended c && is_escaped policy c)) (λ c h. ap not (and_right (is_extended c) (is_escaped policy c) (not-true (is_escaped policy c) h))) text none.no_escaped;
+  no_extended =
+      all_so _ (λ c. not (is_extended c && is_escaped policy c))
+      (λ c h. ap not
+      (and_right (is_extended c) (is_escaped policy c)
+      (not-true (is_escaped policy c) h))) text none.no_escaped;
 }
 
 -- between a key and its value
 spaced : IsPlainSeparator (codes " \t= ")
-spaced = record { before = codes " \t"; mark = 0x3D; after = codes " "; whole = refl; separates = refl; blank_before = refl; blank_after = refl }
+spaced = record {
+  before = codes " \t";
+  mark = 0x3D;
+  after = codes " ";
+  whole = refl;
+  separates = refl;
+  blank_before = refl;
+  blank_after = refl;
+}
 
 -- a text that needs no escapes, by any policy that escapes none of it
 letters : HasNoEscapes Basics (codes "a key")
@@ -65,29 +85,57 @@ raw_backslash o (inr r) = false≢true r.no_backslash
 marks : ¬ IsPlainValue default_parse_option Basics (codes "\"a\"")
 marks v = true≢false (v.no_mark refl)
 
-marks_without_quotes : IsPlainValue (record default_parse_option { enabled_quote = false }) Basics (codes "\"a\"")
-marks_without_quotes = record { is_trimmed = refl; no_mark = λ on. absurd (false≢true on); read_back = inr (record { no_escaped = refl; no_backslash = refl }) }
+abbrev without_quotes : ParseOption
+without_quotes = record default_parse_option { enabled_quote = false }
+
+marks_without_quotes : IsPlainValue without_quotes Basics (codes "\"a\"")
+marks_without_quotes =
+    record {
+      is_trimmed = refl;
+      no_mark = λ on. absurd (false≢true on);
+      read_back = inr
+          (record { no_escaped = refl; no_backslash = refl });
+    }
 
 -- a separator in a key only where it is escaped
 bare_equals : (o : ParseOption) → ¬ IsBareKey o Basics (codes "a=b")
 bare_equals o k = false≢true k.no_separator
 
 escaped_equals : (o : ParseOption) → IsBareKey o Reserved (codes "a=b")
-escaped_equals o = record { some = λ e. cc; is_trimmed = inl refl; no_bracket = refl; no_separator = refl; no_comment = refl }
+escaped_equals o = record {
+  some = λ e. cc;
+  is_trimmed = inl refl;
+  no_bracket = refl;
+  no_separator = refl;
+  no_comment = refl;
+}
 
 -- spaces before a key: with kept indentation, and where values aren't multiline
 abbrev kept : ParseOption
 kept = record default_parse_option { enabled_preserve_key_leading_whitespace = true }
 
 letter_key : (o : ParseOption) → IsBareKey o Basics (codes "k")
-letter_key o = record { some = λ e. cc; is_trimmed = inl refl; no_bracket = refl; no_separator = refl; no_comment = refl }
+letter_key o = record {
+  some = λ e. cc;
+  is_trimmed = inl refl;
+  no_bracket = refl;
+  no_separator = refl;
+  no_comment = refl;
+}
 
 spaces : IsPlainKey kept Basics (codes "  k")
 spaces = IsPlainKey.behind_spaces (codes "  ") refl refl refl (letter_key kept)
 
 -- a tab before a key, which is escaped, in multiline values too
-tab_before : (o : ParseOption) → o.enabled_preserve_key_leading_whitespace ≡ true → IsBareKey o Basics (codes "\tk")
-tab_before o on = record { some = λ e. cc; is_trimmed = inr (record { kept = on; white = refl; end_is_trimmed = refl }); no_bracket = refl; no_separator = refl; no_comment = refl }
+tab_before : (o : ParseOption) → o.enabled_preserve_key_leading_whitespace ≡ true
+    → IsBareKey o Basics (codes "\tk")
+tab_before o on = record {
+  some = λ e. cc;
+  is_trimmed = inr (record { kept = on; white = refl; end_is_trimmed = refl });
+  no_bracket = refl;
+  no_separator = refl;
+  no_comment = refl;
+}
 
 -- spaces before a mark of a comment are none of a plain key
 spaces_before_comment : (o : ParseOption) → ¬ IsBareKey o Basics (codes ";k")

@@ -1,22 +1,25 @@
-//! Laws of the grammar, each the contract of a function that does nothing. They speak of the definitions alone.
-ghost use Rattle.std.specs.Prelude.{◌≡◌, true, List, [], ◌++◌, chars};
-ghost use Rattle.ini_text.specs.Elements.{Given, Header, Pair};
+//! Laws of the grammar, each the contract of a function that does nothing. They speak of the definitions
+//! alone.
+ghost use Rattle.std.specs.Prelude.{◌≡◌, true, ◌++◌, chars};
+ghost use Rattle.ini_text.specs.Elements.{Header, Pair};
 ghost use Rattle.ini_text.specs.Laws.{HasOneOutcome, IsAtCharacter};
 ghost use Rattle.ini_text.specs.Plain.{IsPlainName, IsPlainPair, IsPlainSeparator};
-ghost use Rattle.ini_text.specs.PlainLaws.{BeginsWithHeader, FollowsPair, GivesJust, IsEmptyOrHeader, IsMoved, header_line, pair_line};
+ghost use Rattle.ini_text.specs.PlainLaws.{FollowsPair, GivesHeaderFirst, GivesJust, IsEmptyOrHeader, Moves, header_line, pair_line};
 ghost use Rattle.ini_text.specs.Positions.{is_column_one};
-ghost use Rattle.ini_text.specs.Texts.{Derives, Reads, Stops};
+ghost use Rattle.ini_text.specs.Texts.{Stops};
 
 use crate::error::ParseKind;
 use crate::option::ParseOption;
 use crate::write_option::WriteOption;
 
-/// A text derives just one list of items, or reading it stops for just one reason at just one place, and never both.
+/// A text derives just one list of items, or reading it stops for just one reason at just one place, and never
+/// both.
 pub fn one_outcome(text: &str, option: ParseOption)
     ensures { HasOneOutcome option (chars text.now) }
 {}
 
-/// Where reading a text stops at a character, and not for the text's end, it stops there too if something else follows.
+/// Where reading a text stops at a character, and not for the text's end, it stops there too if something else
+/// follows.
 #[tactic(auto, using(crate::proofs::OneRefusal::refusal_stands))]
 pub fn refusal_stands(front: &str, follows: &str, other: &str, option: ParseOption, kind: ParseKind)
     requires stops { Stops option (chars front.now ++ chars follows.now) kind (chars front.now) }
@@ -24,16 +27,22 @@ pub fn refusal_stands(front: &str, follows: &str, other: &str, option: ParseOpti
     ensures { Stops option (chars front.now ++ chars other.now) kind (chars front.now) }
 {}
 
-/// Behind a text that is empty or ends in LF, a text has the outcome that it has alone, moved down. The items of one that is
-/// empty or begins with an opening bracket begin with a header.
-#[tactic(auto, using(crate::proofs::Moved::moved, crate::proofs::Moved::header_first))]
+/// Behind a text that is empty or ends in LF, a text has the outcome that it has alone, moved down.
+#[tactic(auto, using(crate::proofs::MovedLemmas::moved))]
 pub fn moved(before: &str, text: &str, option: ParseOption)
     requires line_start { is_column_one (chars before.now) ≡ true }
-    ensures header_first { IsEmptyOrHeader (chars text.now) → (items : List Given) → Derives option (chars text.now) items → BeginsWithHeader items }
-    ensures moved { (items : List Given) → Reads option (chars before.now ++ chars text.now) [] items (chars before.now) → IsMoved option (chars before.now) (chars text.now) items }
+    ensures { Moves option (chars before.now) (chars text.now) }
 {}
 
-/// A plain name, written on a line of its own with no or one empty line behind it, is a header that gives it, and gaps.
+/// The items of a text that is empty or begins with an opening bracket begin with a header.
+#[tactic(auto, using(crate::proofs::MovedLemmas::header_first))]
+pub fn header_first(text: &str, option: ParseOption)
+    requires begins { IsEmptyOrHeader (chars text.now) }
+    ensures { GivesHeaderFirst option (chars text.now) }
+{}
+
+/// A plain name, written on a line of its own with no or one empty line behind it, is a header that gives it,
+/// and gaps.
 pub fn header_line(
     before: &str,
     name: &str,
@@ -46,8 +55,8 @@ pub fn header_line(
     ensures { GivesJust read (chars before.now) (header_line write.now (chars name.now) twice) (chars follows.now) (Header (chars name.now)) }
 {}
 
-/// A plain pair, written on a line of its own with no or one empty line behind it, is a pair that gives it, with its line
-/// ends or with gaps: where a line starts, and before nothing, a header or a plain key.
+/// A plain pair, written on a line of its own with no or one empty line behind it, is a pair that gives it, with
+/// its line ends or with gaps: in column one, and before nothing, a header or a plain key.
 pub fn pair_line(
     before: &str,
     key: &str,

@@ -1,5 +1,5 @@
 use Rattle.std.proofs.Common.{subst, sym}
-use Rattle.ini.proofs.Each.{Each, all_of}
+use Rattle.ini.proofs.EachLemmas.{Each, all_of}
 use Rattle.ini.proofs.OfCharacters.{SectionIsOfCharacters}
 use Rattle.ini.proofs.characters.is_of_characters.Goals as goal
 

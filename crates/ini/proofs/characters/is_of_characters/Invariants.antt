@@ -1,4 +1,4 @@
-use Rattle.ini.proofs.Each.{Each}
+use Rattle.ini.proofs.EachLemmas.{Each}
 use Rattle.ini.proofs.OfCharacters.{SectionIsOfCharacters}
 use Rattle.ini.proofs.characters.is_of_characters.Given as goal
 

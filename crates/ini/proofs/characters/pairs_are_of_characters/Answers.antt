@@ -1,5 +1,5 @@
 use Rattle.std.proofs.Common.{subst, sym}
-use Rattle.ini.proofs.Each.{Each, all_of}
+use Rattle.ini.proofs.EachLemmas.{Each, all_of}
 use Rattle.ini.proofs.OfCharacters.{PairIsOfCharacters}
 use Rattle.ini.proofs.characters.pairs_are_of_characters.Goals as goal
 

@@ -1,4 +1,4 @@
-use Rattle.ini.proofs.Each.{Each}
+use Rattle.ini.proofs.EachLemmas.{Each}
 use Rattle.ini.proofs.OfCharacters.{PairIsOfCharacters}
 use Rattle.ini.proofs.characters.pairs_are_of_characters.Given as goal
 

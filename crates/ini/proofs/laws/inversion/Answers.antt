@@ -1,6 +1,6 @@
 -- The inversion.
 use Rattle.std.proofs.Common.{chars}
-use Rattle.ini.proofs.Inversion.{inverts}
+use Rattle.ini.proofs.InversionLemmas.{inverts}
 use Rattle.ini.proofs.laws.inversion.Goals as goal
 
 pub returns : goal.returns

@@ -1,5 +1,5 @@
 -- One text, one document.
-use Rattle.ini.proofs.Inversion.{same_text}
+use Rattle.ini.proofs.InversionLemmas.{same_text}
 use Rattle.ini.proofs.laws.same_text.Goals as goal
 
 pub returns : goal.returns

@@ -1,7 +1,7 @@
 -- The line of a header.
 use Rattle.std.proofs.Common.{chars}
 use Rattle.std.proofs.lemmas.Str.{scalars-chars}
-use Rattle.ini_text.proofs.PlainLines.{header_line_read}
+use Rattle.ini_text.proofs.PlainLineLemmas.{header_line_read}
 use Rattle.ini_text.proofs.laws.header_line.Goals as goal
 
 pub returns : goal.returns

@@ -1,7 +1,7 @@
 -- The line of a pair.
 use Rattle.std.proofs.Common.{chars}
 use Rattle.std.proofs.lemmas.Str.{scalars-chars}
-use Rattle.ini_text.proofs.PlainPairs.{pair_line_read}
+use Rattle.ini_text.proofs.PlainPairLemmas.{pair_line_read}
 use Rattle.ini_text.proofs.laws.pair_line.Goals as goal
 
 pub returns : goal.returns

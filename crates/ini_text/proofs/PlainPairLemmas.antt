@@ -25,9 +25,9 @@ use Rattle.ini_text.specs.Plain.{IsPlainSeparator, IsBareKey, IsIndentedByEscape
 use Rattle.ini_text.specs.PlainLaws.{pair_line, GivesJust, FollowsPair}
 use Rattle.ini_text.specs.WriteOptions.{line_end}
 use Rattle.ini_text.proofs.Elements.{blank_is_white}
-use Rattle.ini_text.proofs.EscapePieces.{AllRead, NoRawEnd, all_read, row_escaped}
-use Rattle.ini_text.proofs.PlainLines.{before_line_ends, gives_just, line_ends, line_ends-all, row_of}
-use Rattle.ini_text.proofs.PlainTrims.{line_end_is_white, trimmed_begins, trimmed_end, end_trimmed-blanks, trimmed-blanks, end_trimmed-behind, some_behind, without_line_feeds-trimmed}
+use Rattle.ini_text.proofs.EscapePieceLemmas.{AllRead, NoRawEnd, all_read, row_escaped}
+use Rattle.ini_text.proofs.PlainLineLemmas.{before_line_ends, gives_just, line_ends, line_ends-all, row_of}
+use Rattle.ini_text.proofs.PlainTrimLemmas.{line_end_is_white, trimmed_begins, trimmed_end, end_trimmed-blanks, trimmed-blanks, end_trimmed-behind, some_behind, without_line_feeds-trimmed}
 
 -- what an escaped text begins with: a backslash, or its first character, which isn't escaped
 escape_by-begins : (letter : Option ℕ) (c : ℕ) → (y : List ℕ) × (escape_by letter c ≡ backslash ∷ y)
@@ -39,58 +39,84 @@ unfolding escape
 escape-begins c = escape_by-begins (letter_of c) c
 
 module _ (P : List ℕ → Type 0) (slash : (y : List ℕ) → P (backslash ∷ y)) (policy : EscapePolicy) where
-  escaped_begins : (c : ℕ) (cs x : List ℕ) → (is_escaped policy c ≡ false → (y : List ℕ) → P (c ∷ y)) → P (escaped policy (c ∷ cs) ++ x)
+  escaped_begins : (c : ℕ) (cs x : List ℕ) → (is_escaped policy c ≡ false → (y : List ℕ) → P (c ∷ y))
+      → P (escaped policy (c ∷ cs) ++ x)
   escaped_begins c cs x raw =
       cond_both (is_escaped policy c) (escape c) (c ∷ []) (λ p. P ((p ++ escaped policy cs) ++ x))
-      (λ h. let e = escape-begins c in subst (λ p. P ((p ++ escaped policy cs) ++ x)) (sym e.1) (slash ((e.0 ++ escaped policy cs) ++ x)))
+      (λ h. let e = escape-begins c in subst (λ p. P ((p ++ escaped policy cs) ++ x)) (sym e.1)
+      (slash ((e.0 ++ escaped policy cs) ++ x)))
       (λ h. raw h (escaped policy cs ++ x))
 
   -- a bare key begins with no white space, comment's mark or bracket
   bare_begins : {o : ParseOption} {key : List ℕ} (x : List ℕ) → IsBareKey o policy key
-      → ((c : ℕ) (y : List ℕ) → is_whitespace c ≡ false → is_comment_mark c ≡ false → eqb c open_bracket ≡ false → P (c ∷ y)) → P (escaped policy key ++ x)
+      → ((c : ℕ) (y : List ℕ) → is_whitespace c ≡ false → is_comment_mark c ≡ false
+      → eqb c open_bracket ≡ false → P (c ∷ y)) → P (escaped policy key ++ x)
   bare_begins {o} {key = []} x bare raw = absurd (bare.some refl)
-  bare_begins {o} {key = c ∷ cs} x bare raw = escaped_begins c cs x (λ h y. raw c y (no_white h bare.is_trimmed) (and_no_not (is_comment_mark c) (is_escaped policy c) bare.no_comment h) bare.no_bracket)
+  bare_begins {o} {key = c ∷ cs} x bare raw =
+      escaped_begins c cs x
+      (λ h y. raw c y (no_white h bare.is_trimmed)
+      (and_no_not (is_comment_mark c) (is_escaped policy c) bare.no_comment h) bare.no_bracket)
     where
       and_no_not : (a b : Bool) → (a && not b) ≡ false → b ≡ false → a ≡ false
       and_no_not true true h q = q
       and_no_not true false h q = h
       and_no_not false b h q = refl
 
-      no_white : is_escaped policy c ≡ false → (trimmed (c ∷ cs) ≡ c ∷ cs) ⊎ IsIndentedByEscape o policy (c ∷ cs) → is_whitespace c ≡ false
+      no_white : is_escaped policy c ≡ false
+          → (trimmed (c ∷ cs) ≡ c ∷ cs) ⊎ IsIndentedByEscape o policy (c ∷ cs) → is_whitespace c ≡ false
       no_white h (inl t) = trimmed_begins (c ∷ cs) t
-      no_white h (inr i) = absurd (both_ways (is_escaped policy c) h (and_parts (is_whitespace c) (is_escaped policy c) i.white).1)
+      no_white h (inr i) =
+          absurd (both_ways (is_escaped policy c) h
+          (and_parts (is_whitespace c) (is_escaped policy c) i.white).1)
 
   -- a plain value before a line end
-  value_begins : {o : ParseOption} {value : List ℕ} (l : ℕ) (x : List ℕ) → IsPlainValue o policy value → is_line_end l ≡ true
-      → ((y : List ℕ) → P (l ∷ y)) → ((c : ℕ) (y : List ℕ) → is_whitespace c ≡ false → (o.enabled_quote ≡ true → is_mark c ≡ false) → P (c ∷ y)) → P (escaped policy value ++ l ∷ x)
+  value_begins : {o : ParseOption} {value : List ℕ} (l : ℕ) (x : List ℕ) → IsPlainValue o policy value
+      → is_line_end l ≡ true
+      → ((y : List ℕ) → P (l ∷ y))
+      → ((c : ℕ) (y : List ℕ) → is_whitespace c ≡ false → (o.enabled_quote ≡ true → is_mark c ≡ false)
+      → P (c ∷ y)) → P (escaped policy value ++ l ∷ x)
   value_begins {o} {value = []} l x plain h ends raw = ends x
-  value_begins {o} {value = c ∷ cs} l x plain h ends raw = escaped_begins c cs (l ∷ x) (λ _ y. raw c y (trimmed_begins (c ∷ cs) plain.is_trimmed) plain.no_mark)
+  value_begins {o} {value = c ∷ cs} l x plain h ends raw =
+      escaped_begins c cs (l ∷ x) (λ _ y. raw c y (trimmed_begins (c ∷ cs) plain.is_trimmed) plain.no_mark)
 
 no_white_no_blank : (c : ℕ) → is_whitespace c ≡ false → is_blank c ≡ false
-no_white_no_blank c h = false_from_ne_true (is_blank c) (λ q. both_ways (is_whitespace c) h (blank_is_white c q))
+no_white_no_blank c h =
+    false_from_ne_true (is_blank c) (λ q. both_ways (is_whitespace c) h (blank_is_white c q))
 
 no_white_no_line_end : (c : ℕ) → is_whitespace c ≡ false → is_line_end c ≡ false
-no_white_no_line_end c h = false_from_ne_true (is_line_end c) (λ q. both_ways (is_whitespace c) h (line_end_is_white c q))
+no_white_no_line_end c h =
+    false_from_ne_true (is_line_end c) (λ q. both_ways (is_whitespace c) h (line_end_is_white c q))
 
 -- keys
 module _ {o : ParseOption} (policy : EscapePolicy) where
-  bare_unindented : {key : List ℕ} (x : List ℕ) → IsBareKey o policy key → BeginsWith begins_key (escaped policy key ++ x)
-  bare_unindented x bare = bare_begins (BeginsWith begins_key) (λ y. refl) policy x bare (λ c y white mark bracket.
-      ap not (or_from _ (eqb c open_bracket) (or_from (is_whitespace c) (is_comment_mark c) white mark) bracket))
+  bare_unindented : {key : List ℕ} (x : List ℕ) → IsBareKey o policy key
+      → BeginsWith begins_key (escaped policy key ++ x)
+  bare_unindented x bare =
+      bare_begins (BeginsWith begins_key) (λ y. refl) policy x bare (λ c y white mark bracket.
+      ap not (or_from _ (eqb c open_bracket)
+      (or_from (is_whitespace c) (is_comment_mark c) white mark) bracket))
 
-  bare_indented : {key : List ℕ} (x : List ℕ) → IsBareKey o policy key → BeginsWith begins_indented_key (escaped policy key ++ x)
-  bare_indented x bare = bare_begins (BeginsWith begins_indented_key) (λ y. refl) policy x bare (λ c y white mark bracket.
-      ap not (or_from _ (eqb c open_bracket) (or_from (is_blank c) (is_line_end c) (no_white_no_blank c white) (no_white_no_line_end c white)) bracket))
+  bare_indented : {key : List ℕ} (x : List ℕ) → IsBareKey o policy key
+      → BeginsWith begins_indented_key (escaped policy key ++ x)
+  bare_indented x bare =
+      bare_begins (BeginsWith begins_indented_key) (λ y. refl) policy x bare (λ c y white mark bracket.
+      ap not (or_from _ (eqb c open_bracket)
+      (or_from (is_blank c) (is_line_end c) (no_white_no_blank c white)
+      (no_white_no_line_end c white)) bracket))
 
   -- what may follow a multiline value
-  follows_multiline : {r : List ℕ} → FollowsPair o policy r → o.enabled_indented_mutiline_value ≡ true → BeginsWithNo is_blank r × BeginsWithNo is_line_end r
+  follows_multiline : {r : List ℕ} → FollowsPair o policy r → o.enabled_indented_mutiline_value ≡ true
+      → BeginsWithNo is_blank r × BeginsWithNo is_line_end r
   follows_multiline FollowsPair.nothing on = (tt, tt)
   follows_multiline FollowsPair.header on = (refl, refl)
   follows_multiline (FollowsPair.pair r (IsPlainKey.bare bare)) on = (
-    bare_begins (BeginsWithNo is_blank) (λ y. refl) policy r bare (λ c y white mark bracket. no_white_no_blank c white),
-    bare_begins (BeginsWithNo is_line_end) (λ y. refl) policy r bare (λ c y white mark bracket. no_white_no_line_end c white),
+    bare_begins (BeginsWithNo is_blank) (λ y. refl) policy r bare
+        (λ c y white mark bracket. no_white_no_blank c white),
+    bare_begins (BeginsWithNo is_line_end) (λ y. refl) policy r bare
+        (λ c y white mark bracket. no_white_no_line_end c white),
   )
-  follows_multiline (FollowsPair.pair r (IsPlainKey.behind_spaces spaces kept off all bare)) on = absurd (both_ways o.enabled_indented_mutiline_value off on)
+  follows_multiline (FollowsPair.pair r (IsPlainKey.behind_spaces spaces kept off all bare)) on =
+      absurd (both_ways o.enabled_indented_mutiline_value off on)
 
 -- blanks stand for themselves in a key
 blank_row : {escapes : Bool} (w : List ℕ) → list_all is_blank w ≡ true → Row escapes key_ends w w
@@ -98,8 +124,14 @@ blank_row [] h = Row.none
 blank_row (c ∷ w) h =
     let parts = and_parts (is_blank c) (list_all is_blank w) h in
     elim (or_cases (eqb c 0x20) (eqb c 0x09) parts.0) [
-      | inl q ↦ let e = eqb-true c 0x20 q in Row.raw (λ s. absurd (omega arith)) (subst (λ x. is_endpoint key_ends x ≡ false) (sym e) refl) (blank_row w parts.1)
-      | inr q ↦ let e = eqb-true c 0x09 q in Row.raw (λ s. absurd (omega arith)) (subst (λ x. is_endpoint key_ends x ≡ false) (sym e) refl) (blank_row w parts.1)
+      | inl q ↦
+          let e = eqb-true c 0x20 q in
+          let no_end : is_endpoint key_ends c ≡ false = subst (λ x. is_endpoint key_ends x ≡ false) (sym e) refl in
+          Row.raw (λ s. absurd (omega arith)) no_end (blank_row w parts.1)
+      | inr q ↦
+          let e = eqb-true c 0x09 q in
+          let no_end : is_endpoint key_ends c ≡ false = subst (λ x. is_endpoint key_ends x ≡ false) (sym e) refl in
+          Row.raw (λ s. absurd (omega arith)) no_end (blank_row w parts.1)
     ]
 
 separator_closes : (m : ℕ) → is_separator m ≡ true → is_endpoint key_ends m ≡ true
@@ -108,11 +140,14 @@ separator_closes m h = elim (or_cases (eqb m 0x3D) (eqb m 0x3A) h) [
   | inr q ↦ or_right (eqb m 0x3D) _ (or_left (eqb m 0x3A) false q)
 ]
 
-key_no_end : (policy : EscapePolicy) (key : List ℕ) → list_all (λ c. not (is_separator c) || is_escaped policy c) key ≡ true → NoRawEnd policy key_ends key
+key_no_end : (policy : EscapePolicy) (key : List ℕ)
+    → list_all (λ c. not (is_separator c) || is_escaped policy c) key ≡ true → NoRawEnd policy key_ends key
 key_no_end policy [] h = refl
 key_no_end policy (c ∷ cs) h =
-    let parts = and_parts (not (is_separator c) || is_escaped policy c) (list_all (λ c. not (is_separator c) || is_escaped policy c) cs) h in
-    and_from (not (is_endpoint key_ends c) || is_escaped policy c) _ (at (eqb c 0x3D) (eqb c 0x3A) (is_escaped policy c) parts.0) (key_no_end policy cs parts.1)
+    let parts = and_parts (not (is_separator c) || is_escaped policy c)
+    (list_all (λ c. not (is_separator c) || is_escaped policy c) cs) h in
+    and_from (not (is_endpoint key_ends c) || is_escaped policy c) _
+    (at (eqb c 0x3D) (eqb c 0x3A) (is_escaped policy c) parts.0) (key_no_end policy cs parts.1)
   where
     at : (x y z : Bool) → (not (x || y) || z) ≡ true → (not (x || (y || false)) || z) ≡ true
     at true y z h = h
@@ -120,29 +155,38 @@ key_no_end policy (c ∷ cs) h =
     at false false z h = h
 
 -- a bare key, and blanks behind it, before a separator
-module _ {o : ParseOption} {policy : EscapePolicy} {key : List ℕ} (bare : IsBareKey o policy key) (all : AllRead o.enabled_escape policy key) where
+module _ {o : ParseOption} {policy : EscapePolicy} {key : List ℕ} (bare : IsBareKey o policy key)
+    (all : AllRead o.enabled_escape policy key) where
   bare_end : end_trimmed key ≡ key
   bare_end = elim bare.is_trimmed [
     | inl t ↦ trimmed_end key t
     | inr i ↦ i.end_is_trimmed
   ]
 
-  bare_string : (w r : List ℕ) (m : ℕ) → list_all is_blank w ≡ true → is_separator m ≡ true → Str o.enabled_escape key_ends (escaped policy key ++ w) (m ∷ r) (key ++ w)
-  bare_string w r m blank sep = Str.closed (row_escaped key all (key_no_end policy key bare.no_separator) (blank_row w blank)) (separator_closes m sep)
+  bare_string : (w r : List ℕ) (m : ℕ) → list_all is_blank w ≡ true → is_separator m ≡ true
+      → Str o.enabled_escape key_ends (escaped policy key ++ w) (m ∷ r) (key ++ w)
+  bare_string w r m blank sep =
+      Str.closed (row_escaped key all (key_no_end policy key bare.no_separator) (blank_row w blank))
+      (separator_closes m sep)
 
-  bare_key : (w : List ℕ) → list_all is_blank w ≡ true → cond o.enabled_preserve_key_leading_whitespace (end_trimmed (key ++ w)) (trimmed (key ++ w)) ≡ key
+  bare_key : (w : List ℕ) → list_all is_blank w ≡ true
+      → cond o.enabled_preserve_key_leading_whitespace (end_trimmed (key ++ w)) (trimmed (key ++ w)) ≡ key
   bare_key w blank = cond_both o.enabled_preserve_key_leading_whitespace _ _ (λ k. k ≡ key)
       (λ on. end_trimmed-blanks key w blank ∙ bare_end)
       (λ off. trimmed-blanks key w bare.some (begins off bare.is_trimmed) blank ∙ bare_end)
     where
-      begins : o.enabled_preserve_key_leading_whitespace ≡ false → (trimmed key ≡ key) ⊎ IsIndentedByEscape o policy key → BeginsWithNo is_whitespace key
+      begins : o.enabled_preserve_key_leading_whitespace ≡ false
+          → (trimmed key ≡ key) ⊎ IsIndentedByEscape o policy key → BeginsWithNo is_whitespace key
       begins off (inl t) = trimmed_begins key t
       begins off (inr i) = absurd (both_ways o.enabled_preserve_key_leading_whitespace off i.kept)
 
-  bare_front : {b : List ℕ} (w r : List ℕ) (m : ℕ) → list_all is_blank w ≡ true → is_separator m ≡ true → KeyFront o b (escaped policy key ++ w) (m ∷ r) key
+  bare_front : {b : List ℕ} (w r : List ℕ) (m : ℕ) → list_all is_blank w ≡ true → is_separator m ≡ true
+      → KeyFront o b (escaped policy key ++ w) (m ∷ r) key
   bare_front {b} w r m blank sep =
-      let begins : BeginsWith begins_key ((escaped policy key ++ w) ++ m ∷ r) = rw (append_assoc (escaped policy key) w (m ∷ r)) (bare_unindented policy (w ++ m ∷ r) bare) in
-      subst (KeyFront o b (escaped policy key ++ w) (m ∷ r)) (bare_key w blank) (KeyFront.unindented begins (bare_string w r m blank sep))
+      let begins : BeginsWith begins_key ((escaped policy key ++ w) ++ m ∷ r) =
+      rw (append_assoc (escaped policy key) w (m ∷ r)) (bare_unindented policy (w ++ m ∷ r) bare) in
+      subst (KeyFront o b (escaped policy key ++ w) (m ∷ r)) (bare_key w blank)
+      (KeyFront.unindented begins (bare_string w r m blank sep))
 
 -- spaces are escaped by no policy
 space_raw : (policy : EscapePolicy) → is_escaped policy space ≡ false
@@ -155,18 +199,23 @@ space_raw ReservedUnicode = refl
 space_raw ReservedUnicodeExtended = refl
 space_raw Everything = refl
 
-escaped-spaces : (policy : EscapePolicy) (spaces key : List ℕ) → list_all (λ c. eqb c space) spaces ≡ true → escaped policy (spaces ++ key) ≡ spaces ++ escaped policy key
+escaped-spaces : (policy : EscapePolicy) (spaces key : List ℕ) → list_all (λ c. eqb c space) spaces ≡ true
+    → escaped policy (spaces ++ key) ≡ spaces ++ escaped policy key
 escaped-spaces policy [] key h = refl
 escaped-spaces policy (c ∷ spaces) key h =
     let parts = and_parts (eqb c space) (list_all (λ c. eqb c space) spaces) h in
-    let raw : is_escaped policy c ≡ false = ap (is_escaped policy) (eqb-true c space parts.0) ∙ space_raw policy in
-    ap (λ p. p ++ escaped policy (spaces ++ key)) (cond-false (is_escaped policy c) (escape c) (c ∷ []) raw) ∙ ap (λ l. c ∷ l) (escaped-spaces policy spaces key parts.1)
+    let raw : is_escaped policy c ≡ false =
+    ap (is_escaped policy) (eqb-true c space parts.0) ∙ space_raw policy in
+    ap (λ p. p ++ escaped policy (spaces ++ key)) (cond-false (is_escaped policy c) (escape c) (c ∷ []) raw)
+    ∙ ap (λ l. c ∷ l) (escaped-spaces policy spaces key parts.1)
 
-AllRead-behind : {escapes : Bool} {policy : EscapePolicy} {key : List ℕ} (w : List ℕ) → AllRead escapes policy (w ++ key) → AllRead escapes policy key
+AllRead-behind : {escapes : Bool} {policy : EscapePolicy} {key : List ℕ} (w : List ℕ)
+    → AllRead escapes policy (w ++ key) → AllRead escapes policy key
 AllRead-behind [] all = all
 AllRead-behind (c ∷ w) (AllRead.more one all) = AllRead-behind w all
 
-spaces_blank : (spaces : List ℕ) → list_all (λ c. eqb c space) spaces ≡ true → list_all is_blank spaces ≡ true
+spaces_blank : (spaces : List ℕ) → list_all (λ c. eqb c space) spaces ≡ true
+    → list_all is_blank spaces ≡ true
 spaces_blank [] h = refl
 spaces_blank (c ∷ spaces) h =
     let parts = and_parts (eqb c space) (list_all (λ c. eqb c space) spaces) h in
@@ -176,40 +225,54 @@ line_starts : (b : List ℕ) → is_column_one b ≡ true → starts_line b ≡ 
 line_starts b one = or_left (is_line_feed (last_or line_feed b)) _ one
 
 module _ {o : ParseOption} {policy : EscapePolicy} where
-  spaced_front : {b key : List ℕ} (spaces w r : List ℕ) (m : ℕ) → is_column_one b ≡ true → o.enabled_preserve_key_leading_whitespace ≡ true
-      → list_all (λ c. eqb c space) spaces ≡ true → IsBareKey o policy key → AllRead o.enabled_escape policy key → list_all is_blank w ≡ true → is_separator m ≡ true
+  spaced_front : {b key : List ℕ} (spaces w r : List ℕ) (m : ℕ) → is_column_one b ≡ true
+      → o.enabled_preserve_key_leading_whitespace ≡ true
+      → list_all (λ c. eqb c space) spaces ≡ true → IsBareKey o policy key
+      → AllRead o.enabled_escape policy key → list_all is_blank w ≡ true → is_separator m ≡ true
       → KeyFront o b (spaces ++ (escaped policy key ++ w)) (m ∷ r) (spaces ++ key)
   spaced_front [] w r m one kept all bare read blank sep = bare_front bare read w r m blank sep
   spaced_front {b} {key} (c ∷ spaces) w r m one kept all bare read blank sep =
       let blanks = spaces_blank (c ∷ spaces) all in
-      let ind : Indentation b (c ∷ spaces) = record { at_line_start = line_starts b one; some = (and_parts (is_blank c) (list_all is_blank spaces) blanks).0; blank = blanks } in
-      let begins : BeginsWith begins_indented_key ((escaped policy key ++ w) ++ m ∷ r) = rw (append_assoc (escaped policy key) w (m ∷ r)) (bare_indented policy (w ++ m ∷ r) bare) in
-      let key_is : cond o.enabled_preserve_key_leading_whitespace (end_trimmed ((c ∷ spaces) ++ (key ++ w))) (trimmed (key ++ w)) ≡ (c ∷ spaces) ++ key =
+      let first = (and_parts (is_blank c) (list_all is_blank spaces) blanks).0 in
+      let ind : Indentation b (c ∷ spaces) =
+      record { at_line_start = line_starts b one; some = first; blank = blanks } in
+      let begins : BeginsWith begins_indented_key ((escaped policy key ++ w) ++ m ∷ r) =
+      rw (append_assoc (escaped policy key) w (m ∷ r)) (bare_indented policy (w ++ m ∷ r) bare) in
+      let both = end_trimmed ((c ∷ spaces) ++ (key ++ w)) in
+      let key_is : cond o.enabled_preserve_key_leading_whitespace both (trimmed (key ++ w)) ≡ (c ∷ spaces) ++ key =
       cond-true o.enabled_preserve_key_leading_whitespace _ _ kept
-      ∙ ap end_trimmed (sym (append_assoc (c ∷ spaces) key w)) ∙ end_trimmed-blanks ((c ∷ spaces) ++ key) w blank
+      ∙ ap end_trimmed (sym (append_assoc (c ∷ spaces) key w))
+      ∙ end_trimmed-blanks ((c ∷ spaces) ++ key) w blank
       ∙ end_trimmed-behind (c ∷ spaces) key bare.some (bare_end bare read) in
-      subst (KeyFront o b ((c ∷ spaces) ++ (escaped policy key ++ w)) (m ∷ r)) key_is (KeyFront.indented ind begins (bare_string bare read w r m blank sep))
+      subst (KeyFront o b ((c ∷ spaces) ++ (escaped policy key ++ w)) (m ∷ r)) key_is
+      (KeyFront.indented ind begins (bare_string bare read w r m blank sep))
 
-  key_front : {b key : List ℕ} (w r : List ℕ) (m : ℕ) → is_column_one b ≡ true → IsPlainKey o policy key → AllRead o.enabled_escape policy key
-      → list_all is_blank w ≡ true → is_separator m ≡ true → KeyFront o b (escaped policy key ++ w) (m ∷ r) key
+  key_front : {b key : List ℕ} (w r : List ℕ) (m : ℕ) → is_column_one b ≡ true → IsPlainKey o policy key
+      → AllRead o.enabled_escape policy key
+      → list_all is_blank w ≡ true → is_separator m ≡ true
+      → KeyFront o b (escaped policy key ++ w) (m ∷ r) key
   key_front w r m one (IsPlainKey.bare bare) read blank sep = bare_front bare read w r m blank sep
   key_front {b} w r m one (IsPlainKey.behind_spaces {key} spaces kept off all bare) read blank sep =
       let source : spaces ++ (escaped policy key ++ w) ≡ escaped policy (spaces ++ key) ++ w =
-      sym (append_assoc spaces (escaped policy key) w) ∙ ap (λ x. x ++ w) (sym (escaped-spaces policy spaces key all)) in
-      subst (λ s. KeyFront o b s (m ∷ r) (spaces ++ key)) source (spaced_front spaces w r m one kept all bare (AllRead-behind spaces read) blank sep)
+      sym (append_assoc spaces (escaped policy key) w)
+      ∙ ap (λ x. x ++ w) (sym (escaped-spaces policy spaces key all)) in
+      subst (λ s. KeyFront o b s (m ∷ r) (spaces ++ key)) source
+      (spaced_front spaces w r m one kept all bare (AllRead-behind spaces read) blank sep)
 
   key_some : {key : List ℕ} → IsPlainKey o policy key → key ≢ []
   key_some (IsPlainKey.bare bare) = bare.some
   key_some (IsPlainKey.behind_spaces {key} spaces kept off all bare) = some_behind spaces key bare.some
 
 -- values
-value_no_end : {escapes : Bool} {policy : EscapePolicy} {value : List ℕ} → AllRead escapes policy value → NoRawEnd policy plain_ends value
+value_no_end : {escapes : Bool} {policy : EscapePolicy} {value : List ℕ} → AllRead escapes policy value
+    → NoRawEnd policy plain_ends value
 value_no_end AllRead.none = refl
 value_no_end {policy = policy} (AllRead.more {c} one all) =
     and_from (not (is_endpoint plain_ends c) || is_escaped policy c) _
     (elim (cases_Bool (is_escaped policy c)) [
       | inl h ↦ or_right (not (is_endpoint plain_ends c)) (is_escaped policy c) h
-      | inr h ↦ or_left (not (is_endpoint plain_ends c)) (is_escaped policy c) (ap not (at (eqb c 0x0A) (eqb c 0x0D) (one.no_line_end h)))
+      | inr h ↦ or_left (not (is_endpoint plain_ends c)) (is_escaped policy c)
+          (ap not (at (eqb c 0x0A) (eqb c 0x0D) (one.no_line_end h)))
     ])
     (value_no_end all)
   where
@@ -242,17 +305,23 @@ inline_blanks (c ∷ w) h =
     ]) (inline_blanks w parts.1)
 
 -- a plain value before a line end
-module _ {o : ParseOption} {policy : EscapePolicy} {value : List ℕ} (plain : IsPlainValue o policy value) (all : AllRead o.enabled_escape policy value) where
+module _ {o : ParseOption} {policy : EscapePolicy} {value : List ℕ} (plain : IsPlainValue o policy value)
+    (all : AllRead o.enabled_escape policy value) where
   value_line : (l : ℕ) (r : List ℕ) → is_line_end l ≡ true → Line o true (escaped policy value) (l ∷ r) value
   value_line l r h =
       let unquoted : BeginsPlain o (escaped policy value ++ l ∷ r) = λ on.
-      value_begins (BeginsWithNo is_mark) (λ y. refl) policy l r plain h (λ y. line_end_no_mark l h) (λ c y white mark. mark on) in
-      subst (Line o true (escaped policy value) (l ∷ r)) plain.is_trimmed (Line.line Quoted.none unquoted (Str.closed (row_of value all (value_no_end all)) (line_end_closes l h)))
+      value_begins (BeginsWithNo is_mark) (λ y. refl) policy l r plain h (λ y. line_end_no_mark l h)
+      (λ c y white mark. mark on) in
+      subst (Line o true (escaped policy value) (l ∷ r)) plain.is_trimmed
+      (Line.line Quoted.none unquoted
+      (Str.closed (row_of value all (value_no_end all)) (line_end_closes l h)))
 
-  value_lead : (w : List ℕ) (l : ℕ) (r : List ℕ) → list_all is_blank w ≡ true → is_line_end l ≡ true → Lead w (escaped policy value ++ l ∷ r)
+  value_lead : (w : List ℕ) (l : ℕ) (r : List ℕ) → list_all is_blank w ≡ true → is_line_end l ≡ true
+      → Lead w (escaped policy value ++ l ∷ r)
   value_lead w l r blank h = record {
     white = inline_blanks w blank;
-    ends = value_begins (BeginsWithNo is_inline_white) (λ y. refl) policy l r plain h (λ y. and_right (is_whitespace l) _ (ap not h)) (λ c y white mark. and_left (is_whitespace c) _ white);
+    ends = value_begins (BeginsWithNo is_inline_white) (λ y. refl) policy l r plain h
+        (λ y. and_right (is_whitespace l) _ (ap not h)) (λ c y white mark. and_left (is_whitespace c) _ white);
   }
 
 -- a line end, and a second one in a line's place
@@ -264,7 +333,8 @@ first_end CRLF = carriage_return
 second_ends : LineSeparator → Bool → List ℕ
 second_ends s twice = cond twice (line_end s) []
 
-ends_begin : (s : LineSeparator) (x : List ℕ) → (l : ℕ) × (y : List ℕ) × (is_line_end l ≡ true) × (line_end s ++ x ≡ l ∷ y)
+ends_begin : (s : LineSeparator) (x : List ℕ)
+    → (l : ℕ) × (y : List ℕ) × (is_line_end l ≡ true) × (line_end s ++ x ≡ l ∷ y)
 ends_begin SystemDefault x = (line_feed, x, refl, refl)
 ends_begin CR x = (line_feed, x, refl, refl)
 ends_begin CRLF x = (carriage_return, line_feed ∷ x, refl, refl)
@@ -274,7 +344,8 @@ line_end-is SystemDefault r = LineEnd.lf
 line_end-is CR r = LineEnd.lf
 line_end-is CRLF r = LineEnd.cr_lf
 
-more_lines : {o : ParseOption} {r : List ℕ} (s : LineSeparator) (twice : Bool) → BeginsWithNo is_blank r → BeginsWithNo is_line_end r
+more_lines : {o : ParseOption} {r : List ℕ} (s : LineSeparator) (twice : Bool) → BeginsWithNo is_blank r
+    → BeginsWithNo is_line_end r
     → (v : List ℕ) × (list_all is_line_feed v ≡ true) × MoreLines o (cond twice (line_end s) []) r v
 more_lines s false n m = ([], refl, MoreLines.done n m)
 more_lines SystemDefault true n m = (line_feed ∷ [], refl, MoreLines.empty_lf (MoreLines.done n m))
@@ -284,23 +355,35 @@ more_lines CRLF true n m = (line_feed ∷ [], refl, MoreLines.empty_cr_lf (MoreL
 abbrev ReadsLine : ParseOption → List ℕ → List ℕ → List ℕ → Given → Type 0
 ReadsLine o b line r item = Reads o (b ++ (line ++ r)) b (item ∷ []) (b ++ line)
 
-module _ {o : ParseOption} {policy : EscapePolicy} (s : LineSeparator) (twice : Bool) {b key value : List ℕ} (before : List ℕ) (m : ℕ) (after r : List ℕ)
-    (one : is_column_one b ≡ true) (plain : IsPlainPair o policy key value) (read_key : AllRead o.enabled_escape policy key) (read_value : AllRead o.enabled_escape policy value)
-    (blank_before : list_all is_blank before ≡ true) (sep : is_separator m ≡ true) (blank_after : list_all is_blank after ≡ true) (follows : FollowsPair o policy r) where
+module _ {o : ParseOption} {policy : EscapePolicy} (s : LineSeparator) (twice : Bool) {b key value : List ℕ}
+    (before : List ℕ) (m : ℕ) (after r : List ℕ)
+    (one : is_column_one b ≡ true) (plain : IsPlainPair o policy key value)
+    (read_key : AllRead o.enabled_escape policy key) (read_value : AllRead o.enabled_escape policy value)
+    (blank_before : list_all is_blank before ≡ true) (sep : is_separator m ≡ true)
+    (blank_after : list_all is_blank after ≡ true) (follows : FollowsPair o policy r) where
   -- on one line, the line ends left as gaps
   pair_one_line : o.enabled_indented_mutiline_value ≡ false
       → ReadsLine o b ((escaped policy key ++ before) ++ m ∷ (after ++ (escaped policy value ++ line_ends s twice))) r (Pair key value)
   pair_one_line off =
       let e = line_ends s twice in
       let begin = ends_begin s (cond twice (line_end s) [] ++ r) in
-      let begins : e ++ r ≡ begin.0 ∷ begin.1 = append_assoc (line_end s) (cond twice (line_end s) []) r ∙ begin.3 in
-      let given : Value o (after ++ escaped policy value) (e ++ r) value = subst (λ x. Value o (after ++ escaped policy value) x value) (sym begins)
-      (Value.one_line off (value_lead plain.plain_value read_value after begin.0 begin.1 blank_after begin.2) (value_line plain.plain_value read_value begin.0 begin.1 begin.2)) in
-      let element : Element o b ((escaped policy key ++ before) ++ m ∷ (after ++ escaped policy value)) (e ++ r) (Pair key value ∷ []) =
-      Element.pair (key_front before ((after ++ escaped policy value) ++ (e ++ r)) m one plain.plain_key read_key blank_before sep) (key_some plain.plain_key) sep given in
-      let source : ((escaped policy key ++ before) ++ m ∷ (after ++ escaped policy value)) ++ e ≡ (escaped policy key ++ before) ++ m ∷ (after ++ (escaped policy value ++ e)) =
-      append_assoc (escaped policy key ++ before) (m ∷ (after ++ escaped policy value)) e ∙ ap (λ x. (escaped policy key ++ before) ++ m ∷ x) (append_assoc after (escaped policy value) e) in
-      subst (λ x. ReadsLine o b x r (Pair key value)) source (before_line_ends e r (line_ends-all s twice) element)
+      let begins : e ++ r ≡ begin.0 ∷ begin.1 =
+      append_assoc (line_end s) (cond twice (line_end s) []) r ∙ begin.3 in
+      let given : Value o (after ++ escaped policy value) (e ++ r) value =
+      subst (λ x. Value o (after ++ escaped policy value) x value) (sym begins)
+      (Value.one_line off (value_lead plain.plain_value read_value after begin.0 begin.1 blank_after begin.2)
+      (value_line plain.plain_value read_value begin.0 begin.1 begin.2)) in
+      let element : Element o b ((escaped policy key ++ before) ++ m ∷ (after ++ escaped policy value))
+      (e ++ r) (Pair key value ∷ []) =
+      Element.pair (key_front before
+      ((after ++ escaped policy value) ++ (e ++ r)) m one plain.plain_key read_key blank_before sep)
+      (key_some plain.plain_key) sep given in
+      let source : ((escaped policy key ++ before) ++ m ∷ (after ++ escaped policy value)) ++ e ≡
+      (escaped policy key ++ before) ++ m ∷ (after ++ (escaped policy value ++ e)) =
+      append_assoc (escaped policy key ++ before) (m ∷ (after ++ escaped policy value)) e ∙ ap
+      (λ x. (escaped policy key ++ before) ++ m ∷ x) (append_assoc after (escaped policy value) e) in
+      subst (λ x. ReadsLine o b x r (Pair key value)) source
+      (before_line_ends e r (line_ends-all s twice) element)
 
   -- in a multiline value, the line ends taken
   pair_multiline : o.enabled_indented_mutiline_value ≡ true
@@ -310,20 +393,26 @@ module _ {o : ParseOption} {policy : EscapePolicy} (s : LineSeparator) (twice : 
       let begin = ends_begin s (t ++ r) in
       let ahead = follows_multiline policy follows on in
       let more = more_lines {o = o} s twice ahead.0 ahead.1 in
-      let lead : Lead after (escaped policy value ++ (line_end s ++ (t ++ r))) = subst (λ x. Lead after (escaped policy value ++ x)) (sym begin.3)
+      let lead : Lead after (escaped policy value ++ (line_end s ++ (t ++ r))) =
+      subst (λ x. Lead after (escaped policy value ++ x)) (sym begin.3)
       (value_lead plain.plain_value read_value after begin.0 begin.1 blank_after begin.2) in
-      let line : Line o true (escaped policy value) (line_end s ++ (t ++ r)) value = subst (λ x. Line o true (escaped policy value) x value) (sym begin.3)
+      let line : Line o true (escaped policy value) (line_end s ++ (t ++ r)) value =
+      subst (λ x. Line o true (escaped policy value) x value) (sym begin.3)
       (value_line plain.plain_value read_value begin.0 begin.1 begin.2) in
       let source = after ++ (escaped policy value ++ (line_end s ++ t)) in
-      let given : Value o source r value = subst (Value o source r) (without_line_feeds-trimmed value more.0 plain.plain_value.is_trimmed more.1)
+      let given : Value o source r value =
+      subst (Value o source r) (without_line_feeds-trimmed value more.0 plain.plain_value.is_trimmed more.1)
       (Value.lines on lead line (line_end-is s (t ++ r)) more.2) in
       let front = key_front {b = b} before (source ++ r) m one plain.plain_key read_key blank_before sep in
-      let element : Element o b ((escaped policy key ++ before) ++ m ∷ source) r (Pair key value ∷ []) = Element.pair front (key_some plain.plain_key) sep given in
+      let element : Element o b ((escaped policy key ++ before) ++ m ∷ source) r (Pair key value ∷ []) =
+      Element.pair front (key_some plain.plain_key) sep given in
       let L = (escaped policy key ++ before) ++ m ∷ source in
       Reads.step refl element (Reads.stay r (sym (append_assoc b L r)))
 
-pub pair_line_read : (o : ParseOption) (w : WriteOption) (twice : Bool) (b key value r : List ℕ) → all_scalars key ≡ true → all_scalars value ≡ true
-    → is_column_one b ≡ true → IsPlainPair o w.escape_policy key value → IsPlainSeparator (chars w.kv_separator.now) → FollowsPair o w.escape_policy r
+pub pair_line_read : (o : ParseOption) (w : WriteOption) (twice : Bool) (b key value r : List ℕ)
+    → all_scalars key ≡ true → all_scalars value ≡ true
+    → is_column_one b ≡ true → IsPlainPair o w.escape_policy key value
+    → IsPlainSeparator (chars w.kv_separator.now) → FollowsPair o w.escape_policy r
     → GivesJust o b (pair_line w key value twice) r (Pair key value)
 pair_line_read o w twice b key value r valid_key valid_value one plain sep follows =
     let policy = w.escape_policy in
@@ -340,6 +429,7 @@ pair_line_read o w twice b key value r valid_key valid_value one plain sep follo
     let ends : b ++ L ≡ (b ++ front) ++ e = simp append_assoc in
     let line : L ≡ pair_line w key value twice =
     append_assoc (escaped policy key) sep.before (sep.mark ∷ (sep.after ++ (escaped policy value ++ e)))
-    ∙ ap (λ x. escaped policy key ++ x) (sym (append_assoc sep.before (sep.mark ∷ sep.after) (escaped policy value ++ e)))
+    ∙ ap (λ x. escaped policy key ++ x)
+    (sym (append_assoc sep.before (sep.mark ∷ sep.after) (escaped policy value ++ e)))
     ∙ ap (λ x. escaped policy key ++ (x ++ (escaped policy value ++ e))) (sym sep.whole) in
     subst (λ x. GivesJust o b x r (Pair key value)) line (gives_just s twice (b ++ front) ends read)

@@ -19,7 +19,7 @@ use Rattle.ini.specs.Texts.{Text}
 use Rattle.ini.specs.Properties.{Pairs}
 use Rattle.ini.specs.Documents.{Document, document_of, with_item, with_pair}
 use Rattle.ini.specs.Written.{has_pairs, written_name, written_pair, written_pairs, written_sections}
-use Rattle.ini.proofs.Each.{Each}
+use Rattle.ini.proofs.EachLemmas.{Each}
 use Rattle.ini.proofs.Reading.{Reads-append, with_item-some}
 
 -- the items of pairs, of a section and of sections
@@ -36,25 +36,31 @@ items_of [] = []
 items_of (s ∷ d) = (name_items s.0 ++ pair_items s.1) ++ items_of d
 
 -- behind a document that has a section, items leave the sections before that one as they are
-with_pair-behind : (key value : Text) (d : Document) (s : Option Text × Pairs) (e : Document) → with_pair key value (d ++ s ∷ e) ≡ d ++ with_pair key value (s ∷ e)
+with_pair-behind : (key value : Text) (d : Document) (s : Option Text × Pairs) (e : Document)
+    → with_pair key value (d ++ s ∷ e) ≡ d ++ with_pair key value (s ∷ e)
 with_pair-behind key value [] s e = refl
 with_pair-behind key value (a ∷ []) s e = refl
 with_pair-behind key value (a ∷ b ∷ d) s e = ap (λ x. a ∷ x) (with_pair-behind key value (b ∷ d) s e)
 
-with_item-behind : (d : Document) (x : Document) (item : Given) → 0 < length x → with_item (d ++ x) item ≡ d ++ with_item x item
+with_item-behind : (d : Document) (x : Document) (item : Given) → 0 < length x
+    → with_item (d ++ x) item ≡ d ++ with_item x item
 with_item-behind d [] item h = absurd (omega arith)
 with_item-behind d (s ∷ e) (Header name) h = append_assoc d (s ∷ e) ((Some name, []) ∷ [])
 with_item-behind d (s ∷ e) (Pair key value) h = with_pair-behind key value d s e
 
-items-behind : (d x : Document) (items : List Given) → 0 < length x → fold with_item (d ++ x) items ≡ d ++ fold with_item x items
+items-behind : (d x : Document) (items : List Given) → 0 < length x
+    → fold with_item (d ++ x) items ≡ d ++ fold with_item x items
 items-behind d x [] h = refl
 items-behind d x (item ∷ items) h =
-    ap (λ y. fold with_item y items) (with_item-behind d x item h) ∙ items-behind d (with_item x item) items (with_item-some x item h)
+    ap (λ y. fold with_item y items) (with_item-behind d x item h) ∙ items-behind d (with_item x item) items
+    (with_item-some x item h)
 
 -- the items of pairs go to the last section
-pairs_make : (name : Option Text) (before ps : Pairs) → fold with_item ((name, before) ∷ []) (pair_items ps) ≡ (name, before ++ ps) ∷ []
+pairs_make : (name : Option Text) (before ps : Pairs)
+    → fold with_item ((name, before) ∷ []) (pair_items ps) ≡ (name, before ++ ps) ∷ []
 pairs_make name before [] = ap (λ x. (name, x) ∷ []) (sym (append-nil before))
-pairs_make name before (p ∷ ps) = pairs_make name (before ++ p ∷ []) ps ∙ ap (λ x. (name, x) ∷ []) (append_assoc before (p ∷ []) ps)
+pairs_make name before (p ∷ ps) =
+    pairs_make name (before ++ p ∷ []) ps ∙ ap (λ x. (name, x) ∷ []) (append_assoc before (p ∷ []) ps)
 
 -- each section behind the first has a name
 abbrev pub HasNames : Document → Type 0
@@ -70,12 +76,15 @@ sections_make acc [] h = sym (append-nil acc)
 sections_make acc ((None, ps) ∷ d) h = absurd h
 sections_make acc ((Some name, ps) ∷ d) h =
     let one : fold with_item acc (Header name ∷ pair_items ps) ≡ acc ++ (Some name, ps) ∷ [] =
-    items-behind acc ((Some name, []) ∷ []) (pair_items ps) (omega arith) ∙ ap (λ x. acc ++ x) (pairs_make (Some name) [] ps) in
-    fold-append with_item acc (Header name ∷ pair_items ps) (items_of d) ∙ ap (λ x. fold with_item x (items_of d)) one
+    items-behind acc ((Some name, []) ∷ []) (pair_items ps) (omega arith) ∙ ap (λ x. acc ++ x)
+    (pairs_make (Some name) [] ps) in
+    fold-append with_item acc (Header name ∷ pair_items ps) (items_of d) ∙ ap
+    (λ x. fold with_item x (items_of d)) one
     ∙ sections_make (acc ++ (Some name, ps) ∷ []) d h ∙ append_assoc acc ((Some name, ps) ∷ []) d
 
 -- the items of a document make the document
-pub items_make : (general : Pairs) (d : Document) → HasNames d → document_of (items_of ((None, general) ∷ d)) ≡ (None, general) ∷ d
+pub items_make : (general : Pairs) (d : Document) → HasNames d
+    → document_of (items_of ((None, general) ∷ d)) ≡ (None, general) ∷ d
 items_make general d h =
     fold-append with_item ((None, []) ∷ []) (pair_items general) (items_of d)
     ∙ ap (λ x. fold with_item x (items_of d)) (pairs_make None [] general)
@@ -83,13 +92,17 @@ items_make general d h =
 
 -- behind them the items of a text that begins with a header make its sections but the first
 pub more_make : (general : Pairs) (d : Document) → HasNames d → (more : List Given) → BeginsWithHeader more
-    → document_of (items_of ((None, general) ∷ d) ++ more) ≡ ((None, general) ∷ d) ++ drop 1 (document_of more)
-more_make general d h [] begins = ap document_of (append-nil (items_of ((None, general) ∷ d))) ∙ items_make general d h ∙ sym (append-nil ((None, general) ∷ d))
+    → document_of (items_of ((None, general) ∷ d) ++ more)
+    ≡ ((None, general) ∷ d) ++ drop 1 (document_of more)
+more_make general d h [] begins =
+    ap document_of (append-nil (items_of ((None, general) ∷ d))) ∙ items_make general d h ∙ sym
+    (append-nil ((None, general) ∷ d))
 more_make general d h (Pair key value ∷ more) begins = absurd begins
 more_make general d h (Header name ∷ more) begins =
     let whole = (None, general) ∷ d in
     let opened = (Some name, []) ∷ [] in
-    let alone : document_of (Header name ∷ more) ≡ (None, []) ∷ fold with_item opened more = items-behind ((None, []) ∷ []) opened more (omega arith) in
+    let alone : document_of (Header name ∷ more) ≡ (None, []) ∷ fold with_item opened more =
+    items-behind ((None, []) ∷ []) opened more (omega arith) in
     fold-append with_item ((None, []) ∷ []) (items_of whole) (Header name ∷ more)
     ∙ ap (λ x. fold with_item x (Header name ∷ more)) (items_make general d h)
     ∙ items-behind whole opened more (omega arith)
@@ -98,20 +111,29 @@ more_make general d h (Header name ∷ more) begins =
 module _ (o : ParseOption) (w : WriteOption) where
   -- the text gives the items where a line starts, before what A allows; and behind it a line starts
   abbrev pub GivesBefore : (Text → Type 0) → Text → List Given → Type 0
-  GivesBefore A x items = (b r : Text) → is_column_one b ≡ true → A r → Reads o (b ++ (x ++ r)) b items (b ++ x) × (is_column_one (b ++ x) ≡ true)
+  GivesBefore A x items =
+      (b r : Text) → is_column_one b ≡ true → A r → Reads o (b ++ (x ++ r)) b items (b ++ x) ×
+      (is_column_one (b ++ x) ≡ true)
 
   gives_none : (A : Text → Type 0) → GivesBefore A [] []
-  gives_none A b r one h = (subst (Reads o (b ++ r) b []) (sym (append-nil b)) (Reads.stay r refl), ap is_column_one (append-nil b) ∙ one)
+  gives_none A b r one h = (
+    subst (Reads o (b ++ r) b []) (sym (append-nil b)) (Reads.stay r refl),
+    ap is_column_one
+        (append-nil b) ∙ one,
+  )
 
   -- one text behind the other
-  then_gives : (A B : Text → Type 0) (x y : Text) {xs ys : List Given} → GivesBefore A x xs → GivesBefore B y ys → ((r : Text) → B r → A (y ++ r)) → GivesBefore B (x ++ y) (xs ++ ys)
+  then_gives : (A B : Text → Type 0) (x y : Text) {xs ys : List Given} → GivesBefore A x xs
+      → GivesBefore B y ys → ((r : Text) → B r → A (y ++ r)) → GivesBefore B (x ++ y) (xs ++ ys)
   then_gives A B x y {xs} {ys} f g ahead b r one h =
       let first = f b (y ++ r) one (ahead r h) in
       let second = g (b ++ x) r first.1 h in
       let T = b ++ ((x ++ y) ++ r) in
-      let front : Reads o T b xs (b ++ x) = subst (λ t. Reads o t b xs (b ++ x)) (ap (λ t. b ++ t) (sym (append_assoc x y r))) first.0 in
+      let front : Reads o T b xs (b ++ x) =
+      subst (λ t. Reads o t b xs (b ++ x)) (ap (λ t. b ++ t) (sym (append_assoc x y r))) first.0 in
       let rest : Reads o T (b ++ x) ys (b ++ (x ++ y)) =
-      subst (λ t. Reads o t (b ++ x) ys (b ++ (x ++ y))) (append_assoc b x (y ++ r) ∙ ap (λ t. b ++ t) (sym (append_assoc x y r)))
+      subst (λ t. Reads o t (b ++ x) ys (b ++ (x ++ y)))
+      (append_assoc b x (y ++ r) ∙ ap (λ t. b ++ t) (sym (append_assoc x y r)))
       (subst (Reads o ((b ++ x) ++ (y ++ r)) (b ++ x) ys) (append_assoc b x y) second.0) in
       (Reads-append front rest, ap is_column_one (sym (append_assoc b x y)) ∙ second.1)
 
@@ -127,16 +149,23 @@ module _ (o : ParseOption) (w : WriteOption) where
 
   follows_end : (r : Text) → IsEmptyOrHeader r → Follows r
   follows_end [] h = FollowsPair.nothing
-  follows_end (c ∷ r) h = subst (λ x. Follows (x ∷ r)) (sym (eqb-true c open_bracket (not-false (eqb c open_bracket) h))) FollowsPair.header
+  follows_end (c ∷ r) h =
+      subst (λ x. Follows (x ∷ r))
+      (sym (eqb-true c open_bracket (not-false (eqb c open_bracket) h))) FollowsPair.header
 
-  name_gives : (twice : Bool) (name : Text) → all_scalars name ≡ true → IsPlainName o w.escape_policy name → GivesBefore Any (written_name w (Some name) ++ gap twice) (Header name ∷ [])
+  name_gives : (twice : Bool) (name : Text) → all_scalars name ≡ true → IsPlainName o w.escape_policy name
+      → GivesBefore Any (written_name w (Some name) ++ gap twice) (Header name ∷ [])
   name_gives twice name valid plain b r one h =
       let line : header_line w name twice ≡ written_name w (Some name) ++ gap twice =
-      ap (λ x. open_bracket ∷ x) (sym (append_assoc (escaped w.escape_policy name) (close_bracket ∷ line_end w.line_separator) (gap twice))) in
-      let x = subst (λ l. GivesJust o b l r (Header name)) line (text_laws.header_line o w twice b name r valid plain) in
+      ap (λ x. open_bracket ∷ x)
+      (sym (append_assoc (escaped w.escape_policy name) (close_bracket ∷ line_end w.line_separator)
+      (gap twice))) in
+      let x = subst (λ l. GivesJust o b l r (Header name)) line
+      (text_laws.header_line o w twice b name r valid plain) in
       (x.reads, x.column_one)
 
-  pair_gives : (twice : Bool) (p : Text × Text) → (all_scalars p.0 ≡ true) × (all_scalars p.1 ≡ true) → IsPlainSeparator (chars w.kv_separator.now) → IsPlainPair o w.escape_policy p.0 p.1
+  pair_gives : (twice : Bool) (p : Text × Text) → (all_scalars p.0 ≡ true) × (all_scalars p.1 ≡ true)
+      → IsPlainSeparator (chars w.kv_separator.now) → IsPlainPair o w.escape_policy p.0 p.1
       → GivesBefore Follows (written_pair w p ++ gap twice) (Pair p.0 p.1 ∷ [])
   pair_gives twice p valid sep plain b r one h =
       let line : pair_line w p.0 p.1 twice ≡ written_pair w p ++ gap twice = simp append_assoc in
@@ -152,44 +181,59 @@ module _ (o : ParseOption) (w : WriteOption) where
   AllPlain ps = Each (λ p. IsPlainPair o w.escape_policy p.0 p.1) ps
 
   module _ (sep : IsPlainSeparator (chars w.kv_separator.now)) where
-    pairs_follow : (p : Text × Text) (x r : Text) → IsPlainKey o w.escape_policy p.0 → Follows ((written_pair w p ++ x) ++ r)
+    pairs_follow : (p : Text × Text) (x r : Text) → IsPlainKey o w.escape_policy p.0
+        → Follows ((written_pair w p ++ x) ++ r)
     pairs_follow p x r key =
-        let more = chars w.kv_separator.now ++ (escaped w.escape_policy p.1 ++ (line_end w.line_separator ++ (x ++ r))) in
+        let more = chars w.kv_separator.now ++
+        (escaped w.escape_policy p.1 ++ (line_end w.line_separator ++ (x ++ r))) in
         let same : escaped w.escape_policy p.0 ++ more ≡ (written_pair w p ++ x) ++ r = simp append_assoc in
         subst Follows same (FollowsPair.pair more key)
 
     first_key : (q : Text × Text) (ps : Pairs) → AllPlain (q ∷ ps) → IsPlainKey o w.escape_policy q.0
     first_key q ps (Each.more k plain) = k.plain_key
 
-    pairs_give : (twice : Bool) (p : Text × Text) (ps : Pairs) → AllOfCharacters (p ∷ ps) → AllPlain (p ∷ ps) → GivesBefore Follows (written_pairs w (p ∷ ps) ++ gap twice) (pair_items (p ∷ ps))
+    pairs_give : (twice : Bool) (p : Text × Text) (ps : Pairs) → AllOfCharacters (p ∷ ps) → AllPlain (p ∷ ps)
+        → GivesBefore Follows (written_pairs w (p ∷ ps) ++ gap twice) (pair_items (p ∷ ps))
     pairs_give twice p [] (Each.more v valid) (Each.more k plain) =
-        subst (λ x. GivesBefore Follows x (Pair p.0 p.1 ∷ [])) (ap (λ x. x ++ gap twice) (sym (append-nil (written_pair w p)))) (pair_gives twice p v sep k)
+        subst (λ x. GivesBefore Follows x (Pair p.0 p.1 ∷ []))
+        (ap (λ x. x ++ gap twice) (sym (append-nil (written_pair w p)))) (pair_gives twice p v sep k)
     pairs_give twice p (q ∷ ps) (Each.more v valid) (Each.more k plain) =
         let rest = pairs_give twice q ps valid plain in
         let more = written_pairs w (q ∷ ps) ++ gap twice in
         let same : (written_pair w p ++ []) ++ more ≡ written_pairs w (p ∷ (q ∷ ps)) ++ gap twice =
-        ap (λ x. x ++ more) (append-nil (written_pair w p)) ∙ sym (append_assoc (written_pair w p) (written_pairs w (q ∷ ps)) (gap twice)) in
+        ap (λ x. x ++ more) (append-nil (written_pair w p)) ∙ sym
+        (append_assoc (written_pair w p) (written_pairs w (q ∷ ps)) (gap twice)) in
         let key = first_key q ps plain in
         subst (λ x. GivesBefore Follows x (pair_items (p ∷ (q ∷ ps)))) same
         (then_gives Follows Follows (written_pair w p ++ []) more (pair_gives false p v sep k) rest
-        (λ r h. subst (λ x. Follows (x ++ r)) (sym (append_assoc (written_pair w q) (written_pairs w ps) (gap twice))) (pairs_follow q (written_pairs w ps ++ gap twice) r key)))
+        (λ r h. subst (λ x. Follows (x ++ r))
+        (sym (append_assoc (written_pair w q) (written_pairs w ps) (gap twice)))
+        (pairs_follow q (written_pairs w ps ++ gap twice) r key)))
 
     -- sections
-    section_gives : (twice : Bool) (name : Text) (ps : Pairs) → all_scalars name ≡ true → IsPlainName o w.escape_policy name → AllOfCharacters ps → AllPlain ps
-        → GivesBefore Follows ((written_name w (Some name) ++ written_pairs w ps) ++ gap twice) (Header name ∷ pair_items ps)
+    section_gives : (twice : Bool) (name : Text) (ps : Pairs) → all_scalars name ≡ true
+        → IsPlainName o w.escape_policy name → AllOfCharacters ps → AllPlain ps
+        → GivesBefore Follows ((written_name w (Some name) ++ written_pairs w ps) ++ gap twice)
+        (Header name ∷ pair_items ps)
     section_gives twice name [] valid_name plain_name valid plain =
         let alone : GivesBefore Any ((written_name w (Some name) ++ []) ++ gap twice) (Header name ∷ []) =
-        subst (λ x. GivesBefore Any x (Header name ∷ [])) (ap (λ x. x ++ gap twice) (sym (append-nil (written_name w (Some name))))) (name_gives twice name valid_name plain_name) in
+        subst (λ x. GivesBefore Any x (Header name ∷ []))
+        (ap (λ x. x ++ gap twice) (sym (append-nil (written_name w (Some name)))))
+        (name_gives twice name valid_name plain_name) in
         λ b r one h. alone b r one tt
     section_gives twice name (p ∷ ps) valid_name plain_name valid plain =
         let title = written_name w (Some name) in
         let more = written_pairs w (p ∷ ps) ++ gap twice in
         let same : (title ++ []) ++ more ≡ (title ++ written_pairs w (p ∷ ps)) ++ gap twice =
-        ap (λ x. x ++ more) (append-nil title) ∙ sym (append_assoc title (written_pairs w (p ∷ ps)) (gap twice)) in
+        ap (λ x. x ++ more) (append-nil title) ∙ sym
+        (append_assoc title (written_pairs w (p ∷ ps)) (gap twice)) in
         subst (λ x. GivesBefore Follows x (Header name ∷ pair_items (p ∷ ps))) same
-        (then_gives Any Follows (title ++ []) more (name_gives false name valid_name plain_name) (pairs_give twice p ps valid plain) (λ r h. tt))
+        (then_gives Any Follows (title ++ []) more (name_gives false name valid_name plain_name)
+        (pairs_give twice p ps valid plain) (λ r h. tt))
 
-    pub general_gives : (twice : Bool) (ps : Pairs) → (twice ≡ true → has_pairs ps ≡ true) → AllOfCharacters ps → AllPlain ps → GivesBefore Follows (written_pairs w ps ++ gap twice) (pair_items ps)
+    pub general_gives : (twice : Bool) (ps : Pairs) → (twice ≡ true → has_pairs ps ≡ true)
+        → AllOfCharacters ps → AllPlain ps
+        → GivesBefore Follows (written_pairs w ps ++ gap twice) (pair_items ps)
     general_gives true [] only valid plain = absurd (false≢true (only refl))
     general_gives false [] only valid plain = gives_none Follows
     general_gives twice (p ∷ ps) only valid plain = pairs_give twice p ps valid plain
@@ -202,20 +246,28 @@ module _ (o : ParseOption) (w : WriteOption) where
       pub plain : AllPlain s.1
 
     -- a section's text, to which the sections behind it may add a line end
-    pub sections_give : (earlier : Bool) (body : Text) (xs : List Given) (d : Document) → ((twice : Bool) → (twice ≡ true → earlier ≡ true) → GivesBefore Follows (body ++ gap twice) xs)
-        → Each IsGood d → GivesBefore IsEmptyOrHeader (body ++ written_sections w earlier d) (xs ++ items_of d)
+    pub sections_give : (earlier : Bool) (body : Text) (xs : List Given) (d : Document)
+        → ((twice : Bool) → (twice ≡ true → earlier ≡ true) → GivesBefore Follows (body ++ gap twice) xs)
+        → Each IsGood d
+        → GivesBefore IsEmptyOrHeader (body ++ written_sections w earlier d) (xs ++ items_of d)
     sections_give earlier body xs [] f good =
         let own = f false (λ q. absurd (false≢true q)) in
         λ b r one h.
-        let x = own b r one (follows_end r h) in
-        (subst (λ l. Reads o (b ++ ((body ++ []) ++ r)) b l (b ++ (body ++ []))) (sym (append-nil xs)) x.0, x.1)
+        let x = own b r one (follows_end r h) in (
+          subst (λ l. Reads o (b ++ ((body ++ []) ++ r)) b l (b ++ (body ++ [])))
+              (sym (append-nil xs)) x.0,
+          x.1,
+        )
     sections_give earlier body xs ((None, ps) ∷ d) f (Each.more g good) = absurd g.name
     sections_give earlier body xs ((Some name, ps) ∷ d) f (Each.more g good) =
         let twice = earlier && has_pairs ps in
         let title = written_name w (Some name) in
         let own = title ++ written_pairs w ps in
-        let rest = sections_give (earlier || has_pairs ps) own (Header name ∷ pair_items ps) d (λ twice _. section_gives twice name ps g.name_characters g.name g.characters g.plain) good in
+        let rest = sections_give (earlier || has_pairs ps) own (Header name ∷ pair_items ps) d
+        (λ twice _. section_gives twice name ps g.name_characters g.name g.characters g.plain) good in
         let behind = written_sections w (earlier || has_pairs ps) d in
-        let same : (body ++ gap twice) ++ (own ++ behind) ≡ body ++ (((gap twice ++ title) ++ written_pairs w ps) ++ behind) = simp append_assoc in
+        let same : (body ++ gap twice) ++ (own ++ behind) ≡ body ++
+        (((gap twice ++ title) ++ written_pairs w ps) ++ behind) = simp append_assoc in
         subst (λ x. GivesBefore IsEmptyOrHeader x (xs ++ items_of ((Some name, ps) ∷ d))) same
-        (then_gives Follows IsEmptyOrHeader (body ++ gap twice) (own ++ behind) (f twice (λ q. (and_parts earlier (has_pairs ps) q).0)) rest (λ r h. FollowsPair.header))
+        (then_gives Follows IsEmptyOrHeader (body ++ gap twice) (own ++ behind)
+        (f twice (λ q. (and_parts earlier (has_pairs ps) q).0)) rest (λ r h. FollowsPair.header))

@@ -1,4 +1,5 @@
--- The laws of documents: what is written for a plain one, with a text behind it, and one text for two plain ones.
+-- The laws of documents: what is written for a plain one, with a text behind it, and one text for two plain
+-- ones.
 use Rattle.std.proofs.Common.{◌≡◌, ◌∙◌, zero, suc, ◌+◌, true, List, [], ◌∷◌, ◌++◌, drop, All, ap, sym, subst, refl, Option, None, Some, IfSome, append-nil, count_by, inl, inr, arith}
 use Rattle.std.specs.Str.{all_scalars}
 use Rattle.ini_text.specs.Characters.{is_line_feed}
@@ -17,16 +18,19 @@ use Rattle.ini.specs.Documents.{Document, document_of}
 use Rattle.ini.specs.Outcomes.{Inverts, loaded, refused}
 use Rattle.ini.specs.Plain.{IsOfCharacters, IsPlain}
 use Rattle.ini.specs.Written.{has_pairs, written, written_pairs}
-use Rattle.ini.proofs.Each.{Each, each_of}
-use Rattle.ini.proofs.PlainTexts.{GivesBefore, HasNames, IsGood, general_gives, items_make, items_of, more_make, pair_items, sections_give}
+use Rattle.ini.proofs.EachLemmas.{Each, each_of}
+use Rattle.ini.proofs.PlainTextLemmas.{GivesBefore, HasNames, IsGood, general_gives, items_make, items_of, more_make, pair_items, sections_give}
 
-module _ (o : ParseOption) (w : WriteOption) {d : Document} (plain : IsPlain d w o) (valid : IsOfCharacters d) where
+module _ (o : ParseOption) (w : WriteOption) {d : Document} (plain : IsPlain d w o)
+    (valid : IsOfCharacters d) where
   abbrev whole : Document
   whole = (None, plain.general) ∷ plain.named
 
   -- the general section and the others
   abbrev OfCharacters : Option Text × Pairs → Type 0
-  OfCharacters s = IfSome s.0 (λ name. all_scalars name ≡ true) × All (λ p. (all_scalars p.0 ≡ true) × (all_scalars p.1 ≡ true)) s.1
+  OfCharacters s =
+      IfSome s.0 (λ name. all_scalars name ≡ true) × All
+      (λ p. (all_scalars p.0 ≡ true) × (all_scalars p.1 ≡ true)) s.1
 
   abbrev PlainPairs : Option Text × Pairs → Type 0
   PlainPairs s = All (λ p. IsPlainPair o w.escape_policy p.0 p.1) s.1
@@ -58,13 +62,16 @@ module _ (o : ParseOption) (w : WriteOption) {d : Document} (plain : IsPlain d w
 
   written_gives : GivesBefore o w IsEmptyOrHeader (written whole w) (items_of whole)
   written_gives =
-      sections_give o w plain.separator (has_pairs plain.general) (written_pairs w plain.general) (pair_items plain.general) plain.named
+      sections_give o w plain.separator (has_pairs plain.general) (written_pairs w plain.general)
+      (pair_items plain.general) plain.named
       (λ twice only. general_gives o w plain.separator twice plain.general only
-      (each_of _ plain.general (characters zero (None, plain.general) (omega arith)).1) (each_of _ plain.general (pairs zero (None, plain.general) (omega arith)))) named_good
+      (each_of _ plain.general (characters zero (None, plain.general) (omega arith)).1)
+      (each_of _ plain.general (pairs zero (None, plain.general) (omega arith)))) named_good
 
   -- behind the document's text
   module _ (Y : Text) (begins : IsEmptyOrHeader Y) where
-    own : Reads o (written whole w ++ Y) [] (items_of whole) (written whole w) × (is_column_one (written whole w) ≡ true)
+    own : Reads o (written whole w ++ Y) [] (items_of whole) (written whole w)
+        × (is_column_one (written whole w) ≡ true)
     own = written_gives [] Y refl begins
 
     is_moved : IsMoved o (written whole w) Y (items_of whole)
@@ -74,12 +81,15 @@ module _ (o : ParseOption) (w : WriteOption) {d : Document} (plain : IsPlain d w
     inverts_whole (loaded e) h = record {
       items = items_of whole ++ h.items;
       derives = is_moved.derives h.derives;
-      document = ap (λ x. whole ++ drop 1 x) h.document ∙ sym (more_make plain.general plain.named names h.items (text_laws.header_first o Y h.items begins h.derives));
+      document = ap (λ x. whole ++ drop 1 x) h.document ∙ sym
+          (more_make plain.general plain.named names h.items
+          (text_laws.header_first o Y h.items begins h.derives));
     }
     inverts_whole (refused kind line column) h = record {
       front = written whole w ++ h.front;
       stops = is_moved.stops h.stops;
-      line_is = ap (λ n. n + count_by is_line_feed (written whole w)) h.line_is ∙ sym (is_moved.line h.front);
+      line_is = ap (λ n. n + count_by is_line_feed (written whole w)) h.line_is ∙ sym
+          (is_moved.line h.front);
       column_is = h.column_is ∙ sym (is_moved.column h.front);
     }
 
@@ -87,20 +97,31 @@ module _ (o : ParseOption) (w : WriteOption) {d : Document} (plain : IsPlain d w
   inverts Y begins = subst (λ e. Inverts o w e Y) (sym plain.sections) (inverts_whole Y begins)
 
   -- the document's text alone
-  pub is_its_texts : (T : Text) → written d w ≡ T → (items : List Given) × Derives o T items × (document_of items ≡ d)
+  pub is_its_texts : (T : Text) → written d w ≡ T
+      → (items : List Given) × Derives o T items × (document_of items ≡ d)
   is_its_texts T same =
-      let text : written whole w ++ [] ≡ T = append-nil (written whole w) ∙ ap (λ e. written e w) (sym plain.sections) ∙ same in
+      let text : written whole w ++ [] ≡ T =
+      append-nil (written whole w) ∙ ap (λ e. written e w) (sym plain.sections) ∙ same in
       let at : Reads o (written whole w ++ []) [] (items_of whole) (written whole w ++ []) =
-      subst (Reads o (written whole w ++ []) [] (items_of whole)) (sym (append-nil (written whole w))) (own [] tt).0 in
-      (items_of whole, subst (λ t. Reads o t [] (items_of whole) t) text at, items_make plain.general plain.named names ∙ sym plain.sections)
+      subst (Reads o (written whole w ++ []) [] (items_of whole)) (sym (append-nil (written whole w)))
+      (own [] tt).0 in (
+        items_of whole,
+        subst
+            (λ t. Reads o t [] (items_of whole) t) text at,
+        items_make plain.general plain.named names
+            ∙ sym plain.sections,
+      )
 
 -- one text derives one list of items
-one_list : (o : ParseOption) (T : Text) (xs ys : List Given) → HasOneOutcome o T → Derives o T xs → Derives o T ys → xs ≡ ys
+one_list : (o : ParseOption) (T : Text) (xs ys : List Given) → HasOneOutcome o T → Derives o T xs
+    → Derives o T ys → xs ≡ ys
 one_list o T xs ys (inl (items, just)) dx dy = just.alone xs dx ∙ sym (just.alone ys dy)
 one_list o T xs ys (inr (kind, front, just)) dx dy = absurd (just.derives_nothing xs dx)
 
-pub same_text : (o : ParseOption) (w : WriteOption) (d e : Document) → IsPlain d w o → IsPlain e w o → IsOfCharacters d → IsOfCharacters e → written d w ≡ written e w → d ≡ e
+pub same_text : (o : ParseOption) (w : WriteOption) (d e : Document) → IsPlain d w o → IsPlain e w o
+    → IsOfCharacters d → IsOfCharacters e → written d w ≡ written e w → d ≡ e
 same_text o w d e plain_d plain_e valid_d valid_e same =
     let x = is_its_texts o w plain_d valid_d (written e w) same in
     let y = is_its_texts o w plain_e valid_e (written e w) refl in
-    sym x.2 ∙ ap document_of (one_list o (written e w) x.0 y.0 (text_laws.one_outcome o (written e w)) x.1 y.1) ∙ y.2
+    sym x.2 ∙ ap document_of
+    (one_list o (written e w) x.0 y.0 (text_laws.one_outcome o (written e w)) x.1 y.1) ∙ y.2
