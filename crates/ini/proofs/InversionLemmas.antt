@@ -1,7 +1,6 @@
 -- The laws of documents: what is written for a plain one, with a text behind it, and one text for two plain
 -- ones.
-use Rattle.std.proofs.Common.{◌≡◌, ◌∙◌, zero, suc, ◌+◌, true, List, [], ◌∷◌, ◌++◌, drop, All, ap, sym, subst, refl, Option, None, Some, IfSome, append-nil, count_by, inl, inr, arith}
-use Rattle.std.specs.Str.{all_scalars}
+use Rattle.std.proofs.Common.{◌≡◌, ◌∙◌, zero, suc, ◌+◌, true, List, [], ◌∷◌, ◌++◌, drop, All, ap, sym, subst, refl, Option, None, Some, append-nil, count_by, inl, inr, arith}
 use Rattle.ini_text.specs.Characters.{is_line_feed}
 use Rattle.ini_text.specs.Elements.{Given}
 use Rattle.ini_text.specs.Laws.{HasOneOutcome}
@@ -16,38 +15,26 @@ use Rattle.ini.specs.Texts.{Text}
 use Rattle.ini.specs.Properties.{Pairs}
 use Rattle.ini.specs.Documents.{Document, document_of}
 use Rattle.ini.specs.Outcomes.{Inverts, loaded, refused}
-use Rattle.ini.specs.Plain.{IsOfCharacters, IsPlain}
+use Rattle.ini.specs.Plain.{IsPlain}
 use Rattle.ini.specs.Written.{has_pairs, written, written_pairs}
 use Rattle.ini.proofs.EachLemmas.{Each, each_of}
 use Rattle.ini.proofs.PlainTextLemmas.{GivesBefore, HasNames, IsGood, general_gives, items_make, items_of, more_make, pair_items, sections_give}
 
-module _ (o : ParseOption) (w : WriteOption) {d : Document} (plain : IsPlain d w o)
-    (valid : IsOfCharacters d) where
+module _ (o : ParseOption) (w : WriteOption) {d : Document} (plain : IsPlain d w o) where
   abbrev whole : Document
   whole = (None, plain.general) ∷ plain.named
 
   -- the general section and the others
-  abbrev OfCharacters : Option Text × Pairs → Type 0
-  OfCharacters s =
-      IfSome s.0 (λ name. all_scalars name ≡ true) × All
-      (λ p. (all_scalars p.0 ≡ true) × (all_scalars p.1 ≡ true)) s.1
-
   abbrev PlainPairs : Option Text × Pairs → Type 0
   PlainPairs s = All (λ p. IsPlainPair o w.escape_policy p.0 p.1) s.1
-
-  characters : All OfCharacters whole
-  characters = subst (λ x. All OfCharacters x) plain.sections valid
 
   pairs : All PlainPairs whole
   pairs = subst (λ x. All PlainPairs x) plain.sections plain.pairs
 
   named_good : Each (IsGood o w plain.separator) plain.named
-  named_good = each_of (IsGood o w plain.separator) plain.named (λ k s l. record {
-    name = plain.names k s l;
-    name_characters = (characters (suc k) s (omega arith)).0;
-    characters = each_of _ _ (characters (suc k) s (omega arith)).1;
-    plain = each_of _ _ (pairs (suc k) s (omega arith));
-  })
+  named_good =
+      each_of (IsGood o w plain.separator) plain.named
+      (λ k s l. record { name = plain.names k s l; pairs = each_of _ _ (pairs (suc k) s (omega arith)) })
 
   has_names : (n : Document) → Each (IsGood o w plain.separator) n → HasNames n
   has_names [] good = tt
@@ -57,15 +44,11 @@ module _ (o : ParseOption) (w : WriteOption) {d : Document} (plain : IsPlain d w
   names : HasNames plain.named
   names = has_names plain.named named_good
 
-  first : Option Text × Pairs
-  first = (None, plain.general)
-
   written_gives : GivesBefore o w IsEmptyOrHeader (written whole w) (items_of whole)
   written_gives =
       sections_give o w plain.separator (has_pairs plain.general) (written_pairs w plain.general)
       (pair_items plain.general) plain.named
       (λ twice only. general_gives o w plain.separator twice plain.general only
-      (each_of _ plain.general (characters zero (None, plain.general) (omega arith)).1)
       (each_of _ plain.general (pairs zero (None, plain.general) (omega arith)))) named_good
 
   -- behind the document's text
@@ -119,9 +102,9 @@ one_list o T xs ys (inl (items, just)) dx dy = just.alone xs dx ∙ sym (just.al
 one_list o T xs ys (inr (kind, front, just)) dx dy = absurd (just.derives_nothing xs dx)
 
 pub same_text : (o : ParseOption) (w : WriteOption) (d e : Document) → IsPlain d w o → IsPlain e w o
-    → IsOfCharacters d → IsOfCharacters e → written d w ≡ written e w → d ≡ e
-same_text o w d e plain_d plain_e valid_d valid_e same =
-    let x = is_its_texts o w plain_d valid_d (written e w) same in
-    let y = is_its_texts o w plain_e valid_e (written e w) refl in
-    sym x.2 ∙ ap document_of
-    (one_list o (written e w) x.0 y.0 (text_laws.one_outcome o (written e w)) x.1 y.1) ∙ y.2
+    → written d w ≡ written e w → d ≡ e
+same_text o w d e plain_d plain_e same =
+    let x = is_its_texts o w plain_d (written e w) same in
+    let y = is_its_texts o w plain_e (written e w) refl in
+    let one = text_laws.one_outcome o (written e w) in
+    sym x.2 ∙ ap document_of (one_list o (written e w) x.0 y.0 one x.1 y.1) ∙ y.2

@@ -9,7 +9,6 @@ pub mod SectionLemmas
 pub mod TextLemmas
 pub mod Writing
 pub mod EachLemmas
-pub mod OfCharacters
 pub mod PlainTextLemmas
 pub mod InversionLemmas
 pub mod PlainSamples

@@ -1,9 +1,11 @@
 -- A document that is plain, and documents that aren't.
-use Rattle.std.proofs.Common.{◌≡◌, [], ◌∷◌, refl, sym, subst, zero, suc, inl, None, Some, IsSomeAnd, arith, All}
+use Rattle.std.proofs.Common.{◌≡◌, true, not, ◌&&◌, [], ◌∷◌, refl, sym, subst, zero, suc, inl, None, Some, IsSomeAnd, arith, All}
 use Rattle.std.specs.Prelude.{codes}
-use Rattle.std.specs.Str.{chars}
+use Rattle.std.specs.List.{list_all}
+use Rattle.std.specs.Str.{all_scalars, chars}
 use Rattle.ini_text.specs.Options.{default_parse_option}
-use Rattle.ini_text.specs.Plain.{HasReadEscapes, IsBareKey, IsPlainKey, IsPlainName, IsPlainPair, IsPlainSeparator}
+use Rattle.ini_text.specs.Plain.{IsBareKey, IsPlainKey, IsPlainName, IsPlainPair, IsPlainSeparator, IsReadBack, has_unread_letter}
+use Rattle.ini_text.specs.Policies.{is_escaped, is_extended}
 use Rattle.ini_text.specs.WriteOptions.{IsDefaultWriteOption}
 use Rattle.ini_text.specs.declared.option.ParseOption.{ParseOption}
 use Rattle.ini_text.specs.declared.policy.EscapePolicy.TheVariants.{Basics}
@@ -16,24 +18,31 @@ use Rattle.ini.specs.Texts.{Text}
 abbrev sample : Document
 sample = (None, (codes "k", []) ∷ []) ∷ (Some (codes "b"), (codes "j", codes "x\ny") ∷ []) ∷ []
 
-abbrev Reads : Text → Type 0
-Reads t = HasReadEscapes default_parse_option Basics t
-
 -- texts whose escapes are read
-reads_nothing : Reads []
-reads_nothing = record { escapes = refl; escaping = λ e. cc; no_unread_letter = refl; no_extended = refl }
+abbrev IsRead : Text → Type 0
+IsRead t = IsReadBack default_parse_option Basics t
 
-reads_lines : Reads (codes "x\ny")
-reads_lines = record { escapes = refl; escaping = λ e. cc; no_unread_letter = refl; no_extended = refl }
+by_escapes : (t : Text) → all_scalars t ≡ true → list_all (λ c. not (has_unread_letter c)) t ≡ true
+    → list_all (λ c. not (is_extended c && is_escaped Basics c)) t ≡ true → IsRead t
+by_escapes t characters letters low = record {
+  of_characters = characters;
+  is_read = inl (record { escapes = refl; escaping = λ e. cc; no_unread_letter = letters; no_extended = low });
+}
 
-reads_b : Reads (codes "b")
-reads_b = record { escapes = refl; escaping = λ e. cc; no_unread_letter = refl; no_extended = refl }
+reads_nothing : IsRead []
+reads_nothing = by_escapes [] refl refl refl
 
-reads_j : Reads (codes "j")
-reads_j = record { escapes = refl; escaping = λ e. cc; no_unread_letter = refl; no_extended = refl }
+reads_lines : IsRead (codes "x\ny")
+reads_lines = by_escapes (codes "x\ny") refl refl refl
 
-reads_k : Reads (codes "k")
-reads_k = record { escapes = refl; escaping = λ e. cc; no_unread_letter = refl; no_extended = refl }
+reads_b : IsRead (codes "b")
+reads_b = by_escapes (codes "b") refl refl refl
+
+reads_j : IsRead (codes "j")
+reads_j = by_escapes (codes "j") refl refl refl
+
+reads_k : IsRead (codes "k")
+reads_k = by_escapes (codes "k") refl refl refl
 
 bare_j : IsBareKey default_parse_option Basics (codes "j")
 bare_j = record {
@@ -56,19 +65,19 @@ bare_k = record {
 first : IsPlainPair default_parse_option Basics (codes "k") []
 first = record {
   plain_key = IsPlainKey.bare bare_k;
-  key_read_back = inl reads_k;
-  plain_value = record { is_trimmed = refl; no_mark = λ on. tt; read_back = inl reads_nothing };
+  key_read_back = reads_k;
+  plain_value = record { is_trimmed = refl; no_mark = λ on. tt; read_back = reads_nothing };
 }
 
 second : IsPlainPair default_parse_option Basics (codes "j") (codes "x\ny")
 second = record {
   plain_key = IsPlainKey.bare bare_j;
-  key_read_back = inl reads_j;
-  plain_value = record { is_trimmed = refl; no_mark = λ on. refl; read_back = inl reads_lines };
+  key_read_back = reads_j;
+  plain_value = record { is_trimmed = refl; no_mark = λ on. refl; read_back = reads_lines };
 }
 
 name : IsPlainName default_parse_option Basics (codes "b")
-name = record { is_trimmed = refl; no_bracket = refl; read_back = inl reads_b }
+name = record { is_trimmed = refl; no_bracket = refl; read_back = reads_b }
 
 module _ {X : Type 0} (P : X → Type 0) where
   all_of_one : (x : X) → P x → All P (x ∷ [])

@@ -1,14 +1,13 @@
 -- The text of a plain document gives its items, and they make the document.
-use Rattle.std.proofs.Common.{◌≡◌, ◌∙◌, ◌<◌, Bool, true, false, ◌&&◌, ◌||◌, cond, eqb, List, [], ◌∷◌, ◌++◌, length, drop, fold, ap, sym, subst, refl, Option, None, Some, IfSome, IsSomeAnd, arith, append_assoc, append-nil, length-append, chars, eqb-true}
+use Rattle.std.proofs.Common.{◌≡◌, ◌∙◌, ◌<◌, Bool, true, false, ◌&&◌, ◌||◌, cond, eqb, List, [], ◌∷◌, ◌++◌, length, drop, fold, ap, sym, subst, refl, Option, None, Some, IsSomeAnd, arith, append_assoc, append-nil, length-append, chars, eqb-true}
 use Rattle.std.proofs.lemmas.Bool.{not-false, and_parts, false≢true}
 use Rattle.std.proofs.lemmas.Grind.{fold-append}
 use Rattle.std.specs.Prelude.{⊤}
-use Rattle.std.specs.Str.{all_scalars}
-use Rattle.ini_text.specs.Characters.{open_bracket, close_bracket}
+use Rattle.ini_text.specs.Characters.{open_bracket}
 use Rattle.ini_text.specs.Elements.{Given, Header, Pair}
 use Rattle.ini_text.specs.Escapes.{escaped}
 use Rattle.ini_text.specs.Plain.{IsPlainKey, IsPlainName, IsPlainPair, IsPlainSeparator}
-use Rattle.ini_text.specs.PlainLaws.{BeginsWithHeader, FollowsPair, GivesJust, IsEmptyOrHeader, header_line, pair_line}
+use Rattle.ini_text.specs.PlainLaws.{BeginsWithHeader, FollowsPair, IsEmptyOrHeader, header_source, line_ends, pair_source}
 use Rattle.ini_text.specs.Positions.{is_column_one}
 use Rattle.ini_text.specs.Texts.{Reads}
 use Rattle.ini_text.specs.WriteOptions.{line_end}
@@ -109,17 +108,16 @@ more_make general d h (Header name ∷ more) begins =
     ∙ ap (λ x. whole ++ drop 1 x) (sym alone)
 
 module _ (o : ParseOption) (w : WriteOption) where
-  -- the text gives the items where a line starts, before what A allows; and behind it a line starts
+  -- the text gives the items in column one, before what A allows; and behind it column one begins
   abbrev pub GivesBefore : (Text → Type 0) → Text → List Given → Type 0
   GivesBefore A x items =
-      (b r : Text) → is_column_one b ≡ true → A r → Reads o (b ++ (x ++ r)) b items (b ++ x) ×
-      (is_column_one (b ++ x) ≡ true)
+      (b r : Text) → is_column_one b ≡ true → A r
+      → Reads o (b ++ (x ++ r)) b items (b ++ x) × (is_column_one (b ++ x) ≡ true)
 
   gives_none : (A : Text → Type 0) → GivesBefore A [] []
   gives_none A b r one h = (
     subst (Reads o (b ++ r) b []) (sym (append-nil b)) (Reads.stay r refl),
-    ap is_column_one
-        (append-nil b) ∙ one,
+    ap is_column_one (append-nil b) ∙ one,
   )
 
   -- one text behind the other
@@ -153,30 +151,24 @@ module _ (o : ParseOption) (w : WriteOption) where
       subst (λ x. Follows (x ∷ r))
       (sym (eqb-true c open_bracket (not-false (eqb c open_bracket) h))) FollowsPair.header
 
-  name_gives : (twice : Bool) (name : Text) → all_scalars name ≡ true → IsPlainName o w.escape_policy name
+  name_gives : (twice : Bool) (name : Text) → IsPlainName o w.escape_policy name
       → GivesBefore Any (written_name w (Some name) ++ gap twice) (Header name ∷ [])
-  name_gives twice name valid plain b r one h =
-      let line : header_line w name twice ≡ written_name w (Some name) ++ gap twice =
-      ap (λ x. open_bracket ∷ x)
-      (sym (append_assoc (escaped w.escape_policy name) (close_bracket ∷ line_end w.line_separator)
-      (gap twice))) in
-      let x = subst (λ l. GivesJust o b l r (Header name)) line
-      (text_laws.header_line o w twice b name r valid plain) in
-      (x.reads, x.column_one)
+  name_gives twice name plain b r one h =
+      let line : header_source w name ++ line_ends w twice ≡ written_name w (Some name) ++ gap twice =
+      simp append_assoc in
+      subst (λ l. text_laws.GivesLine o b l r (Header name)) line
+      (text_laws.element_then_gaps-gives (text_laws.header_line o w twice b name r plain))
 
-  pair_gives : (twice : Bool) (p : Text × Text) → (all_scalars p.0 ≡ true) × (all_scalars p.1 ≡ true)
-      → IsPlainSeparator (chars w.kv_separator.now) → IsPlainPair o w.escape_policy p.0 p.1
+  pair_gives : (twice : Bool) (p : Text × Text) → IsPlainSeparator (chars w.kv_separator.now)
+      → IsPlainPair o w.escape_policy p.0 p.1
       → GivesBefore Follows (written_pair w p ++ gap twice) (Pair p.0 p.1 ∷ [])
-  pair_gives twice p valid sep plain b r one h =
-      let line : pair_line w p.0 p.1 twice ≡ written_pair w p ++ gap twice = simp append_assoc in
-      let x = subst (λ l. GivesJust o b l r (Pair p.0 p.1)) line
-      (text_laws.pair_line o w twice b p.0 p.1 r valid.0 valid.1 one plain sep h) in
-      (x.reads, x.column_one)
+  pair_gives twice p sep plain b r one h =
+      let line : pair_source w p.0 p.1 ++ line_ends w twice ≡ written_pair w p ++ gap twice =
+      simp append_assoc in
+      subst (λ l. text_laws.GivesLine o b l r (Pair p.0 p.1)) line
+      (text_laws.pair_line-gives (text_laws.pair_line o w twice b p.0 p.1 r one sep plain h))
 
   -- pairs
-  abbrev pub AllOfCharacters : Pairs → Type 0
-  AllOfCharacters ps = Each (λ p. (all_scalars p.0 ≡ true) × (all_scalars p.1 ≡ true)) ps
-
   abbrev pub AllPlain : Pairs → Type 0
   AllPlain ps = Each (λ p. IsPlainPair o w.escape_policy p.0 p.1) ps
 
@@ -192,58 +184,52 @@ module _ (o : ParseOption) (w : WriteOption) where
     first_key : (q : Text × Text) (ps : Pairs) → AllPlain (q ∷ ps) → IsPlainKey o w.escape_policy q.0
     first_key q ps (Each.more k plain) = k.plain_key
 
-    pairs_give : (twice : Bool) (p : Text × Text) (ps : Pairs) → AllOfCharacters (p ∷ ps) → AllPlain (p ∷ ps)
+    pairs_give : (twice : Bool) (p : Text × Text) (ps : Pairs) → AllPlain (p ∷ ps)
         → GivesBefore Follows (written_pairs w (p ∷ ps) ++ gap twice) (pair_items (p ∷ ps))
-    pairs_give twice p [] (Each.more v valid) (Each.more k plain) =
+    pairs_give twice p [] (Each.more k plain) =
         subst (λ x. GivesBefore Follows x (Pair p.0 p.1 ∷ []))
-        (ap (λ x. x ++ gap twice) (sym (append-nil (written_pair w p)))) (pair_gives twice p v sep k)
-    pairs_give twice p (q ∷ ps) (Each.more v valid) (Each.more k plain) =
-        let rest = pairs_give twice q ps valid plain in
+        (ap (λ x. x ++ gap twice) (sym (append-nil (written_pair w p)))) (pair_gives twice p sep k)
+    pairs_give twice p (q ∷ ps) (Each.more k plain) =
         let more = written_pairs w (q ∷ ps) ++ gap twice in
         let same : (written_pair w p ++ []) ++ more ≡ written_pairs w (p ∷ (q ∷ ps)) ++ gap twice =
-        ap (λ x. x ++ more) (append-nil (written_pair w p)) ∙ sym
-        (append_assoc (written_pair w p) (written_pairs w (q ∷ ps)) (gap twice)) in
-        let key = first_key q ps plain in
+        simp (append_assoc, append-nil) in
+        let ahead : (r : Text) → Follows r → Follows (more ++ r) = λ r h.
+        subst (λ x. Follows (x ++ r)) (sym (append_assoc (written_pair w q) (written_pairs w ps) (gap twice)))
+        (pairs_follow q (written_pairs w ps ++ gap twice) r (first_key q ps plain)) in
         subst (λ x. GivesBefore Follows x (pair_items (p ∷ (q ∷ ps)))) same
-        (then_gives Follows Follows (written_pair w p ++ []) more (pair_gives false p v sep k) rest
-        (λ r h. subst (λ x. Follows (x ++ r))
-        (sym (append_assoc (written_pair w q) (written_pairs w ps) (gap twice)))
-        (pairs_follow q (written_pairs w ps ++ gap twice) r key)))
+        (then_gives Follows Follows (written_pair w p ++ []) more (pair_gives false p sep k)
+        (pairs_give twice q ps plain) ahead)
 
     -- sections
-    section_gives : (twice : Bool) (name : Text) (ps : Pairs) → all_scalars name ≡ true
-        → IsPlainName o w.escape_policy name → AllOfCharacters ps → AllPlain ps
+    section_gives : (twice : Bool) (name : Text) (ps : Pairs) → IsPlainName o w.escape_policy name
+        → AllPlain ps
         → GivesBefore Follows ((written_name w (Some name) ++ written_pairs w ps) ++ gap twice)
         (Header name ∷ pair_items ps)
-    section_gives twice name [] valid_name plain_name valid plain =
+    section_gives twice name [] plain_name plain =
         let alone : GivesBefore Any ((written_name w (Some name) ++ []) ++ gap twice) (Header name ∷ []) =
         subst (λ x. GivesBefore Any x (Header name ∷ []))
         (ap (λ x. x ++ gap twice) (sym (append-nil (written_name w (Some name)))))
-        (name_gives twice name valid_name plain_name) in
+        (name_gives twice name plain_name) in
         λ b r one h. alone b r one tt
-    section_gives twice name (p ∷ ps) valid_name plain_name valid plain =
+    section_gives twice name (p ∷ ps) plain_name plain =
         let title = written_name w (Some name) in
         let more = written_pairs w (p ∷ ps) ++ gap twice in
         let same : (title ++ []) ++ more ≡ (title ++ written_pairs w (p ∷ ps)) ++ gap twice =
-        ap (λ x. x ++ more) (append-nil title) ∙ sym
-        (append_assoc title (written_pairs w (p ∷ ps)) (gap twice)) in
+        ap (λ x. x ++ more) (append-nil title) ∙ sym (append_assoc title (written_pairs w (p ∷ ps)) (gap twice)) in
         subst (λ x. GivesBefore Follows x (Header name ∷ pair_items (p ∷ ps))) same
-        (then_gives Any Follows (title ++ []) more (name_gives false name valid_name plain_name)
-        (pairs_give twice p ps valid plain) (λ r h. tt))
+        (then_gives Any Follows (title ++ []) more (name_gives false name plain_name)
+        (pairs_give twice p ps plain) (λ r h. tt))
 
-    pub general_gives : (twice : Bool) (ps : Pairs) → (twice ≡ true → has_pairs ps ≡ true)
-        → AllOfCharacters ps → AllPlain ps
+    pub general_gives : (twice : Bool) (ps : Pairs) → (twice ≡ true → has_pairs ps ≡ true) → AllPlain ps
         → GivesBefore Follows (written_pairs w ps ++ gap twice) (pair_items ps)
-    general_gives true [] only valid plain = absurd (false≢true (only refl))
-    general_gives false [] only valid plain = gives_none Follows
-    general_gives twice (p ∷ ps) only valid plain = pairs_give twice p ps valid plain
+    general_gives true [] only plain = absurd (false≢true (only refl))
+    general_gives false [] only plain = gives_none Follows
+    general_gives twice (p ∷ ps) only plain = pairs_give twice p ps plain
 
     -- a section behind the first
     pub record IsGood (s : Option Text × Pairs) : Type 0 where
       pub name : IsSomeAnd s.0 (λ name. IsPlainName o w.escape_policy name)
-      pub name_characters : IfSome s.0 (λ name. all_scalars name ≡ true)
-      pub characters : AllOfCharacters s.1
-      pub plain : AllPlain s.1
+      pub pairs : AllPlain s.1
 
     -- a section's text, to which the sections behind it may add a line end
     pub sections_give : (earlier : Bool) (body : Text) (xs : List Given) (d : Document)
@@ -264,10 +250,10 @@ module _ (o : ParseOption) (w : WriteOption) where
         let title = written_name w (Some name) in
         let own = title ++ written_pairs w ps in
         let rest = sections_give (earlier || has_pairs ps) own (Header name ∷ pair_items ps) d
-        (λ twice _. section_gives twice name ps g.name_characters g.name g.characters g.plain) good in
+        (λ twice _. section_gives twice name ps g.name g.pairs) good in
         let behind = written_sections w (earlier || has_pairs ps) d in
-        let same : (body ++ gap twice) ++ (own ++ behind) ≡ body ++
-        (((gap twice ++ title) ++ written_pairs w ps) ++ behind) = simp append_assoc in
+        let lines = (gap twice ++ title) ++ written_pairs w ps in
+        let same : (body ++ gap twice) ++ (own ++ behind) ≡ body ++ (lines ++ behind) = simp append_assoc in
         subst (λ x. GivesBefore IsEmptyOrHeader x (xs ++ items_of ((Some name, ps) ∷ d))) same
         (then_gives Follows IsEmptyOrHeader (body ++ gap twice) (own ++ behind)
         (f twice (λ q. (and_parts earlier (has_pairs ps) q).0)) rest (λ r h. FollowsPair.header))

@@ -1,12 +1,10 @@
-//! Laws of documents, each the contract of a function that answers and changes nothing. They speak of the
-//! definitions alone; that a document is made of characters, which its type doesn't say, is found by a walk.
+//! Laws of documents, each the contract of a function that does nothing. They speak of the definitions alone.
 ghost use Rattle.std.specs.Prelude.{◌≡◌, chars};
 ghost use Rattle.ini_text.specs.PlainLaws.{IsEmptyOrHeader};
 ghost use Rattle.ini.specs.Outcomes.{Inverts};
 ghost use Rattle.ini.specs.Plain.{IsPlain};
 ghost use Rattle.ini.specs.Written.{written};
 
-use crate::characters::is_of_characters;
 use crate::document::Ini;
 use ini_text::{ParseOption, WriteOption};
 
@@ -16,9 +14,7 @@ pub fn inversion(document: &Ini, write: &WriteOption, read: ParseOption, follows
     requires plain { IsPlain document.now write.now read }
     requires follows { IsEmptyOrHeader (chars follows.now) }
     ensures { Inverts read write.now document.now (chars follows.now) }
-{
-    is_of_characters(document);
-}
+{}
 
 /// Two documents that are plain under the same options and have one text are equal.
 pub fn same_text(one: &Ini, other: &Ini, write: &WriteOption, read: ParseOption)
@@ -26,7 +22,4 @@ pub fn same_text(one: &Ini, other: &Ini, write: &WriteOption, read: ParseOption)
     requires other { IsPlain other.now write.now read }
     requires same { written one.now write.now ≡ written other.now write.now }
     ensures { one.now ≡ other.now }
-{
-    is_of_characters(one);
-    is_of_characters(other);
-}
+{}

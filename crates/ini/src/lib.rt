@@ -5,7 +5,6 @@
 //! a name, a key or a value is written is said by `ini_text`, where each pair stands by `ini_multimap`.
 #![tactic(auto)]
 
-mod characters;
 mod document;
 mod entry;
 mod iter;

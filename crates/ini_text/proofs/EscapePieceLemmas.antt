@@ -174,12 +174,14 @@ module _ (policy : EscapePolicy) where
       (list_all (λ c. not (eqb c backslash || is_line_end c)) cs) h in
       AllRead.more (read_raw c m.0 g.0) (all_raw cs m.1 g.1)
 
-pub all_read : {o : ParseOption} (policy : EscapePolicy) (text : List ℕ) → all_scalars text ≡ true
-    → IsReadBack o policy text → AllRead o.enabled_escape policy text
-all_read policy text valid (inl e) =
-    subst (λ x. AllRead x policy text) (sym e.escapes)
-    (all_by_escapes policy text e.escaping valid e.no_unread_letter e.no_extended)
-all_read policy text valid (inr n) = all_raw policy text n.no_escaped n.no_backslash
+pub all_read : {o : ParseOption} (policy : EscapePolicy) (text : List ℕ) → IsReadBack o policy text
+    → AllRead o.enabled_escape policy text
+all_read policy text read = elim read.is_read [
+  | inl e ↦
+      subst (λ x. AllRead x policy text) (sym e.escapes)
+      (all_by_escapes policy text e.escaping read.of_characters e.no_unread_letter e.no_extended)
+  | inr n ↦ all_raw policy text n.no_escaped n.no_backslash
+]
 
 -- no character that isn't escaped is an endpoint
 abbrev pub NoRawEnd : EscapePolicy → Ends → List ℕ → Type 0

@@ -2,7 +2,6 @@
 use Rattle.std.proofs.Common.{◌≡◌, inl, inr, ℕ, Bool, true, false, not, ◌||◌, cond, eqb, eqb-true, List, [], ◌∷◌, ◌++◌, refl, sym, ap, ◌∙◌, subst, append_assoc, append-nil}
 use Rattle.std.proofs.lemmas.Bool.{or_left, or_from, or_cases, and_parts, and_from, not-true, both_ways}
 use Rattle.std.specs.List.{list_all}
-use Rattle.std.specs.Str.{all_scalars}
 use Rattle.ini_text.specs.declared.option.ParseOption.{ParseOption}
 use Rattle.ini_text.specs.declared.policy.EscapePolicy.{EscapePolicy}
 use Rattle.ini_text.specs.declared.write_option.LineSeparator.{LineSeparator}
@@ -16,15 +15,11 @@ use Rattle.ini_text.specs.Positions.{is_column_one}
 use Rattle.ini_text.specs.Elements.{Given, Header, Gap, Element}
 use Rattle.ini_text.specs.Texts.{Reads}
 use Rattle.ini_text.specs.Plain.{IsPlainName}
-use Rattle.ini_text.specs.PlainLaws.{header_line, GivesJust}
+use Rattle.ini_text.specs.PlainLaws.{AreGaps, IsElementThenGaps, IsHeaderLine, header_source, line_ends}
 use Rattle.ini_text.specs.WriteOptions.{line_end}
 use Rattle.ini_text.proofs.EscapePieceLemmas.{AllRead, NoRawEnd, all_read, row_escaped}
 use Rattle.ini_text.proofs.MovedLemmas.{last_or-behind}
 use Rattle.ini_text.proofs.PlainTrimLemmas.{line_end_is_white}
-
--- a line end, or two
-abbrev pub line_ends : LineSeparator → Bool → List ℕ
-line_ends s twice = line_end s ++ cond twice (line_end s) []
 
 -- line ends are gaps
 line_end_no_blank : (c : ℕ) → is_line_end c ≡ true → is_blank c ≡ false
@@ -33,60 +28,69 @@ line_end_no_blank c h = elim (or_cases (eqb c 10) (eqb c 13) h) [
   | inr q ↦ subst (λ x. is_blank x ≡ false) (sym (eqb-true c 13 q)) refl
 ]
 
-module _ {o : ParseOption} where
-  line_end_gap : {b r : List ℕ} (c : ℕ) → is_line_end c ≡ true → Element o b (c ∷ []) r []
-  line_end_gap c h =
-      Element.gap (Gap.white (line_end_is_white c h)
-      (λ q. absurd (both_ways (is_blank c) (line_end_no_blank c h) q)))
+line_end_gap : {b r : List ℕ} (c : ℕ) → is_line_end c ≡ true → Gap b (c ∷ []) r
+line_end_gap c h =
+    Gap.white (line_end_is_white c h) (λ q. absurd (both_ways (is_blank c) (line_end_no_blank c h) q))
 
-  pub line_ends_gap : {T b : List ℕ} (e r : List ℕ) → list_all is_line_end e ≡ true → T ≡ b ++ (e ++ r)
-      → Reads o T b [] (b ++ e)
-  line_ends_gap {T} {b} [] r h q = subst (Reads o T b []) (sym (append-nil b)) (Reads.stay r q)
-  line_ends_gap {T} {b} (c ∷ e) r h q =
-      let parts = and_parts (is_line_end c) (list_all is_line_end e) h in
-      let rest : Reads o T (b ++ c ∷ []) [] ((b ++ c ∷ []) ++ e) =
-      line_ends_gap e r parts.1 (q ∙ sym (append_assoc b (c ∷ []) (e ++ r))) in
-      subst (Reads o T b []) (append_assoc b (c ∷ []) e)
-      (Reads.step {s = c ∷ []} q (line_end_gap c parts.0) rest)
+gaps_of : {b r : List ℕ} (e : List ℕ) → list_all is_line_end e ≡ true → AreGaps r b e
+gaps_of [] h = AreGaps.none
+gaps_of (c ∷ e) h =
+    let parts = and_parts (is_line_end c) (list_all is_line_end e) h in
+    AreGaps.more {s = c ∷ []} (line_end_gap c parts.0) (gaps_of e parts.1)
 
-  -- an element before line ends
-  pub before_line_ends : {b s : List ℕ} {item : Given} (e r : List ℕ) → list_all is_line_end e ≡ true
-      → Element o b s (e ++ r) (item ∷ []) → Reads o (b ++ ((s ++ e) ++ r)) b (item ∷ []) (b ++ (s ++ e))
-  before_line_ends {b} {s} {item} e r h x =
-      let T = b ++ ((s ++ e) ++ r) in
-      let whole : T ≡ b ++ (s ++ (e ++ r)) = ap (λ y. b ++ y) (append_assoc s e r) in
-      let gaps : Reads o T (b ++ s) [] ((b ++ s) ++ e) =
-      line_ends_gap e r h (whole ∙ sym (append_assoc b s (e ++ r))) in
-      subst (Reads o T b (item ∷ [])) (append_assoc b s e) (Reads.step whole x gaps)
+line_ends-all : (w : WriteOption) (twice : Bool) → list_all is_line_end (line_ends w twice) ≡ true
+line_ends-all w twice = at w.line_separator twice
+  where
+    at : (s : LineSeparator) (twice : Bool) → list_all is_line_end (line_end s ++ cond twice (line_end s) []) ≡ true
+    at SystemDefault true = refl
+    at SystemDefault false = refl
+    at CR true = refl
+    at CR false = refl
+    at CRLF true = refl
+    at CRLF false = refl
 
-pub line_ends-all : (s : LineSeparator) (twice : Bool) → list_all is_line_end (line_ends s twice) ≡ true
-line_ends-all SystemDefault true = refl
-line_ends-all SystemDefault false = refl
-line_ends-all CR true = refl
-line_ends-all CR false = refl
-line_ends-all CRLF true = refl
-line_ends-all CRLF false = refl
+pub line_end_gaps : {b r : List ℕ} (w : WriteOption) (twice : Bool) → AreGaps r b (line_ends w twice)
+line_end_gaps w twice = gaps_of (line_ends w twice) (line_ends-all w twice)
+
+-- gaps as a row of elements
+gaps_read : {o : ParseOption} {T r : List ℕ} {b s : List ℕ} → AreGaps r b s → T ≡ b ++ (s ++ r)
+    → Reads o T b [] (b ++ s)
+gaps_read {o} {T} {r} {b} AreGaps.none q = subst (Reads o T b []) (sym (append-nil b)) (Reads.stay r q)
+gaps_read {o} {T} {r} (AreGaps.more {b} {s} {t} gap gaps) q =
+    let whole : T ≡ b ++ (s ++ (t ++ r)) = q ∙ ap (λ y. b ++ y) (append_assoc s t r) in
+    let rest : Reads o T (b ++ s) [] ((b ++ s) ++ t) = gaps_read gaps (whole ∙ sym (append_assoc b s (t ++ r))) in
+    subst (Reads o T b []) (append_assoc b s t) (Reads.step whole (Element.gap gap) rest)
+
+-- behind the front b and before r the source gives the item, and behind it column one begins
+abbrev pub GivesLine : ParseOption → List ℕ → List ℕ → List ℕ → Given → Type 0
+GivesLine o b source r item =
+    Reads o (b ++ (source ++ r)) b (item ∷ []) (b ++ source) × (is_column_one (b ++ source) ≡ true)
+
+-- as an element and then gaps do
+pub element_then_gaps-gives : {o : ParseOption} {b s e r : List ℕ} {item : Given}
+    → IsElementThenGaps o b s e r item → GivesLine o b (s ++ e) r item
+element_then_gaps-gives {o} {b} {s} {e} {r} {item} x =
+    let T = b ++ ((s ++ e) ++ r) in
+    let whole : T ≡ b ++ (s ++ (e ++ r)) = ap (λ y. b ++ y) (append_assoc s e r) in
+    let gaps : Reads o T (b ++ s) [] ((b ++ s) ++ e) =
+    gaps_read x.are_gaps (whole ∙ sym (append_assoc b s (e ++ r))) in
+    (subst (Reads o T b (item ∷ [])) (append_assoc b s e) (Reads.step whole x.element gaps), x.column_one)
 
 -- behind line ends column one begins
 column_one_behind : (x : List ℕ) (c : ℕ) (y : List ℕ) → is_column_one (x ++ c ∷ y) ≡ is_column_one (c ∷ y)
 column_one_behind x c y = ap is_line_feed (last_or-behind line_feed c x y)
 
-line_ends_column : (x : List ℕ) (s : LineSeparator) (twice : Bool)
-    → is_column_one (x ++ line_ends s twice) ≡ true
-line_ends_column x SystemDefault true = column_one_behind x line_feed (line_feed ∷ [])
-line_ends_column x SystemDefault false = column_one_behind x line_feed []
-line_ends_column x CR true = column_one_behind x line_feed (line_feed ∷ [])
-line_ends_column x CR false = column_one_behind x line_feed []
-line_ends_column x CRLF true =
-    column_one_behind x carriage_return (line_feed ∷ (carriage_return ∷ (line_feed ∷ [])))
-line_ends_column x CRLF false = column_one_behind x carriage_return (line_feed ∷ [])
-
--- a row of elements that ends with them
-pub gives_just : {o : ParseOption} {b line r : List ℕ} {item : Given} (s : LineSeparator) (twice : Bool)
-    (x : List ℕ) → b ++ line ≡ x ++ line_ends s twice
-    → Reads o (b ++ (line ++ r)) b (item ∷ []) (b ++ line) → GivesJust o b line r item
-gives_just s twice x e reads =
-    record { reads = reads; column_one = ap is_column_one e ∙ line_ends_column x s twice }
+pub line_ends_column : (x : List ℕ) (w : WriteOption) (twice : Bool) → is_column_one (x ++ line_ends w twice) ≡ true
+line_ends_column x w twice = at w.line_separator twice
+  where
+    at : (s : LineSeparator) (twice : Bool) → is_column_one (x ++ (line_end s ++ cond twice (line_end s) [])) ≡ true
+    at SystemDefault true = column_one_behind x line_feed (line_feed ∷ [])
+    at SystemDefault false = column_one_behind x line_feed []
+    at CR true = column_one_behind x line_feed (line_feed ∷ [])
+    at CR false = column_one_behind x line_feed []
+    at CRLF true =
+        column_one_behind x carriage_return (line_feed ∷ (carriage_return ∷ (line_feed ∷ [])))
+    at CRLF false = column_one_behind x carriage_return (line_feed ∷ [])
 
 -- headers
 name_no_end : (policy : EscapePolicy) (name : List ℕ) → list_all (λ c. not (eqb c close_bracket)) name ≡ true
@@ -106,24 +110,22 @@ row_of {escapes} {policy} {ends} text all n =
     let row : Row escapes ends (escaped policy text ++ []) (text ++ []) = row_escaped text all n Row.none in
     rw (append-nil (escaped policy text), append-nil text) at row
 
-pub header_element : {o : ParseOption} {b r : List ℕ} (policy : EscapePolicy) (name : List ℕ)
-    → all_scalars name ≡ true → IsPlainName o policy name
+header_element : {o : ParseOption} {b r : List ℕ} (policy : EscapePolicy) (name : List ℕ) → IsPlainName o policy name
     → Element o b (open_bracket ∷ (escaped policy name ++ close_bracket ∷ [])) r (Header name ∷ [])
-header_element {o} {b} {r} policy name valid p =
-    let row = row_of {ends = name_ends} name (all_read {o = o} policy name valid p.read_back)
+header_element {o} {b} {r} policy name p =
+    let row = row_of {ends = name_ends} name (all_read {o = o} policy name p.read_back)
     (name_no_end policy name p.no_bracket) in
     subst (λ n. Element o b (open_bracket ∷ (escaped policy name ++ close_bracket ∷ [])) r
     (Header n ∷ [])) p.is_trimmed (Element.header (Str.closed row refl))
 
-pub header_line_read : (o : ParseOption) (w : WriteOption) (twice : Bool) (b name r : List ℕ)
-    → all_scalars name ≡ true → IsPlainName o w.escape_policy name
-    → GivesJust o b (header_line w name twice) r (Header name)
-header_line_read o w twice b name r valid p =
-    let e = line_ends w.line_separator twice in
-    let source = open_bracket ∷ (escaped w.escape_policy name ++ close_bracket ∷ []) in
-    let line : source ++ e ≡ header_line w name twice =
-    ap (λ x. open_bracket ∷ x) (append_assoc (escaped w.escape_policy name) (close_bracket ∷ []) e) in
-    subst (λ l. GivesJust o b l r (Header name)) line
-    (gives_just w.line_separator twice (b ++ source) (sym (append_assoc b source e))
-    (before_line_ends e r (line_ends-all w.line_separator twice)
-    (header_element w.escape_policy name valid p)))
+pub header_line : (o : ParseOption) (w : WriteOption) (twice : Bool) (b name r : List ℕ)
+    → IsPlainName o w.escape_policy name → IsHeaderLine o w twice b name r
+header_line o w twice b name r plain =
+    let source = header_source w name in
+    record {
+      element = header_element w.escape_policy name plain;
+      are_gaps = line_end_gaps w twice;
+      column_one =
+          ap is_column_one (sym (append_assoc b source (line_ends w twice)))
+          ∙ line_ends_column (b ++ source) w twice;
+    }

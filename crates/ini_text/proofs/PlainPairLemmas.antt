@@ -1,9 +1,8 @@
 -- Pairs as they are written, read back.
-use Rattle.std.proofs.Common.{◌≡◌, ◌≢◌, ◌⊎◌, inl, inr, ℕ, Bool, true, false, not, ◌||◌, ◌&&◌, cond, eqb, eqb-true, List, [], ◌∷◌, ◌++◌, refl, sym, ap, ◌∙◌, subst, append_assoc, arith, Option, Some, None, chars}
+use Rattle.std.proofs.Common.{◌≡◌, ◌≢◌, ◌⊎◌, inl, inr, ℕ, Bool, true, false, not, ◌||◌, ◌&&◌, cond, eqb, eqb-true, List, [], ◌∷◌, ◌++◌, refl, sym, ap, ◌∙◌, subst, append_assoc, append-nil, arith, Option, Some, None, chars}
 use Rattle.std.proofs.lemmas.Bool.{cond_both, cond-true, cond-false, or_left, or_right, or_from, or_cases, and_left, and_right, and_parts, and_from, both_ways, false_from_ne_true, cases_Bool}
 use Rattle.std.specs.Char.{is_whitespace}
 use Rattle.std.specs.List.{list_all}
-use Rattle.std.specs.Str.{all_scalars}
 use Rattle.ini_text.specs.declared.option.ParseOption.{ParseOption}
 use Rattle.ini_text.specs.declared.policy.EscapePolicy.{EscapePolicy}
 use Rattle.ini_text.specs.declared.policy.EscapePolicy.TheVariants.{Nothing, Basics, BasicsUnicode, BasicsUnicodeExtended, Reserved, ReservedUnicode, ReservedUnicodeExtended, Everything}
@@ -19,14 +18,13 @@ use Rattle.ini_text.specs.Lines.{Line, Quoted, BeginsPlain}
 use Rattle.ini_text.specs.Values.{LineEnd, MoreLines, Value}
 use Rattle.ini_text.specs.Keys.{Indentation, KeyFront, begins_key, begins_indented_key}
 use Rattle.ini_text.specs.Positions.{last_or, starts_line, is_column_one}
-use Rattle.ini_text.specs.Elements.{Given, Pair, Element}
-use Rattle.ini_text.specs.Texts.{Reads}
+use Rattle.ini_text.specs.Elements.{Pair, Element}
 use Rattle.ini_text.specs.Plain.{IsPlainSeparator, IsBareKey, IsIndentedByEscape, IsPlainKey, IsPlainValue, IsPlainPair}
-use Rattle.ini_text.specs.PlainLaws.{pair_line, GivesJust, FollowsPair}
+use Rattle.ini_text.specs.PlainLaws.{AreGaps, FollowsPair, IsPairLine, line_ends, pair_source}
 use Rattle.ini_text.specs.WriteOptions.{line_end}
 use Rattle.ini_text.proofs.Elements.{blank_is_white}
 use Rattle.ini_text.proofs.EscapePieceLemmas.{AllRead, NoRawEnd, all_read, row_escaped}
-use Rattle.ini_text.proofs.PlainLineLemmas.{before_line_ends, gives_just, line_ends, line_ends-all, row_of}
+use Rattle.ini_text.proofs.PlainLineLemmas.{GivesLine, element_then_gaps-gives, line_end_gaps, line_ends_column, row_of}
 use Rattle.ini_text.proofs.PlainTrimLemmas.{line_end_is_white, trimmed_begins, trimmed_end, end_trimmed-blanks, trimmed-blanks, end_trimmed-behind, some_behind, without_line_feeds-trimmed}
 
 -- what an escaped text begins with: a backslash, or its first character, which isn't escaped
@@ -352,84 +350,105 @@ more_lines SystemDefault true n m = (line_feed ∷ [], refl, MoreLines.empty_lf 
 more_lines CR true n m = (line_feed ∷ [], refl, MoreLines.empty_lf (MoreLines.done n m))
 more_lines CRLF true n m = (line_feed ∷ [], refl, MoreLines.empty_cr_lf (MoreLines.done n m))
 
-abbrev ReadsLine : ParseOption → List ℕ → List ℕ → List ℕ → Given → Type 0
-ReadsLine o b line r item = Reads o (b ++ (line ++ r)) b (item ∷ []) (b ++ line)
+-- the source of a pair, its separator in three parts
+source-parts : {text : List ℕ} (key value : List ℕ) (sep : IsPlainSeparator text)
+    → (key ++ sep.before) ++ sep.mark ∷ (sep.after ++ value) ≡ key ++ (text ++ value)
+source-parts key value sep =
+    append_assoc key sep.before (sep.mark ∷ (sep.after ++ value))
+    ∙ ap (λ x. key ++ x) (sym (append_assoc sep.before (sep.mark ∷ sep.after) value))
+    ∙ ap (λ x. key ++ (x ++ value)) (sym sep.whole)
 
-module _ {o : ParseOption} {policy : EscapePolicy} (s : LineSeparator) (twice : Bool) {b key value : List ℕ}
-    (before : List ℕ) (m : ℕ) (after r : List ℕ)
-    (one : is_column_one b ≡ true) (plain : IsPlainPair o policy key value)
-    (read_key : AllRead o.enabled_escape policy key) (read_value : AllRead o.enabled_escape policy value)
-    (blank_before : list_all is_blank before ≡ true) (sep : is_separator m ≡ true)
-    (blank_after : list_all is_blank after ≡ true) (follows : FollowsPair o policy r) where
-  -- on one line, the line ends left as gaps
-  pair_one_line : o.enabled_indented_mutiline_value ≡ false
-      → ReadsLine o b ((escaped policy key ++ before) ++ m ∷ (after ++ (escaped policy value ++ line_ends s twice))) r (Pair key value)
-  pair_one_line off =
-      let e = line_ends s twice in
-      let begin = ends_begin s (cond twice (line_end s) [] ++ r) in
-      let begins : e ++ r ≡ begin.0 ∷ begin.1 =
-      append_assoc (line_end s) (cond twice (line_end s) []) r ∙ begin.3 in
-      let given : Value o (after ++ escaped policy value) (e ++ r) value =
-      subst (λ x. Value o (after ++ escaped policy value) x value) (sym begins)
-      (Value.one_line off (value_lead plain.plain_value read_value after begin.0 begin.1 blank_after begin.2)
-      (value_line plain.plain_value read_value begin.0 begin.1 begin.2)) in
-      let element : Element o b ((escaped policy key ++ before) ++ m ∷ (after ++ escaped policy value))
-      (e ++ r) (Pair key value ∷ []) =
-      Element.pair (key_front before
-      ((after ++ escaped policy value) ++ (e ++ r)) m one plain.plain_key read_key blank_before sep)
-      (key_some plain.plain_key) sep given in
-      let source : ((escaped policy key ++ before) ++ m ∷ (after ++ escaped policy value)) ++ e ≡
-      (escaped policy key ++ before) ++ m ∷ (after ++ (escaped policy value ++ e)) =
-      append_assoc (escaped policy key ++ before) (m ∷ (after ++ escaped policy value)) e ∙ ap
-      (λ x. (escaped policy key ++ before) ++ m ∷ x) (append_assoc after (escaped policy value) e) in
-      subst (λ x. ReadsLine o b x r (Pair key value)) source
-      (before_line_ends e r (line_ends-all s twice) element)
+module _ (o : ParseOption) (w : WriteOption) (twice : Bool) (b key value r : List ℕ) (one : is_column_one b ≡ true)
+    (sep : IsPlainSeparator (chars w.kv_separator.now)) (plain : IsPlainPair o w.escape_policy key value)
+    (follows : FollowsPair o w.escape_policy r) where
+  abbrev policy : EscapePolicy
+  policy = w.escape_policy
 
-  -- in a multiline value, the line ends taken
-  pair_multiline : o.enabled_indented_mutiline_value ≡ true
-      → ReadsLine o b ((escaped policy key ++ before) ++ m ∷ (after ++ (escaped policy value ++ line_ends s twice))) r (Pair key value)
-  pair_multiline on =
-      let t = cond twice (line_end s) [] in
-      let begin = ends_begin s (t ++ r) in
+  -- the key and the value as they are written
+  abbrev ek : List ℕ
+  ek = escaped policy key
+
+  abbrev ev : List ℕ
+  ev = escaped policy value
+
+  -- the line end, and a second one
+  abbrev end : List ℕ
+  end = line_end w.line_separator
+
+  abbrev more_ends : List ℕ
+  more_ends = cond twice end []
+
+  read_value : AllRead o.enabled_escape policy value
+  read_value = all_read {o = o} policy value plain.plain_value.read_back
+
+  -- a value before what is written of a pair
+  pair_element : (v rest : List ℕ) → Value o (sep.after ++ v) rest value
+      → Element o b (ek ++ (chars w.kv_separator.now ++ v)) rest (Pair key value ∷ [])
+  pair_element v rest given =
+      let read_key = all_read {o = o} policy key plain.key_read_back in
+      let front = key_front {b = b} sep.before ((sep.after ++ v) ++ rest) sep.mark one plain.plain_key read_key
+      sep.blank_before sep.separates in
+      subst (λ x. Element o b x rest (Pair key value ∷ [])) (source-parts ek v sep)
+      (Element.pair front (key_some plain.plain_key) sep.separates given)
+
+  -- the value's line and what stands before it
+  value_parts : (x : List ℕ) → Lead sep.after (ev ++ (end ++ x)) × Line o true ev (end ++ x) value
+  value_parts x =
+      let begin = ends_begin w.line_separator x in
+      let lead = value_lead plain.plain_value read_value sep.after begin.0 begin.1 sep.blank_after begin.2 in
+      let line = value_line plain.plain_value read_value begin.0 begin.1 begin.2 in
+      (subst (λ y. Lead sep.after (ev ++ y)) (sym begin.3) lead, subst (λ y. Line o true ev y value) (sym begin.3) line)
+
+  -- the line ends left as gaps
+  value_left : o.enabled_indented_mutiline_value ≡ false → Value o (sep.after ++ ev) (line_ends w twice ++ r) value
+  value_left off =
+      let parts = value_parts (more_ends ++ r) in
+      subst (λ x. Value o (sep.after ++ ev) x value) (sym (append_assoc end more_ends r))
+      (Value.one_line off parts.0 parts.1)
+
+  -- the line ends taken by a multiline value
+  value_taken : o.enabled_indented_mutiline_value ≡ true → Value o (sep.after ++ (ev ++ line_ends w twice)) r value
+  value_taken on =
       let ahead = follows_multiline policy follows on in
-      let more = more_lines {o = o} s twice ahead.0 ahead.1 in
-      let lead : Lead after (escaped policy value ++ (line_end s ++ (t ++ r))) =
-      subst (λ x. Lead after (escaped policy value ++ x)) (sym begin.3)
-      (value_lead plain.plain_value read_value after begin.0 begin.1 blank_after begin.2) in
-      let line : Line o true (escaped policy value) (line_end s ++ (t ++ r)) value =
-      subst (λ x. Line o true (escaped policy value) x value) (sym begin.3)
-      (value_line plain.plain_value read_value begin.0 begin.1 begin.2) in
-      let source = after ++ (escaped policy value ++ (line_end s ++ t)) in
-      let given : Value o source r value =
+      let more = more_lines {o = o} w.line_separator twice ahead.0 ahead.1 in
+      let parts = value_parts (more_ends ++ r) in
+      let source = sep.after ++ (ev ++ (end ++ more_ends)) in
       subst (Value o source r) (without_line_feeds-trimmed value more.0 plain.plain_value.is_trimmed more.1)
-      (Value.lines on lead line (line_end-is s (t ++ r)) more.2) in
-      let front = key_front {b = b} before (source ++ r) m one plain.plain_key read_key blank_before sep in
-      let element : Element o b ((escaped policy key ++ before) ++ m ∷ source) r (Pair key value ∷ []) =
-      Element.pair front (key_some plain.plain_key) sep given in
-      let L = (escaped policy key ++ before) ++ m ∷ source in
-      Reads.step refl element (Reads.stay r (sym (append_assoc b L r)))
+      (Value.lines on parts.0 parts.1 (line_end-is w.line_separator (more_ends ++ r)) more.2)
 
-pub pair_line_read : (o : ParseOption) (w : WriteOption) (twice : Bool) (b key value r : List ℕ)
-    → all_scalars key ≡ true → all_scalars value ≡ true
-    → is_column_one b ≡ true → IsPlainPair o w.escape_policy key value
-    → IsPlainSeparator (chars w.kv_separator.now) → FollowsPair o w.escape_policy r
-    → GivesJust o b (pair_line w key value twice) r (Pair key value)
-pair_line_read o w twice b key value r valid_key valid_value one plain sep follows =
-    let policy = w.escape_policy in
-    let s = w.line_separator in
-    let read_key = all_read {o = o} policy key valid_key plain.key_read_back in
-    let read_value = all_read {o = o} policy value valid_value plain.plain_value.read_back in
-    let e = line_ends s twice in
-    let L = (escaped policy key ++ sep.before) ++ sep.mark ∷ (sep.after ++ (escaped policy value ++ e)) in
-    let read : ReadsLine o b L r (Pair key value) = elim (cases_Bool o.enabled_indented_mutiline_value) [
-      | inl on ↦ pair_multiline s twice sep.before sep.mark sep.after r one plain read_key read_value sep.blank_before sep.separates sep.blank_after follows on
-      | inr off ↦ pair_one_line s twice sep.before sep.mark sep.after r one plain read_key read_value sep.blank_before sep.separates sep.blank_after follows off
-    ] in
-    let front = (escaped policy key ++ sep.before) ++ sep.mark ∷ (sep.after ++ escaped policy value) in
-    let ends : b ++ L ≡ (b ++ front) ++ e = simp append_assoc in
-    let line : L ≡ pair_line w key value twice =
-    append_assoc (escaped policy key) sep.before (sep.mark ∷ (sep.after ++ (escaped policy value ++ e)))
-    ∙ ap (λ x. escaped policy key ++ x)
-    (sym (append_assoc sep.before (sep.mark ∷ sep.after) (escaped policy value ++ e)))
-    ∙ ap (λ x. escaped policy key ++ (x ++ (escaped policy value ++ e))) (sym sep.whole) in
-    subst (λ x. GivesJust o b x r (Pair key value)) line (gives_just s twice (b ++ front) ends read)
+  -- behind the line column one begins
+  column : is_column_one (b ++ (pair_source w key value ++ line_ends w twice)) ≡ true
+  column =
+      let source = pair_source w key value in
+      ap is_column_one (sym (append_assoc b source (line_ends w twice))) ∙ line_ends_column (b ++ source) w twice
+
+  pub pair_line : IsPairLine o w twice b key value r
+  pair_line = record {
+    taken = λ on.
+        let source : ek ++ (chars w.kv_separator.now ++ (ev ++ line_ends w twice)) ≡ pair_source w key value ++ line_ends w twice =
+        simp append_assoc in
+        let element = pair_element (ev ++ line_ends w twice) r (value_taken on) in
+        record {
+          element = subst (λ x. Element o b x r (Pair key value ∷ [])) source element;
+          are_gaps = AreGaps.none;
+          column_one = ap (λ x. is_column_one (b ++ x)) (append-nil (pair_source w key value ++ line_ends w twice)) ∙ column;
+        };
+    left = λ off.
+        record {
+          element = pair_element ev (line_ends w twice ++ r) (value_left off);
+          are_gaps = line_end_gaps w twice;
+          column_one = column;
+        };
+  }
+
+-- the line as a row of elements
+pub pair_line-gives : {o : ParseOption} {w : WriteOption} {twice : Bool} {b key value r : List ℕ}
+    → IsPairLine o w twice b key value r
+    → GivesLine o b (pair_source w key value ++ line_ends w twice) r (Pair key value)
+pair_line-gives {o} {w} {twice} {b} {key} {value} {r} x =
+    let line = pair_source w key value ++ line_ends w twice in
+    elim (cases_Bool o.enabled_indented_mutiline_value) [
+      | inl on ↦
+          subst (λ l. GivesLine o b l r (Pair key value)) (append-nil line) (element_then_gaps-gives (x.taken on))
+      | inr off ↦ element_then_gaps-gives (x.left off)
+    ]

@@ -61,25 +61,40 @@ letters = record { no_escaped = refl; no_backslash = refl }
 
 -- a text with escapes that are read
 lines : HasReadEscapes default_parse_option Basics (codes "x\n\\y")
-lines = record { escapes = refl; escaping = λ e. cc; no_unread_letter = refl; no_extended = refl }
+lines = record {
+  escapes = refl;
+  escaping = λ e. cc;
+  no_unread_letter = refl;
+  no_extended = refl;
+}
 
 -- U+000B is written \v, which is read as v
 vertical_tab : ¬ IsReadBack default_parse_option Basics (codes "a\u{b}b")
-vertical_tab (inl r) = false≢true r.no_unread_letter
-vertical_tab (inr r) = false≢true r.no_escaped
+vertical_tab r = elim r.is_read [
+  | inl read ↦ false≢true read.no_unread_letter
+  | inr none ↦ false≢true none.no_escaped
+]
 
 -- five digits are written for a character above U+FFFF, and four are read
 emoji : ¬ IsReadBack default_parse_option Everything (codes "🐱")
-emoji (inl r) = false≢true r.no_extended
-emoji (inr r) = false≢true r.no_escaped
+emoji r = elim r.is_read [
+  | inl read ↦ false≢true read.no_extended
+  | inr none ↦ false≢true none.no_escaped
+]
 
 raw_emoji : IsReadBack default_parse_option Basics (codes "🐱")
-raw_emoji = inr (record { no_escaped = refl; no_backslash = refl })
+raw_emoji = record { of_characters = refl; is_read = inr (record { no_escaped = refl; no_backslash = refl }) }
+
+-- a surrogate is no character: its digits, which spell none, would be refused
+surrogate : (o : ParseOption) (policy : EscapePolicy) → ¬ IsReadBack o policy (0xD800 ∷ [])
+surrogate o policy r = false≢true r.of_characters
 
 -- a backslash that isn't escaped is read as the front of an escape
 raw_backslash : (o : ParseOption) → ¬ IsReadBack o Nothing (codes "a\\")
-raw_backslash o (inl r) = r.escaping refl
-raw_backslash o (inr r) = false≢true r.no_backslash
+raw_backslash o r = elim r.is_read [
+  | inl read ↦ read.escaping refl
+  | inr none ↦ false≢true none.no_backslash
+]
 
 -- with quotes on a value doesn't begin with a quote's mark
 marks : ¬ IsPlainValue default_parse_option Basics (codes "\"a\"")
@@ -89,13 +104,14 @@ abbrev without_quotes : ParseOption
 without_quotes = record default_parse_option { enabled_quote = false }
 
 marks_without_quotes : IsPlainValue without_quotes Basics (codes "\"a\"")
-marks_without_quotes =
-    record {
-      is_trimmed = refl;
-      no_mark = λ on. absurd (false≢true on);
-      read_back = inr
-          (record { no_escaped = refl; no_backslash = refl });
-    }
+marks_without_quotes = record {
+  is_trimmed = refl;
+  no_mark = λ on. absurd (false≢true on);
+  read_back = record {
+    of_characters = refl;
+    is_read = inr (record { no_escaped = refl; no_backslash = refl });
+  };
+}
 
 -- a separator in a key only where it is escaped
 bare_equals : (o : ParseOption) → ¬ IsBareKey o Basics (codes "a=b")

@@ -2,6 +2,7 @@
 use Rattle.std.specs.Prelude.{◌≡◌, ◌≢◌, ◌⊎◌, ℕ, Bool, true, false, not, ◌&&◌, ◌||◌, ◌==◌, List, [], ◌∷◌, ◌++◌}
 use Rattle.std.specs.Char.{is_whitespace}
 use Rattle.std.specs.List.{list_all}
+use Rattle.std.specs.Str.{all_scalars}
 use Rattle.ini_text.specs.Characters.{backslash, close_bracket, open_bracket, space, is_blank, is_comment_mark, is_line_end, is_mark, is_separator, BeginsWith, BeginsWithNo}
 use Rattle.ini_text.specs.Policies.{is_escaped, is_extended}
 use Rattle.ini_text.specs.White.{trimmed, end_trimmed}
@@ -47,8 +48,11 @@ pub record HasNoEscapes (policy : EscapePolicy) (text : List ℕ) : Type 0 where
 -- The characters of the text are read back, each as itself. (Of two texts the one may be so by its escapes and
 -- the other for want of them; but where escapes are on and the policy isn't `Nothing`, a text that needs no
 -- escapes has none that isn't read.)
-abbrev pub IsReadBack : ParseOption → EscapePolicy → List ℕ → Type 0
-IsReadBack o policy text = HasReadEscapes o policy text ⊎ HasNoEscapes policy text
+pub record IsReadBack (o : ParseOption) (policy : EscapePolicy) (text : List ℕ) : Type 0 where
+  -- it is made of characters, as each text that a program holds is: it has no surrogates
+  pub of_characters : all_scalars text ≡ true
+  -- its escapes are read, or it has none and needs none
+  pub is_read : HasReadEscapes o policy text ⊎ HasNoEscapes policy text
 
 -- the name of a section
 pub record IsPlainName (o : ParseOption) (policy : EscapePolicy) (name : List ℕ) : Type 0 where

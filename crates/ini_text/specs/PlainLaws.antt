@@ -1,7 +1,7 @@
 -- Laws of plain names and pairs as they are written, and of a text behind another.
-use Rattle.std.specs.Prelude.{◌≡◌, ℕ, ◌+◌, Bool, true, List, [], ◌∷◌, ◌++◌, count_by, if◌then◌else◌, not, ◌==◌, ⊤, chars}
+use Rattle.std.specs.Prelude.{◌≡◌, ℕ, ◌+◌, Bool, true, false, List, [], ◌∷◌, ◌++◌, count_by, if◌then◌else◌, not, ◌==◌, ⊤, chars}
 use Rattle.ini_text.specs.Characters.{open_bracket, close_bracket, is_line_feed, BeginsWithNo}
-use Rattle.ini_text.specs.Elements.{Given, Header, Pair}
+use Rattle.ini_text.specs.Elements.{Given, Header, Pair, Gap, Element}
 use Rattle.ini_text.specs.Escapes.{escaped}
 use Rattle.ini_text.specs.Plain.{IsPlainKey}
 use Rattle.ini_text.specs.Positions.{line_of, column_of, is_column_one}
@@ -17,21 +17,39 @@ module _ (w : WriteOption) where
   abbrev pub line_ends : Bool → List ℕ
   line_ends twice = line_end w.line_separator ++ (if twice then line_end w.line_separator else [])
 
-  -- the written line of a header, and perhaps an empty one
-  abbrev pub header_line : List ℕ → Bool → List ℕ
-  header_line name twice =
-      open_bracket ∷ (escaped w.escape_policy name ++ (close_bracket ∷ line_ends twice))
+  -- what is written of a name, up to the line end
+  abbrev pub header_source : List ℕ → List ℕ
+  header_source name = open_bracket ∷ (escaped w.escape_policy name ++ close_bracket ∷ [])
 
-  -- the written line of a pair, and perhaps an empty one
-  abbrev pub pair_line : List ℕ → List ℕ → Bool → List ℕ
-  pair_line key value twice =
-      escaped w.escape_policy key
-      ++ (chars w.kv_separator.now ++ (escaped w.escape_policy value ++ line_ends twice))
+  -- what is written of a pair, up to the line end
+  abbrev pub pair_source : List ℕ → List ℕ → List ℕ
+  pair_source key value =
+      escaped w.escape_policy key ++ (chars w.kv_separator.now ++ escaped w.escape_policy value)
 
--- behind the front b and before r the line gives just this item, and behind it a line starts in column one
-pub record GivesJust (o : ParseOption) (b line r : List ℕ) (item : Given) : Type 0 where
-  pub reads : Reads o (b ++ (line ++ r)) b (item ∷ []) (b ++ line)
-  pub column_one : is_column_one (b ++ line) ≡ true
+-- a row of gaps of source s, behind the front b and before r
+pub data AreGaps (r : List ℕ) : List ℕ → List ℕ → Type 0 where
+  none : {b : List ℕ} → AreGaps r b []
+  more : {b s t : List ℕ} → Gap b s (t ++ r) → AreGaps r (b ++ s) t → AreGaps r b (s ++ t)
+
+-- Behind the front b the source is one element, which gives the item, and what follows it up to r are gaps. Behind
+-- those column one begins.
+pub record IsElementThenGaps (o : ParseOption) (b source gaps r : List ℕ) (item : Given) : Type 0 where
+  pub element : Element o b source (gaps ++ r) (item ∷ [])
+  pub are_gaps : AreGaps r (b ++ source) gaps
+  pub column_one : is_column_one (b ++ (source ++ gaps)) ≡ true
+
+-- a name's written line: a header that gives the name, and gaps
+abbrev pub IsHeaderLine : ParseOption → WriteOption → Bool → List ℕ → List ℕ → List ℕ → Type 0
+IsHeaderLine o w twice b name r =
+    IsElementThenGaps o b (header_source w name) (line_ends w twice) r (Header name)
+
+-- a pair's written line: a pair that gives key and value; the line ends are taken by it where values are
+-- multiline, else they are gaps
+pub record IsPairLine (o : ParseOption) (w : WriteOption) (twice : Bool) (b key value r : List ℕ) : Type 0 where
+  pub taken : o.enabled_indented_mutiline_value ≡ true
+      → IsElementThenGaps o b (pair_source w key value ++ line_ends w twice) [] r (Pair key value)
+  pub left : o.enabled_indented_mutiline_value ≡ false
+      → IsElementThenGaps o b (pair_source w key value) (line_ends w twice) r (Pair key value)
 
 -- what may follow a pair: nothing, a header, or a plain key as it is written
 pub data FollowsPair (o : ParseOption) (policy : EscapePolicy) : List ℕ → Type 0 where

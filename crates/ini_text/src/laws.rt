@@ -1,10 +1,9 @@
 //! Laws of the grammar, each the contract of a function that does nothing. They speak of the definitions
 //! alone.
 ghost use Rattle.std.specs.Prelude.{◌≡◌, true, ◌++◌, chars};
-ghost use Rattle.ini_text.specs.Elements.{Header, Pair};
 ghost use Rattle.ini_text.specs.Laws.{HasOneOutcome, IsAtCharacter};
 ghost use Rattle.ini_text.specs.Plain.{IsPlainName, IsPlainPair, IsPlainSeparator};
-ghost use Rattle.ini_text.specs.PlainLaws.{FollowsPair, GivesHeaderFirst, GivesJust, IsEmptyOrHeader, Moves, header_line, pair_line};
+ghost use Rattle.ini_text.specs.PlainLaws.{FollowsPair, GivesHeaderFirst, IsEmptyOrHeader, IsHeaderLine, IsPairLine, Moves};
 ghost use Rattle.ini_text.specs.Positions.{is_column_one};
 ghost use Rattle.ini_text.specs.Texts.{Stops};
 
@@ -41,8 +40,7 @@ pub fn header_first(text: &str, option: ParseOption)
     ensures { GivesHeaderFirst option (chars text.now) }
 {}
 
-/// A plain name, written on a line of its own with no or one empty line behind it, is a header that gives it,
-/// and gaps.
+/// A plain name, written with its line end, once or twice, is a header that gives it, and gaps.
 pub fn header_line(
     before: &str,
     name: &str,
@@ -52,11 +50,12 @@ pub fn header_line(
     twice: bool,
 )
     requires plain { IsPlainName read write.now.escape_policy (chars name.now) }
-    ensures { GivesJust read (chars before.now) (header_line write.now (chars name.now) twice) (chars follows.now) (Header (chars name.now)) }
+    ensures { IsHeaderLine read write.now twice (chars before.now) (chars name.now) (chars follows.now) }
 {}
 
-/// A plain pair, written on a line of its own with no or one empty line behind it, is a pair that gives it, with
-/// its line ends or with gaps: in column one, and before nothing, a header or a plain key.
+/// A plain pair, written with its line end, once or twice, is a pair that gives it: in column one, and before
+/// nothing, a header or a plain key. Multiline values take the line ends, else they are gaps.
+#[tactic(auto, using(crate::proofs::PlainPairLemmas::pair_line))]
 pub fn pair_line(
     before: &str,
     key: &str,
@@ -66,9 +65,9 @@ pub fn pair_line(
     read: ParseOption,
     twice: bool,
 )
-    requires line_start { is_column_one (chars before.now) ≡ true }
+    requires column_one { is_column_one (chars before.now) ≡ true }
     requires separator { IsPlainSeparator (chars write.now.kv_separator.now) }
     requires plain { IsPlainPair read write.now.escape_policy (chars key.now) (chars value.now) }
     requires follows { FollowsPair read write.now.escape_policy (chars follows.now) }
-    ensures { GivesJust read (chars before.now) (pair_line write.now (chars key.now) (chars value.now) twice) (chars follows.now) (Pair (chars key.now) (chars value.now)) }
+    ensures { IsPairLine read write.now twice (chars before.now) (chars key.now) (chars value.now) (chars follows.now) }
 {}

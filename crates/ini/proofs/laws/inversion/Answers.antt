@@ -4,4 +4,4 @@ use Rattle.ini.proofs.InversionLemmas.{inverts}
 use Rattle.ini.proofs.laws.inversion.Goals as goal
 
 pub returns : goal.returns
-returns c = inverts c.args.read c.args.write.now c.requires.plain c.is_of_characters.ensures (chars c.args.follows.now) c.requires.follows
+returns c = inverts c.args.read c.args.write.now c.requires.plain (chars c.args.follows.now) c.requires.follows

@@ -1,10 +1,9 @@
 -- The line of a header.
 use Rattle.std.proofs.Common.{chars}
-use Rattle.std.proofs.lemmas.Str.{scalars-chars}
-use Rattle.ini_text.proofs.PlainLineLemmas.{header_line_read}
+use Rattle.ini_text.proofs.PlainLineLemmas.{header_line}
 use Rattle.ini_text.proofs.laws.header_line.Goals as goal
 
 pub returns : goal.returns
 returns c =
-    header_line_read c.args.read c.args.write.now c.args.twice (chars c.args.before.now) (chars c.args.name.now) (chars c.args.follows.now)
-    (scalars-chars c.args.name.now c.utf8.name) c.requires.plain
+    header_line c.args.read c.args.write.now c.args.twice (chars c.args.before.now) (chars c.args.name.now)
+    (chars c.args.follows.now) c.requires.plain
