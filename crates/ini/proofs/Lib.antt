@@ -12,3 +12,4 @@ pub mod EachLemmas
 pub mod PlainTextLemmas
 pub mod InversionLemmas
 pub mod PlainSamples
+pub mod PlainParts

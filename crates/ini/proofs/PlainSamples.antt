@@ -77,7 +77,7 @@ second = record {
 }
 
 name : IsPlainName default_parse_option Basics (codes "b")
-name = record { is_trimmed = refl; no_bracket = refl; read_back = reads_b }
+name = record { is_trimmed = refl; no_bracket = λ _. refl; read_back = reads_b }
 
 module _ {X : Type 0} (P : X → Type 0) where
   all_of_one : (x : X) → P x → All P (x ∷ [])

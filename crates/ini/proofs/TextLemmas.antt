@@ -1,25 +1,13 @@
 -- Texts are equal exactly where their bytes are.
-use Rattle.std.proofs.Common.{◌≡◌, ℕ, List, Option, None, Some, String, refl, sym, ap, ◌∙◌}
-use Rattle.std.proofs.lemmas.Bool.Decides.{same_from_decides}
-use Rattle.std.proofs.lemmas.Str.{encodes-chars, IsUtf8-string_bytes}
-use Rattle.std.specs.Bool.{Decides}
+use Rattle.std.proofs.Common.{◌≡◌, ℕ, List, Option, None, Some, String, refl}
+use Rattle.std.proofs.lemmas.Str.{IsUtf8-string_bytes}
 use Rattle.std.specs.Borrow.{Bor}
-use Rattle.std.specs.Cmp.Lexicographic.{bytes_decides}
 use Rattle.std.specs.Option.{option_eq}
 use Rattle.std.specs.Str.{IsUtf8, chars, bytes_eq}
 use Rattle.std.specs.String.{string_bytes, string_eq}
 use Rattle.ini_multimap.specs.Keys.{name_fits}
+use Rattle.ini_text.proofs.SameTexts.{same_text}
 use Rattle.ini.specs.Texts.{IsTextName, is_text, is_name, name_of, str_name, text_of}
-use lib.Utf8.{encodes}
-
--- what is read of two texts is equal exactly where the texts are
-chars_decides : (u v : List ℕ) → IsUtf8 u → IsUtf8 v → Decides (is_text (chars u) (chars v)) (u ≡ v)
-chars_decides u v a b =
-    let both = bytes_decides (chars u) (chars v) in
-    ((λ e. sym (encodes-chars u a) ∙ ap encodes (both.0 e) ∙ encodes-chars v b), (λ e. both.1 (ap chars e)))
-
-pub same_text : (u v : List ℕ) → IsUtf8 u → IsUtf8 v → bytes_eq u v ≡ is_text (chars u) (chars v)
-same_text u v a b = same_from_decides _ _ (bytes_decides u v) (chars_decides u v a b)
 
 module _ {Z : Type 0} where
   -- a key by a `&str`, and by a `String`

@@ -12,4 +12,5 @@ pub mod Pieces
 pub mod Entries
 pub mod Setter
 pub mod Plain
+pub mod PlainSections
 pub mod Outcomes

@@ -10,6 +10,7 @@ mod entry;
 mod iter;
 pub mod laws;
 mod load;
+mod plain;
 mod properties;
 mod setter;
 mod write;
@@ -18,7 +19,7 @@ pub use document::{Ini, SectionKey};
 pub use entry::{NoRoom, SectionEntry, SectionOccupiedEntry, SectionVacantEntry};
 pub use ini_text::{
     Error, EscapePolicy, LineSeparator, ParseError, ParseKind, ParseOption, Watched, WriteOption,
-    write_escaped, write_raw,
+    is_plain_name, is_plain_pair, is_plain_separator, write_escaped, write_raw,
 };
 pub use iter::{
     PropertiesIntoIter, PropertyIter, PropertyIterMut, PropertyValues, RemovedValues, SectionAll,

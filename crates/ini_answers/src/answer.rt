@@ -63,20 +63,20 @@ mod tests {
     #[test]
     fn answers(rt: HostRuntime) -> Result<(), Fail> {
         let rows = [
-            ("1100 ", "ok G"),
-            ("1100 6b3d760a5b735d", "ok G 6b=76 S73"),
+            ("11000 ", "ok G"),
+            ("11000 6b3d760a5b735d", "ok G 6b=76 S73"),
             (
-                "1100 6b",
+                "11000 6b",
                 "err 1:2 expecting \"[Some('='), Some(':')]\" but found EOF.",
             ),
-            ("Basics LF 1100 ", "written "),
-            ("Basics LF 1100 6b3d230a5b735d", "written 6b3d230a5b735d0a"),
+            ("Basics LF 11000 ", "written "),
+            ("Basics LF 11000 6b3d230a5b735d", "written 6b3d230a5b735d0a"),
             (
-                "Reserved CRLF 1100 6b3d230a5b735d",
+                "Reserved CRLF 11000 6b3d230a5b735d",
                 "written 6b3d5c230d0a5b735d0d0a",
             ),
-            ("Nothing LF 1100 6b20233d", "written 6b20233d0a"),
-            ("Nothing CRLF 1100 3d", "err 1:2 missing key"),
+            ("Nothing LF 11000 6b20233d", "written 6b20233d0a"),
+            ("Nothing CRLF 11000 3d", "err 1:2 missing key"),
         ];
         for (line, want) in rows {
             let question = Question::parse(rt.alloc(), line)?;

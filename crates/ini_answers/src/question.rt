@@ -24,7 +24,7 @@ fn flag(digit: u8) -> io::Result<bool> {
 }
 
 fn reading_of_flags(flags: &str) -> io::Result<ParseOption> {
-    let [escape, quote, multiline, indent] = flags.as_bytes() else {
+    let [escape, quote, multiline, indent, brackets] = flags.as_bytes() else {
         return Err(ErrorKind::InvalidInput.into());
     };
     Ok(ParseOption {
@@ -32,6 +32,7 @@ fn reading_of_flags(flags: &str) -> io::Result<ParseOption> {
         enabled_quote: flag(*quote)?,
         enabled_indented_mutiline_value: flag(*multiline)?,
         enabled_preserve_key_leading_whitespace: flag(*indent)?,
+        enabled_brackets_in_section_names: flag(*brackets)?,
     })
 }
 
@@ -109,12 +110,19 @@ mod tests {
 
     #[test]
     fn reads_flags_and_text(rt: HostRuntime) -> Result<(), Fail> {
-        let question = Question::parse(rt.alloc(), "1001 6b3dC3a9")?;
+        let question = Question::parse(rt.alloc(), "10011 6b3dC3a9")?;
         assert_eq!(rt; question.text.as_str(), "k=é");
         assert!(rt; question.reading.enabled_escape);
         assert!(rt; !question.reading.enabled_quote);
         assert!(rt; !question.reading.enabled_indented_mutiline_value);
         assert!(rt; question.reading.enabled_preserve_key_leading_whitespace);
+        assert!(rt; question.reading.enabled_brackets_in_section_names);
+        let question = Question::parse(rt.alloc(), "01100 6b")?;
+        assert!(rt; !question.reading.enabled_escape);
+        assert!(rt; question.reading.enabled_quote);
+        assert!(rt; question.reading.enabled_indented_mutiline_value);
+        assert!(rt; !question.reading.enabled_preserve_key_leading_whitespace);
+        assert!(rt; !question.reading.enabled_brackets_in_section_names);
         assert!(rt; question.writing.is_none());
         Ok(())
     }
@@ -123,12 +131,12 @@ mod tests {
     fn reads_policy_and_line_end(rt: HostRuntime) -> Result<(), Fail> {
         let rows = [
             (
-                "Nothing LF 0000 6b",
+                "Nothing LF 00000 6b",
                 EscapePolicy::Nothing,
                 LineSeparator::CR,
             ),
             (
-                "ReservedUnicode CRLF 0000 6b",
+                "ReservedUnicode CRLF 00000 6b",
                 EscapePolicy::ReservedUnicode,
                 LineSeparator::CRLF,
             ),
@@ -148,22 +156,22 @@ mod tests {
     fn refuses_other_lines(rt: HostRuntime) -> Result<(), Fail> {
         let lines = [
             "",
-            "1100",
-            "110 6b",
-            "11000 6b",
-            "1102 6b",
-            "1100 6",
-            "1100 6g",
-            "1100 c3",
-            "1100  6b",
-            "Basics 1100 6b",
-            "Basics LF 1100",
-            "basics LF 1100 6b",
-            "Basics CR 1100 6b",
-            "Basics LF 110 6b",
-            "Basics LF 1100 6",
-            "Basics LF 1100 6b ",
-            "LF Basics 1100 6b",
+            "11000",
+            "1100 6b",
+            "110000 6b",
+            "11002 6b",
+            "11000 6",
+            "11000 6g",
+            "11000 c3",
+            "11000  6b",
+            "Basics 11000 6b",
+            "Basics LF 11000",
+            "basics LF 11000 6b",
+            "Basics CR 11000 6b",
+            "Basics LF 1100 6b",
+            "Basics LF 11000 6",
+            "Basics LF 11000 6b ",
+            "LF Basics 11000 6b",
         ];
         for line in lines {
             assert!(rt; Question::parse(rt.alloc(), line).is_err(), "at {line}");

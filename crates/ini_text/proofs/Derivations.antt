@@ -10,7 +10,7 @@ use Rattle.ini_text.specs.Characters.{backslash, equals, double_quote, open_brac
 use Rattle.ini_text.specs.Positions.{starts_line}
 use Rattle.ini_text.specs.White.{Lead, trimmed, end_trimmed}
 use Rattle.ini_text.specs.Pieces.{Units}
-use Rattle.ini_text.specs.Strings.{Ends, is_endpoint, Row, Str, Closes, name_ends, key_ends, quote_ends, plain_ends}
+use Rattle.ini_text.specs.Strings.{Ends, is_endpoint, Row, Str, Closes, name_ends, bracketed_name_ends, key_ends, quote_ends, plain_ends}
 use Rattle.ini_text.specs.Lines.{Quoted, Line, BeginsPlain, plain_value}
 use Rattle.ini_text.specs.Values.{Value, ValueStops}
 use Rattle.ini_text.specs.Keys.{Indentation, begins_key, begins_indented_key, KeyFront}
@@ -210,9 +210,27 @@ plain_pair {o} {r = r} k s h =
     pair_of k both.0 some.0 (one_line (not-true o.enabled_indented_mutiline_value one.0) parts.0 (plain_line s parts.1))
 
 -- a header without backslashes
-pub plain_header : {o : ParseOption} {b r : List ℕ} (n : List ℕ) → is_raw_string name_ends n (close_bracket ∷ r) ≡ true
+abbrev pub is_plain_header : ParseOption → List ℕ → List ℕ → Bool
+is_plain_header o n r = not o.enabled_brackets_in_section_names && is_raw_string name_ends n (close_bracket ∷ r)
+
+pub plain_header : {o : ParseOption} {b r : List ℕ} (n : List ℕ) → is_plain_header o n r ≡ true
     → Element o b (open_bracket ∷ (n ++ close_bracket ∷ [])) r (Header (trimmed n) ∷ [])
-plain_header n h = Element.header (raw_string n h)
+plain_header {o} {r = r} n h =
+    let parts = and_parts (not o.enabled_brackets_in_section_names) (is_raw_string name_ends n (close_bracket ∷ r)) h in
+    Element.header (not-true o.enabled_brackets_in_section_names parts.0) (raw_string n parts.1)
+
+-- such a header with brackets in names, and the blanks w behind its last bracket
+abbrev pub is_bracketed_header : ParseOption → List ℕ → List ℕ → List ℕ → Bool
+is_bracketed_header o n w r =
+    o.enabled_brackets_in_section_names && (list_all is_blank w && is_raw_string bracketed_name_ends (n ++ close_bracket ∷ w) r)
+
+pub plain_bracketed_header : {o : ParseOption} {b r : List ℕ} (n w : List ℕ) → is_bracketed_header o n w r ≡ true
+    → Element o b (open_bracket ∷ (n ++ close_bracket ∷ w)) r (Header (trimmed n) ∷ [])
+plain_bracketed_header {o} {r = r} n w h =
+    let line = n ++ close_bracket ∷ w in
+    let on = and_parts o.enabled_brackets_in_section_names (list_all is_blank w && is_raw_string bracketed_name_ends line r) h in
+    let parts = and_parts (list_all is_blank w) (is_raw_string bracketed_name_ends line r) on.1 in
+    Element.bracketed_header on.0 (raw_string line parts.1) (record { blanks = w; blank = parts.0; whole = refl })
 
 -- one white character as a gap
 abbrev pub is_white_gap : List ℕ → ℕ → Bool

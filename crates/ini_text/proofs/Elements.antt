@@ -6,15 +6,15 @@ use Rattle.std.specs.Char.{is_whitespace}
 use Rattle.std.specs.List.{list_all}
 use Rattle.ini_text.specs.Characters.{line_feed, open_bracket, close_bracket, is_blank, is_line_feed, is_line_end, is_comment_mark, BeginsWithNo}
 use Rattle.ini_text.specs.ElementParts.{IsKey}
-use Rattle.ini_text.specs.Elements.{Header, Pair, Gap, Element, ElementStops}
+use Rattle.ini_text.specs.Elements.{Header, Pair, Gap, IsBracketed, Element, ElementStops}
 use Rattle.ini_text.specs.Keys.{KeyFront}
 use Rattle.ini_text.specs.Positions.{starts_line, is_column_one}
 use Rattle.ini_text.specs.Readers.{Begins, Appended, StoppedBy}
 use Rattle.ini_text.specs.Scans.{run_of, skipped}
-use Rattle.ini_text.specs.Strings.{Str, StrStops, name_ends}
+use Rattle.ini_text.specs.Strings.{Str, StrStops, name_ends, bracketed_name_ends}
 use Rattle.ini_text.specs.Values.{Value, ValueStops}
 use Rattle.ini_text.specs.White.{trimmed}
-use Rattle.ini_text.specs.declared.error.ParseKind.TheVariants.{InlineComment, MissingKey}
+use Rattle.ini_text.specs.declared.error.ParseKind.TheVariants.{HeaderEnd, InlineComment, MissingKey}
 use Rattle.ini_text.specs.declared.option.ParseOption.{ParseOption}
 use Rattle.ini_text.specs.declared.parser.fault.Stop.{Stop}
 use Rattle.ini_text.specs.declared.parser.fault.Stop.TheVariants as stops
@@ -73,17 +73,45 @@ module _ {o : ParseOption} {b : List ℕ} where
   late_comment {c = c} is marks late = record { source = c ∷ []; holds = ElementStops.late_comment marks late; whole = sym is }
 
   -- headers
-  pub header_read : {t end new name u : List ℕ} → Appended [] new t end (λ s v. Str o.enabled_escape name_ends s end v) → name ≡ trimmed new → u ≡ drop 1 end
+  pub header_read : {t end new name u : List ℕ} → o.enabled_brackets_in_section_names ≡ false
+      → Appended [] new t end (λ s v. Str o.enabled_escape name_ends s end v) → name ≡ trimmed new → u ≡ drop 1 end
       → Begins (open_bracket ∷ t) u (λ s. Element o b s u (Header name ∷ []))
-  header_read {end = end} {u = u} read is_name is =
+  header_read {end = end} {u = u} off read is_name is =
       let f = endpoint_follows read.holds refl in
       let bracket : f.0 ≡ close_bracket = eqb-true f.0 93 (sym (or-false (eqb f.0 93)) ∙ f.3) in
       let end_is : end ≡ close_bracket ∷ u = f.2 ∙ ap (λ c. c ∷ f.1) bracket ∙ ap (λ x. close_bracket ∷ x) (sym (is ∙ ap (drop 1) f.2)) in
       record {
         source = open_bracket ∷ (read.source ++ close_bracket ∷ []);
         holds = subst (λ x. Element o b (open_bracket ∷ (read.source ++ close_bracket ∷ [])) u (Header x ∷ [])) (sym (is_name ∙ ap trimmed read.appended))
-            (Element.header (subst (λ x. Str o.enabled_escape name_ends read.source x read.value) end_is read.holds));
+            (Element.header off (subst (λ x. Str o.enabled_escape name_ends read.source x read.value) end_is read.holds));
         whole = ap (λ x. open_bracket ∷ x) (append_assoc read.source (close_bracket ∷ []) u ∙ ap (λ x. read.source ++ x) (sym end_is) ∙ read.whole);
+      }
+
+  -- headers with brackets in names
+  pub bracketed_header_read : {t end line before name : List ℕ} → o.enabled_brackets_in_section_names ≡ true
+      → Appended [] line t end (λ s v. Str o.enabled_escape bracketed_name_ends s end v) → IsBracketed line before
+      → name ≡ trimmed before
+      → Begins (open_bracket ∷ t) end (λ s. Element o b s end (Header name ∷ []))
+  bracketed_header_read {end = end} {before = before} on read i is_name = record {
+    source = open_bracket ∷ read.source;
+    holds = subst (λ x. Element o b (open_bracket ∷ read.source) end (Header x ∷ [])) (sym is_name)
+        (Element.bracketed_header on read.holds (subst (λ x. IsBracketed x before) read.appended i));
+    whole = ap (λ x. open_bracket ∷ x) read.whole;
+  }
+
+  pub header_unended : {t end line u : List ℕ} → o.enabled_brackets_in_section_names ≡ true
+      → Appended [] line t end (λ s v. Str o.enabled_escape bracketed_name_ends s end v)
+      → ((name : List ℕ) → ¬ IsBracketed line name) → u ≡ drop 1 end
+      → Begins (open_bracket ∷ t) u (λ s. ElementStops o b s u HeaderEnd)
+  header_unended {end = end} {u = u} on read none is =
+      let f = endpoint_follows read.holds refl in
+      let end_is : end ≡ f.0 ∷ u = f.2 ∙ ap (λ x. f.0 ∷ x) (sym (is ∙ ap (drop 1) f.2)) in
+      record {
+        source = open_bracket ∷ (read.source ++ f.0 ∷ []);
+        holds = ElementStops.no_header_end on
+            (subst (λ x. Str o.enabled_escape bracketed_name_ends read.source x read.value) end_is read.holds)
+            (λ name i. none name (subst (λ x. IsBracketed x name) (sym read.appended) i));
+        whole = ap (λ x. open_bracket ∷ x) (append_assoc read.source (f.0 ∷ []) u ∙ ap (λ x. read.source ++ x) (sym end_is) ∙ read.whole);
       }
 
   -- pairs
@@ -109,9 +137,19 @@ module _ {o : ParseOption} {b : List ℕ} where
       }
 
 module _ (o : ParseOption) (b t : List ℕ) where
-  pub header_stops : (stop : Stop) → StoppedBy (StrStops o.enabled_escape name_ends) t stop → StoppedBy (ElementStops o b) (open_bracket ∷ t) stop
-  header_stops stops.Memory s = tt
-  header_stops (stops.Fault fault r) s = record { source = open_bracket ∷ s.source; holds = ElementStops.in_header s.holds; whole = ap (λ x. open_bracket ∷ x) s.whole }
+  pub header_stops : o.enabled_brackets_in_section_names ≡ false → (stop : Stop) → StoppedBy (StrStops o.enabled_escape name_ends) t stop
+      → StoppedBy (ElementStops o b) (open_bracket ∷ t) stop
+  header_stops off stops.Memory s = tt
+  header_stops off (stops.Fault fault r) s = record { source = open_bracket ∷ s.source; holds = ElementStops.in_header off s.holds; whole = ap (λ x. open_bracket ∷ x) s.whole }
+
+  pub bracketed_header_stops : o.enabled_brackets_in_section_names ≡ true → (stop : Stop)
+      → StoppedBy (StrStops o.enabled_escape bracketed_name_ends) t stop → StoppedBy (ElementStops o b) (open_bracket ∷ t) stop
+  bracketed_header_stops on stops.Memory s = tt
+  bracketed_header_stops on (stops.Fault fault r) s = record {
+    source = open_bracket ∷ s.source;
+    holds = ElementStops.in_bracketed_header on s.holds;
+    whole = ap (λ x. open_bracket ∷ x) s.whole;
+  }
 
   pub value_stops : {key rest u : List ℕ} (stop : Stop) → IsKey o b t key rest → u ≡ drop 1 rest → key ≢ [] → StoppedBy (ValueStops o) u stop → StoppedBy (ElementStops o b) t stop
   value_stops stops.Memory k is some s = tt

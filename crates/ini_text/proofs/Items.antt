@@ -34,7 +34,8 @@ pub element-some : {o : ParseOption} {b s r : List ℕ} {gives : List Given} →
 element-some (Element.gap g) = gap-some g
 element-some (Element.comment s one marks all) = omega arith
 element-some (Element.last_comment one marks all) = omega arith
-element-some (Element.header str) = omega arith
+element-some (Element.header off str) = omega arith
+element-some (Element.bracketed_header on str i) = omega arith
 element-some (Element.pair {k = k} {s = s} {m = m} front some separates value) = omega (arith, length-append k (m ∷ s))
 element-some (Element.dropped_blanks {w = w} i) = BeginsWith-some is_blank w i.some
 element-some (Element.dropped_key {w = w} {s = s} i begins str) = omega (arith, length-append w s, BeginsWith-some is_blank w i.some)

@@ -138,6 +138,7 @@ not_at_end faults.UnknownCharacter other = λ e. cc
 not_at_end faults.InlineComment other = λ e. cc
 not_at_end faults.MissingKey other = λ e. cc
 not_at_end faults.CrAlone other = λ e. cc
+not_at_end faults.HeaderEnd other = λ e. cc
 
 -- other stops in an indented key stay
 pub tail_refused : {o : ParseOption} {b t start rest blanks : List ℕ} {k : ParseKind} → Indentation b blanks → blanks ++ start ≡ t → BeginsWith begins_indented_key start

@@ -2,7 +2,7 @@
 -- `laws` does.
 pub use Rattle.ini_text.proofs.OneOutcome.{one_outcome}
 pub use Rattle.ini_text.proofs.MovedLemmas.{moved, header_first}
-pub use Rattle.ini_text.proofs.PlainLineLemmas.{header_line}
+pub use Rattle.ini_text.proofs.PlainHeaderLemmas.{header_line}
 pub use Rattle.ini_text.proofs.PlainPairLemmas.{pair_line}
 -- and what a header's and a pair's line are as rows of elements
 pub use Rattle.ini_text.proofs.PlainLineLemmas.{GivesLine, element_then_gaps-gives}

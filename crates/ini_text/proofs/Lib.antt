@@ -14,12 +14,14 @@ pub mod LineEnds
 pub mod MoreLines
 pub mod Values
 pub mod Keys
+pub mod BracketedNameLemmas
 pub mod Elements
 pub mod Positions
 pub mod Items
 pub mod Derivations
 pub mod WorkedTexts
 pub mod WorkedRefusals
+pub mod WorkedBrackets
 pub mod EscapeTexts
 pub mod Progress
 pub mod Samples
@@ -38,5 +40,8 @@ pub mod EscapePieceLemmas
 pub mod PlainTrimLemmas
 pub mod PlainLineLemmas
 pub mod PlainPairLemmas
+pub mod PlainHeaderLemmas
 pub mod LawLemmas
 pub mod PlainSamples
+pub mod PlainTestLemmas
+pub mod SameTexts

@@ -54,7 +54,8 @@ module _ (W : List ℕ) (one : is_column_one W ≡ true) where
         Element.comment s (is_column_one-behind b ∙ at) mark all
     Element-behind {b} (Element.last_comment at mark all) =
         Element.last_comment (is_column_one-behind b ∙ at) mark all
-    Element-behind (Element.header str) = Element.header str
+    Element-behind (Element.header off str) = Element.header off str
+    Element-behind (Element.bracketed_header on str i) = Element.bracketed_header on str i
     Element-behind (Element.pair front some sep value) = Element.pair (KeyFront-behind front) some sep value
     Element-behind (Element.dropped_blanks i) = Element.dropped_blanks (Indentation-behind i)
     Element-behind (Element.dropped_key i begins stops) =
@@ -62,7 +63,9 @@ module _ (W : List ℕ) (one : is_column_one W ≡ true) where
 
     ElementStops-behind : {b s r : List ℕ} {kind : ParseKind} → ElementStops o b s r kind
         → ElementStops o (W ++ b) s r kind
-    ElementStops-behind (ElementStops.in_header stops) = ElementStops.in_header stops
+    ElementStops-behind (ElementStops.in_header off stops) = ElementStops.in_header off stops
+    ElementStops-behind (ElementStops.in_bracketed_header on stops) = ElementStops.in_bracketed_header on stops
+    ElementStops-behind (ElementStops.no_header_end on str none) = ElementStops.no_header_end on str none
     ElementStops-behind (ElementStops.in_key begins stops) = ElementStops.in_key begins stops
     ElementStops-behind (ElementStops.in_indented_key i begins stops n) =
         ElementStops.in_indented_key (Indentation-behind i) begins stops n
@@ -150,7 +153,8 @@ module _ {o : ParseOption} where
       absurd (false≢true (begins_bracket is_comment_mark (m ∷ []) _ y mark e))
   header_element {r = r} y more (Element.last_comment {m} at mark all) e =
       absurd (false≢true (begins_bracket is_comment_mark (m ∷ []) _ y mark e))
-  header_element y more (Element.header str) e = tt
+  header_element y more (Element.header off str) e = tt
+  header_element y more (Element.bracketed_header on str i) e = tt
   header_element {r = r} y more (Element.pair {k} {s} {m = m} front some sep value) e =
       absurd (no_key y front (sym (append_assoc k (m ∷ s) r) ∙ e))
   header_element {r = r} y more (Element.dropped_blanks i) e = absurd (no_blank r y i e)

@@ -82,7 +82,8 @@ module _ {o : ParseOption} where
   Element-alike a (Element.gap g) = Element.gap (Gap-alike a g)
   Element-alike a (Element.comment s one mark all) = Element.comment s one mark all
   Element-alike a (Element.last_comment one mark all) = elim a [ ]
-  Element-alike a (Element.header str) = Element.header (Str-alike Alike.same str)
+  Element-alike a (Element.header off str) = Element.header off (Str-alike Alike.same str)
+  Element-alike a (Element.bracketed_header on str i) = Element.bracketed_header on (Str-alike a str) i
   Element-alike a (Element.pair front some sep given) = Element.pair (KeyFront-alike Alike.same front) some sep (Value-alike a given)
   Element-alike a (Element.dropped_blanks ind) = elim a [ ]
   Element-alike a (Element.dropped_key ind begins stops) = elim a [ ]

@@ -18,7 +18,7 @@ use Rattle.ini_text.proofs.WalkReaders.{Rule}
 use Rattle.ini_text.proofs.WalkRuns.{BeginsWith-some}
 use Rattle.ini_text.proofs.WalkValues.{EndedLine}
 use Rattle.ini_text.proofs.Items.{element-some}
-use Rattle.ini_text.proofs.OneAhead.{Alike, Alike-some, BeginsWith-alike, BeginsWithNo-alike, Lead-alike, LineEnd-alike, EndedLine-before, KeyFront-alike, Reads-alike}
+use Rattle.ini_text.proofs.OneAhead.{Alike, Alike-some, BeginsWith-alike, BeginsWithNo-alike, Lead-alike, LineEnd-alike, EndedLine-before, Str-alike, KeyFront-alike, Reads-alike}
 
 -- What stops at a character has a source, and stops there before each x.
 EscapeStops-stands : {p r : List ℕ} {k : ParseKind} (x : List ℕ) → k ≢ EndOfText → EscapeStops p r k → (1 ≤ length p) × EscapeStops p x k
@@ -113,7 +113,11 @@ module _ (o : ParseOption) where
 
   ElementStops-stands : {b s r : List ℕ} {k : ParseKind} (x : List ℕ) → k ≢ EndOfText → ¬ IsCut (Element o b) s r k → ElementStops o b s r k
       → (1 ≤ length s) × ElementStops o b s x k
-  ElementStops-stands x n uncut (ElementStops.in_header stops) = (omega arith, ElementStops.in_header (StrStops-stands x n stops).1)
+  ElementStops-stands x n uncut (ElementStops.in_header off stops) = (omega arith, ElementStops.in_header off (StrStops-stands x n stops).1)
+  ElementStops-stands x n uncut (ElementStops.in_bracketed_header on stops) =
+      (omega arith, ElementStops.in_bracketed_header on (StrStops-stands x n stops).1)
+  ElementStops-stands x n uncut (ElementStops.no_header_end on str none) =
+      (omega arith, ElementStops.no_header_end on (Str-alike Alike.same str) none)
   ElementStops-stands x n uncut (ElementStops.in_key {s} {r} begins stops) =
       let y = StrStops-stands x n stops in (y.0, ElementStops.in_key (BeginsWith-alike begins_key (Alike-some s r x y.0) begins) y.1)
   ElementStops-stands x n uncut (ElementStops.in_indented_key {w} {s} {r} ind begins stops m) =

@@ -110,20 +110,23 @@ row_of {escapes} {policy} {ends} text all n =
     let row : Row escapes ends (escaped policy text ++ []) (text ++ []) = row_escaped text all n Row.none in
     rw (append-nil (escaped policy text), append-nil text) at row
 
-header_element : {o : ParseOption} {b r : List ℕ} (policy : EscapePolicy) (name : List ℕ) → IsPlainName o policy name
+pub header_element : {o : ParseOption} {b r : List ℕ} (policy : EscapePolicy) (name : List ℕ)
+    → o.enabled_brackets_in_section_names ≡ false → IsPlainName o policy name
     → Element o b (open_bracket ∷ (escaped policy name ++ close_bracket ∷ [])) r (Header name ∷ [])
-header_element {o} {b} {r} policy name p =
+header_element {o} {b} {r} policy name off p =
     let row = row_of {ends = name_ends} name (all_read {o = o} policy name p.read_back)
-    (name_no_end policy name p.no_bracket) in
+    (name_no_end policy name (p.no_bracket off)) in
     subst (λ n. Element o b (open_bracket ∷ (escaped policy name ++ close_bracket ∷ [])) r
-    (Header n ∷ [])) p.is_trimmed (Element.header (Str.closed row refl))
+    (Header n ∷ [])) p.is_trimmed (Element.header off (Str.closed row refl))
 
-pub header_line : (o : ParseOption) (w : WriteOption) (twice : Bool) (b name r : List ℕ)
-    → IsPlainName o w.escape_policy name → IsHeaderLine o w twice b name r
-header_line o w twice b name r plain =
+-- the line of a header that is read before its line ends
+pub header_line_of : (o : ParseOption) (w : WriteOption) (twice : Bool) (b name r : List ℕ)
+    → Element o b (header_source w name) (line_ends w twice ++ r) (Header name ∷ [])
+    → IsHeaderLine o w twice b name r
+header_line_of o w twice b name r element =
     let source = header_source w name in
     record {
-      element = header_element w.escape_policy name plain;
+      element = element;
       are_gaps = line_end_gaps w twice;
       column_one =
           ap is_column_one (sym (append_assoc b source (line_ends w twice)))

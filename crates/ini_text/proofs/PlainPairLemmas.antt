@@ -187,7 +187,7 @@ module _ {o : ParseOption} {policy : EscapePolicy} {key : List ℕ} (bare : IsBa
       (KeyFront.unindented begins (bare_string w r m blank sep))
 
 -- spaces are escaped by no policy
-space_raw : (policy : EscapePolicy) → is_escaped policy space ≡ false
+pub space_raw : (policy : EscapePolicy) → is_escaped policy space ≡ false
 space_raw Nothing = refl
 space_raw Basics = refl
 space_raw BasicsUnicode = refl
@@ -262,7 +262,7 @@ module _ {o : ParseOption} {policy : EscapePolicy} where
   key_some (IsPlainKey.behind_spaces {key} spaces kept off all bare) = some_behind spaces key bare.some
 
 -- values
-value_no_end : {escapes : Bool} {policy : EscapePolicy} {value : List ℕ} → AllRead escapes policy value
+pub value_no_end : {escapes : Bool} {policy : EscapePolicy} {value : List ℕ} → AllRead escapes policy value
     → NoRawEnd policy plain_ends value
 value_no_end AllRead.none = refl
 value_no_end {policy = policy} (AllRead.more {c} one all) =

@@ -4,7 +4,7 @@ use Rattle.std.specs.Prelude.{codes}
 use Rattle.std.specs.List.{list_all}
 use Rattle.std.proofs.lemmas.Bool.{false≢true, true≢false, and_parts, and_from, and_right, not-true, or_cases, both_ways, false_from_ne_true}
 use Rattle.ini_text.specs.Options.{default_parse_option}
-use Rattle.ini_text.specs.Plain.{HasReadEscapes, HasNoEscapes, IsBareKey, IsPlainKey, IsPlainSeparator, IsPlainValue, IsReadBack, has_unread_letter}
+use Rattle.ini_text.specs.Plain.{HasReadEscapes, HasNoEscapes, IsBareKey, IsPlainKey, IsPlainName, IsPlainSeparator, IsPlainValue, IsReadBack, has_unread_letter}
 use Rattle.ini_text.specs.Policies.{is_basic, is_escaped, is_extended}
 use Rattle.ini_text.specs.declared.option.ParseOption.{ParseOption}
 use Rattle.ini_text.specs.declared.policy.EscapePolicy.{EscapePolicy}
@@ -124,6 +124,20 @@ escaped_equals o = record {
   no_bracket = refl;
   no_separator = refl;
   no_comment = refl;
+}
+
+-- a closing bracket in a name only where names may have brackets
+closing_bracket : ¬ IsPlainName default_parse_option Basics (codes "a]")
+closing_bracket n = false≢true (n.no_bracket refl)
+
+bracketed_name : IsPlainName (record default_parse_option { enabled_brackets_in_section_names = true }) Basics (codes "a]")
+bracketed_name = record {
+  is_trimmed = refl;
+  no_bracket = λ off. absurd (true≢false off);
+  read_back = record {
+    of_characters = refl;
+    is_read = inr (record { no_escaped = refl; no_backslash = refl });
+  };
 }
 
 -- spaces before a key: with kept indentation, and where values aren't multiline

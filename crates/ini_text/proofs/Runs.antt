@@ -12,7 +12,7 @@ use Rattle.ini_text.specs.Scans.{is_plain}
 use Rattle.ini_text.specs.ParserFaults.{ends_of}
 use Rattle.ini_text.specs.Characters.{BeginsWithNo}
 use Rattle.ini_text.specs.declared.parser.fault.Endpoints.{Endpoints}
-use Rattle.ini_text.specs.declared.parser.fault.Endpoints.TheVariants.{Name, Key, DoubleQuotes, SingleQuotes, Plain}
+use Rattle.ini_text.specs.declared.parser.fault.Endpoints.TheVariants.{Name, BracketedName, Key, DoubleQuotes, SingleQuotes, Plain}
 
 chars_pass : (p : ℕ → Bool) → ((c : ℕ) → 128 ≤ c → p c ≡ true) → (cs : List ℕ) → list_all p (encode_utf8_all cs) ≡ true → list_all p cs ≡ true
 chars_pass p wide [] h = refl
@@ -63,6 +63,7 @@ run_stops p bs back n wide u e k =
 
 pub plain_wide : (ends : Endpoints) (c : ℕ) → 128 ≤ c → is_plain (ends_of ends) c ≡ true
 plain_wide Name c l = grind (arith, nat_tests)
+plain_wide BracketedName c l = grind (arith, nat_tests)
 plain_wide Key c l = grind (arith, nat_tests)
 plain_wide DoubleQuotes c l = grind (arith, nat_tests)
 plain_wide SingleQuotes c l = grind (arith, nat_tests)

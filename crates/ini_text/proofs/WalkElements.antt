@@ -1,23 +1,24 @@
 -- Reading an element by the character with which it begins: the reader serves the proofs alone.
-use Rattle.std.proofs.Common.{◌≡◌, ◌≢◌, ℕ, Bool, true, false, not, ◌&&◌, ◌||◌, ◌==◌, if◌then◌else◌, List, [], ◌∷◌, ◌++◌, drop, refl, sym, ap, ◌∙◌, subst, append_assoc, append-nil, eqb-true, inl, inr}
+use Rattle.std.proofs.Common.{◌≡◌, ◌≢◌, ℕ, Bool, true, false, not, ◌&&◌, ◌||◌, ◌==◌, if◌then◌else◌, List, [], ◌∷◌, ◌++◌, drop, Option, Some, None, refl, sym, ap, ◌∙◌, subst, append_assoc, append-nil, eqb-true, inl, inr}
 use Rattle.std.proofs.Math.Bool.{or-false}
-use Rattle.std.proofs.lemmas.Bool.{cases_Bool, cond-true, and_parts, or_parts, not-true, not-false}
+use Rattle.std.proofs.lemmas.Bool.{cases_Bool, cond-true, cond-false, and_parts, or_parts, not-true, not-false}
 use Rattle.std.specs.Char.{is_whitespace}
 use Rattle.std.specs.List.{list_all}
 use Rattle.ini_text.specs.declared.option.ParseOption.{ParseOption}
 use Rattle.ini_text.specs.declared.error.ParseKind.{ParseKind}
-use Rattle.ini_text.specs.declared.error.ParseKind.TheVariants.{EndOfText, InlineComment, MissingKey}
+use Rattle.ini_text.specs.declared.error.ParseKind.TheVariants.{EndOfText, HeaderEnd, InlineComment, MissingKey}
 use Rattle.ini_text.specs.Characters.{line_feed, carriage_return, hash, semicolon, open_bracket, close_bracket, is_line_feed, is_line_end, is_blank, is_separator, is_comment_mark, BeginsWith, BeginsWithNo}
 use Rattle.ini_text.specs.Positions.{starts_line, is_column_one}
 use Rattle.ini_text.specs.White.{trimmed, end_trimmed}
-use Rattle.ini_text.specs.Strings.{Str, StrStops, name_ends, key_ends}
+use Rattle.ini_text.specs.Strings.{Str, StrStops, name_ends, bracketed_name_ends, key_ends}
 use Rattle.ini_text.specs.Values.{Value, ValueStops}
 use Rattle.ini_text.specs.Keys.{Indentation, begins_key, begins_indented_key, KeyFront}
 use Rattle.ini_text.specs.Elements.{Given, Header, Pair, Gap, Element, ElementStops}
 use Rattle.ini_text.proofs.WalkReaders.{Answer, found, stopped, Says, IsReader}
 use Rattle.ini_text.proofs.WalkStrings.{StringSays, string, string-reads}
+use Rattle.ini_text.proofs.BracketedNameLemmas.{name_in, finds_name, name_found, no_name, none_found}
 use Rattle.ini_text.proofs.Elements.{blank_is_white}
-use Rattle.ini_text.proofs.Keys.{stopped_at_end}
+use Rattle.ini_text.proofs.Keys.{endpoint_follows, stopped_at_end}
 use Rattle.ini_text.proofs.WalkRuns.{either_true, run-finds, run-sound}
 use Rattle.ini_text.specs.Scans.{run_of, skipped}
 use Rattle.ini_text.proofs.WalkValues.{value, value-reads}
@@ -46,6 +47,21 @@ module _ (o : ParseOption) (b : List ℕ) where
   abbrev header : Answer ℕ → Answer Given
   header (found v r) = found (Header (trimmed v) ∷ []) (drop 1 r)
   header (stopped r k) = stopped r k
+
+  -- behind a header's string, by the name in it
+  abbrev named : Option (List ℕ) → List ℕ → Answer Given
+  named (Some name) r = found (Header (trimmed name) ∷ []) r
+  named None r = stopped (drop 1 r) HeaderEnd
+
+  abbrev bracketed_header : Answer ℕ → Answer Given
+  bracketed_header (found v r) = named (name_in v) r
+  bracketed_header (stopped r k) = stopped r k
+
+  -- behind an opening bracket
+  abbrev behind_bracket : List ℕ → Answer Given
+  behind_bracket cs =
+      if o.enabled_brackets_in_section_names then bracketed_header (string o.enabled_escape bracketed_name_ends cs)
+      else header (string o.enabled_escape name_ends cs)
 
   abbrev paired : List ℕ → Answer ℕ → Answer Given
   paired key (found v r) = found (Pair key v ∷ []) r
@@ -86,7 +102,7 @@ module _ (o : ParseOption) (b : List ℕ) where
       if is_blank c && starts_line b then behind_blanks (run_of is_blank (c ∷ cs)) (skipped is_blank (c ∷ cs))
       else if is_whitespace c then found [] cs
       else if is_comment_mark c then (if is_column_one b then found [] (drop 1 (skipped is_comment_part cs)) else stopped cs InlineComment)
-      else if c == open_bracket then header (string o.enabled_escape name_ends cs)
+      else if c == open_bracket then behind_bracket cs
       else unindented (string o.enabled_escape key_ends (c ∷ cs))
 
   pub element-end : element [] ≡ found [] []
@@ -98,6 +114,10 @@ module _ (o : ParseOption) (b : List ℕ) where
 
   name-reads : IsReader (Str o.enabled_escape name_ends) (StrStops o.enabled_escape name_ends) (string o.enabled_escape name_ends)
   name-reads = string-reads o.enabled_escape name_ends refl
+
+  line-reads : IsReader (Str o.enabled_escape bracketed_name_ends) (StrStops o.enabled_escape bracketed_name_ends)
+      (string o.enabled_escape bracketed_name_ends)
+  line-reads = string-reads o.enabled_escape bracketed_name_ends refl
 
   key-reads : IsReader (Str o.enabled_escape key_ends) (StrStops o.enabled_escape key_ends) (string o.enabled_escape key_ends)
   key-reads = string-reads o.enabled_escape key_ends refl
@@ -164,15 +184,42 @@ module _ (o : ParseOption) (b : List ℕ) where
     ]
   ]
 
-  header-sound : (t : List ℕ) (a : Answer ℕ) → StringSays o.enabled_escape name_ends t a → ElementSays (open_bracket ∷ t) (header a)
-  header-sound t (stopped r k) (s, stops, h) = (open_bracket ∷ s, ElementStops.in_header stops, ap (λ y. open_bracket ∷ y) h)
-  header-sound t (found v r) (s, str, h) =
+  header-sound : o.enabled_brackets_in_section_names ≡ false → (t : List ℕ) (a : Answer ℕ) → StringSays o.enabled_escape name_ends t a
+      → ElementSays (open_bracket ∷ t) (header a)
+  header-sound off t (stopped r k) (s, stops, h) = (open_bracket ∷ s, ElementStops.in_header off stops, ap (λ y. open_bracket ∷ y) h)
+  header-sound off t (found v r) (s, str, h) =
       let x = name-bracket str in
       rw x.1 (
         open_bracket ∷ (s ++ close_bracket ∷ []),
-        Element.header (subst (λ y. Str o.enabled_escape name_ends s y v) x.1 str),
+        Element.header off (subst (λ y. Str o.enabled_escape name_ends s y v) x.1 str),
         ap (λ y. open_bracket ∷ y) (append_assoc s (close_bracket ∷ []) x.0 ∙ ap (λ y. s ++ y) (sym x.1) ∙ h),
       )
+
+  named-sound : {s r v t : List ℕ} → o.enabled_brackets_in_section_names ≡ true
+      → Str o.enabled_escape bracketed_name_ends s r v → s ++ r ≡ t → (name : Option (List ℕ)) → name_in v ≡ name → ElementSays (open_bracket ∷ t) (named name r)
+  named-sound {s} {r} {v} on str h (Some name) e =
+      (open_bracket ∷ s, Element.bracketed_header on str (name_found v name e), ap (λ y. open_bracket ∷ y) h)
+  named-sound {s} {r} {v} on str h None e =
+      let (c, x, is, ends) = endpoint_follows str refl in
+      rw is (
+        open_bracket ∷ (s ++ c ∷ []),
+        ElementStops.no_header_end on (subst (λ y. Str o.enabled_escape bracketed_name_ends s y v) is str) (no_name v e),
+        ap (λ y. open_bracket ∷ y) (append_assoc s (c ∷ []) x ∙ ap (λ y. s ++ y) (sym is) ∙ h),
+      )
+
+  bracketed_header-sound : o.enabled_brackets_in_section_names ≡ true → (t : List ℕ) (a : Answer ℕ)
+      → StringSays o.enabled_escape bracketed_name_ends t a → ElementSays (open_bracket ∷ t) (bracketed_header a)
+  bracketed_header-sound on t (stopped r k) (s, stops, h) =
+      (open_bracket ∷ s, ElementStops.in_bracketed_header on stops, ap (λ y. open_bracket ∷ y) h)
+  bracketed_header-sound on t (found v r) (s, str, h) = named-sound on str h (name_in v) refl
+
+  behind_bracket-sound : (cs : List ℕ) → ElementSays (open_bracket ∷ cs) (behind_bracket cs)
+  behind_bracket-sound cs = elim (cases_Bool o.enabled_brackets_in_section_names) [
+    | inl on ↦ subst (ElementSays (open_bracket ∷ cs)) (sym (cond-true o.enabled_brackets_in_section_names _ _ on))
+        (bracketed_header-sound on cs (string o.enabled_escape bracketed_name_ends cs) (line-reads.sound cs))
+    | inr off ↦ subst (ElementSays (open_bracket ∷ cs)) (sym (cond-false o.enabled_brackets_in_section_names _ _ off))
+        (header-sound off cs (string o.enabled_escape name_ends cs) (name-reads.sound cs))
+  ]
 
   comment-sound : (c : ℕ) (s rest : List ℕ) → is_column_one b ≡ true → is_comment_mark c ≡ true → list_all is_comment_part s ≡ true
       → BeginsWithNo is_comment_part rest
@@ -210,7 +257,7 @@ module _ (o : ParseOption) (b : List ℕ) where
       | inr x ↦ elim (cases_Bool (is_comment_mark c)) [
         | inl m ↦ rw (n, x, m) (mark-sound c cs m)
         | inr m ↦ elim (cases_Bool (c == open_bracket)) [
-          | inl q ↦ rw (eqb-true c 91 q) (header-sound cs (string o.enabled_escape name_ends cs) (name-reads.sound cs))
+          | inl q ↦ rw (eqb-true c 91 q) (behind_bracket-sound cs)
           | inr k ↦ rw (n, x, m, k) (unindented-sound (c ∷ cs) (rw (x, m, k) refl) (string o.enabled_escape key_ends (c ∷ cs)) (key-reads.sound (c ∷ cs)))
         ]
       ]
@@ -268,7 +315,8 @@ module _ (o : ParseOption) (b : List ℕ) where
   element-finds (Element.gap g) = element-gap g
   element-finds {r = r} (Element.comment {m} s one mark all) = rw (append_assoc s (line_feed ∷ []) r) (element-comment m s (line_feed ∷ r) one mark all refl)
   element-finds (Element.last_comment {m} {s} one mark all) = element-comment m s [] one mark all tt
-  element-finds {r = r} (Element.header {s} str) = rw (append_assoc s (close_bracket ∷ []) r, name-reads.finds str)
+  element-finds {r = r} (Element.header {s} off str) = rw (off, append_assoc s (close_bracket ∷ []) r, name-reads.finds str)
+  element-finds (Element.bracketed_header on str i) = rw (on, line-reads.finds str, finds_name i)
   element-finds {r = r} (Element.pair {k} {s} {key = key} {m = m} front some sep given) =
       rw (append_assoc k (m ∷ s) r, element-key front sep, behind_key key (s ++ r) some, (value-reads o).finds given)
   element-finds (Element.dropped_blanks ind) = element-blanks [] ind tt
@@ -282,7 +330,10 @@ module _ (o : ParseOption) (b : List ℕ) where
 
   pub element-stops : {s r : List ℕ} {k : ParseKind} → ElementStops o b s r k → element (s ++ r) ≡ stopped r k
   unfolding element
-  element-stops (ElementStops.in_header stops) = rw (name-reads.stops stops)
+  element-stops (ElementStops.in_header off stops) = rw (off, name-reads.stops stops)
+  element-stops (ElementStops.in_bracketed_header on stops) = rw (on, line-reads.stops stops)
+  element-stops {r = r} (ElementStops.no_header_end {s} {v = v} {c} on str none) =
+      rw (on, append_assoc s (c ∷ []) r, line-reads.finds str, none_found v none)
   element-stops {s} {r} (ElementStops.in_key begins stops) = rw (element-unindented (s ++ r) begins, key-reads.stops stops)
   element-stops {r = r} {k} (ElementStops.in_indented_key {w} {s} ind begins stops n) =
       rw (append_assoc w s r, element-indented (s ++ r) ind begins, key-reads.stops stops) (dropped-stops r k n)

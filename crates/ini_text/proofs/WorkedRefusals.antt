@@ -21,7 +21,7 @@ use Rattle.ini_text.proofs.WorkedTexts.{with_multiline_values}
 abbrev pub StopsAt : ParseOption → List ℕ → ParseKind → ℕ → ℕ → Type 0
 StopsAt o T kind line column = (front : List ℕ) × Stops o T kind front × (line_of front ≡ line) × (column_of front ≡ column)
 
-stops_at : {o : ParseOption} {T f : List ℕ} {kind : ParseKind} {line column : ℕ} → RestStops o [] T kind f → line_of f ≡ line → column_of f ≡ column
+pub stops_at : {o : ParseOption} {T f : List ℕ} {kind : ParseKind} {line column : ℕ} → RestStops o [] T kind f → line_of f ≡ line → column_of f ≡ column
     → StopsAt o T kind line column
 stops_at {f = f} rest at_line at_column = (f, stops rest, at_line, at_column)
 
@@ -39,7 +39,7 @@ backslash_at_the_end_of_a_key = stops_at (stop (ElementStops.in_key refl (StrSto
 
 -- The text ends in a section's name.
 pub end_in_a_name : StopsAt default_parse_option (codes "[b") EndOfText 1 3
-end_in_a_name = stops_at (stop (ElementStops.in_header (StrStops.at_end (raws (codes "b") refl) refl))) refl refl
+end_in_a_name = stops_at (stop (ElementStops.in_header refl (StrStops.at_end (raws (codes "b") refl) refl))) refl refl
 
 -- The text ends in quotes.
 pub end_in_quotes : StopsAt default_parse_option (codes "k=\"a") EndOfText 1 5

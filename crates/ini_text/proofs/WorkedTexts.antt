@@ -178,7 +178,7 @@ comment_past_cr = derives (skip (Element.last_comment {s = codes " c\rk=v"} refl
 -- A backslash keeps a bracket in a name, and the other quote's mark stands for itself within quotes.
 pub escaped_bracket_and_single_quotes : Derives default_parse_option (codes "[a\\]b]k='x\"' y") (Header (codes "a]b") ∷ Pair (codes "k") (codes "x\" y") ∷ [])
 escaped_bracket_and_single_quotes = derives (
-    give (Element.header (Str.closed (raws_before (codes "a") refl (Row.escape (Escape.itself refl (differs refl) (differs refl) refl) (raws (codes "b") refl))) refl)) (
+    give (Element.header refl (Str.closed (raws_before (codes "a") refl (Row.escape (Escape.itself refl (differs refl) (differs refl) refl) (raws (codes "b") refl))) refl)) (
     give (pair_of (codes "k") refl refl (one_line refl refl (Line.line
     (Quoted.part refl refl (raw_string (codes "x\"") refl) Quoted.none) (λ _. refl) (raw_string (codes " y") refl)))) whole))
 

@@ -31,3 +31,4 @@ pub mod WriteOptions
 pub mod Laws
 pub mod Plain
 pub mod PlainLaws
+pub mod PlainTests

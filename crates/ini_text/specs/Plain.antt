@@ -58,8 +58,8 @@ pub record IsReadBack (o : ParseOption) (policy : EscapePolicy) (text : List ℕ
 pub record IsPlainName (o : ParseOption) (policy : EscapePolicy) (name : List ℕ) : Type 0 where
   -- it is trimmed
   pub is_trimmed : trimmed name ≡ name
-  -- it has no closing bracket
-  pub no_bracket : list_all (λ c. not (c == close_bracket)) name ≡ true
+  -- it has no closing bracket, unless brackets may stand in names
+  pub no_bracket : o.enabled_brackets_in_section_names ≡ false → list_all (λ c. not (c == close_bracket)) name ≡ true
   -- its characters are read back
   pub read_back : IsReadBack o policy name
 

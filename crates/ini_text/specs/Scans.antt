@@ -2,7 +2,7 @@
 use Rattle.std.specs.Prelude.{ℕ, Bool, not, ◌==◌, ◌&&◌, false, List, [], ◌∷◌, chars, String, string_bytes, if◌then◌else◌}
 use Rattle.std.specs.declared.alloc.Global.{Global}
 use Rattle.std.specs.Char.{is_whitespace}
-use Rattle.ini_text.specs.Characters.{backslash, is_blank, is_inline_white, is_line_feed}
+use Rattle.ini_text.specs.Characters.{backslash, space, is_blank, is_inline_white, is_line_feed}
 use Rattle.ini_text.specs.White.{trimmed, end_trimmed}
 use Rattle.ini_text.specs.Strings.{Ends, is_endpoint}
 use Rattle.ini_text.specs.declared.parser.scan.Class.{Class}
@@ -13,6 +13,7 @@ abbrev pub text_of : String Global → List ℕ
 text_of s = chars (string_bytes s)
 
 abbrev pub is_in : Class → ℕ → Bool
+is_in classes.Space c = c == space
 is_in classes.Blank c = is_blank c
 is_in classes.InlineWhite c = is_inline_white c
 is_in classes.LineFeed c = is_line_feed c

@@ -15,6 +15,10 @@ pub record Ends : Type 0 where
 abbrev pub name_ends : Ends
 name_ends = record { characters = close_bracket ∷ []; text = false }
 
+-- with brackets in names a name ends with its line
+abbrev pub bracketed_name_ends : Ends
+bracketed_name_ends = record { characters = line_feed ∷ carriage_return ∷ []; text = false }
+
 -- a key ends at a separator
 abbrev pub key_ends : Ends
 key_ends = record { characters = equals ∷ colon ∷ []; text = false }

@@ -23,6 +23,8 @@ pub enum ParseKind {
     MissingKey,
     /// In a multiline value, CR without LF stands in the place of an empty line.
     CrAlone,
+    /// With brackets in names, a header's line does not end in `]`.
+    HeaderEnd,
 }
 
 /// Where and why reading a text stopped.

@@ -14,9 +14,12 @@ pub struct ParseOption {
     pub enabled_indented_mutiline_value: bool,
     /// The spaces and tabs before a key belong to it.
     pub enabled_preserve_key_leading_whitespace: bool,
+    /// Brackets may stand in the name of a section: its header goes up to the line's end, and the last closing bracket
+    /// ends the name.
+    pub enabled_brackets_in_section_names: bool,
 }
 
-/// Quotes and escapes are read; multiline values and kept indentation are off.
+/// Quotes and escapes are read; multiline values, kept indentation and brackets in names are off.
 impl Default for ParseOption {
     ghost is_default = { λ o. o ≡ default_parse_option };
 
@@ -26,6 +29,7 @@ impl Default for ParseOption {
             enabled_escape: true,
             enabled_indented_mutiline_value: false,
             enabled_preserve_key_leading_whitespace: false,
+            enabled_brackets_in_section_names: false,
         }
     }
 }

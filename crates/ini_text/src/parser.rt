@@ -1,7 +1,7 @@
 //! The parser: the items of a text, one at a time. This file knows fronts, elements and refusals, and no production.
 //!
 //! Each file below has one production, in the order in which a text is read: characters and runs, strings, trims, lines,
-//! values, elements; and beside them why reading stops, and where.
+//! values, pairs and headers, elements; and beside them why reading stops, and where.
 ghost use Rattle.std.specs.Prelude.{◌≡◌, chars, [], None, Some, Ok, IfSome, IsOkAnd, IsErrAnd, OnErr, MatchResult};
 ghost use Rattle.ini_text.specs.Fronts.{IsRest};
 ghost use Rattle.ini_text.specs.Parser.{AnswersItem, FindsItem, IsStopOf, KeepsRefusal, StopIsWithin, Tells, refusal_of};
@@ -20,10 +20,11 @@ use std::marker::Model;
 
 mod element;
 mod fault;
+mod header;
 mod line;
 mod pair;
 mod position;
-mod scan;
+pub(crate) mod scan;
 mod string;
 #[cfg(test)]
 mod tests;

@@ -6,10 +6,10 @@ use std::process::Abort;
 use std::test::Fail;
 
 /// A pair: the name of its section, the key and the value.
-type Row = (Option<&'static str>, &'static str, &'static str);
+pub(crate) type Row = (Option<&'static str>, &'static str, &'static str);
 
 /// A document of these pairs, in order.
-fn document(alloc: Global, pairs: &[Row]) -> Result<Ini, Error> {
+pub(crate) fn document(alloc: Global, pairs: &[Row]) -> Result<Ini, Error> {
     let mut document = Ini::new(alloc)?;
     for (name, key, value) in pairs {
         document.with_section(*name).add(key, value)?;
@@ -18,7 +18,7 @@ fn document(alloc: Global, pairs: &[Row]) -> Result<Ini, Error> {
 }
 
 /// The default options but for the policy.
-fn policy(escape_policy: EscapePolicy) -> WriteOption {
+pub(crate) fn policy(escape_policy: EscapePolicy) -> WriteOption {
     WriteOption {
         escape_policy,
         ..WriteOption::default()
@@ -26,7 +26,7 @@ fn policy(escape_policy: EscapePolicy) -> WriteOption {
 }
 
 /// The same, with CR LF at line ends.
-fn crlf(escape_policy: EscapePolicy) -> WriteOption {
+pub(crate) fn crlf(escape_policy: EscapePolicy) -> WriteOption {
     WriteOption {
         escape_policy,
         line_separator: LineSeparator::CRLF,
@@ -35,7 +35,7 @@ fn crlf(escape_policy: EscapePolicy) -> WriteOption {
 }
 
 /// The options with kept indentation and multiline values.
-fn indented_multiline() -> ParseOption {
+pub(crate) fn indented_multiline() -> ParseOption {
     ParseOption {
         enabled_preserve_key_leading_whitespace: true,
         ..multiline()
@@ -43,7 +43,7 @@ fn indented_multiline() -> ParseOption {
 }
 
 /// The options without quotes.
-fn without_quotes() -> ParseOption {
+pub(crate) fn without_quotes() -> ParseOption {
     ParseOption {
         enabled_quote: false,
         ..ParseOption::default()

@@ -25,7 +25,11 @@ mod lines;
 #[cfg(test)]
 mod multiline;
 #[cfg(test)]
+mod not_plain;
+#[cfg(test)]
 mod order;
+#[cfg(test)]
+mod plain;
 #[cfg(test)]
 mod properties;
 #[cfg(test)]

@@ -11,6 +11,8 @@ use std::alloc::AllocError;
 #[derive(Clone, Copy)]
 pub(crate) enum Endpoints {
     Name,
+    /// A name in which brackets may stand.
+    BracketedName,
     Key,
     DoubleQuotes,
     SingleQuotes,
@@ -23,6 +25,7 @@ impl Endpoints {
     {
         match self {
             Endpoints::Name => c == ']',
+            Endpoints::BracketedName => c == '\n' || c == '\r',
             Endpoints::Key => c == '=' || c == ':',
             Endpoints::DoubleQuotes => c == '"',
             Endpoints::SingleQuotes => c == '\'',
@@ -39,6 +42,7 @@ impl Endpoints {
     fn expected(self) -> &'static str {
         match self {
             Endpoints::Name => "expecting \"[Some(']')]\" but found EOF.",
+            Endpoints::BracketedName => "expecting \"[Some('\\r'), Some('\\n')]\" but found EOF.",
             Endpoints::Key => "expecting \"[Some('='), Some(':')]\" but found EOF.",
             Endpoints::DoubleQuotes => "expecting \"[Some('\"')]\" but found EOF.",
             Endpoints::SingleQuotes => "expecting \"[Some('\\'')]\" but found EOF.",
@@ -57,6 +61,7 @@ pub(crate) enum Fault {
     InlineComment,
     MissingKey,
     CrAlone,
+    HeaderEnd,
 }
 
 impl Fault {
@@ -70,6 +75,7 @@ impl Fault {
             Fault::InlineComment => ParseKind::InlineComment,
             Fault::MissingKey => ParseKind::MissingKey,
             Fault::CrAlone => ParseKind::CrAlone,
+            Fault::HeaderEnd => ParseKind::HeaderEnd,
         }
     }
 
@@ -83,6 +89,7 @@ impl Fault {
             Fault::InlineComment => "doesn't support inline comment",
             Fault::MissingKey => "missing key",
             Fault::CrAlone => "\\r is not followed by \\n",
+            Fault::HeaderEnd => "section must be ended with ']'",
         }
     }
 }

@@ -1,7 +1,7 @@
 //! Characters and runs of them at the ends of a text. This file knows kinds of characters, and no production.
 ghost use Rattle.std.specs.Prelude.{◌≡◌, ◌∷◌, ◌++◌, ◌≤◌, [], true, chars, drop, length, MatchOption, OnOk};
 ghost use Rattle.std.specs.List.{list_all, prefix_len};
-ghost use Rattle.ini_text.specs.Characters.{line_feed, is_line_end, BeginsWithNo};
+ghost use Rattle.ini_text.specs.Characters.{line_feed, is_comment_mark, is_line_end, BeginsWithNo};
 ghost use Rattle.ini_text.specs.Positions.{last_or, starts_line, is_column_one};
 ghost use Rattle.ini_text.specs.Fronts.{IsRest, front_of};
 ghost use Rattle.ini_text.specs.Scans.{is_in, skipped, is_plain, text_of};
@@ -14,6 +14,7 @@ use std::alloc::AllocError;
 /// A kind of characters that are gone over together.
 #[derive(Clone, Copy)]
 pub(crate) enum Class {
+    Space,
     Blank,
     InlineWhite,
     LineFeed,
@@ -25,6 +26,7 @@ impl Class {
         ensures { result ≡ is_in self c }
     {
         match self {
+            Class::Space => c == ' ',
             Class::Blank => c == ' ' || c == '\t',
             Class::InlineWhite => c.is_whitespace() && !is_line_end(c),
             Class::LineFeed => c == '\n',
@@ -38,6 +40,13 @@ pub(crate) fn is_line_end(c: char) -> bool
     ensures { result ≡ is_line_end c }
 {
     c == '\n' || c == '\r'
+}
+
+/// Whether a character begins a comment.
+pub(crate) fn is_comment_mark(c: char) -> bool
+    ensures { result ≡ is_comment_mark c }
+{
+    c == ';' || c == '#'
 }
 
 /// The last character of a text, and what stands before it.

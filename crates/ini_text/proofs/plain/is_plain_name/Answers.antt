@@ -1,0 +1,12 @@
+use Rattle.std.proofs.Common.{◌≡◌, chars, arith}
+use Rattle.std.proofs.lemmas.Bool.Decides.{Decides-at}
+use Rattle.std.proofs.lemmas.Str.{scalars-chars}
+use Rattle.std.proofs.lemmas.Grind.{common_steps}
+use Rattle.ini_text.specs.PlainTests.{is_plain_name}
+use Rattle.ini_text.proofs.PlainTestLemmas.{name_decides}
+use Rattle.ini_text.proofs.plain.is_plain_name.Goals as goal
+
+pub returns-then-has_no_close_bracket : goal.returns-then-has_no_close_bracket
+returns-then-has_no_close_bracket c =
+    let tested : c.is_read_back.result ≡ is_plain_name c.args.read c.args.policy (chars c.args.name.now) = grind (arith, common_steps) in
+    Decides-at _ _ tested (name_decides c.args.read c.args.policy (chars c.args.name.now) (scalars-chars _ c.utf8.name))

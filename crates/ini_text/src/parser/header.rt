@@ -1,0 +1,74 @@
+//! Headers, with and without brackets in names. This file knows strings, and no element.
+ghost use Rattle.std.specs.Prelude.{◌≡◌, ◌∷◌, true, false, chars, List, ℕ, MatchOption};
+ghost use Rattle.ini_text.specs.Characters.{open_bracket};
+ghost use Rattle.ini_text.specs.ElementParts.{IsElement};
+ghost use Rattle.ini_text.specs.Elements.{IsBracketed};
+
+use crate::item::Item;
+use crate::option::ParseOption;
+use crate::parser::fault::{Endpoints, Fault, Stop};
+use crate::parser::scan::{Class, after_first, split_last};
+use crate::parser::string::read_string;
+use crate::parser::trim::trim;
+use std::alloc::Global;
+
+/// A header behind its bracket.
+pub(crate) fn read_header<'a>(
+    alloc: Global,
+    front: &str,
+    text: &'a str,
+    option: ParseOption,
+) -> Result<(Option<Item>, &'a str), Stop<'a>>
+    ensures { IsElement option (chars front.now) (open_bracket ∷ chars text.now) result }
+{
+    if option.enabled_brackets_in_section_names {
+        return read_bracketed_header(alloc, front, text, option);
+    }
+    let mut name = String::new(alloc);
+    let rest = read_string(&mut name, text, option.enabled_escape, Endpoints::Name)?;
+    Ok((
+        Some(Item::Header(trim(alloc, name, true)?)),
+        after_first(rest),
+    ))
+}
+
+/// A header behind its bracket that goes up to its line's end.
+fn read_bracketed_header<'a>(
+    alloc: Global,
+    front: &str,
+    text: &'a str,
+    option: ParseOption,
+) -> Result<(Option<Item>, &'a str), Stop<'a>>
+    requires { option.enabled_brackets_in_section_names ≡ true }
+    ensures { IsElement option (chars front.now) (open_bracket ∷ chars text.now) result }
+{
+    let mut line = String::new(alloc);
+    let rest = read_string(
+        &mut line,
+        text,
+        option.enabled_escape,
+        Endpoints::BracketedName,
+    )?;
+    let Some(before) = before_bracket(line.as_str()) else {
+        return Err(Stop::Fault(Fault::HeaderEnd, after_first(rest)));
+    };
+    let name = trim(alloc, String::from_str(alloc, before)?, true)?;
+    Ok((Some(Item::Header(name)), rest))
+}
+
+/// What stands before the last closing bracket of a text, if blanks alone stand behind that.
+fn before_bracket(text: &str) -> Option<&str>
+    ensures { MatchOption result ((name : List ℕ) → ¬ IsBracketed (chars text.now) name) (λ name. IsBracketed (chars text.now) (chars name.now)) }
+{
+    let mut rest = text;
+    'blanks: while let Some((before, c)) = split_last(rest) {
+        if c == ']' {
+            return Some(before);
+        }
+        if !Class::Blank.contain(c) {
+            return None;
+        }
+        rest = before;
+    }
+    None
+}
