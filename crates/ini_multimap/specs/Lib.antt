@@ -2,5 +2,6 @@ pub mod Iter
 pub mod KeyLaws
 pub mod Keys
 pub mod Lends
+pub mod Moves
 pub mod Pairs
-pub mod Places
+pub mod Slots

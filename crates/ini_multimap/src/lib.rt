@@ -8,6 +8,7 @@
 
 mod key;
 mod multimap;
+mod slots;
 #[cfg(test)]
 mod tests;
 mod walk;

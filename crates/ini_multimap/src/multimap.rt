@@ -1,22 +1,24 @@
-//! The multimap, kept as one list of pairs: a look-up asks the probe about each in turn. This file
-//! knows keys by `==` and by probes, and no code of a key.
+//! The multimap, kept as slots in list order with an index from a code to the slots that have it:
+//! a look-up asks the probe only about pairs of its code. A removal leaves a hole, and the holes are
+//! closed where they outnumber the pairs.
 //!
 //! A growing call makes its room before anything changes, so a refused one changes nothing.
-ghost use Rattle.std.specs.Prelude.{◌-◌, ◌^◌, ◌≡◌, ◌+◌, ◌<◌, ◌≤◌, ◌==◌, [], ◌∷◌, ◌++◌, length, filter, not, IsSome, IfOk, IfErr, OnOk, OnErr, MatchOption, IfNone, slice_get, Some, None};
+ghost use Rattle.std.specs.Prelude.{◌-◌, ◌^◌, ◌≡◌, ◌+◌, ◌<◌, ◌≤◌, ◌==◌, [], ◌∷◌, ◌++◌, length, filter, IsSome, IfOk, IfErr, OnOk, OnErr, IfNone, slice_get, Some, None};
 ghost use Rattle.std.specs.Option.{option_copied, option_copied_mut};
 ghost use Rattle.std.specs.Borrow.{sem};
-ghost use Rattle.std.specs.List.{position};
 ghost use Rattle.std.specs.Map.{values_of, lookup, remove_entry, set_value};
-ghost use Rattle.std.specs.Vec.{vec_len, vec_capacity};
 ghost use Rattle.ini_multimap.specs.Iter.{iter_mut_rest, values_mut_rest};
-ghost use Rattle.ini_multimap.specs.Lends.{lends_value_at, lends_first, lends_nth, lends_last};
+ghost use Rattle.ini_multimap.specs.Lends.{lends_first, lends_nth, lends_last};
 ghost use Rattle.ini_multimap.specs.Pairs.{AreClones, distinct_keys, values_at, insert_pair, set_nth_value, without};
-ghost use Rattle.ini_multimap.specs.Places.{FirstAt, NoneFits, NthAt, NoNth};
+ghost use Rattle.ini_multimap.specs.Slots.{without_nth};
 
 use crate::key::{MapKey, Probe};
+use crate::slots::{
+    Slot, close_holes, count_fits, last_slot, link_last, make_room, nth_slot, unlink,
+};
 use crate::walk::{IntoIter, Iter, IterMut, Keys, Removed, Values, ValuesMut};
 use std::alloc::{AllocError, Global};
-use std::collections::VecDeque;
+use std::collections::HashMap;
 use std::marker::Model;
 use std::mem;
 
@@ -34,15 +36,29 @@ pub struct Refused<K, V> {
 /// Seen as the list of its pairs. A probe `q` fits a pair whose key it stands for.
 #[derive(Debug, Drop)]
 pub struct Multimap<K: MapKey, V> {
-    pairs: Vec<(K, V)>,
+    slots: Vec<Slot<K>>,
+    // The value in each slot, `None` at a hole.
+    values: Vec<Option<V>>,
+    // The first and the last slot of each code.
+    index: HashMap<u64, (usize, usize)>,
+    // How many holes there are.
+    holes: usize,
 }
 
 impl<K: MapKey, V> Model for Multimap<K, V> {
-    ghost use Rattle.std.specs.Prelude.{List};
+    ghost use Rattle.std.specs.Prelude.{List, ◌≡◌, length, nat_eq};
+    ghost use Rattle.std.specs.Coded.{coded_list, coded×};
 
     ghost Value = { List (K × V) };
 
-    ghost view = { λ m. m.pairs.items };
+    ghost coded = { coded_list (coded× K.code V.code) };
+
+    ghost use Rattle.std.specs.HashMap.{get};
+    ghost use Rattle.ini_multimap.specs.Slots.{pairs_in, AreFilled};
+
+    ghost view = { λ m. pairs_in m.slots.items m.values.items };
+
+    ghost invariant = { λ m. AreFilled K.key_code m.slots.items m.values.items (get nat_eq m.index) };
 }
 
 impl<K: MapKey, V> Multimap<K, V> {
@@ -51,7 +67,10 @@ impl<K: MapKey, V> Multimap<K, V> {
         ensures { result ≡ [] }
     {
         Multimap {
-            pairs: Vec::new(alloc),
+            slots: Vec::new(alloc),
+            values: Vec::new(alloc),
+            index: HashMap::new(alloc),
+            holes: 0,
         }
     }
 
@@ -59,21 +78,21 @@ impl<K: MapKey, V> Multimap<K, V> {
     pub fn len_pairs(&self) -> usize
         ensures { result ≡ length self.now }
     {
-        self.pairs.len()
+        self.iter().len_pairs()
     }
 
     /// The number of distinct keys.
     pub fn len_keys(&self) -> usize
         ensures { result ≡ length (distinct_keys K.eq self.now) }
     {
-        Keys::new(self.pairs.as_slice()).count()
+        self.keys().count()
     }
 
     /// Whether there are no pairs.
     pub fn is_empty(&self) -> bool
         ensures { result ≡ (length self.now == 0) }
     {
-        self.pairs.is_empty()
+        self.iter().next().is_none()
     }
 
     /// Puts the pair last. Refused, it hands back key and value, and the pairs stay.
@@ -83,11 +102,12 @@ impl<K: MapKey, V> Multimap<K, V> {
         ensures key_handed_back { IfErr result (λ refused. refused.key ≡ key) }
         ensures value_handed_back { IfErr result (λ refused. refused.value ≡ value) }
     {
-        match self.pairs.push((key, value)) {
-            Ok(()) => Ok(()),
-            Err(refused) => {
-                let (key, value) = refused.value;
-                Err(Refused { key, value })
+        match make_room(&mut self.slots, &mut self.values, &mut self.index) {
+            Err(_) => Err(Refused { key, value }),
+            Ok(()) => {
+                link_last(&mut self.slots, &mut self.index, key);
+                self.values.push_reserved(Some(value));
+                Ok(())
             }
         }
     }
@@ -108,14 +128,11 @@ impl<K: MapKey, V> Multimap<K, V> {
         ensures key_handed_back { IfErr result (λ refused. refused.key ≡ key) }
         ensures value_handed_back { IfErr result (λ refused. refused.value ≡ value) }
     {
-        match self.find(&key) {
-            Some(at) => {
-                let (kept, old) = self.pairs.remove(at);
-                keep_others(&mut self.pairs, &key);
-                match self.pairs.insert(at, (kept, value)) {
-                    Ok(()) => Ok(Some(old)),
-                    Err(_) => unreachable!(),
-                }
+        match self.get_mut(&key) {
+            Some(place) => {
+                let old = mem::replace(place, value);
+                self.keep_first(&key);
+                Ok(Some(old))
             }
             None => match self.append(key, value) {
                 Ok(()) => Ok(None),
@@ -128,8 +145,14 @@ impl<K: MapKey, V> Multimap<K, V> {
     pub fn get<Q: Probe<K> + Copy>(&self, q: Q) -> Option<&V>
         ensures { option_copied result ≡ lookup (Q.fits q) self.now }
     {
-        let at = self.find(q)?;
-        Some(&self.pairs[at].1)
+        let s = nth_slot(
+            self.slots.as_slice(),
+            self.values.as_slice(),
+            &self.index,
+            q,
+            0,
+        )?;
+        self.values[s].as_ref()
     }
 
     /// The first value of the key, for writing. The rest stays.
@@ -138,8 +161,8 @@ impl<K: MapKey, V> Multimap<K, V> {
         ensures value { option_copied_mut result ≡ lookup (Q.fits q) self.old }
         ensures none_to_set { IfNone result ((v : V) → set_value (Q.fits q) self.old v ≡ self.old) }
     {
-        match self.find(q) {
-            Some(at) => Some(self.value_mut_at(at)),
+        match self.get_nth_mut(q, 0) {
+            Some(value) => Some(value),
             None => None,
         }
     }
@@ -149,9 +172,12 @@ impl<K: MapKey, V> Multimap<K, V> {
         ensures* writes_back { sem 𝓛 (lends_last K.row V.row K.MapKey self.entry result) }
         ensures value { option_copied_mut result ≡ slice_get (values_of self.old) (length self.old - 1) }
     {
-        match self.pairs.len() {
-            0 => None,
-            len => Some(self.value_mut_at(len - 1)),
+        match last_slot(self.slots.as_slice(), self.values.as_slice()) {
+            None => None,
+            Some(s) => match self.values[s].as_mut() {
+                Some(value) => Some(value),
+                None => None,
+            },
         }
     }
 
@@ -160,7 +186,7 @@ impl<K: MapKey, V> Multimap<K, V> {
         ensures values { result ≡ values_at (Q.fits q) self.now }
         ensures countable { length result < 2 ^ 64 }
     {
-        Values::new(self.pairs.as_slice(), q)
+        Values::new(Iter::new(self.slots.as_slice(), self.values.as_slice()), q)
     }
 
     /// All values of the key, in list order, for writing.
@@ -168,7 +194,10 @@ impl<K: MapKey, V> Multimap<K, V> {
         ensures values { values_mut_rest Q.fits result ≡ values_at (Q.fits q) self.old }
         ensures countable { length (values_mut_rest Q.fits result) < 2 ^ 64 }
     {
-        ValuesMut::new(self.pairs.as_mut_slice(), q)
+        ValuesMut::new(
+            IterMut::new(self.slots.as_slice(), self.values.as_mut_slice()),
+            q,
+        )
     }
 
     /// The value of the key's pair number `n` in list order, from 0, for writing. The rest stays.
@@ -177,9 +206,18 @@ impl<K: MapKey, V> Multimap<K, V> {
         ensures value { option_copied_mut result ≡ slice_get (values_at (Q.fits q) self.old) n }
         ensures none_to_set { IfNone result ((v : V) → set_nth_value (Q.fits q) self.old n v ≡ self.old) }
     {
-        match self.find_nth(q, n) {
-            Some(at) => Some(self.value_mut_at(at)),
+        match nth_slot(
+            self.slots.as_slice(),
+            self.values.as_slice(),
+            &self.index,
+            q,
+            n,
+        ) {
             None => None,
+            Some(s) => match self.values[s].as_mut() {
+                Some(value) => Some(value),
+                None => None,
+            },
         }
     }
 
@@ -190,8 +228,8 @@ impl<K: MapKey, V> Multimap<K, V> {
         ensures value { result ≡ lookup (Q.fits q) self.old }
         ensures pairs { self.new ≡ remove_entry (Q.fits q) self.old }
     {
-        let at = self.find(q)?;
-        let (_, value) = self.pairs.remove(at);
+        let value = self.take_nth(q, 0)?;
+        self.close_if_sparse();
         Some(value)
     }
 
@@ -199,7 +237,7 @@ impl<K: MapKey, V> Multimap<K, V> {
     ///
     /// It makes room for the list of values first. Refused, the pairs stay. Where no pair has the
     /// key it succeeds, and takes no memory.
-    #[tactic(auto, using(crate::proofs::PlaceLemmas::found_if_some))]
+    #[tactic(auto, using(crate::proofs::PairLemmas::found_if_some))]
     pub fn remove_all<Q: Probe<K> + Copy>(&mut self, q: Q) -> Result<Removed<V>, AllocError>
     where
         K: Drop,
@@ -210,9 +248,12 @@ impl<K: MapKey, V> Multimap<K, V> {
         ensures refused_only_if_there { OnErr result (IsSome (lookup (Q.fits q) self.old)) }
         ensures unchanged_if_refused { OnErr result (self.new ≡ self.old) }
     {
-        let alloc = *self.pairs.allocator();
+        let alloc = *self.values.allocator();
         let mut values = Vec::with_capacity(alloc, self.count(q))?;
-        take_values(&mut self.pairs, q, &mut values);
+        while let Some(value) = self.take_nth(q, 0) {
+            values.push_reserved(value);
+        }
+        self.close_if_sparse();
         Ok(Removed::new(values))
     }
 
@@ -223,21 +264,24 @@ impl<K: MapKey, V> Multimap<K, V> {
         V: Drop,
         ensures { self.new ≡ [] }
     {
-        self.pairs.clear();
+        self.slots.clear();
+        self.values.clear();
+        self.index.clear();
+        self.holes = 0;
     }
 
     /// Every pair in order.
     pub fn iter(&self) -> Iter<'_, K, V>
         ensures { result ≡ self.now }
     {
-        Iter::new(self.pairs.as_slice())
+        Iter::new(self.slots.as_slice(), self.values.as_slice())
     }
 
     /// Every pair in order, its value for writing.
     pub fn iter_mut(&mut self) -> IterMut<'_, K, V>
         ensures { iter_mut_rest result ≡ self.old }
     {
-        IterMut::new(self.pairs.as_mut_slice())
+        IterMut::new(self.slots.as_slice(), self.values.as_mut_slice())
     }
 
     /// Each distinct key once, in the order of first occurrence.
@@ -245,7 +289,7 @@ impl<K: MapKey, V> Multimap<K, V> {
         ensures keys { result ≡ distinct_keys K.eq self.now }
         ensures countable { length result < 2 ^ 64 }
     {
-        Keys::new(self.pairs.as_slice())
+        Keys::new(self.slots.as_slice(), self.values.as_slice())
     }
 }
 
@@ -281,8 +325,13 @@ impl<K: MapKey + Drop, V: Drop> IntoIterator for Multimap<K, V> {
     ghost into_iter_gives = { λ m it. it ≡ m };
 
     fn into_iter(self) -> IntoIter<K, V> {
-        let Multimap { pairs } = self;
-        IntoIter::new(pairs)
+        let Multimap {
+            slots,
+            values,
+            index: _,
+            holes: _,
+        } = self;
+        IntoIter::new(slots, values)
     }
 }
 
@@ -295,92 +344,73 @@ impl<K: MapKey + Clone, V: Clone> Clone for Multimap<K, V> {
         ensures clones { IfOk result (AreClones K.is_clone V.is_clone self.now) }
         ensures equal_if_clones_are { IfOk result (λ copy. ((x y : K) → K.is_clone x y → y ≡ x) → ((x y : V) → V.is_clone x y → y ≡ x) → copy ≡ self.now) }
     {
-        Ok(Multimap {
-            pairs: self.pairs.clone()?,
-        })
+        let mut copy = Multimap::new(*self.values.allocator());
+        let mut rest = self.iter();
+        while let Some((key, value)) = rest.next() {
+            match copy.append(key.clone()?, value.clone()?) {
+                Ok(()) => {}
+                Err(_) => return Err(AllocError),
+            }
+        }
+        Ok(copy)
     }
 }
 
-// The look-ups: a scan that asks the probe about each pair in turn.
+// What the edits share. None of these takes memory.
 impl<K: MapKey, V> Multimap<K, V> {
-    // The index of the first pair that fits.
-    fn find<Q: Probe<K> + Copy>(&self, q: Q) -> Option<usize>
-        ensures { MatchOption result (NoneFits (Q.fits q) self.now) (FirstAt (Q.fits q) self.now) }
+    ghost use Rattle.ini_multimap.specs.Slots.{first_alone};
+
+    // Takes out pair number n of those that fit, and leaves a hole.
+    fn take_nth<Q: Probe<K> + Copy>(&mut self, q: Q, n: usize) -> Option<V>
+    where
+        K: Drop,
+        ensures value { result ≡ slice_get (values_at (Q.fits q) self.old) n }
+        ensures pairs { self.new ≡ without_nth (Q.fits q) self.old n }
     {
-        self.position(q)
+        let s = nth_slot(
+            self.slots.as_slice(),
+            self.values.as_slice(),
+            &self.index,
+            q,
+            n,
+        )?;
+        unlink(&mut self.slots, &mut self.index, s);
+        self.holes = self.holes.saturating_add(1);
+        self.values[s].take()
     }
 
-    fn position<Q: Probe<K> + Copy>(&self, q: Q) -> Option<usize>
-        ensures { result ≡ position (λ p. Q.fits q p.0) self.now }
+    // Takes out the pairs that have the key but for the first.
+    fn keep_first(&mut self, key: &K)
+    where
+        K: Drop,
+        V: Drop,
+        ensures { self.new ≡ first_alone (K.eq key.now) self.old }
     {
-        self.pairs.iter().position(|pair| q.is(&pair.0))
+        while let Some(_) = self.take_nth(key, 1) {}
+        self.close_if_sparse();
     }
 
-    // The index of pair number n of those that fit.
-    fn find_nth<Q: Probe<K> + Copy>(&self, q: Q, n: usize) -> Option<usize>
-        ensures { MatchOption result (NoNth (Q.fits q) self.now n) (NthAt (Q.fits q) self.now n) }
+    // Closes the holes where they outnumber the pairs.
+    fn close_if_sparse(&mut self)
+    where
+        K: Drop,
+        ensures { self.new ≡ self.old }
     {
-        let mut left = n;
-        for (at, pair) in self.pairs.iter().enumerate() {
-            if q.is(&pair.0) {
-                if left == 0 {
-                    return Some(at);
-                }
-                left -= 1;
-            }
+        if self.slots.len().saturating_sub(self.holes) < self.holes {
+            close_holes(&mut self.slots, &mut self.values, &mut self.index);
+            self.holes = 0;
         }
-        None
-    }
-
-    fn value_mut_at(&mut self, at: usize) -> &mut V
-        requires { at < length self.old }
-        ensures* writes_back { sem 𝓛 (lends_value_at K.row V.row K.MapKey self.entry at result) }
-        ensures value { slice_get (values_of self.old) at ≡ Some result.now }
-    {
-        &mut self.pairs[at].1
     }
 
     // How many pairs fit.
     fn count<Q: Probe<K> + Copy>(&self, q: Q) -> usize
         ensures { result ≡ length (filter (λ p. Q.fits q p.0) self.now) }
     {
-        self.pairs.iter().filter(|pair| q.is(&pair.0)).count()
+        count_fits(
+            self.slots.as_slice(),
+            self.values.as_slice(),
+            &self.index,
+            q,
+        )
     }
-}
-
-// Takes out the pairs that have the key.
-fn keep_others<K: MapKey + Drop, V: Drop>(pairs: &mut Vec<(K, V)>, key: &K)
-    ensures pairs { pairs.new.items ≡ without (K.eq key.now) pairs.old.items }
-    ensures len { vec_len pairs.new ≤ vec_len pairs.old }
-    ensures capacity { vec_capacity pairs.new ≡ vec_capacity pairs.old }
-{
-    pairs.retain(
-        |pair| -> bool
-            ensures { result ≡ not (K.eq key.entry.now pair.now.0) }
-        { !(*key == pair.0) },
-    );
-}
-
-// Moves the values of the pairs that fit into `values`, which has room for them. Each pair goes
-// once round the ring, where those that fit fall out.
-fn take_values<K: MapKey + Drop, V: Drop, Q: Probe<K> + Copy>(
-    pairs: &mut Vec<(K, V)>,
-    q: Q,
-    values: &mut Vec<V>,
-)
-    requires { vec_len values.old + length (values_at (Q.fits q) pairs.old.items) ≤ vec_capacity values.old }
-    ensures values { values.new.items ≡ values.old.items ++ values_at (Q.fits q) pairs.old.items }
-    ensures pairs { pairs.new.items ≡ without (Q.fits q) pairs.old.items }
-{
-    let none = Vec::new(*pairs.allocator());
-    let mut ring = VecDeque::from_vec(mem::replace(pairs, none));
-    for turn in 0..ring.len() {
-        let (key, value) = ring.pop_front().unwrap();
-        if q.is(&key) {
-            values.push_reserved(value);
-        } else {
-            ring.push_back_reserved((key, value));
-        }
-    }
-    *pairs = ring.into_vec();
 }
