@@ -1,24 +1,26 @@
 -- The laws of documents: what is written for a plain one, with a text behind it, and one text for two plain
 -- ones.
-use Rattle.std.proofs.Common.{◌≡◌, ◌∙◌, zero, suc, ◌+◌, true, List, [], ◌∷◌, ◌++◌, drop, All, ap, sym, subst, refl, Option, None, Some, append-nil, count_by, inl, inr, arith}
+use Rattle.std.proofs.Common.{◌≡◌, ◌∙◌, zero, suc, ◌+◌, true, [], ◌∷◌, ◌++◌, drop, All, ap, sym, subst, refl, Option, None, Some, append-nil, count_by, inl, inr, arith}
+use Rattle.std.specs.Str.{all_scalars}
 use Rattle.ini_text.specs.Characters.{is_line_feed}
-use Rattle.ini_text.specs.Elements.{Given}
-use Rattle.ini_text.specs.Laws.{HasOneOutcome}
+use Rattle.ini_text.specs.Laws as text_outcome
+use Rattle.ini_text.specs.Positions.{column_of, line_of}
 use Rattle.ini_text.specs.Plain.{IsPlainPair}
 use Rattle.ini_text.specs.PlainLaws.{IsEmptyOrHeader, IsMoved}
 use Rattle.ini_text.specs.Positions.{is_column_one}
-use Rattle.ini_text.specs.Texts.{Reads, Derives}
+use Rattle.ini_text.specs.Texts.{Reads}
 use Rattle.ini_text.specs.declared.option.ParseOption.{ParseOption}
 use Rattle.ini_text.specs.declared.write_option.WriteOption.{WriteOption}
 use Rattle.ini_text.proofs.LawLemmas as text_laws
 use Rattle.ini.specs.Texts.{Text}
 use Rattle.ini.specs.Properties.{Pairs}
 use Rattle.ini.specs.Documents.{Document, document_of}
-use Rattle.ini.specs.Outcomes.{Inverts, loaded, refused}
+use Rattle.ini.specs.Loading.{IsDocumentOf}
+use Rattle.ini.specs.Outcomes.{HasOneOutcome, HasOutcome, Inverts, Outcome, loaded, refused}
 use Rattle.ini.specs.Plain.{IsPlain}
-use Rattle.ini.specs.Written.{has_pairs, written, written_pairs}
+use Rattle.ini.specs.Written.{has_pairs, written, written_pairs, written_sections}
 use Rattle.ini.proofs.EachLemmas.{Each, each_of}
-use Rattle.ini.proofs.PlainTextLemmas.{GivesBefore, HasNames, IsGood, general_gives, items_make, items_of, more_make, pair_items, sections_give}
+use Rattle.ini.proofs.PlainTextLemmas.{GivesBefore, HasNames, IsGood, general_gives, items_make, items_of, more_make, pair_items, pairs-scalars, sections-scalars, sections_give}
 
 module _ (o : ParseOption) (w : WriteOption) {d : Document} (plain : IsPlain d w o) where
   abbrev whole : Document
@@ -80,31 +82,59 @@ module _ (o : ParseOption) (w : WriteOption) {d : Document} (plain : IsPlain d w
   inverts Y begins = subst (λ e. Inverts o w e Y) (sym plain.sections) (inverts_whole Y begins)
 
   -- the document's text alone
-  pub is_its_texts : (T : Text) → written d w ≡ T
-      → (items : List Given) × Derives o T items × (document_of items ≡ d)
-  is_its_texts T same =
-      let text : written whole w ++ [] ≡ T =
-      append-nil (written whole w) ∙ ap (λ e. written e w) (sym plain.sections) ∙ same in
-      let at : Reads o (written whole w ++ []) [] (items_of whole) (written whole w ++ []) =
-      subst (Reads o (written whole w ++ []) [] (items_of whole)) (sym (append-nil (written whole w)))
-      (own [] tt).0 in (
-        items_of whole,
-        subst
-            (λ t. Reads o t [] (items_of whole) t) text at,
-        items_make plain.general plain.named names
-            ∙ sym plain.sections,
-      )
+  pub own_document : IsDocumentOf o (written d w) d
+  own_document =
+      let text : written whole w ++ [] ≡ written d w =
+      append-nil (written whole w) ∙ ap (λ e. written e w) (sym plain.sections) in
+      let items = items_of whole in
+      let at : Reads o (written whole w ++ []) [] items (written whole w ++ []) =
+      subst (Reads o (written whole w ++ []) [] items) (sym (append-nil (written whole w))) (own [] tt).0 in
+      record {
+        items = items;
+        derives = subst (λ t. Reads o t [] items t) text at;
+        document = plain.sections ∙ sym (items_make plain.general plain.named names);
+      }
 
--- one text derives one list of items
-one_list : (o : ParseOption) (T : Text) (xs ys : List Given) → HasOneOutcome o T → Derives o T xs
-    → Derives o T ys → xs ≡ ys
-one_list o T xs ys (inl (items, just)) dx dy = just.alone xs dx ∙ sym (just.alone ys dy)
-one_list o T xs ys (inr (kind, front, just)) dx dy = absurd (just.derives_nothing xs dx)
+  pub of_characters : all_scalars (written d w) ≡ true
+  of_characters =
+      let behind = written_sections w (has_pairs plain.general) plain.named in
+      let general = each_of _ plain.general (pairs zero (None, plain.general) (omega arith)) in
+      subst (λ e. all_scalars (written e w) ≡ true) (sym plain.sections)
+      (text_laws.scalars-append (written_pairs w plain.general) behind
+      (pairs-scalars o w plain.separator plain.general general)
+      (sections-scalars o w plain.separator (has_pairs plain.general) plain.named named_good))
+
+-- a text has one outcome
+pub one_outcome : (o : ParseOption) (T : Text) → HasOneOutcome o T
+one_outcome o T = at (text_laws.one_outcome o T)
+  where
+    at : text_outcome.HasOneOutcome o T → HasOneOutcome o T
+    at (inl (items, just)) = record {
+      outcome = loaded (document_of items);
+      comes = record { items = items; derives = just.derives; document = refl };
+      alone = alone;
+    }
+      where
+        alone : (x : Outcome) → HasOutcome o T x → x ≡ loaded (document_of items)
+        alone (loaded d) x = ap loaded (x.document ∙ ap document_of (just.alone x.items x.derives))
+        alone (refused kind line column) x = absurd (just.never_stops kind x.front x.stops)
+    at (inr (kind, front, just)) = record {
+      outcome = refused kind (line_of front) (column_of front);
+      comes = record { front = front; stops = just.stops; line_is = refl; column_is = refl };
+      alone = alone;
+    }
+      where
+        alone : (x : Outcome) → HasOutcome o T x → x ≡ refused kind (line_of front) (column_of front)
+        alone (loaded d) x = absurd (just.derives_nothing x.items x.derives)
+        alone (refused other line column) x =
+            let same = just.alone other x.front x.stops in
+            rw (same.0, x.line_is, x.column_is, same.1) refl
 
 pub same_text : (o : ParseOption) (w : WriteOption) (d e : Document) → IsPlain d w o → IsPlain e w o
     → written d w ≡ written e w → d ≡ e
 same_text o w d e plain_d plain_e same =
-    let x = is_its_texts o w plain_d (written e w) same in
-    let y = is_its_texts o w plain_e (written e w) refl in
-    let one = text_laws.one_outcome o (written e w) in
-    sym x.2 ∙ ap document_of (one_list o (written e w) x.0 y.0 one x.1 y.1) ∙ y.2
+    let one = one_outcome o (written e w) in
+    let of_d = subst (λ t. IsDocumentOf o t d) same (own_document o w plain_d) in
+    let of_e = own_document o w plain_e in
+    let both : loaded d ≡ loaded e = one.alone (loaded d) of_d ∙ sym (one.alone (loaded e) of_e) in
+    cc

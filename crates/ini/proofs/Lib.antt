@@ -1,5 +1,8 @@
+pub mod EditLaws
 pub mod EditLemmas
 pub mod EverySection
+pub mod GeneralLemmas
+pub mod KeepingLemmas
 pub mod LastSection
 pub mod ListLemmas
 pub mod Marks

@@ -3,7 +3,8 @@ use Rattle.std.proofs.Common.{◌≡◌, ◌∙◌, ◌<◌, Bool, true, false, 
 use Rattle.std.proofs.lemmas.Bool.{not-false, and_parts, false≢true}
 use Rattle.std.proofs.lemmas.Grind.{fold-append}
 use Rattle.std.specs.Prelude.{⊤}
-use Rattle.ini_text.specs.Characters.{open_bracket}
+use Rattle.std.specs.Str.{all_scalars}
+use Rattle.ini_text.specs.Characters.{close_bracket, open_bracket}
 use Rattle.ini_text.specs.Elements.{Given, Header, Pair}
 use Rattle.ini_text.specs.Escapes.{escaped}
 use Rattle.ini_text.specs.Plain.{IsPlainKey, IsPlainName, IsPlainPair, IsPlainSeparator}
@@ -194,7 +195,8 @@ module _ (o : ParseOption) (w : WriteOption) where
         let same : (written_pair w p ++ []) ++ more ≡ written_pairs w (p ∷ (q ∷ ps)) ++ gap twice =
         simp (append_assoc, append-nil) in
         let ahead : (r : Text) → Follows r → Follows (more ++ r) = λ r h.
-        subst (λ x. Follows (x ++ r)) (sym (append_assoc (written_pair w q) (written_pairs w ps) (gap twice)))
+        subst (λ x. Follows (x ++ r))
+        (sym (append_assoc (written_pair w q) (written_pairs w ps) (gap twice)))
         (pairs_follow q (written_pairs w ps ++ gap twice) r (first_key q ps plain)) in
         subst (λ x. GivesBefore Follows x (pair_items (p ∷ (q ∷ ps)))) same
         (then_gives Follows Follows (written_pair w p ++ []) more (pair_gives false p sep k)
@@ -215,7 +217,8 @@ module _ (o : ParseOption) (w : WriteOption) where
         let title = written_name w (Some name) in
         let more = written_pairs w (p ∷ ps) ++ gap twice in
         let same : (title ++ []) ++ more ≡ (title ++ written_pairs w (p ∷ ps)) ++ gap twice =
-        ap (λ x. x ++ more) (append-nil title) ∙ sym (append_assoc title (written_pairs w (p ∷ ps)) (gap twice)) in
+        ap (λ x. x ++ more) (append-nil title)
+        ∙ sym (append_assoc title (written_pairs w (p ∷ ps)) (gap twice)) in
         subst (λ x. GivesBefore Follows x (Header name ∷ pair_items (p ∷ ps))) same
         (then_gives Any Follows (title ++ []) more (name_gives false name plain_name)
         (pairs_give twice p ps plain) (λ r h. tt))
@@ -257,3 +260,50 @@ module _ (o : ParseOption) (w : WriteOption) where
         subst (λ x. GivesBefore IsEmptyOrHeader x (xs ++ items_of ((Some name, ps) ∷ d))) same
         (then_gives Follows IsEmptyOrHeader (body ++ gap twice) (own ++ behind)
         (f twice (λ q. (and_parts earlier (has_pairs ps) q).0)) rest (λ r h. FollowsPair.header))
+
+    -- the text is made of characters
+    name-scalars : (name : Text) → IsPlainName o w.escape_policy name
+        → all_scalars (written_name w (Some name)) ≡ true
+    name-scalars name plain =
+        let behind = text_laws.line_end-scalars w.line_separator in
+        text_laws.scalars-append (escaped w.escape_policy name) (close_bracket ∷ line_end w.line_separator)
+        (text_laws.escaped-scalars w.escape_policy name plain.read_back.of_characters) behind
+
+    pair-scalars : (p : Text × Text) → IsPlainPair o w.escape_policy p.0 p.1
+        → all_scalars (written_pair w p) ≡ true
+    pair-scalars p plain =
+        let policy = w.escape_policy in
+        let key = escaped policy p.0 in
+        let value = escaped policy p.1 in
+        let between = chars w.kv_separator.now in
+        let of_key = text_laws.escaped-scalars policy p.0 plain.key_read_back.of_characters in
+        let of_value = text_laws.escaped-scalars policy p.1 plain.plain_value.read_back.of_characters in
+        let front = text_laws.scalars-append key between of_key (text_laws.separator-scalars between sep) in
+        text_laws.scalars-append ((key ++ between) ++ value) (line_end w.line_separator)
+        (text_laws.scalars-append (key ++ between) value front of_value)
+        (text_laws.line_end-scalars w.line_separator)
+
+    pub pairs-scalars : (ps : Pairs) → AllPlain ps → all_scalars (written_pairs w ps) ≡ true
+    pairs-scalars [] plain = refl
+    pairs-scalars (p ∷ ps) (Each.more k plain) =
+        text_laws.scalars-append (written_pair w p) (written_pairs w ps) (pair-scalars p k)
+        (pairs-scalars ps plain)
+
+    gap-scalars : (twice : Bool) → all_scalars (gap twice) ≡ true
+    gap-scalars true = text_laws.line_end-scalars w.line_separator
+    gap-scalars false = refl
+
+    pub sections-scalars : (earlier : Bool) (d : Document) → Each IsGood d
+        → all_scalars (written_sections w earlier d) ≡ true
+    sections-scalars earlier [] good = refl
+    sections-scalars earlier ((None, ps) ∷ d) (Each.more g good) = absurd g.name
+    sections-scalars earlier ((Some name, ps) ∷ d) (Each.more g good) =
+        let twice = earlier && has_pairs ps in
+        let title = written_name w (Some name) in
+        let named = name-scalars name g.name in
+        let header = text_laws.scalars-append (gap twice) title (gap-scalars twice) named in
+        let own = text_laws.scalars-append (gap twice ++ title) (written_pairs w ps) header
+        (pairs-scalars ps g.pairs) in
+        text_laws.scalars-append ((gap twice ++ title) ++ written_pairs w ps)
+        (written_sections w (earlier || has_pairs ps) d) own
+        (sections-scalars (earlier || has_pairs ps) d good)

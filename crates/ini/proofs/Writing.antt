@@ -1,102 +1,58 @@
 -- Texts that are written one after another.
-use Rattle.std.proofs.Common.{◌≡◌, ◌∙◌, sym, subst, ap, refl, ℕ, ◌+◌, ◌<◌, List, [], ◌∷◌, ◌++◌, flat_map, get_or, drop, drop-cons, add-one, length, take, Option, Result, Ok, Err, OnOk, arith, length-append, append_assoc, append-nil, encode_utf8_all}
-use Rattle.std.proofs.KnownBytes.{Appends-nil, Appends-trans}
-use Rattle.std.proofs.Math.Seq.{take-append-add}
-use Rattle.std.proofs.lemmas.List.{take-append-le}
+use Rattle.std.proofs.Common.{◌≡◌, ◌∙◌, sym, subst, ap, refl, ℕ, ◌+◌, ◌<◌, List, [], ◌∷◌, ◌++◌, flat_map, get_or, drop, drop-cons, add-one, length, take, Option, Some, Result, Ok, Err, arith, length-append, append_assoc, append-nil, encode_utf8_all}
 use Rattle.std.proofs.lemmas.Str.{encodes-append, encodes-chars}
-use Rattle.std.specs.Io.KnownBytes.{Appends}
 use Rattle.std.specs.Str.{chars}
 use Rattle.ini_text.specs.Characters.{close_bracket, open_bracket}
+use Rattle.ini_text.specs.Escapes.{escaped}
 use Rattle.ini_text.specs.WriteOptions.{IsDefaultWriteOption, line_end}
-use Rattle.ini_text.specs.Watched.{AppendsFront, IsClear}
+use Rattle.ini_text.specs.Watched.{IsClear}
+use Rattle.ini_text.proofs.SendLemmas.{Sends-cut, Sends-nil, Sends-then}
 use Rattle.ini_text.specs.declared.error.Error.{Error}
+use Rattle.ini_text.specs.declared.policy.EscapePolicy.{EscapePolicy}
 use Rattle.ini_text.specs.declared.write_option.LineSeparator.{LineSeparator}
 use Rattle.ini_text.specs.declared.write_option.LineSeparator.TheVariants.{SystemDefault, CR, CRLF}
 use Rattle.ini_text.specs.declared.watched.Watched.{Watched}
 use Rattle.ini.specs.Texts.{Text}
 use Rattle.ini.specs.Writes.{Writes}
 use Rattle.ini.specs.Documents.{Document}
-use Rattle.ini.specs.Written.{written}
+use Rattle.ini.specs.Written.{written, written_name, written_pair}
 use Rattle.ini_text.specs.declared.write_option.WriteOption.{WriteOption}
 
-abbrev Done : Type 0
-Done = Result (Unit {0}) Error
-
--- a front of the first part is one of both
-AppendsFront-first : (a b : Option (List ℕ)) (xs ys : List ℕ) → AppendsFront a b xs → AppendsFront a b (xs ++ ys)
-AppendsFront-first a b xs ys (n, bound, some) =
-    let len = length-append xs ys in
-    (n, omega (arith, bound, len), rw (take-append-le n xs ys bound) some)
-
--- the first part whole, and a front of the second
-AppendsFront-second : (a b c : Option (List ℕ)) (xs ys : List ℕ) → Appends a b xs → AppendsFront b c ys → AppendsFront a c (xs ++ ys)
-AppendsFront-second a b c xs ys all (n, bound, some) =
-    let len = length-append xs ys in
-    (length xs + n, omega (arith, bound, len), rw (take-append-add xs ys n) (Appends-trans a b c xs (take n ys) all some))
-
 module _ {W : Type 0} {contents : W → Option (List ℕ)} where
-  -- where nothing is to be written
-  Writes-nil : (a : Watched W) → IsClear a → Writes contents a a (Ok (tt {0})) []
-  Writes-nil a clear = record {
-    same_device = refl;
-    bytes = Appends-nil _;
-    front = (0, omega arith, Appends-nil _);
-    failures = clear.0;
-    stalls = clear.1;
-    only = tt;
-  }
-
   -- the second text behind the first
-  pub Writes-then : {a b d : Watched W} {x : Unit {0}} {r : Done} {xs ys : Text} → Writes contents a b (Ok x) xs → Writes contents b d r ys → Writes contents a d r (xs ++ ys)
-  Writes-then {a} {b} {d} {x} {r} {xs} {ys} first second = record {
-    same_device = second.same_device ∙ first.same_device;
-    bytes = at r second.bytes;
-    front = rw encodes-append (AppendsFront-second _ _ _ (encode_utf8_all xs) (encode_utf8_all ys) first.bytes second.front);
-    failures = second.failures;
-    stalls = second.stalls;
-    only = second.only;
-  }
-    where
-      at : (r : Done) → OnOk r (Appends (contents b.device.now) (contents d.device.now) (encode_utf8_all ys)) → OnOk r (Appends (contents a.device.now) (contents d.device.now) (encode_utf8_all (xs ++ ys)))
-      at (Ok y) more = rw encodes-append (Appends-trans _ _ _ (encode_utf8_all xs) (encode_utf8_all ys) first.bytes more)
-      at (Err e) more = tt
+  pub Writes-then : {a b d : Watched W} {h i j : List ℕ} {r : Result (Unit {0}) Error} {xs ys : Text} → Writes contents a b h i (Ok (tt {0})) xs → Writes contents b d i j r ys
+      → Writes contents a d h j r (xs ++ ys)
+  Writes-then first second = record { sends = rw encodes-append (Sends-then first.sends second.sends) }
 
   -- a text that was cut short, and what should have followed
-  pub Writes-cut : {a b : Watched W} {e : Error} {xs : Text} (ys : Text) → Writes contents a b (Err e) xs → Writes contents a b (Err e) (xs ++ ys)
-  Writes-cut {a} {b} {e} {xs} ys cut = record {
-    same_device = cut.same_device;
-    bytes = tt;
-    front = rw encodes-append (AppendsFront-first _ _ (encode_utf8_all xs) (encode_utf8_all ys) cut.front);
-    failures = cut.failures;
-    stalls = cut.stalls;
-    only = cut.only;
-  }
+  pub Writes-cut : {a b : Watched W} {h i : List ℕ} {e : Error} {xs : Text} (ys : Text) → Writes contents a b h i (Err e) xs → Writes contents a b h i (Err e) (xs ++ ys)
+  Writes-cut ys cut = record { sends = rw encodes-append (Sends-cut (encode_utf8_all ys) cut.sends) }
 
 -- a part of a whole text is written, and the rest is left
-pub record Writing {W : Type 0} (contents : W → Option (List ℕ)) (a b : Watched W) (whole rest : Text) : Type 0 where
+pub record Writing {W : Type 0} (contents : W → Option (List ℕ)) (a b : Watched W) (before held : List ℕ) (whole rest : Text) : Type 0 where
   pub so_far : Text
   pub joined : so_far ++ rest ≡ whole
-  pub done : Writes contents a b (Ok (tt {0})) so_far
+  pub done : Writes contents a b before held (Ok (tt {0})) so_far
 
 module _ {W : Type 0} {contents : W → Option (List ℕ)} where
-  pub Writing-starts : (a : Watched W) {whole : Text} → IsClear a → Writing contents a a whole whole
-  Writing-starts a clear = record { so_far = []; joined = refl; done = Writes-nil a clear }
+  pub Writing-starts : (a : Watched W) (h : List ℕ) {whole : Text} → IsClear a → Writing contents a a h h whole whole
+  Writing-starts a h clear = record { so_far = []; joined = refl; done = record { sends = Sends-nil h clear } }
 
-  pub Writing-ends : (a b : Watched W) (whole : Text) → Writing contents a b whole [] → Writes contents a b (Ok (tt {0})) whole
-  Writing-ends a b whole left = subst (Writes contents a b (Ok (tt {0}))) (sym (append-nil left.so_far) ∙ left.joined) left.done
+  pub Writing-ends : (a b : Watched W) (h i : List ℕ) (whole : Text) → Writing contents a b h i whole [] → Writes contents a b h i (Ok (tt {0})) whole
+  Writing-ends a b h i whole left = subst (Writes contents a b h i (Ok (tt {0}))) (sym (append-nil left.so_far) ∙ left.joined) left.done
 
   -- a call that was to write the front xs of the rest
-  module _ {a b d : Watched W} {whole rest xs : Text} (more : Text) (front : rest ≡ xs ++ more) (left : Writing contents a b whole rest) where
-    pub Writing-goes_on : {x : Unit {0}} → Writes contents b d (Ok x) xs → Writing contents a d whole more
+  module _ {a b d : Watched W} {h i j : List ℕ} {whole rest xs : Text} (more : Text) (front : rest ≡ xs ++ more) (left : Writing contents a b h i whole rest) where
+    pub Writing-goes_on : Writes contents b d i j (Ok (tt {0})) xs → Writing contents a d h j whole more
     Writing-goes_on step = record {
       so_far = left.so_far ++ xs;
       joined = append_assoc left.so_far xs more ∙ ap (λ l. left.so_far ++ l) (sym front) ∙ left.joined;
       done = Writes-then left.done step;
     }
 
-    pub Writing-stops : {e : Error} → Writes contents b d (Err e) xs → Writes contents a d (Err e) whole
+    pub Writing-stops : {e : Error} → Writes contents b d i j (Err e) xs → Writes contents a d h j (Err e) whole
     Writing-stops {e} cut =
-        subst (Writes contents a d (Err e)) (ap (λ l. left.so_far ++ l) (sym front) ∙ left.joined)
+        subst (Writes contents a d h j (Err e)) (ap (λ l. left.so_far ++ l) (sym front) ∙ left.joined)
         (Writes-then left.done (Writes-cut more cut))
 
 -- the texts of a list's elements, from one of them on
@@ -118,12 +74,31 @@ chars-line_end SystemDefault = refl
 chars-line_end CR = refl
 chars-line_end CRLF = refl
 
+-- a pair's line and a header by their parts
+pub pair_parts : (w : WriteOption) (key value : Text) → (escaped w.escape_policy key ++ chars w.kv_separator.now) ++ (escaped w.escape_policy value ++ chars (line_end w.line_separator)) ≡ written_pair w (key, value)
+pair_parts w key value =
+    let front = escaped w.escape_policy key ++ chars w.kv_separator.now in
+    ap (λ l. front ++ (escaped w.escape_policy value ++ l)) (chars-line_end w.line_separator)
+    ∙ sym (append_assoc front (escaped w.escape_policy value) (line_end w.line_separator))
+
+pub header_parts : (w : WriteOption) (name : Text) → (chars (open_bracket ∷ []) ++ (escaped w.escape_policy name ++ chars (close_bracket ∷ []))) ++ chars (line_end w.line_separator) ≡ written_name w (Some name)
+header_parts w name =
+    rw (chars-open_bracket, chars-close_bracket, chars-line_end w.line_separator)
+    (ap (λ l. open_bracket ∷ l) (append_assoc (escaped w.escape_policy name) (close_bracket ∷ []) (line_end w.line_separator)))
+
 -- what is written by options that say the same
+written_alike : (d : Document) (v w : WriteOption) → v.escape_policy ≡ w.escape_policy → v.line_separator ≡ w.line_separator → v.kv_separator.now ≡ w.kv_separator.now → written d v ≡ written d w
+written_alike d v w policy line separator =
+    λ i. written d (record { escape_policy = policy i; line_separator = line i; kv_separator = record v.kv_separator { now = separator i } })
+
+-- by two default options
 pub same_written : (d : Document) (v w : WriteOption) → IsDefaultWriteOption v → IsDefaultWriteOption w → written d v ≡ written d w
 same_written d v w a b =
-    let policy = a.escape_policy ∙ sym b.escape_policy in
-    let line = a.line_separator ∙ sym b.line_separator in
-    let separator = a.kv_separator ∙ sym b.kv_separator in
-    λ i. written d (record { escape_policy = policy i; line_separator = line i; kv_separator = record v.kv_separator { now = separator i } })
+    written_alike d v w (a.escape_policy ∙ sym b.escape_policy) (a.line_separator ∙ sym b.line_separator) (a.kv_separator ∙ sym b.kv_separator)
+
+-- by two default options with one policy
+pub same_written_by : (policy : EscapePolicy) (d : Document) (v w : WriteOption) → IsDefaultWriteOption v → IsDefaultWriteOption w → written d (record v { escape_policy = policy }) ≡ written d (record w { escape_policy = policy })
+same_written_by policy d v w a b =
+    written_alike d (record v { escape_policy = policy }) (record w { escape_policy = policy }) refl (a.line_separator ∙ sym b.line_separator) (a.kv_separator ∙ sym b.kv_separator)
 
 pub ruleset steps = (encodes-chars, chars-line_end, chars-open_bracket, chars-close_bracket)

@@ -1,5 +1,5 @@
 -- A document: a list of sections, each a name and the pairs of the section; and the document of items.
-use Rattle.std.specs.Prelude.{List, [], ◌∷◌, ◌++◌, fold, map, Option, None, Some, String, option_and_then}
+use Rattle.std.specs.Prelude.{List, [], ◌∷◌, ◌++◌, fold, map, Option, None, Some, IsSome, String, option_and_then}
 use Rattle.std.specs.Map.{lookup, remove_entry}
 use Rattle.ini_multimap.specs.Pairs.{distinct_keys, values_at}
 use Rattle.ini_text.specs.Elements.{Given, Header, Pair}
@@ -13,6 +13,10 @@ Document = List (Option Text × Pairs)
 -- the pairs of the first section of the name
 abbrev pub first_section : Option Text → Document → Option Pairs
 first_section name d = lookup (is_name name) d
+
+-- a general section is there
+abbrev pub HasGeneral : Document → Type 0
+HasGeneral d = IsSome (first_section None d)
 
 -- the first value of the key in the first section of the name
 abbrev pub value_in : Option Text → Text → Document → Option Text

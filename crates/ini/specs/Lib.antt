@@ -2,13 +2,14 @@ pub mod Texts
 pub mod Properties
 pub mod Documents
 pub mod Edits
+pub mod EditLaws
 pub mod Equality
 pub mod Walks
 pub mod Lends
 pub mod Loading
+pub mod Files
 pub mod Written
 pub mod Writes
-pub mod Pieces
 pub mod Entries
 pub mod Setter
 pub mod Plain

@@ -28,8 +28,14 @@ abbrev pub HasOutcome : ParseOption → Text → Outcome → Type 0
 HasOutcome o T (loaded d) = IsDocumentOf o T d
 HasOutcome o T (refused kind line column) = IsRefusedAt o T kind line column
 
--- The outcome behind the document d, whose text has n line feeds: the sections of d and then those of the other
--- document but its first, which is the general one; or the refusal, n lines further down.
+-- one outcome comes of the text, and no other
+pub record HasOneOutcome (o : ParseOption) (T : Text) : Type 0 where
+  pub outcome : Outcome
+  pub comes : HasOutcome o T outcome
+  pub alone : (x : Outcome) → HasOutcome o T x → x ≡ outcome
+
+-- The outcome behind the document d, whose text has n line feeds: the sections of d and then those of the
+-- other document but its first, which is the general one; or the refusal, n lines further down.
 abbrev pub after : Document → ℕ → Outcome → Outcome
 after d n (loaded e) = loaded (d ++ drop 1 e)
 after d n (refused kind line column) = refused kind (line + n) column

@@ -1,19 +1,32 @@
-//! Laws of documents, each the contract of a function that does nothing. They speak of the definitions alone.
-ghost use Rattle.std.specs.Prelude.{◌≡◌, chars};
+//! Laws of documents, each the contract of a function that does nothing. They speak of the definitions
+//! alone.
+ghost use Rattle.std.specs.Prelude.{◌≡◌, chars, true};
+ghost use Rattle.std.specs.Str.{all_scalars};
 ghost use Rattle.ini_text.specs.PlainLaws.{IsEmptyOrHeader};
-ghost use Rattle.ini.specs.Outcomes.{Inverts};
+ghost use Rattle.ini.specs.Loading.{IsDocumentOf};
+ghost use Rattle.ini.specs.Outcomes.{HasOneOutcome, Inverts};
 ghost use Rattle.ini.specs.Plain.{IsPlain};
 ghost use Rattle.ini.specs.Written.{written};
 
 use crate::document::Ini;
 use ini_text::{ParseOption, WriteOption};
 
-/// The text of a plain document, with nothing or any text behind it that begins with an opening bracket, loads
-/// as the document's sections and then those of what follows, refusals moved down.
+pub mod edits;
+
+/// A text has one outcome: a document, or a refusal with its kind, line and column.
+#[tactic(auto, using(crate::proofs::InversionLemmas::one_outcome))]
+pub fn one_outcome(text: &str, read: ParseOption)
+    ensures { HasOneOutcome read (chars text.now) }
+{}
+
+/// The text of a plain document loads as the document. With a text behind it that is empty or begins with an
+/// opening bracket, it loads as the document's sections and then those of what follows, refusals moved down.
 pub fn inversion(document: &Ini, write: &WriteOption, read: ParseOption, follows: &str)
     requires plain { IsPlain document.now write.now read }
     requires follows { IsEmptyOrHeader (chars follows.now) }
-    ensures { Inverts read write.now document.now (chars follows.now) }
+    ensures characters { all_scalars (written document.now write.now) ≡ true }
+    ensures document { IsDocumentOf read (written document.now write.now) document.now }
+    ensures inverts { Inverts read write.now document.now (chars follows.now) }
 {}
 
 /// Two documents that are plain under the same options and have one text are equal.

@@ -7,6 +7,7 @@
 
 mod document;
 mod entry;
+mod file;
 mod iter;
 pub mod laws;
 mod load;
@@ -18,8 +19,8 @@ mod write;
 pub use document::{Ini, SectionKey};
 pub use entry::{NoRoom, SectionEntry, SectionOccupiedEntry, SectionVacantEntry};
 pub use ini_text::{
-    Error, EscapePolicy, LineSeparator, ParseError, ParseKind, ParseOption, Watched, WriteOption,
-    is_plain_name, is_plain_pair, is_plain_separator, write_escaped, write_raw,
+    Error, EscapePolicy, Gatherer, LineSeparator, ParseError, ParseKind, ParseOption, Watched,
+    WriteOption, is_plain_name, is_plain_pair, is_plain_separator, write_escaped, write_raw,
 };
 pub use iter::{
     PropertiesIntoIter, PropertyIter, PropertyIterMut, PropertyValues, RemovedValues, SectionAll,

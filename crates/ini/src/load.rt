@@ -6,7 +6,7 @@ ghost use Rattle.ini_text.specs.Faults.{IsIo, faults_in};
 ghost use Rattle.ini_text.specs.Items.{item_of};
 ghost use Rattle.ini_text.specs.Options.{default_parse_option};
 ghost use Rattle.ini_text.specs.Watched.{IsClear, SameDevice, device_now, failure_count, stall_count};
-ghost use Rattle.ini.specs.Documents.{with_item};
+ghost use Rattle.ini.specs.Documents.{HasGeneral, with_item};
 ghost use Rattle.ini.specs.Loading.{AreNoText, IfParse, IsDocumentOf, IsDocumentOfBytes, IsIoOrMemory, IsNotUtf8, IsParseOrMemory, IsReadRefusal, IsStopOf, IsStopOfBytes, OnReadThrough, without_mark};
 
 use crate::document::Ini;
@@ -19,6 +19,7 @@ impl Ini {
     /// The document of a text, by the default options. The rest is as `load_from_str_opt` has it.
     pub fn load_from_str(alloc: Global, text: &str) -> Result<Ini, Error>
         ensures document { IfOk result (IsDocumentOf default_parse_option (chars text.now)) }
+        ensures general { IfOk result HasGeneral }
         ensures fault { IfParse result (IsStopOf default_parse_option (chars text.now)) }
         ensures only { IfErr result IsParseOrMemory }
     {
@@ -28,6 +29,7 @@ impl Ini {
     /// The document of a text, by the default options but without escapes. The rest is as `load_from_str_opt` has it.
     pub fn load_from_str_noescape(alloc: Global, text: &str) -> Result<Ini, Error>
         ensures document { let option = record default_parse_option { enabled_escape = false } in IfOk result (IsDocumentOf option (chars text.now)) }
+        ensures general { IfOk result HasGeneral }
         ensures fault { let option = record default_parse_option { enabled_escape = false } in IfParse result (IsStopOf option (chars text.now)) }
         ensures only { IfErr result IsParseOrMemory }
     {
@@ -45,6 +47,7 @@ impl Ini {
     /// `Parse` where reading the text stops, with line and column; `Memory` where memory is refused.
     pub fn load_from_str_opt(alloc: Global, text: &str, opt: ParseOption) -> Result<Ini, Error>
         ensures document { IfOk result (IsDocumentOf opt (chars text.now)) }
+        ensures general { IfOk result HasGeneral }
         ensures fault { IfParse result (IsStopOf opt (chars text.now)) }
         ensures only { IfErr result IsParseOrMemory }
     {
@@ -60,6 +63,7 @@ impl Ini {
     /// `read_watched` has it.
     pub fn read_from<R: Read>(alloc: Global, reader: &mut R) -> Result<Ini, Error>
         ensures document { IfOk result (IsDocumentOfBytes default_parse_option false (R.remaining reader.old)) }
+        ensures general { IfOk result HasGeneral }
         ensures fault { IfParse result (IsStopOfBytes default_parse_option false (R.remaining reader.old)) }
         ensures not_utf8 { IsNotUtf8 result → AreNoText false (R.remaining reader.old) }
         ensures end { OnReadThrough result (IsAtEnd (R.remaining reader.new)) }
@@ -72,6 +76,7 @@ impl Ini {
     /// rest is as `read_watched` has it.
     pub fn read_from_noescape<R: Read>(alloc: Global, reader: &mut R) -> Result<Ini, Error>
         ensures document { let option = record default_parse_option { enabled_escape = false } in IfOk result (IsDocumentOfBytes option false (R.remaining reader.old)) }
+        ensures general { IfOk result HasGeneral }
         ensures fault { let option = record default_parse_option { enabled_escape = false } in IfParse result (IsStopOfBytes option false (R.remaining reader.old)) }
         ensures not_utf8 { IsNotUtf8 result → AreNoText false (R.remaining reader.old) }
         ensures end { OnReadThrough result (IsAtEnd (R.remaining reader.new)) }
@@ -91,6 +96,7 @@ impl Ini {
         opt: ParseOption,
     ) -> Result<Ini, Error>
         ensures document { IfOk result (IsDocumentOfBytes opt false (R.remaining reader.old)) }
+        ensures general { IfOk result HasGeneral }
         ensures fault { IfParse result (IsStopOfBytes opt false (R.remaining reader.old)) }
         ensures not_utf8 { IsNotUtf8 result → AreNoText false (R.remaining reader.old) }
         ensures end { OnReadThrough result (IsAtEnd (R.remaining reader.new)) }
@@ -107,6 +113,7 @@ impl Ini {
         opt: ParseOption,
     ) -> Result<Ini, Error>
         ensures document { IfOk result (IsDocumentOfBytes opt true (R.remaining reader.old)) }
+        ensures general { IfOk result HasGeneral }
         ensures fault { IfParse result (IsStopOfBytes opt true (R.remaining reader.old)) }
         ensures not_utf8 { IsNotUtf8 result → AreNoText true (R.remaining reader.old) }
         ensures end { OnReadThrough result (IsAtEnd (R.remaining reader.new)) }
@@ -132,6 +139,7 @@ impl Ini {
         requires { IsClear reader.old }
         ensures same_device { SameDevice reader.old reader.new }
         ensures document { IfOk result (IsDocumentOfBytes opt drop_mark (R.remaining (device_now reader.old))) }
+        ensures general { IfOk result HasGeneral }
         ensures fault { IfParse result (IsStopOfBytes opt drop_mark (R.remaining (device_now reader.old))) }
         ensures not_utf8 { IsNotUtf8 result → AreNoText drop_mark (R.remaining (device_now reader.old)) }
         ensures end { OnReadThrough result (IsAtEnd (R.remaining (device_now reader.new))) }

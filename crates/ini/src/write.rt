@@ -1,7 +1,8 @@
 //! Documents on their way to a device. This file knows in which order the parts of a document are written, and leaves
 //! escapes and the device to `ini_text`.
-ghost use Rattle.std.specs.Prelude.{◌≡◌, ◌<◌, ◌↔◌, OnOk, IfErr, chars, encode_utf8_all, flat_map};
+ghost use Rattle.std.specs.Prelude.{◌≡◌, ◌<◌, ◌↔◌, OnOk, IfErr, ◌++◌, Some, chars, encode_utf8_all};
 ghost use Rattle.std.specs.Io.KnownBytes.{Appends};
+ghost use Rattle.ini_text.specs.Escapes.{escaped};
 ghost use Rattle.ini_text.specs.Faults.{IsIo, IsNoProgress, IsIoOrNoProgress, faults_in, stalls_in};
 ghost use Rattle.ini_text.specs.Watched.{AppendsFront, IsClear, SameDevice, device_now, failure_count, stall_count};
 ghost use Rattle.ini_text.specs.WriteOptions.{IsDefaultWriteOption};
@@ -9,126 +10,118 @@ ghost use Rattle.ini_text.specs.declared.write_option.WriteOption.{WriteOption};
 ghost use Rattle.ini.specs.Texts.{str_name, str_text};
 ghost use Rattle.ini.specs.Written.{written, written_gap, written_name, written_pair, written_pairs, written_section};
 ghost use Rattle.ini.specs.Writes.{Writes};
-ghost use Rattle.ini.specs.Pieces.{piece_text};
+ghost use Rattle.ini_text.specs.Held.{held};
 
 use crate::document::Ini;
 use crate::properties::Properties;
-use ini_text::{Error, EscapePolicy, Watched, WriteOption, write_escaped, write_raw};
+use ini_text::{Error, EscapePolicy, Gatherer, Watched, WriteOption};
 use std::io::Write;
-
-// A part of a line: a text as it is, or escaped.
-#[derive(Clone, Copy)]
-enum Piece<'a> {
-    Raw(&'a str),
-    Escaped(&'a str),
-}
-
-impl Piece<'_> {
-    fn write<W: Write>(self, policy: EscapePolicy, out: &mut Watched<'_, W>) -> Result<(), Error>
-        requires { IsClear out.old }
-        ensures { Writes W.contents out.old out.new result (piece_text policy self.entry) }
-    {
-        match self {
-            Piece::Raw(text) => write_text(text, out),
-            Piece::Escaped(text) => write_escaped(text, policy, out),
-        }
-    }
-}
 
 // A text as it is, seen as its characters.
 #[tactic(auto, using(crate::proofs::Writing::steps))]
-fn write_text<W: Write>(text: &str, out: &mut Watched<'_, W>) -> Result<(), Error>
+fn put_text<W: Write>(
+    lines: &mut Gatherer,
+    text: &str,
+    out: &mut Watched<'_, W>,
+) -> Result<(), Error>
     requires { IsClear out.old }
-    ensures { Writes W.contents out.old out.new result (chars text.now) }
+    ensures { Writes W.contents out.old out.new (held lines.old) (held lines.new) result (chars text.now) }
 {
-    write_raw(text, out)
+    lines.put(text, out)
 }
 
-// The pieces one after another.
-fn write_pieces<W: Write>(
-    pieces: &[Piece<'_>],
+// A text escaped, and another as it is behind it.
+fn put_part<W: Write>(
+    lines: &mut Gatherer,
+    text: &str,
+    behind: &str,
     policy: EscapePolicy,
     out: &mut Watched<'_, W>,
 ) -> Result<(), Error>
     requires { IsClear out.old }
-    ensures { Writes W.contents out.old out.new result (flat_map (piece_text policy) pieces.now) }
+    ensures { Writes W.contents out.old out.new (held lines.old) (held lines.new) result (escaped policy (chars text.now) ++ chars behind.now) }
 {
-    for piece in pieces {
-        piece.write(policy, out)?;
-    }
-    Ok(())
+    lines.put_escaped(text, policy, out)?;
+    put_text(lines, behind, out)
 }
 
 // The key, the separator and the value, on a line of their own.
-#[tactic(auto, using(crate::proofs::Writing::steps))]
 fn write_pair<W: Write>(
+    lines: &mut Gatherer,
     key: &str,
     value: &str,
     option: &WriteOption,
     out: &mut Watched<'_, W>,
 ) -> Result<(), Error>
     requires { IsClear out.old }
-    ensures { Writes W.contents out.old out.new result (written_pair option.now (chars key.now, chars value.now)) }
+    ensures { Writes W.contents out.old out.new (held lines.old) (held lines.new) result (written_pair option.now (chars key.now, chars value.now)) }
 {
-    let line = [
-        Piece::Escaped(key),
-        Piece::Raw(option.kv_separator),
-        Piece::Escaped(value),
-        Piece::Raw(option.line_separator.as_str()),
-    ];
-    write_pieces(&line, option.escape_policy, out)
+    let policy = option.escape_policy;
+    put_part(lines, key, option.kv_separator, policy, out)?;
+    put_part(lines, value, option.line_separator.as_str(), policy, out)
 }
 
 // Each pair on a line of its own.
 fn write_pairs<W: Write>(
+    lines: &mut Gatherer,
     pairs: &Properties,
     option: &WriteOption,
     out: &mut Watched<'_, W>,
 ) -> Result<(), Error>
     requires { IsClear out.old }
-    ensures { Writes W.contents out.old out.new result (written_pairs option.now pairs.now) }
+    ensures { Writes W.contents out.old out.new (held lines.old) (held lines.new) result (written_pairs option.now pairs.now) }
 {
     for (key, value) in pairs {
-        write_pair(key, value, option, out)?;
+        write_pair(lines, key, value, option, out)?;
     }
     Ok(())
 }
 
-// The name in brackets, on a line of its own; the general section has none.
-#[tactic(auto, using(crate::proofs::Writing::steps))]
+// A name in brackets, on a line of its own.
+fn write_header<W: Write>(
+    lines: &mut Gatherer,
+    name: &str,
+    option: &WriteOption,
+    out: &mut Watched<'_, W>,
+) -> Result<(), Error>
+    requires { IsClear out.old }
+    ensures { Writes W.contents out.old out.new (held lines.old) (held lines.new) result (written_name option.now (Some (chars name.now))) }
+{
+    put_text(lines, "[", out)?;
+    put_part(lines, name, "]", option.escape_policy, out)?;
+    put_text(lines, option.line_separator.as_str(), out)
+}
+
+// The header of a section; the general section has none.
 fn write_name<W: Write>(
+    lines: &mut Gatherer,
     name: Option<&str>,
     option: &WriteOption,
     out: &mut Watched<'_, W>,
 ) -> Result<(), Error>
     requires { IsClear out.old }
-    ensures { Writes W.contents out.old out.new result (written_name option.now (str_name name.entry)) }
+    ensures { Writes W.contents out.old out.new (held lines.old) (held lines.new) result (written_name option.now (str_name name.entry)) }
 {
-    let Some(name) = name else {
-        return Ok(());
-    };
-    let header = [
-        Piece::Raw("["),
-        Piece::Escaped(name),
-        Piece::Raw("]"),
-        Piece::Raw(option.line_separator.as_str()),
-    ];
-    write_pieces(&header, option.escape_policy, out)
+    match name {
+        Some(name) => write_header(lines, name, option, out),
+        None => Ok(()),
+    }
 }
 
 // An empty line before pairs, where an earlier section had some.
 #[tactic(auto, using(crate::proofs::Writing::steps))]
 fn write_gap<W: Write>(
+    lines: &mut Gatherer,
     earlier: bool,
     pairs: &Properties,
     option: &WriteOption,
     out: &mut Watched<'_, W>,
 ) -> Result<(), Error>
     requires { IsClear out.old }
-    ensures { Writes W.contents out.old out.new result (written_gap option.now earlier pairs.now) }
+    ensures { Writes W.contents out.old out.new (held lines.old) (held lines.new) result (written_gap option.now earlier pairs.now) }
 {
     if earlier && !pairs.is_empty() {
-        write_text(option.line_separator.as_str(), out)
+        put_text(lines, option.line_separator.as_str(), out)
     } else {
         Ok(())
     }
@@ -136,6 +129,7 @@ fn write_gap<W: Write>(
 
 // A section, where `earlier` says whether one before it had pairs.
 fn write_section<W: Write>(
+    lines: &mut Gatherer,
     earlier: bool,
     name: Option<&str>,
     pairs: &Properties,
@@ -143,11 +137,11 @@ fn write_section<W: Write>(
     out: &mut Watched<'_, W>,
 ) -> Result<(), Error>
     requires { IsClear out.old }
-    ensures { Writes W.contents out.old out.new result (written_section option.now earlier (str_name name.entry, pairs.now)) }
+    ensures { Writes W.contents out.old out.new (held lines.old) (held lines.new) result (written_section option.now earlier (str_name name.entry, pairs.now)) }
 {
-    write_gap(earlier, pairs, option, out)?;
-    write_name(name, option, out)?;
-    write_pairs(pairs, option, out)
+    write_gap(lines, earlier, pairs, option, out)?;
+    write_name(lines, name, option, out)?;
+    write_pairs(lines, pairs, option, out)
 }
 
 impl Ini {
@@ -172,7 +166,9 @@ impl Ini {
         ensures no_progress { IsNoProgress result ↔ (stall_count out.old < stall_count out.new) }
         ensures only { IfErr result IsIoOrNoProgress }
     {
-        write_sections(self, &option, out)
+        let mut lines = Gatherer::new();
+        write_sections(&mut lines, self, &option, out)?;
+        lines.flush(out)
     }
 
     /// Writes the document's text to a writer, by the default options. The rest is as `write_watched` has it.
@@ -214,16 +210,17 @@ impl Ini {
 
 // The sections in order.
 fn write_sections<W: Write>(
+    lines: &mut Gatherer,
     document: &Ini,
     option: &WriteOption,
     out: &mut Watched<'_, W>,
 ) -> Result<(), Error>
     requires { IsClear out.old }
-    ensures { Writes W.contents out.old out.new result (written document.now option.now) }
+    ensures { Writes W.contents out.old out.new (held lines.old) (held lines.new) result (written document.now option.now) }
 {
     let mut earlier = false;
     for (name, pairs) in document {
-        write_section(earlier, name, pairs, option, out)?;
+        write_section(lines, earlier, name, pairs, option, out)?;
         earlier |= !pairs.is_empty();
     }
     Ok(())

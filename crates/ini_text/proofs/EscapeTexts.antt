@@ -23,7 +23,7 @@ IsAscii-escape_by None c is =
     let digits = hex_digits (digit_count c) c in
     IsAscii-cons backslash (letter_x ∷ digits) (omega arith) (IsAscii-cons letter_x digits (omega arith) (IsAscii-hex_digits (digit_count c) c))
 
-IsAscii-escape : (c : ℕ) → IsAscii (escape c)
+pub IsAscii-escape : (c : ℕ) → IsAscii (escape c)
 unfolding escape
 IsAscii-escape c = IsAscii-escape_by (letter_of c) c refl
 

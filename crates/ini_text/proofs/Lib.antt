@@ -24,6 +24,7 @@ pub mod WorkedRefusals
 pub mod WorkedBrackets
 pub mod EscapeTexts
 pub mod Progress
+pub mod SendLemmas
 pub mod Samples
 pub mod VerbatimRuns
 pub mod WalkReaders
@@ -41,6 +42,7 @@ pub mod PlainTrimLemmas
 pub mod PlainLineLemmas
 pub mod PlainPairLemmas
 pub mod PlainHeaderLemmas
+pub mod ScalarLemmas
 pub mod LawLemmas
 pub mod PlainSamples
 pub mod PlainTestLemmas

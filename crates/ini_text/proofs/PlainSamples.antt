@@ -96,6 +96,28 @@ raw_backslash o r = elim r.is_read [
   | inr none ↦ false≢true none.no_backslash
 ]
 
+-- names
+-- a closing bracket stands in a name only where names may have brackets
+closing_bracket : (o : ParseOption) (policy : EscapePolicy) → o.enabled_brackets_in_section_names ≡ false → ¬ IsPlainName o policy (codes "]")
+closing_bracket o policy off n = false≢true (n.no_bracket off)
+
+bracketed_name : IsPlainName (record default_parse_option { enabled_brackets_in_section_names = true }) Basics (codes "a]")
+bracketed_name = record {
+  is_trimmed = refl;
+  no_bracket = λ off. absurd (true≢false off);
+  read_back = record {
+    of_characters = refl;
+    is_read = inr (record { no_escaped = refl; no_backslash = refl });
+  };
+}
+
+space_around_name : (o : ParseOption) (policy : EscapePolicy) → ¬ IsPlainName o policy (codes " a")
+space_around_name o policy n = let same : codes "a" ≡ codes " a" = n.is_trimmed in cc
+
+-- values
+space_around_value : (o : ParseOption) (policy : EscapePolicy) → ¬ IsPlainValue o policy (codes "v ")
+space_around_value o policy v = let same : codes "v" ≡ codes "v " = v.is_trimmed in cc
+
 -- with quotes on a value doesn't begin with a quote's mark
 marks : ¬ IsPlainValue default_parse_option Basics (codes "\"a\"")
 marks v = true≢false (v.no_mark refl)
@@ -113,6 +135,13 @@ marks_without_quotes = record {
   };
 }
 
+-- keys
+empty_key : (o : ParseOption) (policy : EscapePolicy) → ¬ IsBareKey o policy []
+empty_key o policy k = k.some refl
+
+opening_bracket : (o : ParseOption) (policy : EscapePolicy) → ¬ IsBareKey o policy (codes "[")
+opening_bracket o policy k = true≢false k.no_bracket
+
 -- a separator in a key only where it is escaped
 bare_equals : (o : ParseOption) → ¬ IsBareKey o Basics (codes "a=b")
 bare_equals o k = false≢true k.no_separator
@@ -124,20 +153,6 @@ escaped_equals o = record {
   no_bracket = refl;
   no_separator = refl;
   no_comment = refl;
-}
-
--- a closing bracket in a name only where names may have brackets
-closing_bracket : ¬ IsPlainName default_parse_option Basics (codes "a]")
-closing_bracket n = false≢true (n.no_bracket refl)
-
-bracketed_name : IsPlainName (record default_parse_option { enabled_brackets_in_section_names = true }) Basics (codes "a]")
-bracketed_name = record {
-  is_trimmed = refl;
-  no_bracket = λ off. absurd (true≢false off);
-  read_back = record {
-    of_characters = refl;
-    is_read = inr (record { no_escaped = refl; no_backslash = refl });
-  };
 }
 
 -- spaces before a key: with kept indentation, and where values aren't multiline
@@ -167,6 +182,6 @@ tab_before o on = record {
   no_comment = refl;
 }
 
--- spaces before a mark of a comment are none of a plain key
-spaces_before_comment : (o : ParseOption) → ¬ IsBareKey o Basics (codes ";k")
-spaces_before_comment o k = true≢false k.no_comment
+-- a mark of a comment begins a key only where it is escaped, behind spaces too
+comment_mark : (o : ParseOption) → ¬ IsBareKey o Basics (codes ";k")
+comment_mark o k = true≢false k.no_comment

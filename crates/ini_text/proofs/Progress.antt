@@ -4,15 +4,10 @@ use Rattle.std.proofs.Math.Seq.{take-append-add}
 use Rattle.std.proofs.lemmas.List.{take-append-le}
 use Rattle.std.proofs.KnownBytes.{Appends-nil, Appends-trans}
 use Rattle.std.specs.Io.KnownBytes.{Appends, Keeps}
+use Rattle.ini_text.specs.Gathering.{IsUnderWay}
 use Rattle.ini_text.specs.Watched.{AppendsFront}
 
--- a part of the whole was appended, and the rest is to come
-pub record IsUnderWay (old new : Option (List ℕ)) (whole rest : List ℕ) : Type 0 where
-  pub done : List ℕ
-  pub appended : Appends old new done
-  pub parts : whole ≡ done ++ rest
-
-Appends-kept : (a b : Option (List ℕ)) → Keeps a b → Appends a b []
+pub Appends-kept : (a b : Option (List ℕ)) → Keeps a b → Appends a b []
 Appends-kept None b kept = tt
 Appends-kept (Some xs) None kept = kept
 Appends-kept (Some xs) (Some ys) kept = kept ∙ sym (append-nil xs)

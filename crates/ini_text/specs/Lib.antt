@@ -23,7 +23,8 @@ pub mod ElementParts
 pub mod Parser
 pub mod Escapes
 pub mod Faults
-pub mod Gathered
+pub mod Gathering
+pub mod Held
 pub mod Policies
 pub mod Verbatim
 pub mod Watched

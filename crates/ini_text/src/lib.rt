@@ -4,6 +4,7 @@
 mod characters;
 mod error;
 mod escape;
+mod gather;
 mod item;
 pub mod laws;
 mod option;
@@ -16,6 +17,7 @@ mod write;
 mod write_option;
 
 pub use error::{Error, ParseError, ParseKind};
+pub use gather::Gatherer;
 pub use item::Item;
 pub use option::ParseOption;
 pub use parser::Parser;

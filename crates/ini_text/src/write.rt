@@ -5,9 +5,8 @@ ghost use Rattle.ini_text.specs.Faults.{IsIo, IsNoProgress, IsIoOrNoProgress, fa
 ghost use Rattle.ini_text.specs.Watched.{IsClear, SameDevice, Writes, WritesFront, failure_count, stall_count};
 
 use crate::error::Error;
-use crate::escape::Escapes;
+use crate::gather::Gatherer;
 use crate::policy::EscapePolicy;
-use crate::verbatim::split_verbatim;
 use crate::watched::Watched;
 use std::io::Write;
 
@@ -33,8 +32,7 @@ pub fn write_raw<W: Write>(text: &str, out: &mut Watched<'_, W>) -> Result<(), E
 
 /// Writes a text escaped. Takes no memory, and an empty text makes no call of the device.
 ///
-/// Escapes are gathered with the characters between them; where these are many they are handed to the device together, as
-/// they stand in the text.
+/// The escaped text is gathered, so that it reaches the device in few calls.
 ///
 /// # Errors
 ///
@@ -55,21 +53,13 @@ pub fn write_escaped<W: Write>(
     ensures no_progress { IsNoProgress result ↔ (stall_count out.old < stall_count out.new) }
     ensures only { IfErr result IsIoOrNoProgress }
 {
-    let mut escapes = Escapes::new();
-    let mut rest = text;
-    'runs: loop {
-        let (run, after) = split_verbatim(rest, policy);
-        write_raw(run, out)?;
-        let Some(following) = escapes.gather(after, policy) else {
-            return Ok(());
-        };
-        write_bytes(escapes.as_bytes(), out)?;
-        rest = following;
-    }
+    let mut gatherer = Gatherer::new();
+    gatherer.put_escaped(text, policy, out)?;
+    gatherer.flush(out)
 }
 
-// Writes all the bytes.
-fn write_bytes<W: Write>(bytes: &[u8], out: &mut Watched<'_, W>) -> Result<(), Error>
+/// Writes all the bytes.
+pub(crate) fn write_bytes<W: Write>(bytes: &[u8], out: &mut Watched<'_, W>) -> Result<(), Error>
     requires { IsClear out.old }
     ensures same_device { SameDevice out.old out.new }
     ensures bytes { OnOk result (Writes W.contents out.old out.new bytes.now) }

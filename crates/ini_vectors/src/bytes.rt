@@ -8,26 +8,12 @@ use std::process::Abort;
 use std::test::Fail;
 
 /// What reading the bytes by the default options shows, where a mark is dropped.
-fn read_from_bom(alloc: Global, bytes: &[u8]) -> Result<String, AllocError> {
+pub(crate) fn read_from_bom(alloc: Global, bytes: &[u8]) -> Result<String, AllocError> {
     let mut reader = bytes;
     loaded(
         alloc,
         Ini::read_from_bom(alloc, &mut reader, ParseOption::default()),
     )
-}
-
-#[test]
-fn load_from_file_with_bom(rt: HostRuntime) -> Result<(), Fail> {
-    let loaded = read_from_bom(rt.alloc(), b"\xEF\xBB\xBF[Test]Key=Value\n")?;
-    assert_eq!(rt; loaded.as_str(), "general: [Test]: <Key|Value> ");
-    Ok(())
-}
-
-#[test]
-fn load_from_file_without_bom(rt: HostRuntime) -> Result<(), Fail> {
-    let loaded = read_from_bom(rt.alloc(), b"[Test]Key=Value\n")?;
-    assert_eq!(rt; loaded.as_str(), "general: [Test]: <Key|Value> ");
-    Ok(())
 }
 
 #[test]

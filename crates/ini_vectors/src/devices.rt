@@ -76,6 +76,19 @@ fn a_fault_is_told_before_a_cut_character(rt: HostRuntime) {
 }
 
 #[test]
+fn what_a_slow_reader_gives_has_a_general_section(rt: HostRuntime) -> Result<(), Fail> {
+    let mut device = SlowReader {
+        rest: b"k=v\n[p]\n",
+        good_calls: usize::MAX,
+        fault: ErrorKind::Other,
+        calls: 0,
+    };
+    let document = Ini::read_from(rt.alloc(), &mut device)?;
+    assert_eq!(rt; document.general_section().get("k"), Some("v"));
+    Ok(())
+}
+
+#[test]
 fn slow_readers_are_read_to_the_end(rt: HostRuntime) -> Result<(), Fail> {
     for drop_mark in [true, false] {
         let mut device = SlowReader {
@@ -94,8 +107,8 @@ fn slow_readers_are_read_to_the_end(rt: HostRuntime) -> Result<(), Fail> {
 
 /// A writer that takes `room` bytes in all, at most `step` in a call, and then fails or, without a fault, takes none.
 #[derive(Drop)]
-struct LimitedWriter {
-    taken: Vec<u8>,
+pub(crate) struct LimitedWriter {
+    pub(crate) taken: Vec<u8>,
     room: usize,
     step: usize,
     fault: Option<ErrorKind>,
@@ -103,7 +116,12 @@ struct LimitedWriter {
 }
 
 impl LimitedWriter {
-    fn new(alloc: Global, room: usize, step: usize, fault: Option<ErrorKind>) -> LimitedWriter {
+    pub(crate) fn new(
+        alloc: Global,
+        room: usize,
+        step: usize,
+        fault: Option<ErrorKind>,
+    ) -> LimitedWriter {
         LimitedWriter {
             taken: Vec::new(alloc),
             room,

@@ -48,6 +48,18 @@ fn the_document_of_an_empty_text_is_a_new_one(rt: HostRuntime) -> Result<(), Fai
 }
 
 #[test]
+fn a_loaded_document_has_a_general_section(rt: HostRuntime) -> Result<(), Fail> {
+    let alloc = rt.alloc();
+    for (text, want) in [("", 0), ("[p]\nk=1\n", 0), ("k=1\nj=2\n[p]\n", 2)] {
+        let document = Ini::load_from_str(alloc, text)?;
+        assert_eq!(rt; document.general_section().len(), want);
+        let mut document = Ini::read_from(alloc, &mut text.as_bytes())?;
+        assert_eq!(rt; document.general_section_mut().len(), want);
+    }
+    Ok(())
+}
+
+#[test]
 fn get_with_non_static_key(rt: HostRuntime) -> Result<(), Fail> {
     let alloc = rt.alloc();
     let document = show::document(alloc, "key1=val1\nkey2=val2\n")?;

@@ -1,4 +1,5 @@
-//! What is written for a document, loaded again with a text behind it: documents that are plain, and some that are not.
+//! What is written for a document, loaded again with a text behind it: documents that are plain, and some that
+//! are not.
 use crate::show::{indented, load, multiline, noescape, written};
 use ini::{Error, EscapePolicy, Ini, LineSeparator, ParseOption, WriteOption};
 use std::alloc::Global;
@@ -50,7 +51,8 @@ pub(crate) fn without_quotes() -> ParseOption {
     }
 }
 
-/// Asks that the document of the pairs is written as this text, and that the text with `follows` behind it loads as `want`.
+/// Asks that the document of the pairs is written as this text, and that the text with `follows` behind it loads
+/// as what stands beside the options.
 fn expect(
     rt: &impl Abort,
     alloc: Global,
@@ -73,11 +75,11 @@ fn expect(
 #[test]
 fn letters_that_are_not_read_back(rt: HostRuntime) -> Result<(), Fail> {
     let default = ParseOption::default();
-    let tab = [(None, "k", "a\u{b}b")];
+    let vertical_tab = [(None, "k", "a\u{b}b")];
     expect(
         &rt,
         rt.alloc(),
-        &tab,
+        &vertical_tab,
         policy(EscapePolicy::Basics),
         "",
         "k=a\\vb\n",

@@ -9,211 +9,149 @@ use std::alloc::Global;
 use std::process::Abort;
 use std::test::Fail;
 
-/// A document that isn't plain: its pairs, the policy, and what its text loads as.
-type Broken<'a> = (&'a [Row], EscapePolicy, &'a str);
+/// A text of a document that isn't plain for it, the policy, and what the document's text loads as.
+type Broken = (&'static str, EscapePolicy, &'static str);
 
-/// Asks that each document isn't plain, and that its text loads as what stands beside it.
+/// Asks that a document of one pair isn't plain, and that its text loads as `want`.
 fn expect_not_plain(
     rt: &impl Abort,
     alloc: Global,
     read: ParseOption,
-    rows: &[Broken<'_>],
+    pair: Row,
+    escape_policy: EscapePolicy,
+    want: &str,
 ) -> Result<(), Fail> {
-    for (pairs, escape_policy, want) in rows {
-        let document = document(alloc, pairs)?;
-        let text = written(alloc, &document, policy(*escape_policy))?;
-        let shown = load(alloc, &text, read)?;
-        assert_eq!(rt; shown.as_str(), *want, "at {text:?}");
-        let plain = document.is_plain(&policy(*escape_policy), read);
-        assert!(rt; !plain, "at {text:?}");
+    let document = document(alloc, &[pair])?;
+    let text = written(alloc, &document, policy(escape_policy))?;
+    let shown = load(alloc, &text, read)?;
+    assert_eq!(rt; shown.as_str(), want, "at {text:?}");
+    let plain = document.is_plain(&policy(escape_policy), read);
+    assert!(rt; !plain, "at {text:?}");
+    Ok(())
+}
+
+/// The same of each key.
+fn expect_keys(
+    rt: &impl Abort,
+    alloc: Global,
+    read: ParseOption,
+    rows: &[Broken],
+) -> Result<(), Fail> {
+    for (key, escape_policy, want) in rows {
+        expect_not_plain(rt, alloc, read, (None, key, "v"), *escape_policy, want)?;
+    }
+    Ok(())
+}
+
+/// The same of each value.
+fn expect_values(
+    rt: &impl Abort,
+    alloc: Global,
+    read: ParseOption,
+    rows: &[Broken],
+) -> Result<(), Fail> {
+    for (value, escape_policy, want) in rows {
+        expect_not_plain(rt, alloc, read, (None, "k", value), *escape_policy, want)?;
     }
     Ok(())
 }
 
 #[test]
-fn texts_that_break_one_condition_load_as_others(rt: HostRuntime) -> Result<(), Fail> {
-    let default: [Broken<'_>; 27] = [
+fn names_that_break_one_condition_load_as_others(rt: HostRuntime) -> Result<(), Fail> {
+    let read = ParseOption::default();
+    let rows = [
+        (" a", EscapePolicy::Basics, "general: [a]: <j|1> "),
+        ("a ", EscapePolicy::Basics, "general: [a]: <j|1> "),
+        ("a]b", EscapePolicy::Basics, "general: [a]: <b]\nj|1> "),
+        ("a\u{b}", EscapePolicy::Basics, "general: [av]: <j|1> "),
         (
-            &[(Some(" a"), "j", "1")],
-            EscapePolicy::Basics,
-            "general: [a]: <j|1> ",
-        ),
-        (
-            &[(Some("a "), "j", "1")],
-            EscapePolicy::Basics,
-            "general: [a]: <j|1> ",
-        ),
-        (
-            &[(Some("a]b"), "j", "1")],
-            EscapePolicy::Basics,
-            "general: [a]: <b]\nj|1> ",
-        ),
-        (
-            &[(Some("a\u{b}b"), "j", "1")],
-            EscapePolicy::Basics,
-            "general: [avb]: <j|1> ",
-        ),
-        (
-            &[(Some("\u{1f431}"), "j", "1")],
+            "\u{1f431}",
             EscapePolicy::Everything,
             "general: [\u{1f43}1]: <j|1> ",
         ),
+        ("a\\", EscapePolicy::Nothing, "EndOfText at 3:1"),
+    ];
+    for (name, escape_policy, want) in rows {
+        expect_not_plain(
+            &rt,
+            rt.alloc(),
+            read,
+            (Some(name), "j", "1"),
+            escape_policy,
+            want,
+        )?;
+    }
+    let tab = (Some("a\tb"), "j", "1");
+    let want = "general: [a\\tb]: <j|1> ";
+    expect_not_plain(&rt, rt.alloc(), noescape(), tab, EscapePolicy::Basics, want)
+}
+
+#[test]
+fn keys_that_break_one_condition_load_as_others(rt: HostRuntime) -> Result<(), Fail> {
+    let rows = [
+        ("", EscapePolicy::Basics, "MissingKey at 1:2"),
+        (" k", EscapePolicy::Basics, "general: <k|v> "),
+        ("k ", EscapePolicy::Basics, "general: <k|v> "),
+        ("[k", EscapePolicy::Basics, "EndOfText at 2:1"),
+        ("a=b", EscapePolicy::Basics, "general: <a|b=v> "),
+        ("a:b", EscapePolicy::Basics, "general: <a|b=v> "),
+        (";k", EscapePolicy::Basics, "general: "),
+        ("#k", EscapePolicy::Basics, "general: "),
+        ("k\u{c}", EscapePolicy::Basics, "general: <kf|v> "),
         (
-            &[(Some("a\\"), "j", "1")],
-            EscapePolicy::Nothing,
-            "EndOfText at 3:1",
-        ),
-        (
-            &[(None, "", "v")],
-            EscapePolicy::Basics,
-            "MissingKey at 1:2",
-        ),
-        (
-            &[(None, " k", "v")],
-            EscapePolicy::Basics,
-            "general: <k|v> ",
-        ),
-        (
-            &[(None, "k ", "v")],
-            EscapePolicy::Basics,
-            "general: <k|v> ",
-        ),
-        (
-            &[(None, "[k", "v")],
-            EscapePolicy::Basics,
-            "EndOfText at 2:1",
-        ),
-        (
-            &[(None, "a=b", "v")],
-            EscapePolicy::Basics,
-            "general: <a|b=v> ",
-        ),
-        (
-            &[(None, "a:b", "v")],
-            EscapePolicy::Basics,
-            "general: <a|b=v> ",
-        ),
-        (&[(None, ";k", "v")], EscapePolicy::Basics, "general: "),
-        (&[(None, "#k", "v")], EscapePolicy::Basics, "general: "),
-        (
-            &[(None, "k\u{c}", "v")],
-            EscapePolicy::Basics,
-            "general: <kf|v> ",
-        ),
-        (
-            &[(None, "\u{1f431}", "v")],
+            "\u{1f431}",
             EscapePolicy::Everything,
             "general: <\u{1f43}1|v> ",
         ),
+        ("k\\", EscapePolicy::Nothing, "EndOfText at 2:1"),
+    ];
+    expect_keys(&rt, rt.alloc(), ParseOption::default(), &rows)?;
+    let kept = [
+        ("k ", EscapePolicy::Basics, "general: <k|v> "),
+        ("\tk ", EscapePolicy::Basics, "general: <\tk|v> "),
+        ("  [k", EscapePolicy::Basics, "EndOfText at 2:1"),
+        ("  k ", EscapePolicy::Basics, "general: <  k|v> "),
+    ];
+    expect_keys(&rt, rt.alloc(), indented(), &kept)?;
+    let escaped = [("k\u{7f}", EscapePolicy::Basics, "general: <k\\x007f|v> ")];
+    expect_keys(&rt, rt.alloc(), noescape(), &escaped)
+}
+
+#[test]
+fn values_that_break_one_condition_load_as_others(rt: HostRuntime) -> Result<(), Fail> {
+    let rows = [
+        (" v", EscapePolicy::Basics, "general: <k|v> "),
+        ("v ", EscapePolicy::Basics, "general: <k|v> "),
+        ("v\t", EscapePolicy::Basics, "general: <k|v> "),
+        ("\"v\"", EscapePolicy::Basics, "general: <k|v> "),
+        ("'v'", EscapePolicy::Basics, "general: <k|v> "),
+        ("a\u{b}b", EscapePolicy::Basics, "general: <k|avb> "),
+        ("a\u{c}b", EscapePolicy::Basics, "general: <k|afb> "),
         (
-            &[(None, "k\\", "v")],
-            EscapePolicy::Nothing,
-            "EndOfText at 2:1",
-        ),
-        (
-            &[(None, "k", " v")],
-            EscapePolicy::Basics,
-            "general: <k|v> ",
-        ),
-        (
-            &[(None, "k", "v ")],
-            EscapePolicy::Basics,
-            "general: <k|v> ",
-        ),
-        (
-            &[(None, "k", "v\t")],
-            EscapePolicy::Basics,
-            "general: <k|v> ",
-        ),
-        (
-            &[(None, "k", "\"v\"")],
-            EscapePolicy::Basics,
-            "general: <k|v> ",
-        ),
-        (
-            &[(None, "k", "'v'")],
-            EscapePolicy::Basics,
-            "general: <k|v> ",
-        ),
-        (
-            &[(None, "k", "a\u{b}b")],
-            EscapePolicy::Basics,
-            "general: <k|avb> ",
-        ),
-        (
-            &[(None, "k", "a\u{c}b")],
-            EscapePolicy::Basics,
-            "general: <k|afb> ",
-        ),
-        (
-            &[(None, "k", "\u{1f431}")],
+            "\u{1f431}",
             EscapePolicy::Everything,
             "general: <k|\u{1f43}1> ",
         ),
-        (
-            &[(None, "k", "a\\b")],
-            EscapePolicy::Nothing,
-            "general: <k|a\u{8}> ",
-        ),
-        (
-            &[(None, "k", "a\nb")],
-            EscapePolicy::Nothing,
-            "EndOfText at 3:1",
-        ),
+        ("a\\b", EscapePolicy::Nothing, "general: <k|a\u{8}> "),
+        ("a\nb", EscapePolicy::Nothing, "EndOfText at 3:1"),
     ];
-    expect_not_plain(&rt, rt.alloc(), ParseOption::default(), &default)?;
-    let without_escapes: [Broken<'_>; 4] = [
-        (
-            &[(Some("a\tb"), "j", "1")],
-            EscapePolicy::Basics,
-            "general: [a\\tb]: <j|1> ",
-        ),
-        (
-            &[(None, "k\u{7f}", "v")],
-            EscapePolicy::Basics,
-            "general: <k\\x007f|v> ",
-        ),
-        (
-            &[(None, "k", "a\nb")],
-            EscapePolicy::Basics,
-            "general: <k|a\\nb> ",
-        ),
-        (
-            &[(None, "k", "a\\")],
-            EscapePolicy::Nothing,
-            "general: <k|a> ",
-        ),
+    expect_values(&rt, rt.alloc(), ParseOption::default(), &rows)?;
+    let raw = [
+        ("a\nb", EscapePolicy::Basics, "general: <k|a\\nb> "),
+        ("a\\", EscapePolicy::Nothing, "general: <k|a> "),
     ];
-    expect_not_plain(&rt, rt.alloc(), noescape(), &without_escapes)?;
-    let kept: [Broken<'_>; 4] = [
-        (
-            &[(None, "k ", "v")],
-            EscapePolicy::Basics,
-            "general: <k|v> ",
-        ),
-        (
-            &[(None, "\tk ", "v")],
-            EscapePolicy::Basics,
-            "general: <\tk|v> ",
-        ),
-        (
-            &[(None, "  [k", "v")],
-            EscapePolicy::Basics,
-            "EndOfText at 2:1",
-        ),
-        (
-            &[(None, "  k ", "v")],
-            EscapePolicy::Basics,
-            "general: <  k|v> ",
-        ),
-    ];
-    expect_not_plain(&rt, rt.alloc(), indented(), &kept)?;
-    let kept_multiline: [Broken<'_>; 1] = [(
-        &[(None, "j", "1"), (None, "  k", "2")],
-        EscapePolicy::Basics,
-        "general: <j|1\nk=2> ",
-    )];
-    expect_not_plain(&rt, rt.alloc(), indented_multiline(), &kept_multiline)
+    expect_values(&rt, rt.alloc(), noescape(), &raw)
+}
+
+#[test]
+fn spaces_before_a_key_go_on_with_a_value(rt: HostRuntime) -> Result<(), Fail> {
+    let document = document(rt.alloc(), &[(None, "j", "1"), (None, "  k", "2")])?;
+    let text = written(rt.alloc(), &document, WriteOption::default())?;
+    let shown = load(rt.alloc(), &text, indented_multiline())?;
+    assert_eq!(rt; shown.as_str(), "general: <j|1\nk=2> ");
+    let plain = document.is_plain(&WriteOption::default(), indented_multiline());
+    assert!(rt; !plain);
+    Ok(())
 }
 
 #[test]

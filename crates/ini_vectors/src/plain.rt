@@ -244,69 +244,85 @@ fn one_separator_between_blanks_is_plain(rt: HostRuntime) -> Result<(), Fail> {
     Ok(())
 }
 
-#[test]
-fn worked_documents_are_plain_or_not(rt: HostRuntime) -> Result<(), Fail> {
-    let default = ParseOption::default();
-    let quoted: &[Row] = &[(None, "k", "\"a\"")];
-    let spaces: &[Row] = &[(Some("a"), "j", "1"), (Some("a"), "  k", "2")];
-    let cut: &[Row] = &[(None, "k", "a\\"), (None, "j", "b")];
-    let lines: &[Row] = &[(None, "k", ""), (Some("b"), "j", "x\ny")];
-    let tab: &[Row] = &[(None, "\tk", "v")];
-    let rows: [(&[Row], WriteOption, ParseOption, bool); 17] = [
-        (
-            &[(None, "k", "a\u{b}b")],
-            policy(EscapePolicy::Basics),
-            default,
-            false,
-        ),
-        (
-            &[(Some("a"), "k", "x\ny")],
-            crlf(EscapePolicy::Reserved),
-            default,
-            true,
-        ),
-        (
-            &[(None, "k", "\u{1f431}")],
-            policy(EscapePolicy::Everything),
-            default,
-            false,
-        ),
-        (
-            &[(None, "k", "\u{1f431}")],
-            policy(EscapePolicy::Basics),
-            default,
-            true,
-        ),
-        (quoted, policy(EscapePolicy::Basics), default, false),
-        (quoted, policy(EscapePolicy::Basics), without_quotes(), true),
-        (
-            spaces,
-            policy(EscapePolicy::Basics),
-            indented_multiline(),
-            false,
-        ),
-        (spaces, policy(EscapePolicy::Basics), indented(), true),
-        (spaces, policy(EscapePolicy::Basics), default, false),
-        (cut, policy(EscapePolicy::Nothing), default, false),
-        (cut, policy(EscapePolicy::Nothing), noescape(), false),
-        (cut, policy(EscapePolicy::Basics), default, true),
-        (lines, crlf(EscapePolicy::Basics), multiline(), true),
-        (&[], policy(EscapePolicy::Basics), default, true),
-        (
-            tab,
-            policy(EscapePolicy::Basics),
-            indented_multiline(),
-            true,
-        ),
-        (tab, policy(EscapePolicy::Basics), indented(), true),
-        (tab, policy(EscapePolicy::Basics), default, false),
-    ];
-    for (pairs, write, read, want) in rows {
-        let document = document(rt.alloc(), pairs)?;
-        let text = written(rt.alloc(), &document, write.clone()?)?;
-        assert_eq!(rt; document.is_plain(&write, read), want, "at {text:?}");
+/// Asks whether the document of the pairs is plain, by each set of reading options.
+fn expect_plain(
+    rt: &impl Abort,
+    alloc: Global,
+    pairs: &[Row],
+    write: WriteOption,
+    rows: &[(ParseOption, bool)],
+) -> Result<(), Fail> {
+    let document = document(alloc, pairs)?;
+    for (read, want) in rows {
+        assert_eq!(rt; document.is_plain(&write, *read), *want);
     }
     Ok(())
+}
+
+#[test]
+fn escapes_that_are_not_read_back_are_not_plain(rt: HostRuntime) -> Result<(), Fail> {
+    let default = ParseOption::default();
+    let no = [(default, false)];
+    let yes = [(default, true)];
+    let letter = [(None, "k", "a\u{b}b")];
+    expect_plain(&rt, rt.alloc(), &letter, policy(EscapePolicy::Basics), &no)?;
+    let cat = [(None, "k", "\u{1f431}")];
+    expect_plain(&rt, rt.alloc(), &cat, policy(EscapePolicy::Everything), &no)?;
+    expect_plain(&rt, rt.alloc(), &cat, policy(EscapePolicy::Basics), &yes)?;
+    let backslash = [(None, "k", "a\\"), (None, "j", "b")];
+    let neither = [(default, false), (noescape(), false)];
+    expect_plain(
+        &rt,
+        rt.alloc(),
+        &backslash,
+        policy(EscapePolicy::Nothing),
+        &neither,
+    )?;
+    let line = [(Some("a"), "k", "x\ny")];
+    expect_plain(&rt, rt.alloc(), &line, crlf(EscapePolicy::Reserved), &yes)
+}
+
+#[test]
+fn quotes_and_indentation_are_plain_by_the_options(rt: HostRuntime) -> Result<(), Fail> {
+    let default = ParseOption::default();
+    let quoted = [(None, "k", "\"a\"")];
+    let by_quotes = [(default, false), (without_quotes(), true)];
+    expect_plain(
+        &rt,
+        rt.alloc(),
+        &quoted,
+        policy(EscapePolicy::Basics),
+        &by_quotes,
+    )?;
+    let spaces = [(Some("a"), "j", "1"), (Some("a"), "  k", "2")];
+    let alone = [
+        (indented_multiline(), false),
+        (indented(), true),
+        (default, false),
+    ];
+    expect_plain(
+        &rt,
+        rt.alloc(),
+        &spaces,
+        policy(EscapePolicy::Basics),
+        &alone,
+    )?;
+    let tab = [(None, "\tk", "v")];
+    let kept = [
+        (indented_multiline(), true),
+        (indented(), true),
+        (default, false),
+    ];
+    expect_plain(&rt, rt.alloc(), &tab, policy(EscapePolicy::Basics), &kept)
+}
+
+#[test]
+fn empty_values_and_no_pairs_are_plain(rt: HostRuntime) -> Result<(), Fail> {
+    let empty = [(None, "k", ""), (Some("b"), "j", "x\ny")];
+    let lines = [(multiline(), true)];
+    expect_plain(&rt, rt.alloc(), &empty, crlf(EscapePolicy::Basics), &lines)?;
+    let default = [(ParseOption::default(), true)];
+    expect_plain(&rt, rt.alloc(), &[], policy(EscapePolicy::Basics), &default)
 }
 
 #[test]

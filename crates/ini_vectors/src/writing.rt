@@ -8,7 +8,8 @@ use std::test::Fail;
 pub(crate) const SETTINGS: &'static str =
     "encoding=utf-8\n\n[User]\ngiven_name=Tommy\nfamily_name=Green\nunicode=Raspberry树莓\n\n[Book]\nname=Rust cool\n";
 
-const SETTINGS_ESCAPED: &'static str =
+/// What is written of it where letters beyond ASCII are escaped.
+pub(crate) const SETTINGS_ESCAPED: &'static str =
     "encoding=utf-8\n\n[User]\ngiven_name=Tommy\nfamily_name=Green\nunicode=Raspberry\\x6811\\x8393\n\n[Book]\nname=Rust cool\n";
 
 /// The default options but for what is given.

@@ -5,7 +5,7 @@ use Rattle.ini.proofs.Writing.{Writing-goes_on, Writing-starts, Writing-stops}
 use Rattle.ini.proofs.write.write_pairs.Goals as goal
 
 pub loop-key-init : goal.loop-key-init
-loop-key-init g c = rw c.into_iter-key-iterator.ensures.into_iter_gives (Writing-starts c.args.out.now c.requires)
+loop-key-init g c = rw c.into_iter-key-iterator.ensures.into_iter_gives (Writing-starts c.args.out.now _ c.requires)
 
 pub loop-key-preserved : goal.loop-key-preserved
 loop-key-preserved g c =

@@ -1,5 +1,7 @@
-use Rattle.std.proofs.Common.{Ok, ap, refl}
+use Rattle.std.proofs.Common.{Ok, ap, refl, subst, sym}
 use Rattle.std.proofs.lemmas.Result.{err_from_is_err_and}
+use Rattle.ini.specs.Documents.{HasGeneral}
+use Rattle.ini.proofs.GeneralLemmas.{has_general}
 use Rattle.ini.proofs.Reading.{Loaded-ends, Loaded-item, Loaded-starts, Loaded-stops, front_grows}
 use Rattle.ini.proofs.document.Ini.load_from_str_opt.Goals as goal
 
@@ -23,3 +25,6 @@ items-preserved c =
 
 pub returns-clause-document : goal.returns-clause-document
 returns-clause-document c = Loaded-ends c.items.invariant c.next_item.new.self _ c.in_ok-item.ensures.item (ap Ok c.in_default.is)
+
+pub returns-clause-general : goal.returns-clause-general
+returns-clause-general c = subst HasGeneral (sym c.items.invariant.document) (has_general c.items.invariant.items)

@@ -1,0 +1,131 @@
+//! Laws of edits: what is there after one, and what it leaves as it is. They speak of the definitions alone.
+//!
+//! Each law goes over all names, keys, values and documents, so it takes nothing: a caller whose proof needs it calls it
+//! beside the edit.
+ghost use Rattle.std.specs.Prelude.{◌≡◌, ◌≤◌, ◌++◌, [], ◌∷◌, IsSome, None, Option, Some, length};
+ghost use Rattle.std.specs.Map.{set_value};
+ghost use Rattle.ini.specs.Texts.{Text, is_name};
+ghost use Rattle.ini.specs.Properties.{Pairs, all_removed, first_value, inserted, removed};
+ghost use Rattle.ini.specs.Documents.{Document, first_section, section_removed, value_in};
+ghost use Rattle.ini.specs.Edits.{add_in, delete_in, delete_in_all, set_in, with_section};
+ghost use Rattle.ini.specs.EditLaws.{KeepsLaterSections, KeepsNames, KeepsOtherKeys, KeepsOtherKeysIn, KeepsOtherNames, KeepsOtherPairs, KeepsOtherSections, KeepsOtherValues, KeepsRest, values_in};
+
+/// What was inserted is there.
+#[tactic(auto, using(crate::proofs::EditLaws::there))]
+pub fn inserted_is_there()
+    ensures { (key value : Text) (pairs : Pairs) → first_value key (inserted key value pairs) ≡ Some value }
+{}
+
+/// What was set is there.
+#[tactic(auto, using(crate::proofs::EditLaws::there))]
+pub fn set_is_there()
+    ensures { (name : Option Text) (key value : Text) (d : Document) → value_in name key (set_in name key value d) ≡ Some value }
+{}
+
+/// What was left behind a reference into a section, or behind an entry, is there.
+#[tactic(auto, using(crate::proofs::EditLaws::there))]
+pub fn lent_is_there()
+    ensures section { (name : Option Text) (pairs : Pairs) (d : Document) → IsSome (first_section name d) → first_section name (set_value (is_name name) d pairs) ≡ Some pairs }
+    ensures entry { (name : Option Text) (pairs : Pairs) (d : Document) → first_section name (with_section name d pairs) ≡ Some pairs }
+{}
+
+/// Where a section has one pair of the key at most, the key isn't there once it was deleted.
+#[tactic(auto, using(crate::proofs::EditLaws::gone))]
+pub fn deleted_is_gone()
+    ensures delete { (name : Option Text) (key : Text) (d : Document) → length (values_in name key d) ≤ 1 → value_in name key (delete_in_all name key d) ≡ None }
+    ensures delete_from { (name : Option Text) (key : Text) (d : Document) → length (values_in name key d) ≤ 1 → value_in name key (delete_in name key d) ≡ None }
+{}
+
+/// The other keys keep their first values.
+#[tactic(auto, using(crate::proofs::EditLaws::keys))]
+pub fn other_keys_stay()
+    ensures insert { (key value : Text) → KeepsOtherKeys key (inserted key value) }
+    ensures append { (key value : Text) → KeepsOtherKeys key (λ pairs. pairs ++ (key, value) ∷ []) }
+    ensures remove { (key : Text) → KeepsOtherKeys key (removed key) }
+    ensures remove_all { (key : Text) → KeepsOtherKeys key (all_removed key) }
+{}
+
+/// The other keys keep all their values, in order.
+#[tactic(auto, using(crate::proofs::EditLaws::values))]
+pub fn other_values_stay()
+    ensures insert { (key value : Text) → KeepsOtherValues key (inserted key value) }
+    ensures append { (key value : Text) → KeepsOtherValues key (λ pairs. pairs ++ (key, value) ∷ []) }
+    ensures remove { (key : Text) → KeepsOtherValues key (removed key) }
+    ensures remove_all { (key : Text) → KeepsOtherValues key (all_removed key) }
+{}
+
+/// The pairs of the other keys stay, in order, repeated keys among them.
+#[tactic(auto, using(crate::proofs::EditLaws::pairs))]
+pub fn other_pairs_stay()
+    ensures insert { (key value : Text) → KeepsOtherPairs key (inserted key value) }
+    ensures append { (key value : Text) → KeepsOtherPairs key (λ pairs. pairs ++ (key, value) ∷ []) }
+    ensures remove { (key : Text) → KeepsOtherPairs key (removed key) }
+{}
+
+/// The other names keep their first sections.
+#[tactic(auto, using(crate::proofs::EditLaws::names))]
+pub fn other_names_stay()
+    ensures set { (name : Option Text) (key value : Text) → KeepsOtherNames name (set_in name key value) }
+    ensures add { (name : Option Text) (key value : Text) → KeepsOtherNames name (add_in name key value) }
+    ensures delete { (name : Option Text) (key : Text) → KeepsOtherNames name (delete_in_all name key) }
+    ensures delete_from { (name : Option Text) (key : Text) → KeepsOtherNames name (delete_in name key) }
+    ensures delete_section { (name : Option Text) → KeepsOtherNames name (section_removed name) }
+    ensures lent { (name : Option Text) (pairs : Pairs) → KeepsOtherNames name (λ d. set_value (is_name name) d pairs) }
+    ensures entry { (name : Option Text) (pairs : Pairs) → KeepsOtherNames name (λ d. with_section name d pairs) }
+{}
+
+/// The other names keep all their sections, in order.
+#[tactic(auto, using(crate::proofs::EditLaws::sections))]
+pub fn other_sections_stay()
+    ensures set { (name : Option Text) (key value : Text) → KeepsOtherSections name (set_in name key value) }
+    ensures add { (name : Option Text) (key value : Text) → KeepsOtherSections name (add_in name key value) }
+    ensures delete { (name : Option Text) (key : Text) → KeepsOtherSections name (delete_in_all name key) }
+    ensures delete_from { (name : Option Text) (key : Text) → KeepsOtherSections name (delete_in name key) }
+    ensures delete_section { (name : Option Text) → KeepsOtherSections name (section_removed name) }
+    ensures lent { (name : Option Text) (pairs : Pairs) → KeepsOtherSections name (λ d. set_value (is_name name) d pairs) }
+    ensures entry { (name : Option Text) (pairs : Pairs) → KeepsOtherSections name (λ d. with_section name d pairs) }
+{}
+
+/// In the first section of the name the other keys keep their first values.
+#[tactic(auto, using(crate::proofs::EditLaws::keys_in))]
+pub fn other_keys_in_the_section_stay()
+    ensures set { (name : Option Text) (key value : Text) → KeepsOtherKeysIn name key (set_in name key value) }
+    ensures add { (name : Option Text) (key value : Text) → KeepsOtherKeysIn name key (add_in name key value) }
+    ensures delete { (name : Option Text) (key : Text) → KeepsOtherKeysIn name key (delete_in_all name key) }
+    ensures delete_from { (name : Option Text) (key : Text) → KeepsOtherKeysIn name key (delete_in name key) }
+{}
+
+/// A section that is there stays there.
+#[tactic(auto, using(crate::proofs::EditLaws::names_there))]
+pub fn sections_stay_there()
+    ensures set { (name : Option Text) (key value : Text) → KeepsNames (set_in name key value) }
+    ensures add { (name : Option Text) (key value : Text) → KeepsNames (add_in name key value) }
+    ensures delete { (name : Option Text) (key : Text) → KeepsNames (delete_in_all name key) }
+    ensures delete_from { (name : Option Text) (key : Text) → KeepsNames (delete_in name key) }
+    ensures lent { (name : Option Text) (pairs : Pairs) → KeepsNames (λ d. set_value (is_name name) d pairs) }
+    ensures entry { (name : Option Text) (pairs : Pairs) → KeepsNames (λ d. with_section name d pairs) }
+{}
+
+/// All stays in order but the pairs of the key in the sections of the name.
+#[tactic(auto, using(crate::proofs::EditLaws::rest))]
+pub fn rest_stays()
+    ensures set { (name : Option Text) (key value : Text) → KeepsRest name key (set_in name key value) }
+    ensures add { (name : Option Text) (key value : Text) → KeepsRest name key (add_in name key value) }
+    ensures delete { (name : Option Text) (key : Text) → KeepsRest name key (delete_in_all name key) }
+    ensures delete_from { (name : Option Text) (key : Text) → KeepsRest name key (delete_in name key) }
+{}
+
+/// The later sections of the name stay.
+#[tactic(auto, using(crate::proofs::EditLaws::later))]
+pub fn later_sections_stay()
+    ensures set { (name : Option Text) (key value : Text) → KeepsLaterSections name (set_in name key value) }
+    ensures add { (name : Option Text) (key value : Text) → KeepsLaterSections name (add_in name key value) }
+    ensures delete_from { (name : Option Text) (key : Text) → KeepsLaterSections name (delete_in name key) }
+{}
+
+/// Where the name has no section, the document stays whole, and a new section with the one pair comes behind it.
+#[tactic(auto, using(crate::proofs::EditLaws::opened))]
+pub fn new_section_comes_last()
+    ensures set { (name : Option Text) (key value : Text) (d : Document) → first_section name d ≡ None → set_in name key value d ≡ d ++ (name, (key, value) ∷ []) ∷ [] }
+    ensures add { (name : Option Text) (key value : Text) (d : Document) → first_section name d ≡ None → add_in name key value d ≡ d ++ (name, (key, value) ∷ []) ∷ [] }
+{}

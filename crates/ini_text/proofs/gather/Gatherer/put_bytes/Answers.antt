@@ -1,0 +1,7 @@
+use Rattle.ini_text.proofs.SendLemmas.{Sends-direct, Sends-then}
+use Rattle.ini_text.proofs.gather.Gatherer.put_bytes.Goals as goal
+
+pub returns : goal.returns
+returns g c =
+    let out = c.write_bytes.ensures in
+    Sends-then c.in_ok-flush.ensures.sends (Sends-direct c.in_ok-flush.ensures.empty out.same_device out.bytes out.front out.failures out.stalls out.only)

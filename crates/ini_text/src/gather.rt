@@ -1,0 +1,155 @@
+//! Texts on their way to a device, gathered so that many of them reach it together. This file knows bytes and escapes, and
+//! no section, key or value.
+ghost use Rattle.std.specs.Prelude.{◌≡◌, ◌+◌, ◌++◌, ◌≤◌, [], length, OnOk};
+ghost use Rattle.ini_text.specs.Escapes.{escape, escaped_bytes};
+ghost use Rattle.ini_text.specs.Gathering.{Sends};
+ghost use Rattle.ini_text.specs.Watched.{IsClear};
+ghost use Rattle.ini_text.specs.declared.gather.TheConstants.{ROOM};
+
+use crate::characters::split_first;
+use crate::error::Error;
+use crate::escape::{hex_digit, letter_of};
+use crate::policy::EscapePolicy;
+use crate::verbatim::split_verbatim;
+use crate::watched::Watched;
+use crate::write::write_bytes;
+use std::io::Write;
+
+// How many bytes are held back at most.
+const ROOM: usize = 4096;
+
+// How long an escape is at most: a backslash, `x` and six digits.
+const LONGEST: usize = 8;
+
+/// Holds bytes back on their way to a device, so that many short texts reach it in one call.
+///
+/// What is held back goes out by `flush`, or where there is no room left; a gatherer that is dropped before takes it along.
+/// It takes no memory. A refused call leaves unsaid what is held back, and the device is asked nothing more.
+#[derive(Drop)]
+pub struct Gatherer {
+    bytes: [u8; ROOM],
+    len: usize,
+    ghost within: { len ≤ ROOM },
+}
+
+impl Gatherer {
+    ghost use Rattle.ini_text.specs.Held.{held};
+
+    /// Nothing is held back.
+    pub fn new() -> Gatherer
+        ensures { held result ≡ [] }
+    {
+        Gatherer {
+            bytes: [0; ROOM],
+            len: 0,
+        }
+    }
+
+    /// Sends a text as it is.
+    ///
+    /// # Errors
+    ///
+    /// `Io` where the device answers a fault, `NoProgress` where it takes no bytes.
+    pub fn put<W: Write>(&mut self, text: &str, out: &mut Watched<'_, W>) -> Result<(), Error>
+        requires { IsClear out.old }
+        ensures { Sends W.contents out.old out.new (held self.old) (held self.new) result text.now }
+    {
+        self.put_bytes(text.as_bytes(), out)
+    }
+
+    /// Sends a text escaped. The errors are those of `put`.
+    pub fn put_escaped<W: Write>(
+        &mut self,
+        text: &str,
+        policy: EscapePolicy,
+        out: &mut Watched<'_, W>,
+    ) -> Result<(), Error>
+        requires { IsClear out.old }
+        ensures { Sends W.contents out.old out.new (held self.old) (held self.new) result (escaped_bytes policy text.now) }
+    {
+        let mut rest = text;
+        'runs: loop {
+            let (run, after) = split_verbatim(rest, policy);
+            self.put(run, out)?;
+            let Some((c, following)) = split_first(after) else {
+                return Ok(());
+            };
+            self.put_escape(c, out)?;
+            rest = following;
+        }
+    }
+
+    /// Sends all that is held back. The errors are those of `put`.
+    pub fn flush<W: Write>(&mut self, out: &mut Watched<'_, W>) -> Result<(), Error>
+        requires { IsClear out.old }
+        ensures sends { Sends W.contents out.old out.new (held self.old) (held self.new) result [] }
+        ensures empty { OnOk result (held self.new ≡ []) }
+    {
+        write_bytes(&self.bytes[..self.len], out)?;
+        self.len = 0;
+        Ok(())
+    }
+
+    // Sends bytes: they are held back if they have room, else they go out in a call of their own.
+    fn put_bytes<W: Write>(&mut self, bytes: &[u8], out: &mut Watched<'_, W>) -> Result<(), Error>
+        requires { IsClear out.old }
+        ensures { Sends W.contents out.old out.new (held self.old) (held self.new) result bytes.now }
+    {
+        if bytes.len() <= ROOM - self.len {
+            self.append(bytes);
+            return Ok(());
+        }
+        self.flush(out)?;
+        write_bytes(bytes, out)
+    }
+
+    // Sends the escape of a character.
+    fn put_escape<W: Write>(&mut self, c: char, out: &mut Watched<'_, W>) -> Result<(), Error>
+        requires { IsClear out.old }
+        ensures { Sends W.contents out.old out.new (held self.old) (held self.new) result (escape c) }
+    {
+        if self.len <= ROOM - LONGEST {
+            self.append_escape(c);
+            return Ok(());
+        }
+        self.flush(out)?;
+        self.append_escape(c);
+        Ok(())
+    }
+
+    // Holds back the escape of a character.
+    #[tactic(auto, unfolding(crate::specs::Escapes::escape))]
+    fn append_escape(&mut self, c: char)
+        requires { length (held self.old) + LONGEST ≤ ROOM }
+        ensures { held self.new ≡ held self.old ++ escape c }
+    {
+        if let Some(letter) = letter_of(c) {
+            return self.append(&[b'\\', letter]);
+        }
+        let code = u32::from(c);
+        self.append(b"\\x");
+        if code >= 0x10_0000 {
+            self.append(&[hex_digit(code, 0x10_0000)]);
+        }
+        if code >= 0x1_0000 {
+            self.append(&[hex_digit(code, 0x1_0000)]);
+        }
+        self.append(&[
+            hex_digit(code, 0x1000),
+            hex_digit(code, 0x100),
+            hex_digit(code, 0x10),
+            hex_digit(code, 1),
+        ]);
+    }
+
+    // Holds back a few bytes.
+    fn append(&mut self, bytes: &[u8])
+        requires { self.old.len + length bytes.now ≤ ROOM }
+        ensures held { held self.new ≡ held self.old ++ bytes.now }
+        ensures len { self.new.len ≡ self.old.len + length bytes.now }
+    {
+        let end = self.len + bytes.len();
+        self.bytes[self.len..end].copy_from_slice(bytes);
+        self.len = end;
+    }
+}

@@ -1,0 +1,2 @@
+pub mod EditLists
+pub mod Reloads

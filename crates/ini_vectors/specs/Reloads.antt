@@ -1,0 +1,35 @@
+-- What loading answers of a text's outcome.
+use Rattle.std.specs.Prelude.{◌≡◌, Ok, Err, Result, count_by, ⊤}
+use Rattle.ini_text.specs.Characters.{is_line_feed}
+use Rattle.ini_text.specs.declared.error.Error.{Error}
+use Rattle.ini_text.specs.declared.error.Error.TheVariants.{NotUtf8, Parse}
+use Rattle.ini_text.specs.declared.option.ParseOption.{ParseOption}
+use Rattle.ini_text.specs.declared.write_option.WriteOption.{WriteOption}
+use Rattle.ini.specs.Documents.{Document}
+use Rattle.ini.specs.Outcomes.{HasOutcome, Outcome, after, loaded, refused}
+use Rattle.ini.specs.Texts.{Text}
+use Rattle.ini.specs.Written.{written}
+
+-- neither the text nor its bytes were refused: memory was
+abbrev pub IsNoRefusal : Error → Type 0
+IsNoRefusal (Parse _) = ⊥
+IsNoRefusal NotUtf8 = ⊥
+IsNoRefusal _ = ⊤
+
+-- the answer is this outcome, want of memory aside
+abbrev pub Tells : Outcome → Result Document Error → Type 0
+Tells (loaded d) (Ok e) = e ≡ d
+Tells (refused kind line column) (Err (Parse fault)) =
+    (fault.kind ≡ kind) × (fault.line ≡ line) × (fault.col ≡ column)
+Tells (refused kind line column) (Ok e) = ⊥
+Tells x (Err e) = IsNoRefusal e
+
+-- the answer is what comes of the text
+abbrev pub TellsOutcome : ParseOption → Text → Result Document Error → Type 0
+TellsOutcome o T result = (x : Outcome) → HasOutcome o T x → Tells x result
+
+-- the answer is what comes of the text Y, behind the document
+abbrev pub TellsBehind : ParseOption → WriteOption → Document → Text → Result Document Error → Type 0
+TellsBehind o w d Y result =
+    let lines = count_by is_line_feed (written d w) in
+    (x : Outcome) → HasOutcome o Y x → Tells (after d lines x) result
