@@ -1,16 +1,4 @@
 #!/bin/sh
-# Runs ini_tool with the given words, over this shell's input and output. The first time the program is proved and built,
-# which takes some minutes; it then lies in crates/ini_tool/out/ini_tool.
-set -eu
-top=$(cd "$(dirname "$0")" && pwd)
-program="$top/crates/ini_tool/out/ini_tool"
-if [ ! -x "$program" ]; then
-    echo "building $program" >&2
-    log=$(mktemp)
-    if ! (cd "$top/crates/ini_tool" && rt run -- fmt </dev/null >"$log" 2>&1); then
-        cat "$log" >&2
-        exit 1
-    fi
-    rm -f "$log"
-fi
-exec "$program" "$@"
+# The program ini_tool: reads an INI text from standard input, and writes what its words ask. It is built first where it has to
+# be (tools/run.sh).
+exec "$(dirname "$(readlink -f "$0")")/tools/run.sh" ini_tool "$@"

@@ -1,43 +1,55 @@
 -- What a run of the program is, as a function of its words and of the bytes that it reads.
-use Rattle.std.specs.Prelude.{◌≡◌, ℕ, List, [], ◌∷◌, Option, ⊤, true, ◌⊎◌, IfSome, codes, chars, encode_utf8_all, map, string_bytes, String}
+use Rattle.std.specs.Prelude.{◌≡◌, ℕ, List, Option, Some, true, ⊤, IfSome, encode_utf8_all}
+use Rattle.std.specs.Prelude.{map, string_bytes, String}
 use Rattle.std.specs.Str.{IsUtf8}
 use Rattle.std.specs.declared.alloc.Global.{Global}
-use Rattle.ini_text.specs.Options.{default_parse_option}
-use Rattle.ini_text.specs.Watched.{AppendsFront}
-use Rattle.ini_text.specs.WriteOptions.{IsDefaultWriteOption}
-use Rattle.ini_text.specs.declared.error.Error.{Error}
+use Rattle.ini_text.specs.Watched.{Writes, WritesFront}
+use Rattle.ini_text.specs.declared.watched.Watched.{Watched}
 use Rattle.ini_text.specs.declared.error.Error.TheVariants.{Io, Parse, Memory, NotUtf8, NoProgress}
 use Rattle.ini_text.specs.declared.error.ParseError.{ParseError}
 use Rattle.ini_text.specs.declared.write_option.WriteOption.{WriteOption}
 use Rattle.ini.specs.Documents.{Document}
 use Rattle.ini.specs.Loading.{IsDocumentOf, IsStopOf, IsTextWith, text_bytes}
-use Rattle.ini.specs.Written.{written}
-use Rattle.ini_tool.specs.declared.Outcome.{Outcome}
-use Rattle.ini_tool.specs.declared.Outcome.TheVariants.{Done, Usage, Refused}
+use Rattle.ini.specs.Texts.{Text}
+use Rattle.ini_tool.specs.Outputs.{IsWriteOption, output}
+use Rattle.ini_tool.specs.Requests.{Request}
+use Rattle.ini_tool.specs.Words.{asked, default_options}
+use Rattle.ini_tool.specs.declared.words.Options.{Options}
+use Rattle.ini_tool.specs.declared.run.Outcome.{Outcome}
+use Rattle.ini_tool.specs.declared.run.Outcome.TheVariants.{Done, NotFound, Usage, Refused}
 
--- the words are `fmt` alone
-abbrev pub AreFmt : List (String Global) → Type 0
-AreFmt words = map string_bytes words ≡ codes "fmt" ∷ []
+-- the options and the request of the words, if they are the program's
+abbrev pub asked_by : List (String Global) → Option (Options × Request)
+asked_by words = asked default_options (map string_bytes words)
+
+-- what the words ask to be written of the document that the input gives without a mark;
+-- no text where the pair that they ask for isn't there
+pub record IsOutput (words : List (String Global)) (input : List ℕ) (out : Option Text) : Type 0 where
+  pub options : Options
+  pub request : Request
+  pub option : WriteOption
+  pub document : Document
+  pub asks : asked_by words ≡ Some (options, request)
+  pub is_option : IsWriteOption options option
+  pub loaded : IsTextWith (λ T. IsDocumentOf options.reading T document) (text_bytes true input)
+  pub is_output : out ≡ output option request document
+
+-- the words' options stop reading the input's text where the error says
+abbrev pub IsStop : List (String Global) → ParseError → List ℕ → Type 0
+IsStop words e input =
+    IfSome (asked_by words) (λ a. IsTextWith (λ T. IsStopOf a.0.reading T e) (text_bytes true input))
 
 -- the input without a mark is UTF-8
 abbrev pub IsText : List ℕ → Type 0
 IsText bytes = IsUtf8 (text_bytes true bytes)
 
--- these bytes are the text of the document that the input gives
-pub record IsOutput (input output : List ℕ) : Type 0 where
-  pub document : Document
-  pub option : WriteOption
-  pub loaded : IsTextWith (λ T. IsDocumentOf default_parse_option T document) (text_bytes true input)
-  pub is_default : IsDefaultWriteOption option
-  pub is_written : output ≡ encode_utf8_all (written document option)
-
--- reading the input's text stops where the error says
-abbrev pub IsStop : ParseError → List ℕ → Type 0
-IsStop e input = IsTextWith (λ T. IsStopOf default_parse_option T e) (text_bytes true input)
-
 abbrev pub IsDone : Outcome → Type 0
 IsDone Done = ⊤
 IsDone _ = ⊥
+
+abbrev pub IsNotFound : Outcome → Type 0
+IsNotFound NotFound = ⊤
+IsNotFound _ = ⊥
 
 abbrev pub IsUsage : Outcome → Type 0
 IsUsage Usage = ⊤
@@ -53,17 +65,24 @@ abbrev pub OnNotUtf8 : Outcome → Type 0 → Type 0
 OnNotUtf8 (Refused NotUtf8) P = P
 OnNotUtf8 _ P = ⊤
 
--- what holds where nothing may have been written: at a usage, and where the text, its bytes or the memory refused
+-- what holds but where the run is done, or a device failed: there nothing may have been written
 abbrev pub OnSilent : Outcome → Type 0 → Type 0
-OnSilent Usage P = P
-OnSilent (Refused (Parse e)) P = P
-OnSilent (Refused NotUtf8) P = P
-OnSilent (Refused (Memory e)) P = P
-OnSilent _ P = ⊤
+OnSilent Done P = ⊤
+OnSilent (Refused (Io _)) P = ⊤
+OnSilent (Refused NoProgress) P = ⊤
+OnSilent _ P = P
 
--- nothing was written, or a front of the output that the input asks for
-abbrev pub WritesFrontOf : Option (List ℕ) → Option (List ℕ) → Option (List ℕ) → Type 0
-WritesFrontOf input old new = (new ≡ old) ⊎ IfSome input (λ bytes. (output : List ℕ) × IsOutput bytes output × AppendsFront old new output)
+-- the words ask for an output of the input, and P holds of its bytes
+abbrev pub HasOutput : List (String Global) → (List ℕ → Type 0) → List ℕ → Type 0
+HasOutput words P input = (text : Text) × IsOutput words input (Some text) × P (encode_utf8_all text)
+
+module _ {W : Type 0} (contents : W → Option (List ℕ)) (words : List (String Global)) where
+  -- the output was written, where it is known what is read; a front of it was
+  abbrev pub WritesOutput : Option (List ℕ) → Watched W → Watched W → Type 0
+  WritesOutput input old new = IfSome input (HasOutput words (Writes contents old new))
+
+  abbrev pub WritesOutputFront : Option (List ℕ) → Watched W → Watched W → Type 0
+  WritesOutputFront input old new = IfSome input (HasOutput words (WritesFront contents old new))
 
 -- 1 where a device failed, else 0
 abbrev pub faults_of : Outcome → ℕ
@@ -78,6 +97,7 @@ stalls_of _ = 0
 -- the exit status
 abbrev pub status_of : Outcome → ℕ
 status_of Done = 0
+status_of NotFound = 1
 status_of Usage = 2
 status_of (Refused (Parse _)) = 3
 status_of (Refused NotUtf8) = 3

@@ -1,0 +1,261 @@
+//! What each command writes of a document. This file knows no word and no reader.
+ghost use Rattle.std.specs.Prelude.{Some, [], ◌∷◌, ◌++◌, chars, flat_map};
+ghost use Rattle.ini_text.specs.Characters.{line_feed};
+ghost use Rattle.ini_text.specs.Escapes.{escaped};
+ghost use Rattle.ini_text.specs.Held.{held};
+ghost use Rattle.ini_text.specs.Watched.{IsClear};
+ghost use Rattle.ini_text.specs.declared.policy.EscapePolicy.TheVariants.{Basics};
+ghost use Rattle.ini.specs.Texts.{str_name};
+ghost use Rattle.ini.specs.Writes.{Writes};
+ghost use Rattle.ini_tool.specs.Requests.{Del, Fmt, Set, request_of};
+ghost use Rattle.ini_tool.specs.Outputs.{IsWriteOption, listed, listed_pair, output, part_text, value_line};
+ghost use Rattle.ini_tool.specs.Prints.{Prints, WritesText};
+
+use crate::words::{Command, Options};
+use ini::{Error, EscapePolicy, Gatherer, Ini, Properties, Watched, WriteOption};
+use std::alloc::Global;
+use std::io::Write;
+
+/// How the options have documents written.
+pub fn write_option(options: Options) -> WriteOption
+    ensures { IsWriteOption options result }
+{
+    WriteOption {
+        escape_policy: options.escape_policy,
+        line_separator: options.line_separator,
+        ..WriteOption::default()
+    }
+}
+
+/// Writes what the command asks of the document, and answers whether the pair that it asks for was there.
+pub fn answer<W: Write>(
+    command: Command<'_>,
+    alloc: Global,
+    document: Ini,
+    option: WriteOption,
+    out: &mut Watched<'_, W>,
+) -> Result<bool, Error>
+    requires { IsClear out.old }
+    ensures { Prints W.contents out.old out.new result (output option (request_of command.entry) document) }
+{
+    match command {
+        Command::Fmt => fmt(&document, option, out),
+        Command::List => list(&document, out),
+        Command::Get { key, section } => get(&document, key, section, out),
+        Command::Set {
+            key,
+            value,
+            section,
+        } => set(alloc, document, key, value, section, option, out),
+        Command::Del { key, section } => del(document, key, section, option, out),
+    }
+}
+
+// The document.
+fn fmt<W: Write>(
+    document: &Ini,
+    option: WriteOption,
+    out: &mut Watched<'_, W>,
+) -> Result<bool, Error>
+    requires { IsClear out.old }
+    ensures { Prints W.contents out.old out.new result (output option Fmt document.now) }
+{
+    document.write_watched(out, option)?;
+    Ok(true)
+}
+
+// The value of the key, on a line of its own.
+fn get<W: Write>(
+    document: &Ini,
+    key: &str,
+    section: Option<&str>,
+    out: &mut Watched<'_, W>,
+) -> Result<bool, Error>
+    requires { IsClear out.old }
+    ensures { Prints W.contents out.old out.new result
+        (value_line (str_name section.entry) (chars key.now) document.now) }
+{
+    let Some(value) = document.get_from(section, key) else {
+        return Ok(false);
+    };
+    write_line(value, out)?;
+    Ok(true)
+}
+
+// The document with the value set.
+fn set<W: Write>(
+    alloc: Global,
+    document: Ini,
+    key: &str,
+    value: &str,
+    section: Option<&str>,
+    option: WriteOption,
+    out: &mut Watched<'_, W>,
+) -> Result<bool, Error>
+    requires { IsClear out.old }
+    ensures { Prints W.contents out.old out.new result
+        (output option (Set (chars key.now) (chars value.now) (str_name section.entry)) document) }
+{
+    let mut document = document;
+    let key = String::from_str(alloc, key)?;
+    let value = String::from_str(alloc, value)?;
+    document.set_to(section, key, value)?;
+    fmt(&document, option, out)
+}
+
+// The document without the first pair of the key.
+fn del<W: Write>(
+    document: Ini,
+    key: &str,
+    section: Option<&str>,
+    option: WriteOption,
+    out: &mut Watched<'_, W>,
+) -> Result<bool, Error>
+    requires { IsClear out.old }
+    ensures { Prints W.contents out.old out.new result
+        (output option (Del (chars key.now) (str_name section.entry)) document) }
+{
+    let mut document = document;
+    if document.delete_from(section, key).is_none() {
+        return Ok(false);
+    }
+    fmt(&document, option, out)
+}
+
+// A line for each pair.
+fn list<W: Write>(document: &Ini, out: &mut Watched<'_, W>) -> Result<bool, Error>
+    requires { IsClear out.old }
+    ensures { Prints W.contents out.old out.new result (Some (listed document.now)) }
+{
+    write_listed(document, out)?;
+    Ok(true)
+}
+
+// A line for each pair of each section, written as the sections are gone over.
+fn write_listed<W: Write>(document: &Ini, out: &mut Watched<'_, W>) -> Result<(), Error>
+    requires { IsClear out.old }
+    ensures { WritesText W.contents out.old out.new result (listed document.now) }
+{
+    let mut lines = Gatherer::new();
+    list_sections(&mut lines, document, out)?;
+    lines.flush(out)
+}
+
+// A line for each pair of each section.
+fn list_sections<W: Write>(
+    lines: &mut Gatherer,
+    document: &Ini,
+    out: &mut Watched<'_, W>,
+) -> Result<(), Error>
+    requires { IsClear out.old }
+    ensures { Writes W.contents out.old out.new (held lines.old) (held lines.new) result (listed document.now) }
+{
+    for (name, pairs) in document {
+        list_pairs(lines, name, pairs, out)?;
+    }
+    Ok(())
+}
+
+// A line for each pair of a section.
+fn list_pairs<W: Write>(
+    lines: &mut Gatherer,
+    name: Option<&str>,
+    pairs: &Properties,
+    out: &mut Watched<'_, W>,
+) -> Result<(), Error>
+    requires { IsClear out.old }
+    ensures { Writes W.contents out.old out.new (held lines.old) (held lines.new) result
+        (flat_map (listed_pair (str_name name.entry)) pairs.now) }
+{
+    for (key, value) in pairs {
+        list_pair(lines, name, key, value, out)?;
+    }
+    Ok(())
+}
+
+// The line of a pair.
+fn list_pair<'a, W: Write>(
+    lines: &mut Gatherer,
+    name: Option<&'a str>,
+    key: &'a str,
+    value: &'a str,
+    out: &mut Watched<'_, W>,
+) -> Result<(), Error>
+    requires { IsClear out.old }
+    ensures { Writes W.contents out.old out.new (held lines.old) (held lines.new) result
+        (listed_pair (str_name name.entry) (chars key.now, chars value.now)) }
+{
+    match name {
+        Some(name) => {
+            let parts = [("[", name), ("]\t", key), ("\t", value), ("\n", "")];
+            put_parts(lines, &parts, out)
+        }
+        None => put_parts(lines, &[("\t", key), ("\t", value), ("\n", "")], out),
+    }
+}
+
+// Texts with the basic escapes, each behind one that is written as it is.
+fn put_parts<W: Write>(
+    lines: &mut Gatherer,
+    parts: &[(&str, &str)],
+    out: &mut Watched<'_, W>,
+) -> Result<(), Error>
+    requires { IsClear out.old }
+    ensures { Writes W.contents out.old out.new (held lines.old) (held lines.new) result (flat_map part_text parts.now) }
+{
+    for (before, text) in parts {
+        put_part(lines, before, text, out)?;
+    }
+    Ok(())
+}
+
+// A text as it is, and one with the basic escapes.
+fn put_part<W: Write>(
+    lines: &mut Gatherer,
+    before: &str,
+    text: &str,
+    out: &mut Watched<'_, W>,
+) -> Result<(), Error>
+    requires { IsClear out.old }
+    ensures { Writes W.contents out.old out.new (held lines.old) (held lines.new) result
+        (chars before.now ++ escaped Basics (chars text.now)) }
+{
+    put_text(lines, before, out)?;
+    lines.put_escaped(text, EscapePolicy::Basics, out)
+}
+
+// A text as it is, on a line of its own.
+fn write_line<W: Write>(text: &str, out: &mut Watched<'_, W>) -> Result<(), Error>
+    requires { IsClear out.old }
+    ensures { WritesText W.contents out.old out.new result (chars text.now ++ line_feed ∷ []) }
+{
+    let mut lines = Gatherer::new();
+    put_line(&mut lines, text, out)?;
+    lines.flush(out)
+}
+
+// The text and its line end.
+fn put_line<W: Write>(
+    lines: &mut Gatherer,
+    text: &str,
+    out: &mut Watched<'_, W>,
+) -> Result<(), Error>
+    requires { IsClear out.old }
+    ensures { Writes W.contents out.old out.new (held lines.old) (held lines.new) result (chars text.now ++ line_feed ∷ []) }
+{
+    put_text(lines, text, out)?;
+    put_text(lines, "\n", out)
+}
+
+// A text as it is, seen as its characters.
+#[tactic(auto, using(ini::proofs::Writing::steps))]
+fn put_text<W: Write>(
+    lines: &mut Gatherer,
+    text: &str,
+    out: &mut Watched<'_, W>,
+) -> Result<(), Error>
+    requires { IsClear out.old }
+    ensures { Writes W.contents out.old out.new (held lines.old) (held lines.new) result (chars text.now) }
+{
+    lines.put(text, out)
+}

@@ -1,0 +1,210 @@
+//! Devices that fail, at each of their calls.
+use super::*;
+use std::io;
+use std::io::ErrorKind;
+use std::process::Abort;
+
+/// A document, and for each command what it writes of it.
+const INPUT: &str = "k=v\n[a]\nx=y;\n";
+
+const COMMANDS: [(&'static str, &'static str); 5] = [
+    ("fmt", "k=v\n\n[a]\nx=y;\n"),
+    ("--crlf set x 1 a", "k=v\r\n\r\n[a]\r\nx=1\r\n"),
+    ("--policy Reserved del k", "[a]\nx=y\\;\n"),
+    ("list", "\tk\tv\n[a]\tx\ty;\n"),
+    ("get x a", "y;\n"),
+];
+
+/// A reader of one byte at a time, whose calls fail after the first `good_calls`.
+#[derive(Drop)]
+struct FailingReader<'a> {
+    rest: &'a [u8],
+    good_calls: usize,
+    fault: ErrorKind,
+    calls: usize,
+}
+
+impl Read for FailingReader<'_> {
+    fn read(&mut self, buf: &mut [u8]) -> io::Result<usize> {
+        self.calls = self.calls.saturating_add(1);
+        if self.calls > self.good_calls {
+            return Err(io::Error::from(self.fault));
+        }
+        let [first, rest @ ..] = self.rest else {
+            return Ok(0);
+        };
+        if buf.is_empty() {
+            return Ok(0);
+        }
+        buf[0] = *first;
+        self.rest = rest;
+        Ok(1)
+    }
+}
+
+/// A writer that takes `room` bytes in all, at most `step` in a call, and then fails or, without a fault,
+/// takes none.
+#[derive(Drop)]
+struct LimitedWriter {
+    taken: Vec<u8>,
+    room: usize,
+    step: usize,
+    fault: Option<ErrorKind>,
+    calls: usize,
+}
+
+impl LimitedWriter {
+    fn new(alloc: Global, room: usize, step: usize, fault: Option<ErrorKind>) -> LimitedWriter {
+        LimitedWriter {
+            taken: Vec::new(alloc),
+            room,
+            step,
+            fault,
+            calls: 0,
+        }
+    }
+}
+
+impl Write for LimitedWriter {
+    fn write(&mut self, buf: &[u8]) -> io::Result<usize> {
+        self.calls = self.calls.saturating_add(1);
+        let count = buf.len().min(self.room).min(self.step);
+        if count == 0
+            && let Some(fault) = self.fault
+        {
+            return Err(io::Error::from(fault));
+        }
+        self.taken.extend_from_slice(&buf[..count])?;
+        self.room -= count;
+        Ok(count)
+    }
+
+    fn flush(&mut self) -> io::Result<()> {
+        Err(io::Error::from(ErrorKind::Other))
+    }
+}
+
+/// Asks that a reader's fault after so many calls is told, that no call follows it, and that the writer
+/// isn't called.
+fn expect_read_fault(
+    rt: &impl Abort,
+    alloc: Global,
+    line: &str,
+    good_calls: usize,
+    fault: ErrorKind,
+) -> Result<(), Fail> {
+    let words = words_of(alloc, line)?;
+    let mut input = FailingReader {
+        rest: INPUT.as_bytes(),
+        good_calls,
+        fault,
+        calls: 0,
+    };
+    let mut output = LimitedWriter::new(alloc, usize::MAX, usize::MAX, None);
+    let mut reader = Watched::new(&mut input);
+    let mut writer = Watched::new(&mut output);
+    let outcome = run(alloc, words.as_slice(), &mut reader, &mut writer);
+    match &outcome {
+        Outcome::Refused(Error::Io(told)) => assert!(rt; told.kind() == fault, "{line}"),
+        _ => panic!(rt; "{line}: no fault after {good_calls}"),
+    }
+    assert_eq!(rt; status(&outcome), 4);
+    assert_eq!(rt; (reader.failures(), reader.stalls()), (1, 0));
+    assert_eq!(rt; (writer.failures(), writer.stalls()), (0, 0));
+    assert_eq!(rt; input.calls, good_calls.saturating_add(1));
+    assert_eq!(rt; output.calls, 0);
+    Ok(())
+}
+
+#[test]
+fn readers_fail_at_each_call(rt: HostRuntime) -> Result<(), Fail> {
+    for (line, _) in COMMANDS {
+        for good_calls in 0..=INPUT.len() {
+            for fault in [ErrorKind::Other, ErrorKind::Interrupted] {
+                expect_read_fault(&rt, rt.alloc(), line, good_calls, fault)?;
+            }
+        }
+    }
+    Ok(())
+}
+
+/// Asks that as much of the output goes out as there is room for, that what stopped it is told and counted,
+/// and that no call follows.
+fn expect_front(
+    rt: &impl Abort,
+    alloc: Global,
+    line: &str,
+    output: &str,
+    mut device: LimitedWriter,
+) -> Result<(), Fail> {
+    let words = words_of(alloc, line)?;
+    let (room, step, fault) = (device.room, device.step, device.fault);
+    let mut input = INPUT.as_bytes();
+    let mut reader = Watched::new(&mut input);
+    let mut writer = Watched::new(&mut device);
+    let outcome = run(alloc, words.as_slice(), &mut reader, &mut writer);
+    match &outcome {
+        Outcome::Refused(Error::Io(told)) => assert!(rt; fault == Some(told.kind()), "{line}"),
+        Outcome::Refused(Error::NoProgress) => assert!(rt; fault.is_none(), "{line}"),
+        _ => panic!(rt; "{line}: it was taken, room {room}"),
+    }
+    assert_eq!(rt; status(&outcome), 4);
+    assert_eq!(rt; (reader.failures(), reader.stalls()), (0, 0));
+    assert_eq!(rt; writer.failures(), u64::from(fault.is_some()));
+    assert_eq!(rt; writer.stalls(), u64::from(fault.is_none()));
+    assert_eq!(rt; device.taken.len(), room);
+    assert!(rt;
+        output.as_bytes().starts_with(device.taken.as_slice()),
+        "{line}: room {room}"
+    );
+    if step == 1 {
+        assert_eq!(rt; device.calls, room.saturating_add(1));
+    }
+    Ok(())
+}
+
+/// The faults of writers; `None` is a writer that takes no bytes.
+const FAULTS: [Option<ErrorKind>; 3] = [Some(ErrorKind::Other), Some(ErrorKind::Interrupted), None];
+
+#[test]
+fn writers_fail_at_each_byte(rt: HostRuntime) -> Result<(), Fail> {
+    for (line, output) in COMMANDS {
+        for room in 0..output.len() {
+            for fault in FAULTS {
+                for step in [1, usize::MAX] {
+                    let device = LimitedWriter::new(rt.alloc(), room, step, fault);
+                    expect_front(&rt, rt.alloc(), line, output, device)?;
+                }
+            }
+        }
+    }
+    Ok(())
+}
+
+#[test]
+fn writers_with_just_enough_room_take_all(rt: HostRuntime) -> Result<(), Fail> {
+    for (line, output) in COMMANDS {
+        for step in [1, usize::MAX] {
+            let words = words_of(rt.alloc(), line)?;
+            let mut input = INPUT.as_bytes();
+            let mut device = LimitedWriter::new(rt.alloc(), output.len(), step, None);
+            let outcome = run(
+                rt.alloc(),
+                words.as_slice(),
+                &mut Watched::new(&mut input),
+                &mut Watched::new(&mut device),
+            );
+            assert_eq!(rt; status(&outcome), 0, "{line}");
+            assert_eq!(rt; device.taken.as_slice(), output.as_bytes(), "{line}");
+        }
+    }
+    Ok(())
+}
+
+#[test]
+fn a_fault_of_standard_error_is_dropped(rt: HostRuntime) {
+    let mut err = LimitedWriter::new(rt.alloc(), 5, 1, Some(ErrorKind::Other));
+    tell(&Outcome::Usage, &mut err);
+    assert_eq!(rt; err.taken.as_slice(), b"usage".as_slice());
+    assert_eq!(rt; err.calls, 6);
+}

@@ -1,0 +1,29 @@
+#!/bin/sh
+# Every proof and every test: `rt ci`, and then the program that it built, over real streams (tests/program.sh). The last line
+# is 'N passed, M failed' over both, and the status is 1 if anything failed.
+set -u
+cd "$(dirname "$0")/.." || exit 1
+log=$(mktemp)
+trap 'rm -f "$log"' EXIT
+
+# run COMMAND..: shows what it writes, and adds the numbers of its last line to those of the commands before it
+passed=0
+failed=0
+run() {
+    { "$@" 2>&1 || echo "$* ended with status $?"; } | tee "$log"
+    numbers=$(sed -n 's/^\([0-9][0-9]*\) passed, \([0-9][0-9]*\) failed$/\1 \2/p' "$log" | tail -n 1)
+    ended=$(tail -n 1 "$log" | grep -c 'ended with status')
+    # a command that failed, and counted no failure, is one itself
+    case $numbers in
+        '') passed_here=0 failed_here=1 ;;
+        *) passed_here=${numbers% *} failed_here=${numbers#* } ;;
+    esac
+    [ "$ended" -gt 0 ] && [ "$failed_here" -eq 0 ] && failed_here=1
+    passed=$((passed + passed_here))
+    failed=$((failed + failed_here))
+}
+
+run rt ci
+run tests/program.sh
+echo "$passed passed, $failed failed"
+[ "$failed" -eq 0 ]

@@ -1,0 +1,241 @@
+#!/bin/sh
+# Runs the built program over real streams and files. The cases are the rows of a table, the streams and the large inputs
+# below it, and the commands that README.md and docs/PROGRAM.md show. Each case that fails is told. The last line is
+# 'N passed, M failed', and the status is 1 if a case failed.
+#
+#     tests/program.sh [PROGRAM]
+#
+# PROGRAM is by default the one that ini_tool.sh builds.
+set -u
+LC_ALL=C
+export LC_ALL
+top=$(cd "$(dirname "$0")/.." && pwd)
+room=$(mktemp -d)
+trap 'rm -rf "$room"' EXIT
+program=${1:-}
+if [ -z "$program" ]; then
+    "$top/ini_tool.sh" fmt </dev/null || exit 1
+    program=$top/crates/ini_tool/out/ini_tool
+fi
+program=$(readlink -f "$program")
+passed=0
+failed=0
+usage='usage: ini_tool [--noescape] [--noquote] [--multiline] [--indent] [--crlf] [--policy NAME]'
+usage="$usage fmt|list|get KEY [SECTION]|set KEY VALUE [SECTION]|del KEY [SECTION]"
+
+# says what a case wants and what it has, where these differ
+count() {
+    if cmp -s "$room/want" "$room/have"; then
+        passed=$((passed + 1))
+    else
+        failed=$((failed + 1))
+        echo "FAILED: $1"
+        diff "$room/want" "$room/have" | head -n 20
+    fi
+}
+
+# told NAME STATUS WANTED ERROR: the last run's status, and what it wrote on standard error
+told() {
+    echo "status $3, $4" >"$room/want"
+    echo "status $2, $(cat "$room/err")" >"$room/have"
+    count "$1"
+}
+
+# wrote NAME STATUS WANTED OUTPUT: the last run's status, that it told nothing, and that it wrote just this file
+wrote() {
+    { echo "status $3"; sum <"$4"; head -c 400 "$4"; } >"$room/want"
+    { echo "status $2"; cat "$room/err"; sum <"$room/out"; head -c 400 "$room/out"; } >"$room/have"
+    count "$1"
+}
+
+sum() {
+    cksum | cut -d ' ' -f 1,2
+}
+
+# A row has the words, the input, the status, the output and standard error, parted by bars. Escapes are those of printf's
+# %b. The usage line is written as USAGE.
+while IFS='|' read -r words input status output error; do
+    case $words in '' | '#'*) continue ;; esac
+    if [ "$words" = none ]; then words=; fi
+    if [ "$error" = USAGE ]; then error=$usage; fi
+    printf '%b' "$input" >"$room/in"
+    # shellcheck disable=SC2086
+    "$program" $words <"$room/in" >"$room/out" 2>"$room/err"
+    {
+        echo "status $?"
+        cat "$room/out"
+        echo "told: $(cat "$room/err")"
+    } >"$room/have"
+    printf 'status %s\n%b' "$status" "$output" >"$room/want"
+    echo "told: $error" >>"$room/want"
+    count "$words"
+done <<'ROWS'
+# done
+fmt|k = v\n; c\n[a]\nx: y|0|k=v\n\n[a]\nx=y\n|
+fmt||0||
+fmt|k=v|0|k=v\n|
+fmt|[a]|0|[a]\n|
+fmt|\0357\0273\0277[Test]Key=Value\n|0|[Test]\nKey=Value\n|
+fmt|k = a\\tb\\\\\n|0|k=a\\tb\\\\\n|
+--noescape fmt|path=C:\\Windows|0|path=C:\\\\Windows\n|
+--noquote fmt|k="a"|0|k="a"\n|
+fmt|k="a"|0|k=a\n|
+--multiline fmt|k=v\n  w|0|k=v\\nw\n|
+--indent fmt|  k=v|0|  k=v\n|
+--crlf fmt|k=1\n[a]\nx=y|0|k=1\r\n\r\n[a]\r\nx=y\r\n|
+--policy Reserved fmt|k=a:b|0|k=a\\:b\n|
+--policy Reserved --policy Nothing fmt|k=a:b|0|k=a:b\n|
+--policy Everything fmt|k=\0303\0251|0|k=\\x00e9\n|
+list|[sec1]\nkey1=val1\nkey2=377\n[sec2]foo=bar\n|0|[sec1]\tkey1\tval1\n[sec1]\tkey2\t377\n[sec2]\tfoo\tbar\n|
+list|k=1\nk=a\\tb|0|\tk\t1\n\tk\ta\\tb\n|
+list||0||
+get key2 sec1|[sec1]\nkey1=val1\nkey2=377|0|377\n|
+get k|k=1\nk=2|0|1\n|
+get k|k=|0|\n|
+--noescape get path|path=C:\\Windows\\Some\\Folder\\|0|C:\\Windows\\Some\\Folder\\\n|
+set port 9090|port = 8080\n|0|port=9090\n|
+--crlf set k 1 s||0|[s]\r\nk=1\r\n|
+set --crlf fmt||0|--crlf=fmt\n|
+del k p|[p]\nk=1\n[p]\nk=2\n|0|[p]\n[p]\nk=2\n|
+# not found
+get key3 sec1|[sec1]\nkey1=val1|1||
+get k a|k=1\n|1||
+del z|k=1|1||
+# usage
+none|k=v|2||USAGE
+frob|k=v|2||USAGE
+fmt x|k=v|2||USAGE
+get|k=v|2||USAGE
+set k|k=v|2||USAGE
+--crlf|k=v|2||USAGE
+--policy|k=v|2||USAGE
+--policy basics fmt|k=v|2||USAGE
+# refused texts
+fmt|k|3||ini_tool: 1:2 expecting "[Some('='), Some(':')]" but found EOF.
+list|[a]\n=v|3||ini_tool: 2:2 missing key
+get k|k=1\n[a] ; c|3||ini_tool: 2:6 doesn't support inline comment
+fmt|k=\0303|3||ini_tool: the input is not UTF-8
+set k v|\0377\0376k=v|3||ini_tool: the input is not UTF-8
+ROWS
+
+# Streams that are closed, full or no file.
+printf 'k=v\n' >"$room/pair"
+mkdir "$room/folder"
+: >"$room/nothing"
+closed='ini_tool: Bad file descriptor (os error 9)'
+full='ini_tool: No space left on device (os error 28)'
+for words in fmt list 'get k' 'set k w' 'del k'; do
+    # shellcheck disable=SC2086
+    "$program" $words <"$room/pair" >&- 2>"$room/err"
+    # del of the one pair writes nothing at all
+    case $words in 'del k') told "$words, output closed" $? 0 '' ;; *) told "$words, output closed" $? 4 "$closed" ;; esac
+    # shellcheck disable=SC2086
+    "$program" $words <"$room/folder" >"$room/out" 2>"$room/err"
+    told "$words, a folder as input" $? 4 'ini_tool: Is a directory (os error 21)'
+    # shellcheck disable=SC2086
+    "$program" $words <&- >"$room/out" 2>"$room/err"
+    told "$words, input closed" $? 4 "$closed"
+done
+"$program" frob <"$room/folder" >&- 2>"$room/err"
+told 'usage, output closed, a folder as input' $? 2 "$usage"
+"$program" get z <"$room/pair" >&- 2>"$room/err"
+told 'not found, output closed' $? 1 ''
+"$program" frob <"$room/pair" >"$room/out" 2>&-
+wrote 'usage, standard error closed' $? 2 "$room/nothing"
+"$program" get "$(printf '\303')" <"$room/pair" >"$room/out" 2>"$room/err"
+told 'a word that is no text' $? 4 'ini_tool: invalid data'
+if [ -c /dev/full ]; then
+    for words in fmt list 'get k' 'set k w'; do
+        # shellcheck disable=SC2086
+        "$program" $words <"$room/pair" >/dev/full 2>"$room/err"
+        told "$words, a full device" $? 4 "$full"
+    done
+    "$program" del z <"$room/pair" >/dev/full 2>"$room/err"
+    told 'not found, a full device' $? 1 ''
+    "$program" fmt <"$room/pair" >"$room/out" 2>/dev/full
+    wrote 'fmt, standard error full' $? 0 "$room/pair"
+fi
+
+# A line of 20 MB.
+{ printf 'k='; head -c 20000000 /dev/zero | tr '\0' x; } >"$room/line"
+{ cat "$room/line"; echo; } >"$room/lined"
+tail -c +3 "$room/lined" >"$room/value"
+{ printf '\tk\t'; cat "$room/value"; } >"$room/listed"
+"$program" fmt <"$room/line" >"$room/out" 2>"$room/err"
+wrote 'a line of 20 MB, fmt' $? 0 "$room/lined"
+"$program" get k <"$room/line" >"$room/out" 2>"$room/err"
+wrote 'a line of 20 MB, get' $? 0 "$room/value"
+"$program" list <"$room/line" >"$room/out" 2>"$room/err"
+wrote 'a line of 20 MB, list' $? 0 "$room/listed"
+"$program" fmt <"$room/lined" 2>"$room/err" >"$room/out"
+wrote 'a line of 20 MB, with its line end' $? 0 "$room/lined"
+(
+    ulimit -v 40000 && "$program" fmt <"$room/line" >"$room/out" 2>"$room/err"
+)
+told 'a line of 20 MB, too little memory' $? 4 'ini_tool: out of memory'
+: >"$room/err"
+wrote 'a line of 20 MB, too little memory: nothing is written' 4 4 "$room/nothing"
+if [ -c /dev/full ]; then
+    "$program" fmt <"$room/line" >/dev/full 2>"$room/err"
+    told 'a line of 20 MB, a full device' $? 4 "$full"
+fi
+
+# 100,000 sections.
+awk 'BEGIN { for (i = 0; i < 100000; i++) printf "[s%d]\nk=%d\n\n", i, i }' | sed '$d' >"$room/many"
+awk 'BEGIN { for (i = 0; i < 100000; i++) printf "[s%d]\tk\t%d\n", i, i }' >"$room/listed"
+{ cat "$room/many"; printf '\n[new]\nk=v\n'; } >"$room/more"
+sed '2d;3d' "$room/many" >"$room/fewer"
+echo 99999 >"$room/value"
+"$program" fmt <"$room/many" >"$room/out" 2>"$room/err"
+wrote '100,000 sections, fmt' $? 0 "$room/many"
+"$program" list <"$room/many" >"$room/out" 2>"$room/err"
+wrote '100,000 sections, list' $? 0 "$room/listed"
+"$program" get k s99999 <"$room/many" >"$room/out" 2>"$room/err"
+wrote '100,000 sections, get in the last' $? 0 "$room/value"
+"$program" get k s100000 <"$room/many" >"$room/out" 2>"$room/err"
+wrote '100,000 sections, get in none' $? 1 "$room/nothing"
+"$program" set k v new <"$room/many" >"$room/out" 2>"$room/err"
+wrote '100,000 sections, set in one more' $? 0 "$room/more"
+"$program" del k s0 <"$room/many" >"$room/out" 2>"$room/err"
+wrote '100,000 sections, del in the first' $? 0 "$room/fewer"
+
+# An output that nobody reads on.
+{
+    "$program" fmt <"$room/many" 2>"$room/err"
+    echo $? >"$room/status"
+} | head -c 1 >"$room/out"
+told 'an output that nobody reads on' "$(cat "$room/status")" 4 'ini_tool: Broken pipe (os error 32)'
+
+# The commands that a page shows: in its blocks marked `console`, each line that begins with '$ ' is a command, and what
+# follows it, up to the next one, is what the shell then shows. A page's commands run in turn, in a folder with the examples.
+examples() {
+    page=$1
+    here=$room/$(basename "$page" .md)
+    mkdir -p "$here/shown"
+    cp -r "$top/examples" "$here/examples"
+    ln -s "$top/ini_tool.sh" "$here/ini_tool.sh"
+    awk -v to="$here/shown" '
+        /^```console$/ { inside = 1; next }
+        /^```/ { inside = 0 }
+        inside && /^\$ / { n++; print substr($0, 3) > (to "/" n ".command"); printf "" > (to "/" n ".output"); next }
+        inside { print > (to "/" n ".output") }
+        END { print n + 0 > (to "/count") }
+    ' "$page"
+    total=$(cat "$here/shown/count")
+    if [ "$total" -eq 0 ]; then
+        failed=$((failed + 1))
+        echo "FAILED: $page shows no command"
+    fi
+    n=1
+    while [ "$n" -le "$total" ]; do
+        (cd "$here" && PATH=$(dirname "$program"):$PATH sh "shown/$n.command") >"$room/have" 2>&1 </dev/null
+        cp "$here/shown/$n.output" "$room/want"
+        count "$(basename "$page"): $(cat "$here/shown/$n.command")"
+        n=$((n + 1))
+    done
+}
+examples "$top/README.md"
+examples "$top/docs/PROGRAM.md"
+
+echo "$passed passed, $failed failed"
+[ "$failed" -eq 0 ]
