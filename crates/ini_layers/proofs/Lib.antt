@@ -1,0 +1,3 @@
+pub mod LookupLemmas
+pub mod SetLemmas
+pub mod MergeLemmas
