@@ -1,0 +1,35 @@
+//! Examples of the library, run one after another. Each is a file of its own, to be read and copied; this file knows what
+//! they print and no more.
+#![tactic(auto)]
+
+mod faults;
+mod fleet;
+mod save;
+mod settings;
+
+use ini::Error;
+
+fn main(rt: HostRuntime) -> Result<(), Error> {
+    let alloc = rt.alloc();
+    let settings = "; the fleet\nport = 8080\n[paths]\nlog = /tmp/log\n";
+
+    match settings::port(alloc, settings)? {
+        Some(port) => println!(rt; "port {port}")?,
+        None => println!(rt; "no port")?,
+    }
+    let moved = settings::moved(alloc, settings, "/var/log/app", "/var/cache/app")?;
+    println!(rt; "{moved}")?;
+
+    let fleet = fleet::Fleet::load(alloc, fleet::TEXT)?;
+    println!(rt; "{fleet}")?;
+    let text = fleet::numbered(alloc, &["red", "green", "blue"])?;
+    println!(rt; "{text}")?;
+
+    let saved = save::set_port(&rt, alloc, "9090")?;
+    let port = save::port_in_file(&rt, alloc)?;
+    println!(rt; "saved {saved}, port {port}")?;
+
+    let told = faults::told(alloc, "[paths]\nlog = /tmp/log\n= /tmp/cache\n")?;
+    println!(rt; "{told}")?;
+    Ok(())
+}
