@@ -1,6 +1,5 @@
-//! The multimap, kept as slots in list order with an index from a code to the slots that have it:
-//! a look-up asks the probe only about pairs of its code. A removal leaves a hole, and the holes are
-//! closed where they outnumber the pairs.
+//! The multimap, kept as slots in list order: a look-up asks the probe only about pairs of its code.
+//! A removal leaves a hole, and the holes are closed where they outnumber the pairs.
 //!
 //! A growing call makes its room before anything changes, so a refused one changes nothing.
 ghost use Rattle.std.specs.Prelude.{◌-◌, ◌^◌, ◌≡◌, ◌+◌, ◌<◌, ◌≤◌, ◌==◌, [], ◌∷◌, ◌++◌, length, filter, IsSome, IfOk, IfErr, OnOk, OnErr, IfNone, slice_get, Some, None};
@@ -14,11 +13,11 @@ ghost use Rattle.ini_multimap.specs.Slots.{without_nth};
 
 use crate::key::{MapKey, Probe};
 use crate::slots::{
-    Slot, close_holes, count_fits, last_slot, link_last, make_room, nth_slot, unlink,
+    Chains, close_holes, count_fits, count_holes, is_sparse, last_slot, link_last, make_room,
+    nth_slot, unlink,
 };
 use crate::walk::{IntoIter, Iter, IterMut, Keys, Removed, Values, ValuesMut};
 use std::alloc::{AllocError, Global};
-use std::collections::HashMap;
 use std::marker::Model;
 use std::mem;
 
@@ -34,31 +33,31 @@ pub struct Refused<K, V> {
 /// Pairs of a key and a value in the order of insertion; several may have one key.
 ///
 /// Seen as the list of its pairs. A probe `q` fits a pair whose key it stands for.
-#[derive(Debug, Drop)]
+#[derive(Debug)]
 pub struct Multimap<K: MapKey, V> {
-    slots: Vec<Slot<K>>,
-    // The value in each slot, `None` at a hole.
+    // The key and the value in each slot, `None` at a hole.
+    keys: Vec<Option<K>>,
     values: Vec<Option<V>>,
-    // The first and the last slot of each code.
-    index: HashMap<u64, (usize, usize)>,
+    // The chains of the codes, where slots are many.
+    index: Option<Box<Chains>>,
     // How many holes there are.
     holes: usize,
 }
 
 impl<K: MapKey, V> Model for Multimap<K, V> {
-    ghost use Rattle.std.specs.Prelude.{List, ◌≡◌, length, nat_eq};
+    ghost use Rattle.std.specs.Prelude.{List};
     ghost use Rattle.std.specs.Coded.{coded_list, coded×};
 
     ghost Value = { List (K × V) };
 
     ghost coded = { coded_list (coded× K.code V.code) };
 
-    ghost use Rattle.std.specs.HashMap.{get};
-    ghost use Rattle.ini_multimap.specs.Slots.{pairs_in, AreFilled};
+    ghost use Rattle.ini_multimap.specs.Slots.{pairs_in};
+    ghost use Rattle.ini_multimap.specs.Filled.{AreFilled};
 
-    ghost view = { λ m. pairs_in m.slots.items m.values.items };
+    ghost view = { λ m. pairs_in m.keys.items m.values.items };
 
-    ghost invariant = { λ m. AreFilled K.key_code m.slots.items m.values.items (get nat_eq m.index) };
+    ghost invariant = { λ m. AreFilled K.key_code m.keys.items m.values.items m.index m.holes };
 }
 
 impl<K: MapKey, V> Multimap<K, V> {
@@ -67,9 +66,9 @@ impl<K: MapKey, V> Multimap<K, V> {
         ensures { result ≡ [] }
     {
         Multimap {
-            slots: Vec::new(alloc),
+            keys: Vec::new(alloc),
             values: Vec::new(alloc),
-            index: HashMap::new(alloc),
+            index: None,
             holes: 0,
         }
     }
@@ -102,10 +101,11 @@ impl<K: MapKey, V> Multimap<K, V> {
         ensures key_handed_back { IfErr result (λ refused. refused.key ≡ key) }
         ensures value_handed_back { IfErr result (λ refused. refused.value ≡ value) }
     {
-        match make_room(&mut self.slots, &mut self.values, &mut self.index) {
+        match make_room(&mut self.keys, &mut self.values, &mut self.index) {
             Err(_) => Err(Refused { key, value }),
             Ok(()) => {
-                link_last(&mut self.slots, &mut self.index, key);
+                link_last(self.keys.as_slice(), &mut self.index, &key);
+                self.keys.push_reserved(Some(key));
                 self.values.push_reserved(Some(value));
                 Ok(())
             }
@@ -146,7 +146,7 @@ impl<K: MapKey, V> Multimap<K, V> {
         ensures { option_copied result ≡ lookup (Q.fits q) self.now }
     {
         let s = nth_slot(
-            self.slots.as_slice(),
+            self.keys.as_slice(),
             self.values.as_slice(),
             &self.index,
             q,
@@ -172,7 +172,7 @@ impl<K: MapKey, V> Multimap<K, V> {
         ensures* writes_back { sem 𝓛 (lends_last K.row V.row K.MapKey self.entry result) }
         ensures value { option_copied_mut result ≡ slice_get (values_of self.old) (length self.old - 1) }
     {
-        match last_slot(self.slots.as_slice(), self.values.as_slice()) {
+        match last_slot(self.keys.as_slice(), self.values.as_slice()) {
             None => None,
             Some(s) => match self.values[s].as_mut() {
                 Some(value) => Some(value),
@@ -186,7 +186,7 @@ impl<K: MapKey, V> Multimap<K, V> {
         ensures values { result ≡ values_at (Q.fits q) self.now }
         ensures countable { length result < 2 ^ 64 }
     {
-        Values::new(Iter::new(self.slots.as_slice(), self.values.as_slice()), q)
+        Values::new(Iter::new(self.keys.as_slice(), self.values.as_slice()), q)
     }
 
     /// All values of the key, in list order, for writing.
@@ -195,7 +195,7 @@ impl<K: MapKey, V> Multimap<K, V> {
         ensures countable { length (values_mut_rest Q.fits result) < 2 ^ 64 }
     {
         ValuesMut::new(
-            IterMut::new(self.slots.as_slice(), self.values.as_mut_slice()),
+            IterMut::new(self.keys.as_slice(), self.values.as_mut_slice()),
             q,
         )
     }
@@ -207,7 +207,7 @@ impl<K: MapKey, V> Multimap<K, V> {
         ensures none_to_set { IfNone result ((v : V) → set_nth_value (Q.fits q) self.old n v ≡ self.old) }
     {
         match nth_slot(
-            self.slots.as_slice(),
+            self.keys.as_slice(),
             self.values.as_slice(),
             &self.index,
             q,
@@ -264,9 +264,9 @@ impl<K: MapKey, V> Multimap<K, V> {
         V: Drop,
         ensures { self.new ≡ [] }
     {
-        self.slots.clear();
+        self.keys.clear();
         self.values.clear();
-        self.index.clear();
+        self.index = None;
         self.holes = 0;
     }
 
@@ -274,14 +274,14 @@ impl<K: MapKey, V> Multimap<K, V> {
     pub fn iter(&self) -> Iter<'_, K, V>
         ensures { result ≡ self.now }
     {
-        Iter::new(self.slots.as_slice(), self.values.as_slice())
+        Iter::new(self.keys.as_slice(), self.values.as_slice())
     }
 
     /// Every pair in order, its value for writing.
     pub fn iter_mut(&mut self) -> IterMut<'_, K, V>
         ensures { iter_mut_rest result ≡ self.old }
     {
-        IterMut::new(self.slots.as_slice(), self.values.as_mut_slice())
+        IterMut::new(self.keys.as_slice(), self.values.as_mut_slice())
     }
 
     /// Each distinct key once, in the order of first occurrence.
@@ -289,7 +289,22 @@ impl<K: MapKey, V> Multimap<K, V> {
         ensures keys { result ≡ distinct_keys K.eq self.now }
         ensures countable { length result < 2 ^ 64 }
     {
-        Keys::new(self.slots.as_slice(), self.values.as_slice())
+        Keys::new(self.keys.as_slice(), self.values.as_slice(), &self.index)
+    }
+}
+
+// Written out: a caller's proof then meets a call here, and no case for the chains.
+impl<K: MapKey + Drop, V: Drop> Drop for Multimap<K, V> {
+    fn drop(self) {
+        let Multimap {
+            keys,
+            values,
+            index,
+            holes: _,
+        } = self;
+        drop(keys);
+        drop(values);
+        drop(index);
     }
 }
 
@@ -326,12 +341,12 @@ impl<K: MapKey + Drop, V: Drop> IntoIterator for Multimap<K, V> {
 
     fn into_iter(self) -> IntoIter<K, V> {
         let Multimap {
-            slots,
+            keys,
             values,
             index: _,
             holes: _,
         } = self;
-        IntoIter::new(slots, values)
+        IntoIter::new(keys, values)
     }
 }
 
@@ -368,14 +383,15 @@ impl<K: MapKey, V> Multimap<K, V> {
         ensures pairs { self.new ≡ without_nth (Q.fits q) self.old n }
     {
         let s = nth_slot(
-            self.slots.as_slice(),
+            self.keys.as_slice(),
             self.values.as_slice(),
             &self.index,
             q,
             n,
         )?;
-        unlink(&mut self.slots, &mut self.index, s);
-        self.holes = self.holes.saturating_add(1);
+        unlink(self.keys.as_slice(), &mut self.index, s, q.code());
+        self.keys[s] = None;
+        self.holes += 1;
         self.values[s].take()
     }
 
@@ -396,9 +412,9 @@ impl<K: MapKey, V> Multimap<K, V> {
         K: Drop,
         ensures { self.new ≡ self.old }
     {
-        if self.slots.len().saturating_sub(self.holes) < self.holes {
-            close_holes(&mut self.slots, &mut self.values, &mut self.index);
-            self.holes = 0;
+        if is_sparse(self.keys.as_slice(), self.holes) {
+            close_holes(&mut self.keys, &mut self.values, &mut self.index);
+            self.holes = count_holes(self.keys.as_slice());
         }
     }
 
@@ -406,11 +422,6 @@ impl<K: MapKey, V> Multimap<K, V> {
     fn count<Q: Probe<K> + Copy>(&self, q: Q) -> usize
         ensures { result ≡ length (filter (λ p. Q.fits q p.0) self.now) }
     {
-        count_fits(
-            self.slots.as_slice(),
-            self.values.as_slice(),
-            &self.index,
-            q,
-        )
+        count_fits(self.keys.as_slice(), self.values.as_slice(), &self.index, q)
     }
 }
