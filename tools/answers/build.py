@@ -4,8 +4,9 @@
     build.py SOURCE FOLDER [WORD ..]
 
 SOURCE is the folder of the crate's source, with its Cargo.toml: rust-ini 0.21.3 with its default features. FOLDER is made
-where it isn't there; the program is then FOLDER/target/release/crate_answers, and its path is printed. The further words
-go to `cargo build`, as `--offline` and `--config FILE` where the crate's own dependencies lie in a folder.
+where it isn't there. The program is built twice: FOLDER/plain/release/crate_answers is over the crate as it is, and
+FOLDER/brackets/release/crate_answers over the crate with its feature `brackets-in-section-names`; both paths are printed.
+The further words go to `cargo build`, as `--offline` and `--config FILE` where the crate's own dependencies lie in a folder.
 """
 import pathlib
 import subprocess
@@ -19,6 +20,9 @@ edition = "2021"
 [[bin]]
 name = "crate_answers"
 path = "{program}"
+
+[features]
+brackets = ["rust-ini/brackets-in-section-names"]
 
 [dependencies]
 rust-ini = {{ path = "{source}" }}
@@ -34,9 +38,10 @@ def main():
     program = pathlib.Path(__file__).resolve().with_name("crate_answers.rs")
     folder.mkdir(parents=True, exist_ok=True)
     (folder / "Cargo.toml").write_text(MANIFEST.format(program=program, source=source))
-    words = ["cargo", "build", "--release", "--quiet", "--target-dir", str(folder / "target"), *sys.argv[3:]]
-    subprocess.run(words, cwd=folder, check=True)
-    print(folder / "target/release/crate_answers")
+    for name, features in (("plain", []), ("brackets", ["--features", "brackets"])):
+        words = ["cargo", "build", "--release", "--quiet", "--target-dir", str(folder / name), *features, *sys.argv[3:]]
+        subprocess.run(words, cwd=folder, check=True)
+        print(folder / name / "release/crate_answers")
 
 
 if __name__ == "__main__":

@@ -73,7 +73,16 @@ CHARACTERS = [
     "k=e\u0301\u0301",
 ]  # fmt: skip
 
-# Texts that each of the sixteen sets of options loads as another document.
+NAMES = [
+    "[[*]]\n", "[a[b]c]\n", "[[*]]xx\n", "[a]x\r\n", "[a]x\n", "[a]", "[ a ]\n", "[a]]\nk=v\n", "[[a]\nk=v", "[]\nk=v", "[]]\r", "[[]\r\n",
+    "[\n", "[\r", "[a]\t \r\nk=v\r\n", "[a] \u00a0\n", "[a]\x0b\n", "[a]\u3000]\n", "[\u3000a\u2003]\n", "[a\\]\n", "[a\\]]\n", "[a]\\]\n",
+    "[a]\\t\n", "[a]\\ \n", "[a]\\n\n", "[a\\x005d\n", "[a]\\x0020\n", "[a]\\\n]\n", "[a\\\nb]\n", "[a\\\rb]\n", "[a]\\\n", "[a]\\",
+    "[a]\\x00\n0\n", "[a]\\xd800\n", "[a] ; c\n", "[a]#c\n", "[a]k=v\n", "[a][b]\n", "[a]\n\n[b]]\nk=v\n[c]", "  [[a]]\nk=v\n",
+    "k=v\n [a]]\n  j=w\n", "[a\"]\"]\n", "[=]:]\n", "[a]\r[b]]\rk=v", "[sec1]\nkey1=val1\nkey2=377\n[sec2]foo=bar\n",
+    "\n[section name] # comment in section line\n", "\n[[*]]\na = b\nc = d\n", "[é]]\n[\U0001f431]\U0001f431]\n",
+]  # fmt: skip
+
+# Texts that each of the sixteen sets of the other options loads as another document.
 APART = [
     'k="a\\tb" c\n  w=\\x0041\n[s]\n  i=1\n',
     "[\\ta]\n\tk\\0='v' w\n\tj=\"\\n\"\n[t]\n \ti=u\n",
@@ -83,8 +92,18 @@ APART = [
     "[s]\n\ti='a\\0' b ; c\n\t\tj\n[t]\n\tk=\"\\;\"",
 ]  # fmt: skip
 
+# Texts that each of the thirty-two sets of options loads as another document.
+APART_BY_BRACKETS = [
+    'k="a\\tb" c\n  w=\\x0041\n[s[t]u]\ni=1\n[t]\n  j=2\n',
+    "[\\ta]]\n\tk\\0='v' w\n\tj=\"\\n\"\n[t]\n \ti=u\n",
+    "k='\\\\v'\r  w=\"x\"\r[s]]\ri=1\r[t]\r  j=2\r",
+    '[profile ["dev"]]\ns3 =\n  most = \'2\\a0\'\n  path = "b"\n\n[t]\n  region = "eu"\n',
+    "[[s]]\n\ti='a\\0' b ; c\n\t\tj\n[t]\n\tk=\"\\;\"",
+]  # fmt: skip
+
 MULTILINE_ON = DEFAULT._replace(multiline=True)
 INDENT_ON = DEFAULT._replace(indent=True)
+BRACKETS_ON = DEFAULT._replace(brackets=True)
 
 # The texts, beside the options by which they are asked first.
 TELLING = (
@@ -94,6 +113,8 @@ TELLING = (
     (MULTILINE_ON, MULTILINE),
     (DEFAULT, CHARACTERS + list(SETTINGS)),
     (DEFAULT, APART),
+    (BRACKETS_ON, NAMES),
+    (DEFAULT, APART_BY_BRACKETS),
 )
 
 

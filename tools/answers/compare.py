@@ -1,17 +1,18 @@
 #!/usr/bin/env python3
 """Compares `ini_answers` with the Rust crate that this library is a port of, rust-ini 0.21.3.
 
-    compare.py texts ANSWERS CRATE [--written] [--less N] [--random N] [--damaged N] [--seed N]
+    compare.py texts ANSWERS CRATE BRACKETS [--written] [--less N] [--random N] [--damaged N] [--seed N]
     compare.py departures ANSWERS CRATE
-    compare.py stored CRATE FOLDER
+    compare.py stored CRATE BRACKETS FOLDER
 
-ANSWERS is the program `ini_answers`. CRATE is the program over the Rust crate that build.py makes of crate_answers.rs: it
-reads the same lines, and answers in the same form. Either may be a command of several words.
+ANSWERS is the program `ini_answers`. CRATE and BRACKETS are the two programs over the Rust crate that build.py makes of
+crate_answers.rs, the second over the crate with brackets in names: they read the same lines, the one those with the last
+flag 0, the other those with 1, and answer in the same form. Each may be a command of several words.
 
-`texts` loads very many texts under all sixteen options by both programs: all short texts over some alphabets, texts with
+`texts` loads very many texts under all thirty-two options by both sides: all short texts over some alphabets, texts with
 each character of Unicode, one by one and in runs, random longer texts, and settings files of five kinds, whole and damaged.
-That is 225 million answers and takes about a quarter of an hour; with `--less 1` the short texts are a character shorter
-and the characters that come one by one fewer, which is a tenth of it. It counts the texts, and the differences by declared
+That is 450 million answers and takes about half an hour; with `--less 1` the short texts are a character shorter and the
+characters that come one by one fewer, which is a tenth of it. It counts the texts, and the differences by declared
 departure, each with the smallest text that shows it. It prints every difference that is not declared; the status is 1 if
 there is one. A difference is declared only if the line grammar, by the reader in grammar.py, derives the one program's
 answer, and with some of the departures, read the crate's way, the other's.
@@ -19,7 +20,7 @@ answer, and with some of the departures, read the crate's way, the other's.
 With `--written` both programs also write what they load. Each document that some options make of a text is written under
 all eight escape policies, with LF and with CR LF; every difference is printed, and the status is then 1. A document that
 several texts of one batch give is written once for that batch. What the two load differently, where a departure shows,
-isn't written. With `--less 1` the whole then takes a little over two minutes.
+isn't written. With `--less 1` the whole then takes some five minutes.
 
 `departures` shows the smallest text of each declared departure, with what both programs answer, and fails where that is
 not what cases.py says.
@@ -34,13 +35,29 @@ import itertools
 import shlex
 import subprocess
 import sys
+from typing import NamedTuple
 
 import cases
 import texts
 import writing
 from grammar import DEPARTURES, Option, Reader
 
-OPTIONS = sorted((Option(*flags) for flags in itertools.product((True, False), repeat=4)), key=Option.changes)
+OPTIONS = sorted((Option(*flags) for flags in itertools.product((True, False), repeat=5)), key=Option.changes)
+
+
+class Crate(NamedTuple):
+    """The two programs over the Rust crate."""
+
+    plain: str
+    brackets: str
+
+    def program(self, option):
+        return self.brackets if option.brackets else self.plain
+
+    def programs(self):
+        """Each program with the options by which it reads."""
+        for brackets, program in enumerate(self):
+            yield program, [option for option in OPTIONS if option.brackets == bool(brackets)]
 
 
 def answers(program, questions):
@@ -52,10 +69,10 @@ def answers(program, questions):
     return found
 
 
-def questions_of(batch):
-    """All texts of a batch under all options, a line each."""
+def questions_of(batch, options):
+    """All texts of a batch under some options, a line each."""
     lines = []
-    for option in OPTIONS:
+    for option in options:
         head = option.flags() + " "
         lines.append(head + f"\n{head}".join(batch) + "\n")
     return "".join(lines).encode()
@@ -105,9 +122,9 @@ def differing(questions, ours, crate):
 class Tally:
     """What the comparison has found."""
 
-    def __init__(self, program, crate_program, writes):
+    def __init__(self, program, crate, writes):
         self.program = program
-        self.crate_program = crate_program
+        self.crate = crate
         self.writes = writes
         self.compared = 0
         self.undeclared = 0
@@ -116,17 +133,18 @@ class Tally:
         self.miswritten = 0
 
     def compare(self, batch):
-        questions = questions_of(batch)
-        ours, crate = answers(self.program, questions), answers(self.crate_program, questions)
-        self.compared += len(batch) * len(OPTIONS)
-        for question, one, other in differing(questions, ours, crate):
-            self.note(question, one, other)
-        if self.writes:
-            self.compare_written(documents_of(questions, ours, crate))
+        for program, options in self.crate.programs():
+            questions = questions_of(batch, options)
+            ours, crate = answers(self.program, questions), answers(program, questions)
+            self.compared += len(batch) * len(options)
+            for question, one, other in differing(questions, ours, crate):
+                self.note(question, one, other)
+            if self.writes:
+                self.compare_written(program, documents_of(questions, ours, crate))
 
-    def compare_written(self, loading):
+    def compare_written(self, program, loading):
         questions = under_all_ways(loading)
-        ours, crate = answers(self.program, questions), answers(self.crate_program, questions)
+        ours, crate = answers(self.program, questions), answers(program, questions)
         self.documents += len(loading)
         for question, one, other in differing(questions, ours, crate):
             self.miswritten += 1
@@ -160,7 +178,7 @@ class Tally:
 
 
 def compare_texts(arguments):
-    tally = Tally(arguments.answers, arguments.crate, arguments.written)
+    tally = Tally(arguments.answers, Crate(arguments.crate, arguments.brackets), arguments.written)
     sorts = {
         "short texts": texts.short_texts(arguments.less),
         "texts of each character": texts.each_character(arguments.less),
@@ -209,12 +227,12 @@ def departs(text, option, crate):
     return True
 
 
-def telling_lines(program, text, first):
+def telling_lines(programs, text, first):
     """The lines of a text for the stored run, one for each answer, and the number of lines that a departure touches."""
     lines, departing = {}, 0
     for option in dict.fromkeys((first, *OPTIONS)):
         question = question_of(option, text)
-        crate = one_line(answers(program, question.encode()))
+        crate = one_line(answers(programs.program(option), question.encode()))
         if departs(text, option, crate):
             departing += 1
         else:
@@ -232,15 +250,16 @@ def writing_line(program, option, text, way):
 
 
 def store(arguments):
+    programs = Crate(arguments.crate, arguments.brackets)
     lines, departing = [], 0
     for first, group in cases.TELLING:
         for text in group:
-            more, touched = telling_lines(arguments.crate, text, first)
+            more, touched = telling_lines(programs, text, first)
             lines += more
             departing += touched
     loading = len(lines)
     for option, text, way in writing.telling(OPTIONS):
-        line = writing_line(arguments.crate, option, text, way)
+        line = writing_line(programs.program(option), option, text, way)
         lines += [line] if line else []
         departing += not line
     for column, name in enumerate(("stdin", "stdout")):
@@ -259,6 +278,7 @@ def main():
     command.set_defaults(run=compare_texts)
     command.add_argument("answers")
     command.add_argument("crate")
+    command.add_argument("brackets")
     command.add_argument("--written", action="store_true")
     for name, size in (("--less", 0), ("--random", 100_000), ("--damaged", 20_000), ("--seed", 1)):
         command.add_argument(name, type=int, default=size)
@@ -269,6 +289,7 @@ def main():
     command = commands.add_parser("stored")
     command.set_defaults(run=store)
     command.add_argument("crate")
+    command.add_argument("brackets")
     command.add_argument("folder")
     arguments = parser.parse_args()
     sys.exit(arguments.run(arguments))

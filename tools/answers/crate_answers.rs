@@ -1,6 +1,7 @@
 //! The Rust crate's answers to the questions of `ini_answers`, in the same form: see the head of its `main.rt`.
 //!
-//! A line that is no question ends the program, with its number and status 2.
+//! The crate reads brackets in names, or doesn't, as it was built; the feature `brackets` says so. A line that asks for the
+//! other, or is no question, ends the program, with its number and status 2.
 use ini::{EscapePolicy, Ini, LineSeparator, ParseOption, Properties, WriteOption};
 use std::io::{self, BufRead, BufWriter, Write};
 use std::process::ExitCode;
@@ -21,9 +22,12 @@ fn flag(digit: u8) -> Option<bool> {
 }
 
 fn reading_of_flags(flags: &str) -> Option<ParseOption> {
-    let [escape, quote, multiline, indent] = flags.as_bytes() else {
+    let [escape, quote, multiline, indent, brackets] = flags.as_bytes() else {
         return None;
     };
+    if flag(*brackets)? != cfg!(feature = "brackets") {
+        return None;
+    }
     Some(ParseOption {
         enabled_escape: flag(*escape)?,
         enabled_quote: flag(*quote)?,

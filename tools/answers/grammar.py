@@ -15,9 +15,10 @@ ESCAPES = {"0": "\0", "a": "\a", "b": "\b", "t": "\t", "r": "\r", "n": "\n"}
 HEXADECIMAL = frozenset("0123456789abcdefABCDEF")
 
 # Where a string ends, and what a refusal at the text's end says there. Only a plain part may end with the text.
-NAME, KEY, DOUBLE, SINGLE, PLAIN = "]", "=:", '"', "'", "\n\r"
+NAME, BRACKETED_NAME, KEY, DOUBLE, SINGLE, PLAIN = "]", "\r\n", "=:", '"', "'", "\n\r"
 EXPECTED = {
     NAME: "[Some(']')]",
+    BRACKETED_NAME: "[Some('\\r'), Some('\\n')]",
     KEY: "[Some('='), Some(':')]",
     DOUBLE: "[Some('\"')]",
     SINGLE: "[Some('\\'')]",
@@ -52,6 +53,7 @@ class Option(NamedTuple):
     quote: bool
     multiline: bool
     indent: bool
+    brackets: bool
 
     def flags(self):
         return "".join(str(int(flag)) for flag in self)
@@ -61,7 +63,7 @@ class Option(NamedTuple):
         return sum(one != other for one, other in zip(self, DEFAULT))
 
 
-DEFAULT = Option(escape=True, quote=True, multiline=False, indent=False)
+DEFAULT = Option(escape=True, quote=True, multiline=False, indent=False, brackets=False)
 
 
 class Stop(Exception):
@@ -169,9 +171,18 @@ class Reader:
 
     def read_header(self):
         self.at += 1
-        name = self.read_string(NAME).strip(WHITE)
-        self.at += 1
-        self.words.append("S" + name.encode().hex())
+        if self.option.brackets:
+            name = self.read_bracketed_name()
+        else:
+            name = self.read_string(NAME)
+            self.at += 1
+        self.words.append("S" + name.strip(WHITE).encode().hex())
+
+    def read_bracketed_name(self):
+        line = self.read_string(BRACKETED_NAME).rstrip(BLANKS)
+        if not line.endswith("]"):
+            raise Stop(self.at + 1, "section must be ended with ']'")
+        return line[:-1]
 
     def read_indented(self):
         start = self.at

@@ -55,7 +55,8 @@ UNDER_OTHER_OPTIONS = (
     (DEFAULT._replace(indent=True), "[s]\n  k=v\n\tj=w\n \ti = x\nh=u\n"),
     (ESCAPES_OFF, "path=C:\\new\\x41\n[a\\b]\nk\\ =\\\nw;\\\\\n"),
     (DEFAULT._replace(quote=False), "k=\"v\" '\nj='w\n[\"s\"]\n\"i\"=u"),
-    (Option(escape=False, quote=False, multiline=True, indent=True), "[s\\0]\n\tk='\\n\n\t\\t'\n"),
+    (Option(escape=False, quote=False, multiline=True, indent=True, brackets=False), "[s\\0]\n\tk='\\n\n\t\\t'\n"),
+    (DEFAULT._replace(brackets=True), "[[s]]\nk=v\n[a]b]\t\n[]]\nj=w\n[\\x005d]\n"),
 )
 
 REFUSED = ["k", "[s", "=v", "k=\\x", "[s] ; c", "k=\"v"]
@@ -90,8 +91,8 @@ def questions_on_documents():
 
 def questions_on_options(options):
     """A text that each set of options loads as another, by each set, and settings files."""
-    for option, way in zip(options, WAYS):
-        yield option, cases.APART[0], way
+    for option, way in zip(options, itertools.cycle(WAYS)):
+        yield option, cases.APART_BY_BRACKETS[0], way
     for text in texts.SETTINGS:
         yield DEFAULT, text, BASICS
         yield ESCAPES_OFF, text, "ReservedUnicode CRLF"

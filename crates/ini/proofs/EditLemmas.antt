@@ -1,10 +1,10 @@
 -- An edit of the first section of a name, by what stands there.
-use Rattle.std.proofs.Common.{◌≡◌, ◌∙◌, Bool, true, false, cond, List, [], ◌∷◌, ◌++◌, Option, None, Some, IsSome, Result, Ok, Err, OnOk, OnErr, subst, refl, sym, ap, arith, append-nil}
+use Rattle.std.proofs.Common.{◌≡◌, ◌∙◌, Bool, true, false, cond, List, [], ◌∷◌, ◌++◌, Option, None, Some, IsSome, IfNone, Result, Ok, Err, OnOk, OnErr, subst, refl, sym, ap, arith, append-nil}
 use Rattle.std.proofs.lemmas.Bool.{false≢true}
 use Rattle.std.specs.Map.{set_value}
 use Rattle.ini.specs.Texts.{Text, is_name, is_text}
-use Rattle.ini.specs.Properties.{Pairs, inserted, removed}
-use Rattle.ini.specs.Documents.{Document, first_section}
+use Rattle.ini.specs.Properties.{Pairs, first_value, inserted, removed}
+use Rattle.ini.specs.Documents.{Document, first_section, value_in}
 use Rattle.ini.specs.Edits.{add_in, delete_in, edit_section, replace_in, set_in}
 
 module _ (name : Option Text) (f : Pairs → Pairs) (last : Document) where
@@ -24,6 +24,24 @@ module _ (name : Option Text) (f : Pairs → Pairs) (last : Document) where
 pub set_section-same : (name : Option Text) (d : Document) (pairs : Pairs) → first_section name d ≡ Some pairs → set_value (is_name name) d pairs ≡ d
 set_section-same name [] pairs e = refl
 set_section-same name (s ∷ d) pairs e = grind (arith, set_section-same name d pairs)
+
+-- nothing is put where no section has the name
+pub set_section-none : (name : Option Text) (d : Document) (pairs : Pairs) → first_section name d ≡ None → set_value (is_name name) d pairs ≡ d
+set_section-none name [] pairs e = refl
+set_section-none name (s ∷ d) pairs e = grind (arith, set_section-none name d pairs)
+
+set_value-none : (key value : Text) (ps : Pairs) → first_value key ps ≡ None → set_value (is_text key) ps value ≡ ps
+set_value-none key value [] e = refl
+set_value-none key value (p ∷ ps) e = grind (arith, set_value-none key value ps)
+
+pub replace_in-none : (name : Option Text) (key value : Text) (d : Document) → value_in name key d ≡ None → replace_in name key value d ≡ d
+replace_in-none name key value [] e = refl
+replace_in-none name key value (s ∷ d) e = grind (arith, replace_in-none name key value d, set_value-none key value s.1)
+
+-- what holds where nothing was lent
+pub if_none : {A P : Type 0} (lent : Option A) → (lent ≡ None → P) → IfNone lent P
+if_none None holds = holds refl
+if_none (Some a) holds = tt
 
 -- what each edit makes of the first section of the name
 module _ (name : Option Text) (key value : Text) (d : Document) (pairs : Pairs) (there : first_section name d ≡ Some pairs) where

@@ -1,5 +1,4 @@
 -- What an entry holds, and what its document ends as.
-pub use Rattle.ini.specs.declared.entry.SectionEntry.TheVariants.{Occupied, Vacant}
 use Rattle.std.specs.Prelude.{Option, Result}
 use Rattle.std.specs.Borrow.{Fml, MutBor, follows, follows_if, name_if_ok}
 use Rattle.ini.specs.Texts.{Text, name_of}
@@ -7,8 +6,18 @@ use Rattle.ini.specs.Properties.{Pairs}
 use Rattle.ini.specs.Documents.{Document}
 use Rattle.ini.specs.Edits.{with_section}
 use Rattle.ini.specs.declared.entry.SectionEntry.{SectionEntry}
+use Rattle.ini.specs.declared.entry.SectionEntry.TheVariants.{Occupied, Vacant}
+use Rattle.ini.specs.declared.entry.SectionOccupiedEntry.{SectionOccupiedEntry}
+use Rattle.ini.specs.declared.entry.SectionVacantEntry.{SectionVacantEntry}
 use Rattle.ini.specs.contracts.document.Ini as document
 use Rattle.ini.specs.contracts.properties.Properties as properties
+
+-- a place that is vacant, or occupied
+abbrev pub vacant : SectionVacantEntry → SectionEntry
+vacant e = Vacant e
+
+abbrev pub occupied : SectionOccupiedEntry → SectionEntry
+occupied e = Occupied e
 
 -- the document that it borrows
 abbrev pub entry_document : SectionEntry → MutBor Document

@@ -1,12 +1,13 @@
 //! Documents: sections in order. This file knows the multimap's calls and those of `Properties`, and no text.
-ghost use Rattle.std.specs.Prelude.{◌≡◌, ◌==◌, ◌<◌, ◌^◌, ◌-◌, [], ◌∷◌, ◌++◌, length, slice_get, IsSome, IfErr, IfOk, IsOkUnless, OnOk, OnErr, Some, None, alloc_error, unwrap_or};
+ghost use Rattle.std.specs.Prelude.{◌≡◌, ◌==◌, ◌<◌, ◌^◌, ◌-◌, [], ◌∷◌, ◌++◌, length, slice_get, IsSome, IfNone, IfErr, IfOk, IsOkUnless, OnOk, OnErr, Some, None, alloc_error, unwrap_or};
 ghost use Rattle.std.specs.Borrow.{sem};
-ghost use Rattle.std.specs.Map.{values_of};
+ghost use Rattle.std.specs.Map.{set_value, values_of};
 ghost use Rattle.std.specs.Option.{option_map, option_copied, option_copied_mut};
 ghost use Rattle.std.specs.Str.{chars};
-ghost use Rattle.ini.specs.Texts.{IsTextName, name_of, str_name, str_text, text_of};
+ghost use Rattle.ini.specs.Texts.{IsTextName, Text, is_name, name_of, str_name, str_text, text_of};
+ghost use Rattle.ini.specs.Properties.{Pairs};
 ghost use Rattle.ini.specs.Documents.{first_section, names, section_removed, sections_named, value_in, with_pair};
-ghost use Rattle.ini.specs.Edits.{add_in, delete_in, delete_in_all, set_in};
+ghost use Rattle.ini.specs.Edits.{add_in, delete_in, delete_in_all, replace_in, set_in};
 ghost use Rattle.ini.specs.Lends.{lends_found_section, lends_last_section, lends_new_section, lends_section, lends_value_in};
 ghost use Rattle.ini.specs.Walks.{section_all_mut_rest, section_iter_mut_rest};
 
@@ -97,6 +98,7 @@ impl Ini {
     pub fn section_mut(&mut self, name: Option<&str>) -> Option<&mut Properties>
         ensures* writes_back { sem 𝓛 (lends_section self.entry (str_name name.entry) result) }
         ensures section { option_copied_mut result ≡ first_section (str_name name.entry) self.old }
+        ensures none_to_set { IfNone result ((pairs : Pairs) → set_value (is_name (str_name name.entry)) self.old pairs ≡ self.old) }
     {
         name_is_text(name);
         self.sections.get_mut(name)
@@ -140,6 +142,7 @@ impl Ini {
     pub fn get_from_mut(&mut self, name: Option<&str>, key: &str) -> Option<&mut String>
         ensures* writes_back { sem 𝓛 (lends_value_in self.entry (str_name name.entry) (chars key.now) result) }
         ensures value { option_map text_of (option_copied_mut result) ≡ value_in (str_name name.entry) (chars key.now) self.old }
+        ensures none_to_set { IfNone result ((value : Text) → replace_in (str_name name.entry) (chars key.now) value self.old ≡ self.old) }
     {
         self.section_mut(name)?.get_mut(key)
     }

@@ -7,12 +7,26 @@ ghost use Rattle.ini.specs.Documents.{first_section};
 use crate::document::{Ini, SectionKey};
 use crate::iter::lent;
 use crate::properties::Properties;
+use ini_text::Error;
+use std::alloc::AllocError;
 
 /// What a refused entry hands back.
 #[derive(Debug, Drop)]
 pub struct NoRoom {
     /// The properties that were to go in.
     pub value: Properties,
+}
+
+/// What was refused is given up, for want of memory.
+impl From<NoRoom> for Error {
+    ghost use Rattle.std.specs.Prelude.{alloc_error};
+    ghost use Rattle.ini_text.specs.declared.error.Error.TheVariants.{Memory};
+
+    ghost from_gives = { λ _ e. e ≡ Memory alloc_error };
+
+    fn from(_refused: NoRoom) -> Error {
+        Error::Memory(AllocError)
+    }
 }
 
 /// A name's place in a document.
@@ -61,6 +75,17 @@ impl Ini {
 impl<'a> SectionEntry<'a> {
     ghost use Rattle.ini.specs.Entries.{MatchEntry, entry_document, entry_lends_ok, entry_name};
 
+    /// Gives the place up, and hands the document back as it is.
+    pub fn into_document(self) -> &'a mut Ini
+        ensures same_document { result.ghost_name ≡ (entry_document self.entry).ghost_name }
+        ensures unchanged { result.now ≡ (entry_document self.entry).now }
+    {
+        match self {
+            SectionEntry::Vacant(entry) => entry.into_document(),
+            SectionEntry::Occupied(entry) => entry.into_document(),
+        }
+    }
+
     /// The first section of the name, for writing; where there is none one with these properties is opened last.
     ///
     /// Refused, for want of memory alone, it hands them back, and the document stays as it was. An occupied entry is never
@@ -71,10 +96,7 @@ impl<'a> SectionEntry<'a> {
         ensures handed_back { IfErr result (λ refused. refused.value ≡ value) }
         ensures refused_only_if_vacant { OnErr result (first_section (entry_name self.entry) (entry_document self.entry).now ≡ None) }
     {
-        match self {
-            SectionEntry::Vacant(entry) => entry.insert(value),
-            SectionEntry::Occupied(entry) => Ok(entry.into_mut()),
-        }
+        self.or_insert_with(|| value)
     }
 
     /// As `or_insert` of what the closure answers, which is called only where the entry is vacant.
@@ -96,13 +118,22 @@ impl<'a> SectionEntry<'a> {
 }
 
 impl<'a> SectionVacantEntry<'a> {
-    ghost use Rattle.ini.specs.Entries.{Vacant, entry_lends_ok};
+    ghost use Rattle.ini.specs.Entries.{entry_document, entry_lends_ok, vacant};
+
+    /// Gives the place up, and hands the document back as it is.
+    pub fn into_document(self) -> &'a mut Ini
+        ensures same_document { result.ghost_name ≡ (entry_document (vacant self.entry)).ghost_name }
+        ensures unchanged { result.now ≡ (entry_document (vacant self.entry)).now }
+    {
+        let SectionVacantEntry { ini, name: _ } = self;
+        ini
+    }
 
     /// Opens the section with these properties, last.
     ///
     /// Refused, for want of memory alone, it hands them back, and the document stays as it was.
     pub fn insert(self, value: Properties) -> Result<&'a mut Properties, NoRoom>
-        ensures* writes_back { sem 𝓛 (entry_lends_ok (Vacant self.entry) result) }
+        ensures* writes_back { sem 𝓛 (entry_lends_ok (vacant self.entry) result) }
         ensures value { IfOk result (λ section. section.now ≡ value) }
         ensures handed_back { IfErr result (λ refused. refused.value ≡ value) }
     {
@@ -112,12 +143,21 @@ impl<'a> SectionVacantEntry<'a> {
 }
 
 impl<'a> SectionOccupiedEntry<'a> {
-    ghost use Rattle.ini.specs.Entries.{Occupied, entry_document, entry_lends, entry_name};
+    ghost use Rattle.ini.specs.Entries.{entry_document, entry_lends, entry_name, occupied};
+
+    /// Gives the place up, and hands the document back as it is.
+    pub fn into_document(self) -> &'a mut Ini
+        ensures same_document { result.ghost_name ≡ (entry_document (occupied self.entry)).ghost_name }
+        ensures unchanged { result.now ≡ (entry_document (occupied self.entry)).now }
+    {
+        let SectionOccupiedEntry { ini, name: _ } = self;
+        ini
+    }
 
     /// The first section of the name, for writing.
     pub fn into_mut(self) -> &'a mut Properties
-        ensures* writes_back { sem 𝓛 (entry_lends (Occupied self.entry) result) }
-        ensures section { first_section (entry_name (Occupied self.entry)) (entry_document (Occupied self.entry)).now ≡ Some result.now }
+        ensures* writes_back { sem 𝓛 (entry_lends (occupied self.entry) result) }
+        ensures section { first_section (entry_name (occupied self.entry)) (entry_document (occupied self.entry)).now ≡ Some result.now }
     {
         let SectionOccupiedEntry { ini, name } = self;
         ini.first_section_mut(&name)
@@ -127,10 +167,10 @@ impl<'a> SectionOccupiedEntry<'a> {
     ///
     /// Refused, for want of memory alone, it hands the properties back, and the document stays as it was.
     pub fn append(&mut self, value: Properties) -> Result<(), NoRoom>
-        ensures same_document { (entry_document (Occupied self.new)).ghost_name ≡ (entry_document (Occupied self.old)).ghost_name }
-        ensures name { entry_name (Occupied self.new) ≡ entry_name (Occupied self.old) }
-        ensures appended { OnOk result ((entry_document (Occupied self.new)).now ≡ (entry_document (Occupied self.old)).now ++ (entry_name (Occupied self.old), value) ∷ []) }
-        ensures unchanged { OnErr result ((entry_document (Occupied self.new)).now ≡ (entry_document (Occupied self.old)).now) }
+        ensures same_document { (entry_document (occupied self.new)).ghost_name ≡ (entry_document (occupied self.old)).ghost_name }
+        ensures name { entry_name (occupied self.new) ≡ entry_name (occupied self.old) }
+        ensures appended { OnOk result ((entry_document (occupied self.new)).now ≡ (entry_document (occupied self.old)).now ++ (entry_name (occupied self.old), value) ∷ []) }
+        ensures unchanged { OnErr result ((entry_document (occupied self.new)).now ≡ (entry_document (occupied self.old)).now) }
         ensures handed_back { IfErr result (λ refused. refused.value ≡ value) }
     {
         match self.name.clone() {

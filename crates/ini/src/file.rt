@@ -4,6 +4,7 @@ ghost use Rattle.ini_text.specs.Faults.{IsIoOrNoProgress};
 ghost use Rattle.ini_text.specs.Options.{default_parse_option};
 ghost use Rattle.ini_text.specs.WriteOptions.{IsDefaultWriteOption};
 ghost use Rattle.ini_text.specs.declared.write_option.WriteOption.{WriteOption};
+ghost use Rattle.ini.specs.Documents.{HasGeneral};
 ghost use Rattle.ini.specs.Files.{IsDocumentOfFile, IsNoTextOfFile, IsStopOfFile, IsWrittenToFile};
 ghost use Rattle.ini.specs.Loading.{IfParse, IsNotUtf8, IsReadRefusal};
 ghost use Rattle.ini.specs.Written.{written};
@@ -19,6 +20,7 @@ impl Ini {
     /// The document of a file, by the default options. The rest is as `load_from_file_opt` has it.
     pub fn load_from_file<R: Files>(rt: &R, alloc: Global, path: Path<'_>) -> Result<Ini, Error>
         ensures document { IfOk result (IsDocumentOfFile R.File.remaining default_parse_option) }
+        ensures general { IfOk result HasGeneral }
         ensures fault { IfParse result (IsStopOfFile R.File.remaining default_parse_option) }
         ensures not_utf8 { IsNotUtf8 result → IsNoTextOfFile R.File.remaining }
         ensures only { IfErr result IsReadRefusal }
@@ -34,6 +36,7 @@ impl Ini {
     ) -> Result<Ini, Error>
         ensures document { let option = record default_parse_option { enabled_escape = false } in
             IfOk result (IsDocumentOfFile R.File.remaining option) }
+        ensures general { IfOk result HasGeneral }
         ensures fault { let option = record default_parse_option { enabled_escape = false } in
             IfParse result (IsStopOfFile R.File.remaining option) }
         ensures not_utf8 { IsNotUtf8 result → IsNoTextOfFile R.File.remaining }
@@ -60,6 +63,7 @@ impl Ini {
         opt: ParseOption,
     ) -> Result<Ini, Error>
         ensures document { IfOk result (IsDocumentOfFile R.File.remaining opt) }
+        ensures general { IfOk result HasGeneral }
         ensures fault { IfParse result (IsStopOfFile R.File.remaining opt) }
         ensures not_utf8 { IsNotUtf8 result → IsNoTextOfFile R.File.remaining }
         ensures only { IfErr result IsReadRefusal }

@@ -52,7 +52,7 @@ impl<'n> SectionName for LentName<'n> {
 
 /// Edits the sections of one name of a document.
 ///
-/// `set` and `add` hand the setter on, so that edits are chained: `setter.set("k", "v")?.set("j", "w")?`.
+/// `set`, `add` and `delete` hand the setter on, so that edits are chained: `setter.delete("k").set("j", "w")?`.
 #[derive(Drop)]
 pub struct SectionSetter<'a, N = LentName<'a>> {
     ini: &'a mut Ini,
@@ -119,21 +119,23 @@ impl<'a, N: SectionName> SectionSetter<'a, N> {
         }
     }
 
-    /// Takes the first pair of the key out of every section of the name.
-    pub fn delete(&mut self, key: &str) -> &mut Self
-        ensures same_reference { result.ghost_name ≡ self.entry.ghost_name }
-        ensures same_document { (setter_document result.now).ghost_name ≡ (setter_document self.old).ghost_name }
-        ensures deleted { (setter_document result.now).now ≡ delete_in_all (N.section_name (setter_name self.old)) (chars key.now) (setter_document self.old).now }
-        ensures name { setter_name result.now ≡ setter_name self.old }
-    {
-        self.ini.delete_from_all(self.name.name(), key);
-        self
-    }
-
     /// The first value of the key in the first section of the name.
     pub fn get(&self, key: &str) -> Option<&str>
         ensures { option_map str_text result ≡ value_in (N.section_name (setter_name self.now)) (chars key.now) (setter_document self.now).now }
     {
         self.ini.get_from(self.name.name(), key)
+    }
+}
+
+impl<'a> SectionSetter<'a> {
+    /// Takes the first pair of the key out of every section of the name. The setter is handed on.
+    pub fn delete(self, key: &str) -> SectionSetter<'a>
+        ensures same_document { (setter_document result).ghost_name ≡ (setter_document self.entry).ghost_name }
+        ensures deleted { (setter_document result).now ≡ delete_in_all (lent_name (setter_name self.entry)) (chars key.now) (setter_document self.entry).now }
+        ensures name { setter_name result ≡ setter_name self.entry }
+    {
+        let SectionSetter { ini, name } = self;
+        ini.delete_from_all(name.name(), key);
+        SectionSetter { ini, name }
     }
 }

@@ -2,10 +2,14 @@
 #![tactic(auto)]
 
 mod edited;
+mod entries;
 mod loaded;
+mod refusals;
 
 pub use edited::{
     Settings, add_to, delete_last, insert_lent, insert_one, insert_then_index, move_log, set_there,
     set_two,
 };
+pub use entries::{appended, is_occupied, look, opened};
 pub use loaded::{general_keys, general_keys_of};
+pub use refusals::{characters_before, lines_before, open, save, write_nothing};

@@ -3,7 +3,7 @@ use Rattle.std.proofs.Common.{◌≡◌, ◌<◌, ◌≤◌, ℕ, List, [], ◌�
 use Rattle.ini_text.specs.Characters.{is_blank}
 use Rattle.ini_text.specs.Elements.{Given, Gap, Element, ElementStops}
 use Rattle.ini_text.specs.Fronts.{front_of, IsRest}
-use Rattle.ini_text.specs.Parser.{memory, parse, Refuses, StopIsWithin, IsStopOf, Tells, refusal_of, StopsBehind}
+use Rattle.ini_text.specs.Parser.{memory, parse, Refusal, Refuses, StopIsWithin, IsStopOf, Tells, refusal_of, StopsBehind}
 use Rattle.ini_text.specs.Messages.{HasMessage}
 use Rattle.ini_text.specs.declared.error.ParseKind.{ParseKind}
 use Rattle.ini_text.specs.Positions.{line_of, column_of}
@@ -12,7 +12,7 @@ use Rattle.ini_text.specs.Texts.{Reads}
 use Rattle.ini_text.specs.declared.error.Error.{Error}
 use Rattle.ini_text.specs.declared.error.Error.TheVariants as errors
 use Rattle.ini_text.specs.declared.option.ParseOption.{ParseOption}
-use Rattle.ini_text.specs.declared.parser.Refusal.{Refusal}
+use Rattle.ini_text.specs.declared.parser.refusal.Refused.TheVariants as refusals
 use Rattle.ini_text.specs.declared.parser.fault.Stop.{Stop}
 use Rattle.ini_text.specs.declared.parser.fault.Stop.TheVariants as stops
 use Rattle.ini_text.proofs.Fronts.{front_grows}
@@ -97,10 +97,11 @@ module _ (o : ParseOption) (T b : List ℕ) where
   pub refuses : (rest : List ℕ) (stop : Stop) (refusal : Refusal) → IsRest T rest → Reads o T b [] (front_of T rest) → StoppedBy (ElementStops o (front_of T rest)) rest stop
       → IsStopOf T stop refusal → (e : Error) → Tells (refusal_of refusal) e → Refuses o T b e
   refuses rest stops.Memory refusal within reads s is e t = tells_memory e (subst (λ r. Tells (refusal_of r) e) is t)
-  refuses rest (stops.Fault fault r) refusal within reads s (message, told, is) e t =
+  refuses rest (stops.Fault fault r) refusals.Memory within reads s told e t = absurd told
+  refuses rest (stops.Fault fault r) (refusals.Parse kept) within reads s (kind, line, column, told) (errors.Parse x) (kind_is, line_is, column_is, text) =
       let c = front_of T rest in
       let grown = front_grows T rest s.source (chars r.now) within (sym s.whole) in
-      tells_parse message.now (record {
+      tells_parse kept.message.now (record {
         front = c;
         source = s.source;
         rest = chars r.now;
@@ -109,4 +110,8 @@ module _ (o : ParseOption) (T b : List ℕ) where
         stops = s.holds;
         line_is = ap line_of grown.0;
         column_is = ap column_of grown.0;
-      }) told e (subst (λ x. Tells (refusal_of x) e) is t)
+      }) told (errors.Parse x) (kind_is ∙ kind, line_is ∙ line, column_is ∙ column, text)
+  refuses rest (stops.Fault fault r) (refusals.Parse kept) within reads s told (errors.Memory x) t = absurd t
+  refuses rest (stops.Fault fault r) (refusals.Parse kept) within reads s told (errors.Io x) t = absurd t
+  refuses rest (stops.Fault fault r) (refusals.Parse kept) within reads s told errors.NotUtf8 t = absurd t
+  refuses rest (stops.Fault fault r) (refusals.Parse kept) within reads s told errors.NoProgress t = absurd t

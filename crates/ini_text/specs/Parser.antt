@@ -14,8 +14,9 @@ use Rattle.ini_text.specs.declared.error.Error.TheVariants as errors
 use Rattle.ini_text.specs.declared.error.ParseKind.{ParseKind}
 use Rattle.ini_text.specs.declared.item.Item.{Item}
 use Rattle.ini_text.specs.declared.option.ParseOption.{ParseOption}
-use Rattle.ini_text.specs.declared.parser.Refusal.{Refusal}
-use Rattle.ini_text.specs.declared.parser.Refusal.TheVariants as refusals
+use Rattle.ini_text.specs.declared.parser.refusal.KeptFault.{KeptFault}
+use Rattle.ini_text.specs.declared.parser.refusal.Refused as declared
+use Rattle.ini_text.specs.declared.parser.refusal.Refused.TheVariants as refusals
 use Rattle.ini_text.specs.declared.parser.fault.Stop.{Stop}
 use Rattle.ini_text.specs.declared.parser.fault.Stop.TheVariants as stops
 
@@ -66,9 +67,12 @@ KeepsRefusal (Some refusal) new r = new ≡ Some refusal
 KeepsRefusal None new (Ok item) = new ≡ None
 KeepsRefusal None new (Err e) = IsSomeAnd new (λ refusal. Tells refusal e)
 
+abbrev pub Refusal : Type 0
+Refusal = declared.Refused KeptFault
+
 abbrev pub refusal_of : Refusal → Refused
 refusal_of refusals.Memory = memory
-refusal_of (refusals.Parse kind line column message) = parse kind line column message.now
+refusal_of (refusals.Parse fault) = parse fault.kind fault.line fault.column fault.message.now
 
 -- the first item of the rest `start` of a text, and what follows it
 abbrev pub FindsItem : ParseOption → List ℕ → List ℕ → Result (Option Item × Bor (List ℕ)) Refusal → Type 0
@@ -87,6 +91,7 @@ StopIsWithin T (stops.Fault fault rest) = IsRest T (chars rest.now)
 -- the refusal of a text that stops
 abbrev pub IsStopOf : List ℕ → Stop → Refusal → Type 0
 IsStopOf T stops.Memory refusal = refusal ≡ refusals.Memory
-IsStopOf T (stops.Fault fault rest) refusal =
-    (message : Bor (List ℕ)) × HasMessage (kind_of fault) message.now
-    × (refusal ≡ refusals.Parse (kind_of fault) (line_of (front_of T (chars rest.now))) (column_of (front_of T (chars rest.now))) message)
+IsStopOf T (stops.Fault fault rest) refusals.Memory = ⊥
+IsStopOf T (stops.Fault fault rest) (refusals.Parse kept) =
+    let front = front_of T (chars rest.now) in
+    (kept.kind ≡ kind_of fault) × (kept.line ≡ line_of front) × (kept.column ≡ column_of front) × HasMessage (kind_of fault) kept.message.now

@@ -1,10 +1,9 @@
 //! What is refused, and why. This file knows no grammar and no device.
-ghost use Rattle.std.specs.Prelude.{◌≡◌, Some, alloc_error};
-ghost use Rattle.ini_text.specs.Refusals.{printed_fault};
-ghost use Rattle.ini_text.specs.declared.error.Error.TheVariants.{Memory};
+ghost use Rattle.std.specs.Prelude.{◌≡◌, ◌≤◌, Some, alloc_error};
 
 use std::alloc::{AllocError, AllocFailed};
 use std::borrow::CowStr;
+use std::io::ErrorKind;
 use std::{fmt, io};
 use thiserror::Error;
 
@@ -41,10 +40,14 @@ pub struct ParseError {
     pub msg: CowStr<'static>,
     /// What is wrong, for a program to tell refusals apart.
     pub kind: ParseKind,
+    pub ghost line_counts_from_one: { 1 ≤ line },
+    pub ghost column_counts_from_one: { 1 ≤ col },
 }
 
 /// Prints the line, a colon, the column, a space and the message.
 impl fmt::Display for ParseError {
+    ghost use Rattle.ini_text.specs.Refusals.{printed_fault};
+
     ghost output = { λ e. Some (printed_fault e) };
 
     fn fmt<W: fmt::Write>(&self, f: &mut fmt::Formatter<W>) -> fmt::Result {
@@ -75,6 +78,8 @@ pub enum Error {
 }
 
 impl From<AllocError> for Error {
+    ghost use Rattle.ini_text.specs.declared.error.Error.TheVariants.{Memory};
+
     ghost from_gives = { λ _ e. e ≡ Memory alloc_error };
 
     fn from(refused: AllocError) -> Error {
@@ -83,9 +88,32 @@ impl From<AllocError> for Error {
 }
 
 impl<T: Drop> From<AllocFailed<T>> for Error {
+    ghost use Rattle.ini_text.specs.declared.error.Error.TheVariants.{Memory};
+
     ghost from_gives = { λ _ e. e ≡ Memory alloc_error };
 
     fn from(_refused: AllocFailed<T>) -> Error {
         Error::Memory(AllocError)
     }
 }
+
+/// A device's fault as it was. The rest by its kind: `InvalidData` for a text or bytes that are refused, `OutOfMemory`, and
+/// `WriteZero`; where a text was refused, the line and the column are given up.
+impl From<Error> for io::Error {
+    ghost use Rattle.ini_text.specs.Refusals.{IsIoErrorOf};
+
+    ghost from_gives = { IsIoErrorOf };
+
+    fn from(refused: Error) -> io::Error {
+        match refused {
+            Error::Io(fault) => fault,
+            Error::Parse(fault) => io::Error::new(ErrorKind::InvalidData, &fault.msg),
+            Error::Memory(_) => io::Error::from(AllocError),
+            Error::NotUtf8 => io::Error::new(ErrorKind::InvalidData, "the input is not UTF-8"),
+            Error::NoProgress => io::Error::new(ErrorKind::WriteZero, "a write took no bytes"),
+        }
+    }
+}
+
+#[cfg(test)]
+mod tests;

@@ -4,18 +4,18 @@
 //! values, pairs and headers, elements; and beside them why reading stops, and where.
 ghost use Rattle.std.specs.Prelude.{◌≡◌, chars, [], None, Some, Ok, IfSome, IsOkAnd, IsErrAnd, OnErr, MatchResult};
 ghost use Rattle.ini_text.specs.Fronts.{IsRest};
-ghost use Rattle.ini_text.specs.Parser.{AnswersItem, FindsItem, IsStopOf, KeepsRefusal, StopIsWithin, Tells, refusal_of};
+ghost use Rattle.ini_text.specs.Parser.{AnswersItem, FindsItem, IsStopOf, KeepsRefusal, StopIsWithin, Tells};
 
 use crate::characters::split_first;
-use crate::error::{Error, ParseError, ParseKind};
+use crate::error::Error;
 use crate::item::Item;
 use crate::option::ParseOption;
 use crate::parser::element::read_element;
 use crate::parser::fault::Stop;
 use crate::parser::position::position;
+use crate::parser::refusal::{KeptFault, Refusal, Refused};
 use crate::parser::scan::front_before;
-use std::alloc::{AllocError, Global};
-use std::borrow::CowStr;
+use std::alloc::Global;
 use std::marker::Model;
 
 mod element;
@@ -24,46 +24,13 @@ mod header;
 mod line;
 mod pair;
 mod position;
+mod refusal;
 pub(crate) mod scan;
 mod string;
 #[cfg(test)]
 mod tests;
 mod trim;
 mod value;
-
-/// What a parser answers from then on.
-#[derive(Clone, Copy)]
-enum Refusal {
-    Memory,
-    Parse {
-        kind: ParseKind,
-        line: usize,
-        column: usize,
-        message: &'static str,
-    },
-}
-
-impl Refusal {
-    /// The refusal as an error, made anew without memory.
-    fn error(self) -> Error
-        ensures { Tells (refusal_of self) result }
-    {
-        match self {
-            Refusal::Memory => Error::Memory(AllocError),
-            Refusal::Parse {
-                kind,
-                line,
-                column,
-                message,
-            } => Error::Parse(ParseError {
-                line,
-                col: column,
-                msg: CowStr::Borrowed(message),
-                kind,
-            }),
-        }
-    }
-}
 
 /// Gives the items of a text one by one.
 ///
@@ -182,15 +149,15 @@ fn refuse(text: &str, stop: Stop<'_>) -> Refusal
     ensures { IsStopOf (chars text.now) stop.entry result }
 {
     match stop {
-        Stop::Memory => Refusal::Memory,
+        Stop::Memory => Refused::Memory,
         Stop::Fault(fault, rest) => {
             let (line, column) = position(front_before(text, rest));
-            Refusal::Parse {
+            Refused::Parse(KeptFault {
                 kind: fault.kind(),
                 line,
                 column,
                 message: fault.message(),
-            }
+            })
         }
     }
 }

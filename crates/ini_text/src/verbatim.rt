@@ -1,5 +1,5 @@
 //! Runs of characters that a policy leaves as they are, found by their bytes. This file knows no device and no escape's text.
-ghost use Rattle.std.specs.Prelude.{◌≡◌, ◌++◌, ◌≤◌, not, length, chars};
+ghost use Rattle.std.specs.Prelude.{◌≡◌, ◌++◌, ◌+◌, ◌≤◌, not, length, chars};
 ghost use Rattle.std.specs.List.{position_or_len};
 ghost use Rattle.ini_text.specs.Characters.{BeginsWithNo};
 ghost use Rattle.ini_text.specs.Escapes.{escaped_bytes};
@@ -13,7 +13,7 @@ pub(crate) fn split_verbatim(text: &str, policy: EscapePolicy) -> (&str, &str)
     ensures bytes { escaped_bytes policy text.now
         ≡ result.0.now ++ escaped_bytes policy result.1.now }
     ensures next { BeginsWithNo (λ c. not (is_escaped policy c)) (chars result.1.now) }
-    ensures shorter { length result.1.now ≤ length text.now }
+    ensures lengths { length result.0.now + length result.1.now ≡ length text.now }
 {
     text.split_at(run_len(text.as_bytes(), policy))
 }

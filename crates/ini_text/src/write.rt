@@ -1,5 +1,5 @@
 //! Texts on their way to a device, as they are or escaped. This file knows no section, key or value.
-ghost use Rattle.std.specs.Prelude.{◌≡◌, ◌<◌, ◌↔◌, OnOk, IfErr};
+ghost use Rattle.std.specs.Prelude.{◌≡◌, ◌<◌, ◌↔◌, [], OnOk, IfErr};
 ghost use Rattle.ini_text.specs.Escapes.{escaped_bytes};
 ghost use Rattle.ini_text.specs.Faults.{IsIo, IsNoProgress, IsIoOrNoProgress, faults_in, stalls_in};
 ghost use Rattle.ini_text.specs.Watched.{IsClear, SameDevice, Writes, WritesFront, failure_count, stall_count};
@@ -21,6 +21,7 @@ pub fn write_raw<W: Write>(text: &str, out: &mut Watched<'_, W>) -> Result<(), E
     ensures same_device { SameDevice out.old out.new }
     ensures bytes { OnOk result (Writes W.contents out.old out.new text.now) }
     ensures front { WritesFront W.contents out.old out.new text.now }
+    ensures nothing { text.now ≡ [] → out.new ≡ out.old }
     ensures failures { failure_count out.new ≡ faults_in result }
     ensures stalls { stall_count out.new ≡ stalls_in result }
     ensures io { IsIo result ↔ (failure_count out.old < failure_count out.new) }
@@ -47,12 +48,16 @@ pub fn write_escaped<W: Write>(
     ensures same_device { SameDevice out.old out.new }
     ensures bytes { OnOk result (Writes W.contents out.old out.new (escaped_bytes policy text.now)) }
     ensures front { WritesFront W.contents out.old out.new (escaped_bytes policy text.now) }
+    ensures nothing { text.now ≡ [] → out.new ≡ out.old }
     ensures failures { failure_count out.new ≡ faults_in result }
     ensures stalls { stall_count out.new ≡ stalls_in result }
     ensures io { IsIo result ↔ (failure_count out.old < failure_count out.new) }
     ensures no_progress { IsNoProgress result ↔ (stall_count out.old < stall_count out.new) }
     ensures only { IfErr result IsIoOrNoProgress }
 {
+    if text.is_empty() {
+        return Ok(());
+    }
     let mut gatherer = Gatherer::new();
     gatherer.put_escaped(text, policy, out)?;
     gatherer.flush(out)
@@ -64,6 +69,7 @@ pub(crate) fn write_bytes<W: Write>(bytes: &[u8], out: &mut Watched<'_, W>) -> R
     ensures same_device { SameDevice out.old out.new }
     ensures bytes { OnOk result (Writes W.contents out.old out.new bytes.now) }
     ensures front { WritesFront W.contents out.old out.new bytes.now }
+    ensures nothing { bytes.now ≡ [] → out.new ≡ out.old }
     ensures failures { failure_count out.new ≡ faults_in result }
     ensures stalls { stall_count out.new ≡ stalls_in result }
     ensures only { IfErr result IsIoOrNoProgress }

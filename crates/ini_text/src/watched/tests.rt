@@ -1,8 +1,11 @@
-//! A reader that fails is told.
+//! A device that fails is told, and called no more.
+ghost use Rattle.std.specs.Prelude.{◌≡◌, IfOk};
+
 use super::Watched;
 use crate::error::Error;
 use std::io;
-use std::io::{ErrorKind, Read};
+use std::io::{ErrorKind, Read, Write};
+use std::process::Abort;
 use std::test::Fail;
 
 /// A reader that answers a fault in place of its end.
@@ -49,4 +52,63 @@ fn the_end_is_no_fault(rt: HostRuntime) -> Result<(), Fail> {
     assert_eq!(rt; input.read(&mut [0u8; 2])?, 0);
     assert_eq!(rt; input.failures(), 0);
     Ok(())
+}
+
+/// A device whose first call fails; its later calls go well.
+#[derive(Drop)]
+struct FailsOnce {
+    kind: ErrorKind,
+    calls: u64,
+}
+
+impl FailsOnce {
+    fn call(&mut self, count: usize) -> io::Result<usize>
+        ensures { IfOk result (λ n. n ≡ count) }
+    {
+        self.calls = self.calls.saturating_add(1);
+        if self.calls == 1 {
+            return Err(io::Error::from(self.kind));
+        }
+        Ok(count)
+    }
+}
+
+impl Read for FailsOnce {
+    fn read(&mut self, _buf: &mut [u8]) -> io::Result<usize> {
+        self.call(0)
+    }
+}
+
+impl Write for FailsOnce {
+    fn write(&mut self, buf: &[u8]) -> io::Result<usize> {
+        self.call(buf.len())
+    }
+
+    fn flush(&mut self) -> io::Result<()> {
+        Ok(())
+    }
+}
+
+/// Asks that the call answered this fault.
+fn expect_fault(rt: &impl Abort, answer: Result<usize, Error>, kind: ErrorKind) {
+    match answer {
+        Err(Error::Io(fault)) => assert!(rt; fault.kind() == kind),
+        _ => panic!(rt; "no fault"),
+    }
+}
+
+#[test]
+fn a_device_that_failed_is_not_called_again(rt: HostRuntime) {
+    for kind in [ErrorKind::Other, ErrorKind::Interrupted] {
+        let mut device = FailsOnce { kind, calls: 0 };
+        let mut input = Watched::new(&mut device);
+        expect_fault(&rt, input.read(&mut [0u8; 2]), kind);
+        assert_eq!(rt; (input.failures(), input.stalls()), (1, 0));
+        assert_eq!(rt; device.calls, 1);
+        let mut device = FailsOnce { kind, calls: 0 };
+        let mut output = Watched::new(&mut device);
+        expect_fault(&rt, output.write(b"ab"), kind);
+        assert_eq!(rt; (output.failures(), output.stalls()), (1, 0));
+        assert_eq!(rt; device.calls, 1);
+    }
 }

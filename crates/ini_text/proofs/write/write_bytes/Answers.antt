@@ -1,4 +1,4 @@
-use Rattle.std.proofs.Common.{rules}
+use Rattle.std.proofs.Common.{length, ap, arith, rules}
 use Rattle.ini_text.proofs.Progress.{under_way_kept, under_way_past}
 use Rattle.ini_text.proofs.write.write_bytes.Goals as goal
 
@@ -11,4 +11,5 @@ pieces-preserved g c = record {
   clear = search rules;
   same_device = search rules;
   under_way = under_way_past c.in_ok-taken.taken c.pieces.invariant.under_way c.in_ok-taken.ensures.bytes;
+  nothing = λ e. absurd (omega (arith, c.in_ok-taken.ensures.bound, ap length (c.pieces.invariant.nothing e).1));
 }

@@ -1,0 +1,45 @@
+//! What a parser answers once it was refused. This file knows no text.
+ghost use Rattle.std.specs.Prelude.{◌≤◌};
+
+use crate::error::{Error, ParseError, ParseKind};
+use std::alloc::AllocError;
+use std::borrow::CowStr;
+
+/// Why and where reading stopped.
+#[derive(Clone, Copy)]
+pub(crate) struct KeptFault {
+    pub(crate) kind: ParseKind,
+    pub(crate) line: usize,
+    pub(crate) column: usize,
+    pub(crate) message: &'static str,
+    ghost line_counts_from_one: { 1 ≤ line },
+    ghost column_counts_from_one: { 1 ≤ column },
+}
+
+/// What a parser answers from then on.
+#[derive(Clone, Copy)]
+pub(crate) enum Refused<F> {
+    Memory,
+    Parse(F),
+}
+
+pub(crate) type Refusal = Refused<KeptFault>;
+
+impl Refused<KeptFault> {
+    ghost use Rattle.ini_text.specs.Parser.{Tells, refusal_of};
+
+    /// The refusal as an error, made anew without memory.
+    pub(crate) fn error(self) -> Error
+        ensures { Tells (refusal_of self) result }
+    {
+        match self {
+            Refused::Memory => Error::Memory(AllocError),
+            Refused::Parse(fault) => Error::Parse(ParseError {
+                line: fault.line,
+                col: fault.column,
+                msg: CowStr::Borrowed(fault.message),
+                kind: fault.kind,
+            }),
+        }
+    }
+}
