@@ -21,11 +21,8 @@ fn given(alloc: Global, value: &str) -> Result<Properties, Error> {
 }
 
 // A refused entry is for want of memory.
-fn room<T>(answer: Result<T, NoRoom>) -> Result<T, AllocError> {
-    match answer {
-        Ok(given) => Ok(given),
-        Err(_) => Err(AllocError),
-    }
+fn room<T>(answer: Result<T, NoRoom>) -> Result<T, Error> {
+    Ok(answer?)
 }
 
 // Whether a section has the name.

@@ -11,11 +11,11 @@ mod edit;
 pub use edit::{Edit, apply, edit_text};
 
 #[cfg(test)]
+mod brackets;
+#[cfg(test)]
 mod bytes;
 #[cfg(test)]
 mod comments;
-#[cfg(test)]
-mod devices;
 #[cfg(test)]
 mod documents;
 #[cfg(test)]

@@ -1,7 +1,7 @@
 //! Headers, pairs, empty lines and line ends; and how a refusal is printed.
-use crate::show::{expect_loads, loaded, multiline, noescape};
+use crate::show::{expect_loads, loaded, multiline, noescape, refusal};
 use ini::{Error, Ini, ParseOption};
-use std::alloc::{AllocError, Global};
+use std::alloc::AllocError;
 use std::io;
 use std::io::ErrorKind;
 use std::test::Fail;
@@ -126,14 +126,6 @@ fn white_space_is_trimmed(rt: HostRuntime) -> Result<(), Fail> {
         ("k=\u{8}v\u{200B}", "general: <k|\u{8}v\u{200B}> "),
     ];
     expect_loads(&rt, rt.alloc(), ParseOption::default(), &rows)
-}
-
-/// The refusal of a text, printed.
-fn refusal(alloc: Global, text: &str, option: ParseOption) -> Result<String, AllocError> {
-    match Ini::load_from_str_opt(alloc, text, option) {
-        Ok(_) => String::from_str(alloc, "loaded"),
-        Err(refused) => refused.to_string(alloc),
-    }
 }
 
 #[test]

@@ -2,6 +2,7 @@
 //!
 //! How many of the small documents are plain was counted by another program from the format's description.
 use crate::inversion::{Row, crlf, document, indented_multiline, policy, without_quotes};
+use crate::reloads::reload;
 use crate::show::{indented, multiline, noescape, written};
 use ini::{
     Error, EscapePolicy, Ini, LineSeparator, ParseOption, Properties, SectionEntry, WriteOption,
@@ -81,13 +82,14 @@ const VALUES: [&'static str; 16] = [
     "\0",
 ];
 
-/// The set of reading options that four bits choose.
+/// The set of reading options that four bits choose; brackets in names are off.
 fn reading(bits: u8) -> ParseOption {
     ParseOption {
         enabled_quote: bits & 1 != 0,
         enabled_escape: bits & 2 != 0,
         enabled_indented_mutiline_value: bits & 4 != 0,
         enabled_preserve_key_leading_whitespace: bits & 8 != 0,
+        enabled_brackets_in_section_names: false,
     }
 }
 
@@ -349,5 +351,20 @@ fn names_and_pairs_are_asked_alone(rt: HostRuntime) -> Result<(), Fail> {
         assert_eq!(rt; plain, want, "at {key:?} and {value:?}");
     }
     assert!(rt; is_plain_pair("a=b", "v", EscapePolicy::Reserved, default));
+    Ok(())
+}
+
+/// Asks that a plain document, written and loaded, comes back.
+#[test]
+fn a_plain_document_is_reloaded(rt: HostRuntime) -> Result<(), Fail> {
+    let (alloc, read) = (rt.alloc(), ParseOption::default());
+    let document = document(alloc, &[(None, "k", "v"), (Some("a"), "j", "w")])?;
+    let mut reloaded = false;
+    let write = WriteOption::default();
+    if document.is_plain(&write, read) {
+        let back = reload(alloc, &document, write, read)?;
+        reloaded = are_equal(&document, &back);
+    }
+    assert!(rt; reloaded);
     Ok(())
 }

@@ -25,10 +25,10 @@ fn section_setter_chain(rt: HostRuntime) -> Result<(), Fail> {
         let setter = setter.set("c", c)?;
         assert_eq!(rt; values(alloc, &setter)?.as_str(), want);
     }
-    let mut setter = document.with_section(Some("section"));
-    setter.delete("a").delete("b");
+    let setter = document.with_section(Some("section")).delete("a");
+    let setter = setter.delete("b");
     assert_eq!(rt; values(alloc, &setter)?.as_str(), "--6");
-    setter.delete("c");
+    let setter = setter.delete("c");
     assert_eq!(rt; values(alloc, &setter)?.as_str(), "---");
     Ok(())
 }
@@ -166,11 +166,11 @@ fn a_setter_gets_the_first_value(rt: HostRuntime) -> Result<(), Fail> {
 fn the_general_section_is_edited(rt: HostRuntime) -> Result<(), Fail> {
     let alloc = rt.alloc();
     let mut document = show::document(alloc, "a=1\nb=2\n[p]\na=3\n")?;
-    let mut setter = document
+    let setter = document
         .with_general_section()
         .set("a", "4")?
+        .delete("b")
         .add("c", "5")?;
-    setter.delete("b");
     assert_eq!(rt; values(alloc, &setter)?.as_str(), "4-5");
     assert_eq!(rt;
         show::sections(alloc, &document)?.as_str(),

@@ -47,6 +47,14 @@ pub fn load(alloc: Global, text: &str, option: ParseOption) -> Result<String, Al
     loaded(alloc, Ini::load_from_str_opt(alloc, text, option))
 }
 
+/// The refusal of a text, printed.
+pub fn refusal(alloc: Global, text: &str, option: ParseOption) -> Result<String, AllocError> {
+    match Ini::load_from_str_opt(alloc, text, option) {
+        Ok(_) => String::from_str(alloc, "loaded"),
+        Err(refused) => refused.to_string(alloc),
+    }
+}
+
 /// The document of a text, by the default options.
 pub fn document(alloc: Global, text: &str) -> Result<Ini, Error> {
     Ini::load_from_str(alloc, text)
@@ -82,6 +90,14 @@ pub fn indented() -> ParseOption {
 pub fn noescape() -> ParseOption {
     ParseOption {
         enabled_escape: false,
+        ..ParseOption::default()
+    }
+}
+
+/// The default options, and brackets may stand in names.
+pub fn brackets() -> ParseOption {
+    ParseOption {
+        enabled_brackets_in_section_names: true,
         ..ParseOption::default()
     }
 }

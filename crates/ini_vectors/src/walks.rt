@@ -355,3 +355,118 @@ fn each_name_comes_once(rt: HostRuntime) -> Result<(), Fail> {
     assert_eq!(rt; names.next_back(), None);
     Ok(())
 }
+
+// Clears the values that the walk lends; each letter of `ends` is a step from the front or from the back.
+fn clear_values(properties: &mut Properties, ends: &str) {
+    let mut walk = properties.iter_mut();
+    for end in ends.chars() {
+        let lent = if end == 'f' {
+            walk.next()
+        } else {
+            walk.next_back()
+        };
+        if let Some((_, value)) = lent {
+            value.clear();
+        }
+    }
+}
+
+#[test]
+fn a_walk_over_pairs_changes_what_it_lends(rt: HostRuntime) -> Result<(), Fail> {
+    let alloc = rt.alloc();
+    for (ends, want) in [
+        ("", " <a|1> <b|2> <a|3> <c|4>"),
+        ("f", " <a|> <b|2> <a|3> <c|4>"),
+        ("b", " <a|1> <b|2> <a|3> <c|>"),
+        ("bfb", " <a|> <b|2> <a|> <c|>"),
+        ("fffff", " <a|> <b|> <a|> <c|>"),
+        ("bbbbb", " <a|> <b|> <a|> <c|>"),
+    ] {
+        let mut properties = sample_pairs(alloc)?;
+        properties.append("c", "4")?;
+        clear_values(&mut properties, ends);
+        assert_eq!(rt; show::pairs(alloc, &properties)?.as_str(), want, "{ends}");
+    }
+    Ok(())
+}
+
+// Two sections p, with sections of other names before, between and behind them.
+const SECTIONS: &'static str =
+    "x=0\n[q]\nk=1\n[r]\nk=2\n[p]\nk=3\n[q]\nk=4\n[r]\nk=5\n[p]\nk=6\n[r]\nk=7\n[q]\nk=8\n";
+
+// Clears the sections of the name that the walk lends; as in `clear_values`.
+fn clear_sections_of(document: &mut Ini, name: Option<&str>, ends: &str) {
+    let mut walk = document.section_all_mut(name);
+    for end in ends.chars() {
+        let lent = if end == 'f' {
+            walk.next()
+        } else {
+            walk.next_back()
+        };
+        if let Some(section) = lent {
+            let _ = section.remove("k");
+        }
+    }
+}
+
+#[test]
+fn a_walk_over_sections_of_one_name_changes_what_it_lends(rt: HostRuntime) -> Result<(), Fail> {
+    let alloc = rt.alloc();
+    for (name, ends, first, last) in [
+        (Some("p"), "", " <k|3>", " <k|6>"),
+        (Some("p"), "f", "", " <k|6>"),
+        (Some("p"), "b", " <k|3>", ""),
+        (Some("p"), "fb", "", ""),
+        (Some("p"), "bbb", "", ""),
+        (Some("p"), "fff", "", ""),
+        (Some("none"), "", " <k|3>", " <k|6>"),
+        (Some("none"), "fb", " <k|3>", " <k|6>"),
+        (None, "fb", " <k|3>", " <k|6>"),
+    ] {
+        let mut document = show::document(alloc, SECTIONS)?;
+        clear_sections_of(&mut document, name, ends);
+        let front = format!(in alloc; "general: <x|0> [q]: <k|1> [r]: <k|2> [p]:{first} ")?;
+        let want = format!(in alloc;
+            "{front}[q]: <k|4> [r]: <k|5> [p]:{last} [r]: <k|7> [q]: <k|8> "
+        )?;
+        assert_eq!(rt;
+            show::sections(alloc, &document)?.as_str(),
+            want.as_str(),
+            "{ends}"
+        );
+    }
+    Ok(())
+}
+
+// Clears the sections that the walk over all of them lends; as in `clear_values`.
+fn clear_sections(document: &mut Ini, ends: &str) {
+    let mut walk = document.iter_mut();
+    for end in ends.chars() {
+        let lent = if end == 'f' {
+            walk.next()
+        } else {
+            walk.next_back()
+        };
+        if let Some((_, section)) = lent {
+            let _ = section.remove("k");
+        }
+    }
+}
+
+#[test]
+fn a_walk_over_sections_changes_what_it_lends(rt: HostRuntime) -> Result<(), Fail> {
+    let alloc = rt.alloc();
+    for (ends, want) in [
+        ("", "general: [p]: <k|1> [q]: <k|2> [p]: <k|3> "),
+        ("ff", "general: [p]: [q]: <k|2> [p]: <k|3> "),
+        ("b", "general: [p]: <k|1> [q]: <k|2> [p]: "),
+        ("bfbf", "general: [p]: [q]: [p]: "),
+        ("bbbbb", "general: [p]: [q]: [p]: "),
+        ("fffff", "general: [p]: [q]: [p]: "),
+    ] {
+        let mut document = show::document(alloc, "[p]\nk=1\n[q]\nk=2\n[p]\nk=3\n")?;
+        clear_sections(&mut document, ends);
+        assert_eq!(rt; show::sections(alloc, &document)?.as_str(), want, "{ends}");
+    }
+    Ok(())
+}

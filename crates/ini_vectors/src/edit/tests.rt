@@ -1,10 +1,8 @@
 //! Lists of edits, made on documents and on texts.
 use super::*;
-use crate::devices::LimitedWriter;
 use crate::show::{document, loaded, noescape, text};
 use ini::{EscapePolicy, LineSeparator};
 use std::alloc::AllocError;
-use std::io::ErrorKind;
 use std::test::Fail;
 
 /// Sections of which two have one name.
@@ -138,35 +136,6 @@ fn a_refused_text_writes_nothing(rt: HostRuntime) -> Result<(), Fail> {
         };
         assert_eq!(rt; loaded(alloc, Err(refusal))?.as_str(), want);
         assert_eq!(rt; bytes.as_slice(), b"; kept\n".as_slice());
-    }
-    Ok(())
-}
-
-#[test]
-fn a_full_device_gets_a_front_of_the_edited_text(rt: HostRuntime) -> Result<(), Fail> {
-    let edits = [set(rt.alloc(), peer(rt.alloc())?, "9")?];
-    for room in 0..PEERS_SET.len() {
-        for fault in [Some(ErrorKind::Other), None] {
-            let mut device = LimitedWriter::new(rt.alloc(), room, usize::MAX, fault);
-            let mut out = Watched::new(&mut device);
-            let answer = edit_text(
-                rt.alloc(),
-                PEERS,
-                ParseOption::default(),
-                &edits,
-                WriteOption::default(),
-                &mut out,
-            );
-            let counts = (out.failures(), out.stalls());
-            match answer {
-                Err(Error::Io(_)) => assert_eq!(rt; counts, (1, 0), "room {room}"),
-                Err(Error::NoProgress) => assert_eq!(rt; counts, (0, 1), "room {room}"),
-                _ => panic!(rt; "another answer, room {room}"),
-            }
-            assert_eq!(rt; counts.0, u64::from(fault.is_some()), "room {room}");
-            let front = PEERS_SET.get(..room).ok_or("no front")?;
-            assert_eq!(rt; device.taken.as_slice(), front.as_bytes(), "room {room}");
-        }
     }
     Ok(())
 }
