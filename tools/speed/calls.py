@@ -1,0 +1,114 @@
+#!/usr/bin/env python3
+"""Measures calls on a document beside the crate rust-ini.
+
+    calls.py build SOURCE FOLDER [WORD ..]
+    calls.py compare OURS THEIRS [N ..]
+
+`build` builds crate_calls.rs, the program `ini_calls` over the crate: SOURCE is the folder of the crate's source, with its
+Cargo.toml, rust-ini 0.21.3 with its default features. FOLDER is made where it isn't there; the program's path is printed.
+The further words go to `cargo build`.
+
+`compare` makes each call on a document of N keys in one section, and of N sections (10,000 and 300,000 where no N is given),
+and prints for the two programs the nanoseconds of one call, and their ratio. The time is user time, the shortest of some
+runs; that of making the document, a run with no call, is taken off. A small document is made and used again and again in one
+run, so that its times can be told. It stops where the two programs answer differently.
+"""
+import os
+import pathlib
+import subprocess
+import sys
+
+MANIFEST = """[package]
+name = "crate_calls"
+version = "0.1.0"
+edition = "2021"
+
+[[bin]]
+name = "crate_calls"
+path = "{program}"
+
+[dependencies]
+rust-ini = {{ path = "{source}" }}
+
+[workspace]
+"""
+RUNS = 3
+# A call, and how often it is made on a document of N.
+CALLS = {
+    "get_from": lambda length: 10 * length,
+    "set_there": lambda length: 10 * length,
+    "set_new": lambda length: length,
+    "append": lambda length: length,
+    "delete_from": lambda length: length,
+    "section": lambda length: 10 * length,
+    "len": lambda _: 300,
+    "sections": lambda _: 300,
+    "setter": lambda length: max(10_000, length),
+}
+
+
+def build(source, folder, words):
+    """Builds the program over the crate."""
+    program = pathlib.Path(__file__).resolve().with_name("crate_calls.rs")
+    folder.mkdir(parents=True, exist_ok=True)
+    (folder / "Cargo.toml").write_text(MANIFEST.format(program=program, source=source))
+    command = ["cargo", "build", "--release", "--quiet", "--target-dir", str(folder / "target"), *words]
+    subprocess.run(command, cwd=folder, check=True)
+    print(folder / "target/release/crate_calls")
+
+
+def run(program, line, rounds):
+    """The answers to a line that is given so many times, and the seconds of user time."""
+    process = subprocess.Popen([program], stdin=subprocess.PIPE, stdout=subprocess.PIPE, text=True)
+    process.stdin.write(f"{line}\n" * rounds)
+    process.stdin.close()
+    answer = process.stdout.read()
+    _, status, usage = os.wait4(process.pid, 0)
+    if status != 0:
+        sys.exit(f"{program} failed at {line}")
+    return answer, usage.ru_utime
+
+
+def measure(programs, line, rounds):
+    """The shortest time of each program, where all give one answer."""
+    best = [float("inf")] * len(programs)
+    answers = set()
+    for _ in range(RUNS):
+        for place, program in enumerate(programs):
+            answer, seconds = run(program, line, rounds)
+            answers.add(answer)
+            best[place] = min(best[place], seconds)
+    if len(answers) != 1:
+        sys.exit(f"the programs answer differently: {answers}")
+    return best
+
+
+def compare(programs, lengths):
+    """Prints a line for each call."""
+    print("| Call | Keys or sections | Ours, ns | The crate's, ns | Ratio |\n|---|---|---|---|---|")
+    for length in lengths:
+        rounds = max(1, 300_000 // length)
+        for shape in ("keys", "sections"):
+            for call, times in CALLS.items():
+                if (call, shape) == ("sections", "keys"):
+                    continue  # two names in all
+                made = measure(programs, f"none {shape} {length} {times(length)}", rounds)
+                whole = measure(programs, f"{call} {shape} {length} {times(length)}", rounds)
+                ours, theirs = ((w - m) / times(length) / rounds * 1e9 for w, m in zip(whole, made))
+                ratio = f"{ours / theirs:.2f}" if theirs > 0 else "-"
+                print(f"| `{call}` | {length:,} {shape} | {ours:,.0f} | {theirs:,.0f} | {ratio} |", flush=True)
+
+
+def main():
+    """Reads the words."""
+    match sys.argv[1:]:
+        case ["build", source, folder, *words]:
+            build(pathlib.Path(source).resolve(), pathlib.Path(folder).resolve(), words)
+        case ["compare", ours, theirs, *lengths]:
+            compare([ours, theirs], [int(length) for length in lengths] or [10_000, 300_000])
+        case _:
+            sys.exit(__doc__)
+
+
+if __name__ == "__main__":
+    main()
