@@ -20,7 +20,7 @@ fi
 program=$(readlink -f "$program")
 passed=0
 failed=0
-usage='usage: ini_tool [--noescape] [--noquote] [--multiline] [--indent] [--crlf] [--policy NAME]'
+usage='usage: ini_tool [--noescape] [--noquote] [--multiline] [--indent] [--brackets] [--crlf] [--policy NAME]'
 usage="$usage fmt|list|get KEY [SECTION]|set KEY VALUE [SECTION]|del KEY [SECTION]"
 
 # says what a case wants and what it has, where these differ
@@ -82,6 +82,7 @@ fmt|k = a\\tb\\\\\n|0|k=a\\tb\\\\\n|
 fmt|k="a"|0|k=a\n|
 --multiline fmt|k=v\n  w|0|k=v\\nw\n|
 --indent fmt|  k=v|0|  k=v\n|
+--brackets list|[[*]]\na = b\n|0|[[*]]\ta\tb\n|
 --crlf fmt|k=1\n[a]\nx=y|0|k=1\r\n\r\n[a]\r\nx=y\r\n|
 --policy Reserved fmt|k=a:b|0|k=a\\:b\n|
 --policy Reserved --policy Nothing fmt|k=a:b|0|k=a:b\n|
@@ -111,6 +112,7 @@ set k|k=v|2||USAGE
 --policy|k=v|2||USAGE
 --policy basics fmt|k=v|2||USAGE
 # refused texts
+--brackets fmt|[a]x\n|3||ini_tool: 2:1 section must be ended with ']'
 fmt|k|3||ini_tool: 1:2 expecting "[Some('='), Some(':')]" but found EOF.
 list|[a]\n=v|3||ini_tool: 2:2 missing key
 get k|k=1\n[a] ; c|3||ini_tool: 2:6 doesn't support inline comment
@@ -170,7 +172,7 @@ wrote 'a line of 20 MB, list' $? 0 "$room/listed"
 "$program" fmt <"$room/lined" 2>"$room/err" >"$room/out"
 wrote 'a line of 20 MB, with its line end' $? 0 "$room/lined"
 (
-    ulimit -v 40000 && "$program" fmt <"$room/line" >"$room/out" 2>"$room/err"
+    ulimit -v 30000 && "$program" fmt <"$room/line" >"$room/out" 2>"$room/err"
 )
 told 'a line of 20 MB, too little memory' $? 4 'ini_tool: out of memory'
 : >"$room/err"
@@ -213,7 +215,7 @@ examples() {
     here=$room/$(basename "$page" .md)
     mkdir -p "$here/shown"
     cp -r "$top/examples" "$here/examples"
-    ln -s "$top/ini_tool.sh" "$here/ini_tool.sh"
+    ln -s "$top/ini_tool.sh" "$top/ini_merge.sh" "$here"
     awk -v to="$here/shown" '
         /^```console$/ { inside = 1; next }
         /^```/ { inside = 0 }

@@ -27,7 +27,7 @@ if ! is_built; then
     case $name in ini_tool) word=fmt ;; *) word=/dev/null ;; esac
     (cd "$top/crates/$name" && rt run -- "$word" </dev/null 2>&1 && touch "$program") | while IFS= read -r line; do
         printf '%s\n' "$line" >>"$log"
-        case $line in checked*) printf '%s\n' "$line" >&2 ;; esac
+        case $line in 'so far:'* | checked* | 'rt: chose'*) printf '%s\n' "$line" >&2 ;; esac
     done
     if ! is_built; then
         cat "$log" >&2

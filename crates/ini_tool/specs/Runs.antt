@@ -1,6 +1,6 @@
 -- What a run of the program is, as a function of its words and of the bytes that it reads.
 use Rattle.std.specs.Prelude.{◌≡◌, ℕ, List, Option, Some, true, ⊤, IfSome, encode_utf8_all}
-use Rattle.std.specs.Prelude.{map, string_bytes, String}
+use Rattle.std.specs.Prelude.{◌++◌, codes, map, string_bytes, String}
 use Rattle.std.specs.Str.{IsUtf8}
 use Rattle.std.specs.declared.alloc.Global.{Global}
 use Rattle.ini_text.specs.Watched.{Writes, WritesFront}
@@ -104,3 +104,9 @@ status_of (Refused NotUtf8) = 3
 status_of (Refused (Io _)) = 4
 status_of (Refused (Memory _)) = 4
 status_of (Refused NoProgress) = 4
+
+-- what is told of words that are none of the program's
+abbrev pub usage_line : List ℕ
+usage_line =
+    codes "usage: ini_tool [--noescape] [--noquote] [--multiline] [--indent] [--brackets] [--crlf] "
+    ++ codes "[--policy NAME] fmt|list|get KEY [SECTION]|set KEY VALUE [SECTION]|del KEY [SECTION]\n"

@@ -41,6 +41,8 @@ switched word o =
     then Some (with_reading o (record o.reading { enabled_indented_mutiline_value = true }))
     else if is_text word (codes "--indent")
     then Some (with_reading o (record o.reading { enabled_preserve_key_leading_whitespace = true }))
+    else if is_text word (codes "--brackets")
+    then Some (with_reading o (record o.reading { enabled_brackets_in_section_names = true }))
     else if is_text word (codes "--crlf")
     then Some (record o { line_separator = CRLF })
     else None

@@ -15,6 +15,7 @@ use crate::words::{Command, Options};
 use ini::{Error, EscapePolicy, Gatherer, Ini, Properties, Watched, WriteOption};
 use std::alloc::Global;
 use std::io::Write;
+use std::mem;
 
 /// How the options have documents written.
 pub fn write_option(options: Options) -> WriteOption
@@ -39,9 +40,17 @@ pub fn answer<W: Write>(
     ensures { Prints W.contents out.old out.new result (output option (request_of command.entry) document) }
 {
     match command {
-        Command::Fmt => fmt(&document, option, out),
-        Command::List => list(&document, out),
-        Command::Get { key, section } => get(&document, key, section, out),
+        Command::Fmt => fmt(document, option, out),
+        Command::List => {
+            let listed = list(&document, out);
+            mem::forget(document);
+            listed
+        }
+        Command::Get { key, section } => {
+            let found = get(&document, key, section, out);
+            mem::forget(document);
+            found
+        }
         Command::Set {
             key,
             value,
@@ -51,16 +60,18 @@ pub fn answer<W: Write>(
     }
 }
 
-// The document.
+// The document. It is the last thing that the program holds, so its memory isn't given back piece by piece.
 fn fmt<W: Write>(
-    document: &Ini,
+    document: Ini,
     option: WriteOption,
     out: &mut Watched<'_, W>,
 ) -> Result<bool, Error>
     requires { IsClear out.old }
-    ensures { Prints W.contents out.old out.new result (output option Fmt document.now) }
+    ensures { Prints W.contents out.old out.new result (output option Fmt document) }
 {
-    document.write_watched(out, option)?;
+    let written = document.write_watched(out, option);
+    mem::forget(document);
+    written?;
     Ok(true)
 }
 
@@ -100,7 +111,7 @@ fn set<W: Write>(
     let key = String::from_str(alloc, key)?;
     let value = String::from_str(alloc, value)?;
     document.set_to(section, key, value)?;
-    fmt(&document, option, out)
+    fmt(document, option, out)
 }
 
 // The document without the first pair of the key.
@@ -119,7 +130,7 @@ fn del<W: Write>(
     if document.delete_from(section, key).is_none() {
         return Ok(false);
     }
-    fmt(&document, option, out)
+    fmt(document, option, out)
 }
 
 // A line for each pair.

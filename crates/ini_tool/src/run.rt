@@ -1,14 +1,15 @@
 //! The program as a function of its words and of two devices. This file knows how a run ends, and what is
 //! told of it.
 ghost use Rattle.std.specs.Prelude.{◌≡◌, ◌+◌, ◌↔◌, ◌⊎◌, IfSome, None};
-ghost use Rattle.ini_text.specs.Watched.{IsClear, SameDevice, device_now, failure_count, stall_count};
+ghost use Rattle.ini_text.specs.Watched.{AppendsFront, IsClear, SameDevice};
+ghost use Rattle.ini_text.specs.Watched.{device_now, failure_count, stall_count};
 ghost use Rattle.ini_tool.specs.Runs.{IsDone, IsNotFound, IsUsage, OnNotUtf8, OnParse, OnSilent};
 ghost use Rattle.ini_tool.specs.Runs.{IsOutput, IsStop, IsText, WritesOutput, WritesOutputFront};
-ghost use Rattle.ini_tool.specs.Runs.{asked_by, faults_of, stalls_of, status_of};
+ghost use Rattle.ini_tool.specs.Runs.{asked_by, faults_of, stalls_of, status_of, usage_line};
 
 use crate::command::{answer, write_option};
 use crate::words::{USAGE, parse};
-use ini::{Error, Ini, Watched};
+use ini::{Error, Ini, Watched, write_raw};
 use std::alloc::Global;
 use std::io::{Read, Write};
 
@@ -63,7 +64,8 @@ pub fn run<R: Read, W: Write>(
         → WritesOutput W.contents words.now (R.remaining (device_now reader.old)) writer.old writer.new }
     ensures not_found { IsNotFound result
         → IfSome (R.remaining (device_now reader.old)) (λ bytes. IsOutput words.now bytes None) }
-    ensures fault { OnParse result (λ e. IfSome (R.remaining (device_now reader.old)) (IsStop words.now e)) }
+    ensures fault { OnParse result
+        (λ e. IfSome (R.remaining (device_now reader.old)) (IsStop words.now e)) }
     ensures not_utf8 { OnNotUtf8 result
         (IfSome (R.remaining (device_now reader.old)) (λ bytes. ¬ (IsText bytes))) }
 
@@ -71,7 +73,8 @@ pub fn run<R: Read, W: Write>(
     ensures silent { OnSilent result (device_now writer.new ≡ device_now writer.old) }
     ensures reader_failed { failure_count reader.new ≡ 1 → device_now writer.new ≡ device_now writer.old }
     ensures front { failure_count writer.new + stall_count writer.new ≡ 1
-        → WritesOutputFront W.contents words.now (R.remaining (device_now reader.old)) writer.old writer.new }
+        → WritesOutputFront W.contents words.now (R.remaining (device_now reader.old))
+        writer.old writer.new }
 
     // A device's fault is told, and no call follows it.
     ensures failures { failure_count reader.new + failure_count writer.new ≡ faults_of result }
@@ -96,11 +99,12 @@ pub fn run<R: Read, W: Write>(
 /// refusal. A fault of the writer is dropped.
 pub fn tell<W: Write>(outcome: &Outcome, err: &mut W)
     ensures quiet { (IsDone outcome.now ⊎ IsNotFound outcome.now) → err.new ≡ err.old }
+    ensures usage { IsUsage outcome.now → AppendsFront (W.contents err.old) (W.contents err.new) usage_line }
 {
     match outcome {
         Outcome::Done | Outcome::NotFound => {}
         Outcome::Usage => {
-            let _ = writeln!(err, "{USAGE}");
+            let _ = write_raw(USAGE, &mut Watched::new(err));
         }
         Outcome::Refused(refusal) => {
             let _ = writeln!(err, "ini_tool: {refusal}");

@@ -7,10 +7,10 @@ ghost use Rattle.ini_tool.specs.Words.{asked, default_options, policy_named, req
 
 use ini::{EscapePolicy, LineSeparator, ParseOption};
 
-/// The line that tells what the program takes.
+/// The line that tells what the program takes, with its line end.
 pub const USAGE: &str =
-    "usage: ini_tool [--noescape] [--noquote] [--multiline] [--indent] [--crlf] [--policy NAME] \
-    fmt|list|get KEY [SECTION]|set KEY VALUE [SECTION]|del KEY [SECTION]";
+    "usage: ini_tool [--noescape] [--noquote] [--multiline] [--indent] [--brackets] [--crlf] \
+    [--policy NAME] fmt|list|get KEY [SECTION]|set KEY VALUE [SECTION]|del KEY [SECTION]\n";
 
 /// What the words before the command set.
 #[derive(Clone, Copy)]
@@ -72,6 +72,7 @@ impl Options {
             "--noquote" => options.reading.enabled_quote = false,
             "--multiline" => options.reading.enabled_indented_mutiline_value = true,
             "--indent" => options.reading.enabled_preserve_key_leading_whitespace = true,
+            "--brackets" => options.reading.enabled_brackets_in_section_names = true,
             "--crlf" => options.line_separator = LineSeparator::CRLF,
             _ => return None,
         }

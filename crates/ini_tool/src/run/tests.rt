@@ -3,6 +3,7 @@ use super::*;
 use std::test::Fail;
 
 mod devices;
+mod memory;
 mod rows;
 
 /// The words of a line, parted by single spaces; an empty line has none.

@@ -5,9 +5,9 @@ use std::io::ErrorKind;
 use std::process::Abort;
 
 /// A document, and for each command what it writes of it.
-const INPUT: &str = "k=v\n[a]\nx=y;\n";
+pub(super) const INPUT: &str = "k=v\n[a]\nx=y;\n";
 
-const COMMANDS: [(&'static str, &'static str); 5] = [
+pub(super) const COMMANDS: [(&'static str, &'static str); 5] = [
     ("fmt", "k=v\n\n[a]\nx=y;\n"),
     ("--crlf set x 1 a", "k=v\r\n\r\n[a]\r\nx=1\r\n"),
     ("--policy Reserved del k", "[a]\nx=y\\;\n"),
@@ -45,16 +45,21 @@ impl Read for FailingReader<'_> {
 /// A writer that takes `room` bytes in all, at most `step` in a call, and then fails or, without a fault,
 /// takes none.
 #[derive(Drop)]
-struct LimitedWriter {
-    taken: Vec<u8>,
+pub(super) struct LimitedWriter {
+    pub(super) taken: Vec<u8>,
     room: usize,
     step: usize,
     fault: Option<ErrorKind>,
-    calls: usize,
+    pub(super) calls: usize,
 }
 
 impl LimitedWriter {
-    fn new(alloc: Global, room: usize, step: usize, fault: Option<ErrorKind>) -> LimitedWriter {
+    pub(super) fn new(
+        alloc: Global,
+        room: usize,
+        step: usize,
+        fault: Option<ErrorKind>,
+    ) -> LimitedWriter {
         LimitedWriter {
             taken: Vec::new(alloc),
             room,

@@ -63,6 +63,7 @@ fn pairs_are_listed(rt: HostRuntime) -> Result<(), Fail> {
         ),
         ("list", "k=é;=", "\tk\té;=\n"),
         ("--multiline list", "k=v\n  w", "\tk\tv\\nw\n"),
+        ("--brackets list", "[[*]]\na = b\n", "[[*]]\ta\tb\n"),
         ("--noescape list", "k=\\t", "\tk\t\\\\t\n"),
         ("--crlf --policy Everything list", "k=é;", "\tk\té;\n"),
     ] {
@@ -230,8 +231,8 @@ fn what_is_not_there_is_not_found(rt: HostRuntime) -> Result<(), Fail> {
 #[test]
 fn other_words_read_nothing(rt: HostRuntime) -> Result<(), Fail> {
     let usage =
-        "usage: ini_tool [--noescape] [--noquote] [--multiline] [--indent] [--crlf] [--policy NAME] \
-        fmt|list|get KEY [SECTION]|set KEY VALUE [SECTION]|del KEY [SECTION]\n";
+        "usage: ini_tool [--noescape] [--noquote] [--multiline] [--indent] [--brackets] [--crlf] \
+        [--policy NAME] fmt|list|get KEY [SECTION]|set KEY VALUE [SECTION]|del KEY [SECTION]\n";
     for line in [
         "",
         "frob",
