@@ -5,7 +5,7 @@
 #
 #     tests/program.sh [PROGRAM]
 #
-# PROGRAM is by default the one that ini_tool.sh builds.
+# PROGRAM is by default the one that ini_tool.sh builds; ini_merge, which a page shows too, is built beside it.
 set -u
 LC_ALL=C
 export LC_ALL
@@ -15,6 +15,7 @@ trap 'rm -rf "$room"' EXIT
 program=${1:-}
 if [ -z "$program" ]; then
     "$top/ini_tool.sh" fmt </dev/null || exit 1
+    "$top/ini_merge.sh" /dev/null || exit 1
     program=$top/crates/ini_tool/out/ini_tool
 fi
 program=$(readlink -f "$program")
