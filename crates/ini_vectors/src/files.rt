@@ -207,6 +207,23 @@ fn names_that_can_not_be_opened(rt: HostRuntime) -> Result<(), Fail> {
     )
 }
 
+#[test]
+fn a_name_that_is_not_there_is_made_by_writing_alone(rt: HostRuntime) -> Result<(), Fail> {
+    let name = "not there before.ini";
+    let path = Path::new(name);
+    assert!(rt; !fs::exists(&rt, name)?);
+    expect_fault(
+        &rt,
+        Ini::load_from_file(&rt, rt.alloc(), path),
+        ErrorKind::NotFound,
+    );
+    assert!(rt; !fs::exists(&rt, name)?);
+    document(rt.alloc(), "k=v")?.write_to_file(&rt, path)?;
+    assert_eq!(rt; fs::read(&rt, name)?.as_slice(), b"k=v\n".as_slice());
+    fs::remove_file(&rt, name)?;
+    Ok(())
+}
+
 /// Gives the file these rights.
 fn set_mode(rt: &impl Files, mode: u32) -> io::Result<()> {
     fs::set_permissions(rt, NAME, Permissions::from_mode(mode))
