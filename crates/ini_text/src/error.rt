@@ -114,6 +114,3 @@ impl From<Error> for io::Error {
         }
     }
 }
-
-#[cfg(test)]
-mod tests;

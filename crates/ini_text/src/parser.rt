@@ -27,8 +27,6 @@ mod position;
 mod refusal;
 pub(crate) mod scan;
 mod string;
-#[cfg(test)]
-mod tests;
 mod trim;
 mod value;
 

@@ -54,6 +54,3 @@ impl EscapePolicy {
         }
     }
 }
-
-#[cfg(test)]
-mod tests;

@@ -105,6 +105,3 @@ impl<W: Write> Watched<'_, W> {
         }
     }
 }
-
-#[cfg(test)]
-mod tests;

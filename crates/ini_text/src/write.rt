@@ -81,6 +81,3 @@ pub(crate) fn write_bytes<W: Write>(bytes: &[u8], out: &mut Watched<'_, W>) -> R
     }
     Ok(())
 }
-
-#[cfg(test)]
-mod tests;

@@ -61,6 +61,3 @@ impl Default for WriteOption {
         }
     }
 }
-
-#[cfg(test)]
-mod tests;

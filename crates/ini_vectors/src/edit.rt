@@ -105,6 +105,3 @@ pub fn edit_text<W: Write>(
     apply(&mut document, edits)?;
     document.write_watched(out, w)
 }
-
-#[cfg(test)]
-mod tests;

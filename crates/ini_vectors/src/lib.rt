@@ -7,47 +7,8 @@
 #![tactic(auto)]
 
 mod edit;
-
-pub use edit::{Edit, apply, edit_text};
-
-#[cfg(test)]
-mod brackets;
-#[cfg(test)]
-mod bytes;
-#[cfg(test)]
-mod comments;
-#[cfg(test)]
-mod documents;
-#[cfg(test)]
-mod entries;
-#[cfg(test)]
-mod escapes;
-#[cfg(test)]
-mod files;
-#[cfg(test)]
-mod indentation;
-#[cfg(test)]
-mod inversion;
-#[cfg(test)]
-mod lines;
-#[cfg(test)]
-mod multiline;
-#[cfg(test)]
-mod not_plain;
-#[cfg(test)]
-mod order;
-#[cfg(test)]
-mod plain;
-#[cfg(test)]
-mod properties;
 pub mod reloads;
 #[cfg(test)]
-mod setters;
-#[cfg(test)]
-mod show;
-#[cfg(test)]
-mod strings;
-#[cfg(test)]
-mod walks;
-#[cfg(test)]
-mod writing;
+mod tests;
+
+pub use edit::{Edit, apply, edit_text};
