@@ -1,12 +1,14 @@
-//! The comparisons. They share keys that are made of texts.
+//! Each call once, and the comparisons, which share keys that are made of texts.
 use ini_multimap::MapKey;
 
 mod both;
+mod calls;
 mod list;
 mod look_ups;
 mod odd_keys;
 mod run;
 mod walks;
+mod walks_for_writing;
 
 /// A key that is made of a text and shows it.
 pub trait TextKey: MapKey + Drop {

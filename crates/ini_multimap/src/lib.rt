@@ -9,8 +9,6 @@
 mod key;
 mod multimap;
 mod slots;
-#[cfg(test)]
-mod tests;
 mod walk;
 
 pub use key::{MapKey, Probe};

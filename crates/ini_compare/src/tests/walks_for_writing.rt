@@ -1,6 +1,6 @@
 //! A walk for writing changes what it lends: keys, order, number and all other values stay.
-use crate::Multimap;
-use crate::tests::{add, shown};
+use super::calls::{add, shown};
+use ini_multimap::Multimap;
 use std::alloc::{AllocError, Global};
 use std::test::Fail;
 
