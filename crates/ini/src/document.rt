@@ -1,4 +1,5 @@
-//! Documents: sections in order. This file knows the multimap's calls and those of `Properties`, and no text.
+//! Documents: sections in order. This file knows the multimap's calls and those of `Properties`, and copies
+//! names, keys and values without a look at their characters.
 ghost use Rattle.std.specs.Prelude.{◌≡◌, ◌==◌, ◌<◌, ◌^◌, ◌-◌, [], ◌∷◌, ◌++◌, length, slice_get, IsSome, IfNone, IfErr, IfOk, IsOkUnless, OnOk, OnErr, Some, None, alloc_error, unwrap_or};
 ghost use Rattle.std.specs.Borrow.{sem};
 ghost use Rattle.std.specs.Map.{set_value, values_of};

@@ -1,4 +1,4 @@
-//! What is refused, and why. This file knows no grammar and no device.
+//! What is refused, and why. This file knows no grammar, and of devices their faults alone.
 ghost use Rattle.std.specs.Prelude.{◌≡◌, ◌≤◌, Some, alloc_error};
 
 use std::alloc::{AllocError, AllocFailed};

@@ -1,4 +1,4 @@
-//! What a text gives. This file knows no text.
+//! Items: what a text gives, one after another. This file knows no grammar.
 
 /// One item of a text.
 #[derive(Debug, Drop)]

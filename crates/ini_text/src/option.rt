@@ -1,4 +1,4 @@
-//! How a text is read. This file knows no text.
+//! The options by which a text is read. This file knows no grammar.
 ghost use Rattle.std.specs.Prelude.{◌≡◌};
 ghost use Rattle.ini_text.specs.Options.{default_parse_option};
 

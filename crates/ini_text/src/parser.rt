@@ -1,7 +1,9 @@
-//! The parser: the items of a text, one at a time. This file knows fronts, elements and refusals, and no production.
+//! The parser: the items of a text, one at a time. This file knows fronts, elements and refusals, and nothing
+//! of what an element is made of.
 //!
-//! Each file below has one production, in the order in which a text is read: characters and runs, strings, trims, lines,
-//! values, pairs and headers, elements; and beside them why reading stops, and where.
+//! The files below, from the least part to the greatest: characters and runs (`scan`), `string`, `trim`,
+//! `line`, `value`, `pair` and `header`, `element`. Beside them `fault` has why reading stops, `position`
+//! where, and `refusal` what a parser answers from then on.
 ghost use Rattle.std.specs.Prelude.{◌≡◌, chars, [], None, Some, Ok, IfSome, IsOkAnd, IsErrAnd, OnErr, MatchResult};
 ghost use Rattle.ini_text.specs.Fronts.{IsRest};
 ghost use Rattle.ini_text.specs.Parser.{AnswersItem, FindsItem, IsStopOf, KeepsRefusal, StopIsWithin, Tells};

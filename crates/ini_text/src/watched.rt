@@ -1,4 +1,4 @@
-//! Devices that are watched: each read and write is counted if it fails. This file knows no text.
+//! Devices that are watched: each read and write that goes wrong is counted. This file knows no text.
 ghost use Rattle.std.specs.Prelude.{◌≡◌, ◌<◌, ◌≤◌, ◌↔◌, length, IfOk, IfErr, OnErr};
 ghost use Rattle.std.specs.Io.{ReadsAtMost};
 ghost use Rattle.std.specs.Io.KnownBytes.{ReadConsumes, WriteAppends};

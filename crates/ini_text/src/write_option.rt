@@ -1,4 +1,4 @@
-//! How a text is written. This file knows no device and no escape.
+//! The options by which a document is written. This file knows line ends, and no device.
 ghost use Rattle.std.specs.Prelude.{◌≡◌, Some};
 ghost use Rattle.ini_text.specs.WriteOptions.{line_end, IsDefaultWriteOption};
 

@@ -10,6 +10,7 @@ use crate::parser::pair::{read_indented, read_unindented};
 use crate::parser::scan::{Class, after_first, is_column_one, is_comment_mark, skip, starts_line};
 use std::alloc::Global;
 
+// element = gap / comment / header / pair / dropped-tail
 /// The element with which a text that begins with `c` goes on behind a front, if it gives an item, and what follows it.
 pub(crate) fn read_element<'a>(
     alloc: Global,

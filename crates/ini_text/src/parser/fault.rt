@@ -1,4 +1,5 @@
-//! Why reading stops, before its place is known as a line and a column. This file knows the messages, and no text.
+//! Where strings end, and why reading stops, before its place is known as a line and a column. This file
+//! knows endpoints and messages, and no production.
 ghost use Rattle.std.specs.Prelude.{◌≡◌};
 ghost use Rattle.ini_text.specs.ParserFaults.{kind_of, ends_of};
 ghost use Rattle.ini_text.specs.Messages.{HasMessage};

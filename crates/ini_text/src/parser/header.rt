@@ -12,6 +12,7 @@ use crate::parser::string::read_string;
 use crate::parser::trim::trim;
 use std::alloc::Global;
 
+// header = "[" name "]" / bracketed-header
 /// A header behind its bracket.
 pub(crate) fn read_header<'a>(
     alloc: Global,
@@ -32,6 +33,7 @@ pub(crate) fn read_header<'a>(
     ))
 }
 
+// bracketed-header = "[" name "]" *blank, up to LF or CR
 /// A header behind its bracket that goes up to its line's end.
 fn read_bracketed_header<'a>(
     alloc: Global,

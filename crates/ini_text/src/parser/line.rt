@@ -31,6 +31,7 @@ fn split_mark(text: &str, option: ParseOption) -> Option<(Endpoints, &str)>
     }
 }
 
+// line = *quoted-part plain-part
 /// Appends the value of a line, and gives what follows the line, from its end on.
 pub(crate) fn read_line<'a>(
     alloc: Global,

@@ -17,6 +17,7 @@ use crate::parser::trim::trim;
 use crate::parser::value::read_value;
 use std::alloc::{AllocError, Global};
 
+// pair = key separator value
 /// A pair whose key isn't indented.
 pub(crate) fn read_unindented<'a>(
     alloc: Global,
@@ -33,6 +34,7 @@ pub(crate) fn read_unindented<'a>(
     read_pair(alloc, front, text, key, rest, option)
 }
 
+// indented = 1*blank (LF / CR) / 1*blank before "[" / 1*blank pair / dropped-tail
 /// What a line gives that begins with blanks: a gap, a dropped tail, or a pair whose key is indented.
 pub(crate) fn read_indented<'a>(
     alloc: Global,
@@ -94,6 +96,7 @@ fn drop_tail<'a>(
     }
 }
 
+// separator value, behind a key
 /// What follows a key, from its separator on.
 fn read_pair<'a>(
     alloc: Global,

@@ -1,4 +1,4 @@
-//! What a parser answers once it was refused. This file knows no text.
+//! What a parser answers once it has refused its text. This file knows no text.
 ghost use Rattle.std.specs.Prelude.{◌≤◌};
 
 use crate::error::{Error, ParseError, ParseKind};

@@ -1,4 +1,5 @@
-//! Characters and runs of them at the ends of a text. This file knows kinds of characters, and no production.
+//! Characters and runs of them at the ends of a text. This file knows kinds of characters and where strings
+//! end, and no production.
 ghost use Rattle.std.specs.Prelude.{◌≡◌, ◌∷◌, ◌++◌, ◌≤◌, [], true, chars, drop, length, MatchOption, OnOk};
 ghost use Rattle.std.specs.List.{list_all, prefix_len};
 ghost use Rattle.ini_text.specs.Characters.{line_feed, is_comment_mark, is_line_end, BeginsWithNo};

@@ -13,6 +13,7 @@ use crate::parser::fault::{Endpoints, Fault, Stop};
 use crate::parser::scan::{push, push_text, split_run};
 use std::alloc::AllocError;
 
+// string = *(escape / character) [lone-backslash], up to an endpoint
 /// Appends the value of a string up to an endpoint, and gives what follows it, from its endpoint on.
 pub(crate) fn read_string<'a>(
     out: &mut String,
@@ -80,6 +81,7 @@ fn escaped_value(c: char) -> char
     }
 }
 
+// coded = "\x" 4unit
 /// Appends the character that the four units behind `\x` spell.
 fn read_coded<'a>(out: &mut String, text: &'a str, ends: Endpoints) -> Result<&'a str, Stop<'a>>
     ensures { Appends (λ s r v. Escape true s v) EscapeStops (text_of out.old) (text_of out.new) (backslash ∷ letter_x ∷ chars text.now) result }
@@ -110,6 +112,7 @@ fn split_coded(text: &str) -> Option<(char, &str)>
     Some((spelled(a, b, c, d)?, rest))
 }
 
+// unit = character / "\" LF
 /// A unit: a character other than a backslash, or a backslash and LF, which is `None`.
 fn read_unit(text: &str, ends: Endpoints) -> Result<(Option<char>, &str), Stop<'_>>
     ensures { ReadsUnit (chars text.now) result }

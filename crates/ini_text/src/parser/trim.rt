@@ -1,4 +1,4 @@
-//! White space and line feeds at the ends of what was read. This file knows trims alone.
+//! White space at the ends of what was read. This file knows no line end, and no production.
 ghost use Rattle.std.specs.Prelude.{◌≡◌, ◌≤◌, ◌++◌, true, false, chars, take, drop, string_bytes, string_len, OnOk, IfOk};
 ghost use Rattle.std.specs.Str.{IsCharBoundary};
 ghost use Rattle.ini_text.specs.Scans.{text_of, trimmed_at, begins_white};

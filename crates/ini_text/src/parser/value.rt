@@ -1,4 +1,5 @@
-//! Values: a line, and in multiline values the lines with which it goes on. This file knows lines, and no key.
+//! Values: a line, and in multiline values the lines with which it goes on, less the line feeds at both ends.
+//! This file knows lines, and no key.
 ghost use Rattle.std.specs.Prelude.{◌≡◌, ◌∷◌, ◌++◌, chars, MatchOption, MatchResult, IfOk};
 ghost use Rattle.ini_text.specs.Characters.{carriage_return, is_line_end};
 ghost use Rattle.ini_text.specs.Readers.{Appends};
@@ -14,6 +15,7 @@ use crate::parser::line::read_line;
 use crate::parser::scan::{Class, push, skip, split_last};
 use std::alloc::{AllocError, Global};
 
+// value = *inline-white line [line-end more-lines]
 /// The value that begins behind a separator, and what follows it.
 pub(crate) fn read_value<'a>(
     alloc: Global,
@@ -66,6 +68,7 @@ fn after_cr(text: &str) -> Result<&str, Stop<'_>>
     }
 }
 
+// more-lines = *(LF / CR LF / blank *inline-white line (line-end / end))
 /// Appends the lines with which a value goes on behind its first line end, and gives what follows them.
 fn read_more<'a>(
     alloc: Global,
