@@ -34,7 +34,7 @@ pub(crate) fn read_unindented<'a>(
     read_pair(alloc, front, text, key, rest, option)
 }
 
-// indented = 1*blank (LF / CR) / 1*blank before "[" / 1*blank pair / dropped-tail
+// gap / 1*blank key separator value / dropped-tail, where blanks begin a line
 /// What a line gives that begins with blanks: a gap, a dropped tail, or a pair whose key is indented.
 pub(crate) fn read_indented<'a>(
     alloc: Global,
