@@ -15,7 +15,7 @@ program=$top/crates/$name/out/$name
 is_built() {
     [ -x "$program" ] || return 1
     changed=$(cd "$top" && find crates.txt crates/ini_multimap crates/ini_text crates/ini crates/ini_layers "crates/$name" \
-        -name out -prune -o -name must-fail -prune -o -name 'tests*' -prune -o -type f -newer "$program" -print)
+        -name out -prune -o -name must-fail -prune -o -name wrong-bodies -prune -o -name '*.md' -prune -o -name 'tests*' -prune -o -type f -newer "$program" -print)
     [ -z "$changed" ]
 }
 
