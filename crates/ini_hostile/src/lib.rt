@@ -12,6 +12,8 @@ mod edits;
 #[cfg(test)]
 mod growth;
 #[cfg(test)]
+mod layers;
+#[cfg(test)]
 mod loading;
 #[cfg(test)]
 mod multimap;

@@ -9,8 +9,6 @@ mod iter;
 mod layers;
 mod merge;
 #[cfg(test)]
-mod scarce;
-#[cfg(test)]
 mod tests;
 
 pub use iter::DocumentIter;

@@ -5,7 +5,7 @@ use std::alloc::Global;
 use std::test::Fail;
 
 /// The documents of the texts, in order.
-pub fn layers_of(alloc: Global, texts: &[&'static str]) -> Result<Layers, Fail> {
+fn layers_of(alloc: Global, texts: &[&'static str]) -> Result<Layers, Fail> {
     let mut layers = Layers::new(alloc);
     for text in texts {
         let document = Ini::load_from_str(alloc, text)?;
@@ -15,7 +15,7 @@ pub fn layers_of(alloc: Global, texts: &[&'static str]) -> Result<Layers, Fail> 
 }
 
 /// The text that is written of a document.
-pub fn text_of(alloc: Global, document: &Ini) -> Result<String, Fail> {
+fn text_of(alloc: Global, document: &Ini) -> Result<String, Fail> {
     let mut taken: Vec<u8> = Vec::new(alloc);
     document.write_to(&mut taken)?;
     match String::from_utf8(taken) {
