@@ -2,6 +2,7 @@ pub mod Fronts
 pub mod Trims
 pub mod Scans
 pub mod Runs
+pub mod LaneLemmas
 pub mod Appends
 pub mod Spelling
 pub mod Appending

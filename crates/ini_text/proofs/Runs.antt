@@ -1,5 +1,5 @@
 -- Runs of bytes, as runs of characters.
-use Rattle.std.proofs.Common.{◌≡◌, ℕ, suc, ◌+◌, ◌<◌, ◌≤◌, Bool, true, false, List, [], ◌∷◌, ◌++◌, length, take, drop, refl, sym, ap, ◌∙◌, subst, arith, inl, inr, IsUtf8, IsCharBoundary, encode_utf8, encode_utf8_all, chars, take-append-drop, cond, get_or, one-add, true≢false}
+use Rattle.std.proofs.Common.{◌≡◌, ℕ, suc, ◌+◌, ◌<◌, ◌≤◌, Bool, true, false, not, List, [], ◌∷◌, ◌++◌, length, take, drop, refl, sym, ap, ◌∙◌, subst, arith, inl, inr, IsUtf8, IsCharBoundary, encode_utf8, encode_utf8_all, chars, take-append-drop, cond, get_or, one-add, true≢false}
 use Rattle.std.specs.List.{list_all, prefix_len}
 use Rattle.std.proofs.lemmas.List.Folds.{list_all-append}
 use Rattle.std.proofs.lemmas.List.Sums.{prefix_len-le-length, prefix_len_stops}
@@ -8,9 +8,10 @@ use Rattle.std.proofs.lemmas.Bool.Decides.{nat_tests}
 use Rattle.std.proofs.lemmas.Str.{IsCharBoundary-before_ascii, IsCharBoundary-end, encode_ascii, encodes-chars, IsUtf8-take, IsUtf8-drop, chars-append, chars_past_char, chars-nil}
 use Rattle.std.proofs.Math.Seq.{drop-cons}
 use Rattle.std.proofs.lemmas.List.{drop_all}
-use Rattle.ini_text.specs.Scans.{is_plain}
+use Rattle.ini_text.specs.Scans.{is_plain, skipped}
 use Rattle.ini_text.specs.ParserFaults.{ends_of}
-use Rattle.ini_text.specs.Characters.{BeginsWithNo}
+use Rattle.ini_text.specs.Characters.{is_line_feed, BeginsWithNo}
+use Rattle.ini_text.proofs.WalkRuns.{run-finds}
 use Rattle.ini_text.specs.declared.parser.fault.Endpoints.{Endpoints}
 use Rattle.ini_text.specs.declared.parser.fault.Endpoints.TheVariants.{Name, BracketedName, Key, DoubleQuotes, SingleQuotes, Plain}
 
@@ -68,3 +69,14 @@ plain_wide Key c l = grind (arith, nat_tests)
 plain_wide DoubleQuotes c l = grind (arith, nat_tests)
 plain_wide SingleQuotes c l = grind (arith, nat_tests)
 plain_wide Plain c l = grind (arith, nat_tests)
+
+pub line_feed_narrow : (c : ℕ) → 128 ≤ c → not (is_line_feed c) ≡ true
+line_feed_narrow c l = grind (arith, nat_tests)
+
+-- what follows the run is what is left once it is skipped
+pub run_skipped : (p : ℕ → Bool) (bs front back : List ℕ) (n : ℕ) → ((c : ℕ) → 128 ≤ c → p c ≡ true) → IsUtf8 bs → n ≡ prefix_len p bs → front ≡ take n bs → back ≡ drop n bs
+    → chars back ≡ skipped p (chars bs)
+run_skipped p bs front back n wide u is_run is_front is_back =
+    let cut = subst (IsCharBoundary bs) (sym is_run) (boundary p bs wide) in
+    sym (ap (skipped p) (split_chars bs front back n u cut is_front is_back)
+    ∙ (run-finds p (chars front) (chars back) (run_chars p bs front n wide u is_run is_front) (run_stops p bs back n wide u is_run is_back)).1)

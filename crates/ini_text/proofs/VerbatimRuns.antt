@@ -1,5 +1,5 @@
 -- Where the run at the front of a text ends that a policy leaves as it is, found by the bytes.
-use Rattle.std.proofs.Common.{◌≡◌, ℕ, ◌+◌, ◌/◌, ◌<◌, ◌≤◌, Bool, true, false, not, List, [], ◌∷◌, ◌++◌, refl, sym, ap, ◌∙◌, length, take, drop, get_or, arith, cond, inl, inr, IsUtf8, IsCharBoundary, chars, encode_utf8_all, get_or-drop, length-drop, take-append-drop, one-add, add-zero}
+use Rattle.std.proofs.Common.{◌≡◌, ℕ, ◌+◌, ◌/◌, ◌<◌, ◌≤◌, Bool, true, false, not, ◌||◌, List, [], ◌∷◌, ◌++◌, refl, sym, ap, ◌∙◌, length, take, drop, get_or, arith, cond, inl, inr, IsUtf8, IsCharBoundary, chars, encode_utf8_all, get_or-drop, length-drop, take-append-drop, one-add, add-zero}
 use lib.Utf8.{encode, next}
 use Rattle.std.specs.List.{list_all, position_or_len}
 use Rattle.std.proofs.lemmas.Bool.{cases_lt, and_parts}
@@ -10,10 +10,10 @@ use Rattle.std.proofs.lemmas.List.Sums.{passes_at_first, prefix_len-le-length}
 use Rattle.std.proofs.lemmas.Str.{IsUtf8-drop, IsUtf8-take, chars-append, encode_ascii, encodes-append, encodes-chars}
 use Rattle.ini_text.specs.Characters.{BeginsWithNo}
 use Rattle.ini_text.specs.Escapes.{escape, escaped, escaped_bytes}
-use Rattle.ini_text.specs.Policies.{is_escaped}
+use Rattle.ini_text.specs.Policies.{is_basic, is_escaped, is_reserved}
 use Rattle.ini_text.specs.Verbatim.{begins_escaped}
 use Rattle.ini_text.specs.declared.policy.EscapePolicy.{EscapePolicy}
-use Rattle.ini_text.specs.declared.policy.EscapePolicy.TheVariants.{Nothing}
+use Rattle.ini_text.specs.declared.policy.EscapePolicy.TheVariants.{Nothing, Basics, Reserved}
 
 is_escaped-unicode : (policy : EscapePolicy) (c : ℕ) → 0x80 ≤ c → c < 0x1_0000 → is_escaped policy 0x80 ≡ is_escaped policy c
 is_escaped-unicode Nothing c low high = refl
@@ -22,6 +22,13 @@ is_escaped-unicode policy c low high = grind (arith, nat_tests)
 is_escaped-extended : (policy : EscapePolicy) (c : ℕ) → 0x1_0000 ≤ c → is_escaped policy 0x1_0000 ≡ is_escaped policy c
 is_escaped-extended Nothing c low = refl
 is_escaped-extended policy c low = grind (arith, nat_tests)
+
+-- the policies that escape nothing beyond ASCII
+pub begins-basic : (byte : ℕ) → begins_escaped Basics byte ≡ is_basic byte
+begins-basic byte = grind (arith, nat_tests)
+
+pub begins-reserved : (byte : ℕ) → begins_escaped Reserved byte ≡ (is_basic byte || is_reserved byte)
+begins-reserved byte = grind (arith, nat_tests)
 
 -- the first byte of a character tells whether it is escaped
 record HasFirst (policy : EscapePolicy) (c : ℕ) : Type 0 where

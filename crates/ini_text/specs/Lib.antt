@@ -26,6 +26,7 @@ pub mod Faults
 pub mod Gathering
 pub mod Held
 pub mod Policies
+pub mod Lanes
 pub mod Verbatim
 pub mod Watched
 pub mod WriteOptions

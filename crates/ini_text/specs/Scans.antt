@@ -17,7 +17,6 @@ is_in classes.Space c = c == space
 is_in classes.Blank c = is_blank c
 is_in classes.InlineWhite c = is_inline_white c
 is_in classes.LineFeed c = is_line_feed c
-is_in classes.NoLineFeed c = not (is_line_feed c)
 
 -- the character stands for itself in a string, and ends nothing
 abbrev pub is_plain : Ends → ℕ → Bool

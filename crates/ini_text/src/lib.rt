@@ -6,6 +6,7 @@ mod error;
 mod escape;
 mod gather;
 mod item;
+mod lanes;
 pub mod laws;
 mod option;
 mod parser;

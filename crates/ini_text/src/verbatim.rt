@@ -5,8 +5,11 @@ ghost use Rattle.ini_text.specs.Characters.{BeginsWithNo};
 ghost use Rattle.ini_text.specs.Escapes.{escaped_bytes};
 ghost use Rattle.ini_text.specs.Policies.{is_escaped};
 ghost use Rattle.ini_text.specs.Verbatim.{begins_escaped};
+ghost use Rattle.ini_text.specs.declared.policy.EscapePolicy.TheVariants as policies;
 
+use crate::lanes::{Marks, run_before};
 use crate::policy::EscapePolicy;
+use std::simd::prelude::*;
 
 /// The run at the front of a text that goes out as it is, and what follows: nothing, or a character that is escaped.
 pub(crate) fn split_verbatim(text: &str, policy: EscapePolicy) -> (&str, &str)
@@ -22,10 +25,62 @@ pub(crate) fn split_verbatim(text: &str, policy: EscapePolicy) -> (&str, &str)
 fn run_len(bytes: &[u8], policy: EscapePolicy) -> usize
     ensures { result ≡ position_or_len (begins_escaped policy) bytes.now }
 {
-    bytes
-        .iter()
-        .take_while(|byte| !begins_escaped(policy, **byte))
-        .count()
+    match policy {
+        EscapePolicy::Basics => run_before(bytes, &Basics),
+        EscapePolicy::Reserved => run_before(bytes, &Reserved),
+        _ => bytes
+            .iter()
+            .take_while(|byte| !begins_escaped(policy, **byte))
+            .count(),
+    }
+}
+
+// What `EscapePolicy::Basics` escapes.
+#[derive(Clone, Copy)]
+struct Basics;
+
+impl Marks for Basics {
+    ghost is_marked = { λ _ byte. begins_escaped policies.Basics byte };
+
+    #[inline(always)]
+    fn contain(&self, byte: u8) -> bool {
+        begins_escaped(EscapePolicy::Basics, byte)
+    }
+
+    #[inline(always)]
+    fn find(&self, lanes: u8x16) -> u64 {
+        let backslash = lanes.simd_eq(u8x16::splat(b'\\'));
+        let control = lanes.simd_lt(u8x16::splat(0x20));
+        let delete = lanes.simd_eq(u8x16::splat(0x7F));
+        (backslash | control | delete).to_bitmask()
+    }
+}
+
+// What `EscapePolicy::Reserved` escapes.
+#[derive(Clone, Copy)]
+struct Reserved;
+
+impl Marks for Reserved {
+    ghost is_marked = { λ _ byte. begins_escaped policies.Reserved byte };
+
+    #[inline(always)]
+    fn contain(&self, byte: u8) -> bool {
+        begins_escaped(EscapePolicy::Reserved, byte)
+    }
+
+    #[inline(always)]
+    fn find(&self, lanes: u8x16) -> u64 {
+        let backslash = lanes.simd_eq(u8x16::splat(b'\\'));
+        let control = lanes.simd_lt(u8x16::splat(0x20));
+        let delete = lanes.simd_eq(u8x16::splat(0x7F));
+        let semicolon = lanes.simd_eq(u8x16::splat(b';'));
+        let hash = lanes.simd_eq(u8x16::splat(b'#'));
+        let equals = lanes.simd_eq(u8x16::splat(b'='));
+        let colon = lanes.simd_eq(u8x16::splat(b':'));
+        let basic = backslash | control | delete;
+        let reserved = (semicolon | hash) | (equals | colon);
+        (basic | reserved).to_bitmask()
+    }
 }
 
 // Whether a byte begins a character that is escaped.

@@ -7,7 +7,9 @@ use crate::option::ParseOption;
 use crate::parser::fault::{Fault, Stop};
 use crate::parser::header::read_header;
 use crate::parser::pair::{read_indented, read_unindented};
-use crate::parser::scan::{Class, after_first, is_column_one, is_comment_mark, skip, starts_line};
+use crate::parser::scan::{
+    Class, after_first, is_column_one, is_comment_mark, skip_line, starts_line,
+};
 use std::alloc::Global;
 
 // element = gap / comment / header / pair / dropped-tail
@@ -36,7 +38,7 @@ pub(crate) fn read_element<'a>(
         if !is_column_one(front) {
             return Err(Stop::Fault(Fault::InlineComment, after));
         }
-        return Ok((None, after_first(skip(after, Class::NoLineFeed))));
+        return Ok((None, after_first(skip_line(after))));
     }
     if c == '[' {
         return read_header(alloc, front, after, option);

@@ -1,14 +1,15 @@
 //! Characters and runs of them at the ends of a text. This file knows kinds of characters and where strings
 //! end, and no production.
-ghost use Rattle.std.specs.Prelude.{◌≡◌, ◌∷◌, ◌++◌, ◌≤◌, [], true, chars, drop, length, MatchOption, OnOk};
+ghost use Rattle.std.specs.Prelude.{◌≡◌, ◌∷◌, ◌++◌, ◌≤◌, [], true, not, chars, drop, length, MatchOption, OnOk};
 ghost use Rattle.std.specs.List.{list_all, prefix_len};
-ghost use Rattle.ini_text.specs.Characters.{line_feed, is_comment_mark, is_line_end, BeginsWithNo};
+ghost use Rattle.ini_text.specs.Characters.{line_feed, is_comment_mark, is_line_end, is_line_feed, BeginsWithNo};
 ghost use Rattle.ini_text.specs.Positions.{last_or, starts_line, is_column_one};
 ghost use Rattle.ini_text.specs.Fronts.{IsRest, front_of};
 ghost use Rattle.ini_text.specs.Scans.{is_in, skipped, is_plain, text_of};
 ghost use Rattle.ini_text.specs.ParserFaults.{ends_of};
 
 use crate::characters::split_first;
+use crate::lanes::{Three, run_before};
 use crate::parser::fault::Endpoints;
 use std::alloc::AllocError;
 
@@ -19,7 +20,6 @@ pub(crate) enum Class {
     Blank,
     InlineWhite,
     LineFeed,
-    NoLineFeed,
 }
 
 impl Class {
@@ -31,7 +31,6 @@ impl Class {
             Class::Blank => c == ' ' || c == '\t',
             Class::InlineWhite => c.is_whitespace() && !is_line_end(c),
             Class::LineFeed => c == '\n',
-            Class::NoLineFeed => c != '\n',
         }
     }
 }
@@ -83,24 +82,20 @@ pub(crate) fn skip(text: &str, class: Class) -> &str
     rest
 }
 
-fn is_plain(ends: Endpoints, byte: u8) -> bool
-    ensures { result ≡ is_plain (ends_of ends) byte }
+/// What follows the characters of a line, from its line feed on.
+pub(crate) fn skip_line(text: &str) -> &str
+    ensures { chars result.now ≡ skipped (λ c. not (is_line_feed c)) (chars text.now) }
 {
-    // No string ends at a letter, a digit, a space or beyond ASCII: these are most bytes of most texts, small letters first.
-    if byte > b']' {
-        return true;
-    }
-    match byte {
-        b' ' | b'0'..=b'9' | b'?'..=b'[' => true,
-        _ => byte != b'\\' && !ends.contain(char::from(byte)),
-    }
+    let line_feed = Three(b'\n', b'\n', b'\n');
+    let (_, rest) = text.split_at(run_before(text.as_bytes(), &line_feed));
+    rest
 }
 
 fn run_len(bytes: &[u8], ends: Endpoints) -> usize
     ensures len { result ≡ prefix_len (is_plain (ends_of ends)) bytes.now }
     ensures within { result ≤ length bytes.now }
 {
-    bytes.iter().take_while(|b| is_plain(ends, **b)).count()
+    run_before(bytes, &ends.marks())
 }
 
 /// The characters at the front of a text that are neither a backslash nor an endpoint, and what follows them.

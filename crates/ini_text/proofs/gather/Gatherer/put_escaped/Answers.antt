@@ -1,4 +1,4 @@
-use Rattle.std.proofs.Common.{[], ap, rules, subst, encode_utf8_all}
+use Rattle.std.proofs.Common.{ap, rules, subst, encode_utf8_all}
 use Rattle.std.proofs.lemmas.Result.{err_from_is_err_and}
 use Rattle.ini_text.specs.Escapes.{escaped, escaped_bytes}
 use Rattle.ini_text.specs.Held.{held}

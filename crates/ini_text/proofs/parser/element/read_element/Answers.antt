@@ -13,4 +13,4 @@ returns-then-not-is_column_one c = late_comment c.requires (sym c.is_comment_mar
 
 pub returns-then-is_comment_mark : goal.returns-then-is_comment_mark
 returns-then-is_comment_mark c =
-    comment_read c.requires (sym c.is_column_one.ensures ∙ c.if-not-is_column_one.false) (sym c.is_comment_mark.ensures ∙ c.if-is_comment_mark.true) c.skip.ensures c.after_first.ensures
+    comment_read c.requires (sym c.is_column_one.ensures ∙ c.if-not-is_column_one.false) (sym c.is_comment_mark.ensures ∙ c.if-is_comment_mark.true) c.skip_line.ensures c.after_first.ensures

@@ -1,0 +1,96 @@
+-- Runs that are seen sixteen bytes at a time.
+use Rattle.std.proofs.Common.{◌≡◌, ℕ, ◌+◌, ◌*◌, ◌%◌, ◌^◌, ◌<◌, ◌≤◌, Bool, true, false, not, ◌&&◌, ◌||◌, cond, eqb, ltb, List, [], ◌∷◌, map, length, drop, replicate, refl, sym, ap, ap₂, ◌∙◌, arith}
+use Rattle.std.proofs.lemmas.Simd.{chunk-drop, length-chunk, leading_from_mask_l, trailing_mask_l, zip2_splat, zip2_of_maps, map-map, mask_l-mod}
+use Rattle.std.proofs.lemmas.List.{length-drop, length-map}
+use Rattle.std.proofs.lemmas.List.Folds.{prefix_len-append}
+use Rattle.std.proofs.lemmas.List.Sums.{prefix_len-le-length}
+use Rattle.std.proofs.lemmas.Bool.{eq-eqb, ne_eqb}
+use Rattle.std.specs.List.{prefix_len, position_or_len}
+use lib.Bits.{bit_or}
+use lib.Lanes.{chunk, mask_l, top, zip2}
+use lib.Count.{count_trailing_zeros}
+
+-- a lane that passes a test is full
+abbrev pub full : Bool → ℕ
+full b = cond b 255 0
+
+full_or : (a b : Bool) → bit_or (full a) (full b) ≡ full (a || b)
+full_or true true = refl
+full_or true false = refl
+full_or false true = refl
+full_or false false = refl
+
+full_top : (b : Bool) → top 7 (full b) ≡ b
+full_top true = refl
+full_top false = refl
+
+pub map_same : {X : Type 0} (f g : ℕ → X) → ((x : ℕ) → f x ≡ g x) → (xs : List ℕ) → map f xs ≡ map g xs
+map_same f g same [] = refl
+map_same f g same (x ∷ xs) = ap₂ (λ y ys. y ∷ ys) (same x) (map_same f g same xs)
+
+-- the lanes that pass one of two tests
+pub either : (p q : ℕ → Bool) (v : List ℕ) {a b : List ℕ} → a ≡ map (λ x. full (p x)) v → b ≡ map (λ x. full (q x)) v
+    → zip2 bit_or a b ≡ map (λ x. full (p x || q x)) v
+either p q v is_a is_b = zip2_of_maps bit_or (λ x. full (p x)) (λ x. full (q x)) v is_a is_b ∙ map_same _ _ (λ x. full_or (p x) (q x)) v
+
+-- the bits of the lanes that pass a test
+pub bits : (p : ℕ → Bool) (v : List ℕ) {a : List ℕ} → length v ≡ 16 → a ≡ map (λ x. full (p x)) v → mask_l (map (top 7) a) % 2 ^ 64 ≡ mask_l (map p v)
+bits p v long is =
+    ap (λ l. mask_l l % 2 ^ 64) (ap (map (top 7)) is ∙ map-map (top 7) (λ x. full (p x)) v ∙ map_same _ _ (λ x. full_top (p x)) v)
+    ∙ mask_l-mod (map p v) 64 (omega (arith, length-map v p))
+
+pub equal : (y : ℕ) (v : List ℕ) → length v ≡ 16 → zip2 (λ a b. full (eqb a b)) v (replicate 16 y) ≡ map (λ x. full (eqb x y)) v
+equal y v long = zip2_splat (λ a b. full (eqb a b)) v 16 y long
+
+pub below : (y : ℕ) (v : List ℕ) → length v ≡ 16 → zip2 (λ a b. full (ltb a b)) v (replicate 16 y) ≡ map (λ x. full (ltb x y)) v
+below y v long = zip2_splat (λ a b. full (ltb a b)) v 16 y long
+
+-- A run of bytes up to the first that passes the test p.
+pub run_within : (p : ℕ → Bool) (bytes : List ℕ) (at : ℕ) → at ≤ length bytes → at + position_or_len p (drop at bytes) ≤ length bytes
+run_within p bytes at h = omega (arith, prefix_len-le-length (λ x. not (p x)) (drop at bytes), length-drop at bytes)
+
+none_fails : (b : Bool) (n l m : ℕ) → n ≤ l → cond (not b) (1 + n) 0 ≡ 1 + l → (n ≡ l → m ≡ 0) → cond b 1 0 + 2 * m ≡ 0
+none_fails true n l m le e more = let no : ⊥ = omega arith in absurd no
+none_fails false n l m le e more = let z = more (omega arith) in omega arith
+
+pub same_run : (p q : ℕ → Bool) → ((x : ℕ) → p x ≡ q x) → (xs : List ℕ) → prefix_len p xs ≡ prefix_len q xs
+same_run p q same [] = refl
+same_run p q same (x ∷ xs) = ap₂ (λ b n. cond b (1 + n) 0) (same x) (same_run p q same xs)
+
+module _ (p : ℕ → Bool) where
+  no_bits : (xs : List ℕ) → position_or_len p xs ≡ length xs → mask_l (map p xs) ≡ 0
+  no_bits [] e = refl
+  no_bits (x ∷ xs) e = none_fails (p x) _ (length xs) _ (prefix_len-le-length (λ y. not (p y)) xs) (omega arith) (no_bits xs)
+
+  split : (bytes : List ℕ) (at n : ℕ) → position_or_len p (drop at bytes)
+      ≡ cond (eqb (position_or_len p (chunk at n bytes)) (length (chunk at n bytes))) (length (chunk at n bytes) + position_or_len p (drop (at + n) bytes)) (position_or_len p (chunk at n bytes))
+  split bytes at n = ap (position_or_len p) (chunk-drop at n bytes) ∙ prefix_len-append (λ x. not (p x)) (chunk at n bytes) (drop (at + n) bytes)
+
+  -- a block without marks is passed
+  pub passed : (bytes : List ℕ) (at n : ℕ) → at + n ≤ length bytes → mask_l (map p (chunk at n bytes)) ≡ 0
+      → position_or_len p (drop at bytes) ≡ n + position_or_len p (drop (at + n) bytes)
+  passed bytes at n room none =
+      let c = chunk at n bytes in
+      let rest = position_or_len p (drop (at + n) bytes) in
+      split bytes at n ∙ ap (λ b. cond b (length c + rest) (position_or_len p c)) (eq-eqb _ _ (leading_from_mask_l p c none)) ∙ ap (λ k. k + rest) (length-chunk at n bytes room)
+
+  -- in a block with marks the lowest ends the run
+  pub stopped : (bytes : List ℕ) (at n : ℕ) → at + n ≤ length bytes → n ≤ 64 → 0 < mask_l (map p (chunk at n bytes))
+      → position_or_len p (drop at bytes) ≡ count_trailing_zeros 64 (mask_l (map p (chunk at n bytes)))
+  stopped bytes at n room short some =
+      let c = chunk at n bytes in
+      let rest = position_or_len p (drop (at + n) bytes) in
+      split bytes at n ∙ ap (λ b. cond b (length c + rest) (position_or_len p c)) (ne_eqb _ _ (λ (e : position_or_len p c ≡ length c). omega (arith, no_bits c e)))
+      ∙ sym (trailing_mask_l p 64 c (omega (arith, length-chunk at n bytes room)) some)
+
+-- a character that is no mark, where the first of the marks is a backslash
+pub no_marks : (a b c : Bool) → (not a && not (b || c || false)) ≡ not (a || b || c)
+no_marks true b c = refl
+no_marks false true c = refl
+no_marks false false true = refl
+no_marks false false false = refl
+
+-- one mark three times
+pub not_three : (a : Bool) → not (a || a || a) ≡ not a
+not_three true = refl
+not_three false = refl

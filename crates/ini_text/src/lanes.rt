@@ -1,0 +1,72 @@
+//! Runs of bytes up to the first that is marked, sixteen bytes at a time. This file knows bytes, and no text.
+ghost use Rattle.std.specs.Prelude.{◌≡◌, ◌≤◌, ℕ, Bool, length, map};
+ghost use Rattle.std.specs.List.{position_or_len};
+ghost use Rattle.std.specs.Simd.Lanes.{mask_l};
+ghost use Rattle.ini_text.specs.Lanes.{is_one_of};
+
+use std::simd::prelude::*;
+
+// How many bytes are tested together.
+const LANES: usize = 16;
+
+/// Bytes at which a run ends.
+pub(crate) trait Marks {
+    ghost is_marked: { Self → ℕ → Bool };
+
+    fn contain(&self, byte: u8) -> bool
+        ensures { result ≡ is_marked self.now byte };
+
+    /// The bits of the lanes that hold a marked byte.
+    fn find(&self, lanes: u8x16) -> u64
+        ensures { result ≡ mask_l (map (is_marked self.now) lanes) };
+}
+
+/// How many bytes stand before the first that is marked.
+#[inline(always)]
+pub(crate) fn run_before<M: Marks>(bytes: &[u8], marks: &M) -> usize
+    ensures len { result ≡ position_or_len (M.is_marked marks.now) bytes.now }
+    ensures within { result ≤ length bytes.now }
+{
+    let mut at = 0;
+    'lanes: while bytes.len() - at >= LANES {
+        let found = marks.find(u8x16::from_slice(&bytes[at..]));
+        if found != 0 {
+            return at + found.trailing_zeros() as usize;
+        }
+        at += LANES;
+    }
+    at + few_before(&bytes[at..], marks)
+}
+
+// The same, byte by byte.
+#[inline(always)]
+fn few_before<M: Marks>(bytes: &[u8], marks: &M) -> usize
+    ensures len { result ≡ position_or_len (M.is_marked marks.now) bytes.now }
+    ensures within { result ≤ length bytes.now }
+{
+    bytes
+        .iter()
+        .take_while(|byte| !marks.contain(**byte))
+        .count()
+}
+
+/// Three bytes, some of which may be one.
+#[derive(Clone, Copy)]
+pub(crate) struct Three(pub(crate) u8, pub(crate) u8, pub(crate) u8);
+
+impl Marks for Three {
+    ghost is_marked = { λ three byte. is_one_of three.0 three.1 three.2 byte };
+
+    #[inline(always)]
+    fn contain(&self, byte: u8) -> bool {
+        byte == self.0 || byte == self.1 || byte == self.2
+    }
+
+    #[inline(always)]
+    fn find(&self, lanes: u8x16) -> u64 {
+        let first = lanes.simd_eq(u8x16::splat(self.0));
+        let second = lanes.simd_eq(u8x16::splat(self.1));
+        let third = lanes.simd_eq(u8x16::splat(self.2));
+        (first | second | third).to_bitmask()
+    }
+}
