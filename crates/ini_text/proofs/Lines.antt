@@ -1,5 +1,5 @@
 -- A line, as it is read: quoted parts that grow at their end, and then the plain part.
-use Rattle.std.proofs.Common.{◌≡◌, ℕ, Bool, true, not, ◌&&◌, eqb, eqb-true, List, [], ◌∷◌, ◌++◌, drop, sym, ap, ◌∙◌, append_assoc, append-nil, chars, subst, subst₂}
+use Rattle.std.proofs.Common.{◌≡◌, ℕ, Bool, true, not, ◌&&◌, eqb, eqb-true, List, [], ◌∷◌, ◌++◌, drop, sym, ap, String, Result, Ok, Err, ◌∙◌, append_assoc, append-nil, chars, subst, subst₂}
 use Rattle.std.proofs.Math.Bool.{or-false}
 use Rattle.ini_text.specs.Characters.{is_mark}
 use Rattle.ini_text.specs.ParserFaults.{kind_of}
@@ -8,10 +8,14 @@ use Rattle.ini_text.specs.Quotes.{BeginsQuoted}
 use Rattle.ini_text.specs.Readers.{Appended, StoppedBy}
 use Rattle.ini_text.specs.Scans.{trimmed_at}
 use Rattle.ini_text.specs.Strings.{Ends, Str, StrStops, quote_ends, plain_ends}
+use Rattle.ini_text.specs.TrimmedStrings.{ReadsTrimmed}
+use Rattle.ini_text.specs.ValueParts.{ReadsFirstLine}
+use Rattle.std.specs.Borrow.{Bor}
+use Rattle.std.specs.declared.alloc.Global.{Global}
 use Rattle.ini_text.specs.declared.option.ParseOption.{ParseOption}
 use Rattle.ini_text.specs.declared.parser.fault.Stop.{Stop}
 use Rattle.ini_text.specs.declared.parser.fault.Stop.TheVariants as stops
-use Rattle.ini_text.proofs.Appending.{and_stops}
+use Rattle.ini_text.proofs.Appending.{and_stops, nothing_yet}
 
 -- what follows a string in quotes begins with their mark, and the string ends so before any text
 pub closed_by_mark : {e : Bool} {m : ℕ} {s r v : List ℕ} → Str e (quote_ends m) s r v → (t : List ℕ) × (r ≡ m ∷ t) × Str e (quote_ends m) s (m ∷ []) v
@@ -69,3 +73,8 @@ module _ {o : ParseOption} where
         whole = append_assoc read.source plain.source end ∙ ap (λ x. read.source ++ x) plain.whole ∙ read.whole;
         appended = is_trimmed ∙ ap (λ x. x ++ plain_value first some plain.value) read.appended ∙ append_assoc old read.value (plain_value first some plain.value);
       }
+
+-- a first line without quoted parts is a string that is trimmed
+pub plain_line : (o : ParseOption) (t : List ℕ) (r : Result (String Global × Bor (List ℕ)) Stop) → BeginsPlain o t → ReadsTrimmed o.enabled_escape plain_ends true t r → ReadsFirstLine o t r
+plain_line o t (Ok p) begins string = line_read (nothing_yet Quoted.none) begins string.read (string.trims ∙ ap (trimmed_at true) string.read.appended)
+plain_line o t (Err stop) begins stops = plain_stops {old = []} stop (nothing_yet Quoted.none) begins stops

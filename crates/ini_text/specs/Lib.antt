@@ -15,6 +15,7 @@ pub mod ParserFaults
 pub mod Fronts
 pub mod Scans
 pub mod Readers
+pub mod TrimmedStrings
 pub mod Units
 pub mod Quotes
 pub mod ValueParts

@@ -1,9 +1,10 @@
 -- What the readers of a value's parts answer.
-use Rattle.std.specs.Prelude.{◌≡◌, ℕ, List, ◌∷◌, chars, String, Option, Result, MatchOption, MatchResult}
+use Rattle.std.specs.Prelude.{◌≡◌, ℕ, true, List, [], ◌∷◌, chars, String, Option, Result, MatchOption, MatchResult}
 use Rattle.std.specs.Borrow.{Bor}
 use Rattle.std.specs.declared.alloc.Global.{Global}
 use Rattle.ini_text.specs.Characters.{line_feed, carriage_return, is_line_end, BeginsWithNo}
-use Rattle.ini_text.specs.Readers.{Begins, StoppedBy}
+use Rattle.ini_text.specs.Lines.{Line, LineStops}
+use Rattle.ini_text.specs.Readers.{Appended, Begins, StoppedBy}
 use Rattle.ini_text.specs.Scans.{text_of}
 use Rattle.ini_text.specs.Values.{LineEnd, Value, ValueStops, MoreLinesStop}
 use Rattle.ini_text.specs.declared.option.ParseOption.{ParseOption}
@@ -12,6 +13,10 @@ use Rattle.ini_text.specs.declared.parser.fault.Stop.{Stop}
 -- a value was made of the front of the text t
 abbrev pub MakesValue : ParseOption → List ℕ → Result (String Global × Bor (List ℕ)) Stop → Type 0
 MakesValue o t r = MatchResult r (λ p. Begins t (chars p.1.now) (λ s. Value o s (chars p.1.now) (text_of p.0))) (StoppedBy (ValueStops o) t)
+
+-- a first line was read, and its value made
+abbrev pub ReadsFirstLine : ParseOption → List ℕ → Result (String Global × Bor (List ℕ)) Stop → Type 0
+ReadsFirstLine o t r = MatchResult r (λ p. Appended [] (text_of p.0) t (chars p.1.now) (λ s v. Line o true s (chars p.1.now) v)) (StoppedBy (LineStops o) t)
 
 -- what follows a line's end
 abbrev pub AfterLineEnd : List ℕ → Option (Bor (List ℕ)) → Type 0

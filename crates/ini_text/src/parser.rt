@@ -30,6 +30,7 @@ mod refusal;
 pub(crate) mod scan;
 mod string;
 mod trim;
+mod trimmed;
 mod value;
 
 /// Gives the items of a text one by one.

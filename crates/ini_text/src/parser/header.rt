@@ -10,6 +10,7 @@ use crate::parser::fault::{Endpoints, Fault, Stop};
 use crate::parser::scan::{Class, after_first, split_last};
 use crate::parser::string::read_string;
 use crate::parser::trim::trim;
+use crate::parser::trimmed::read_trimmed;
 use std::alloc::Global;
 
 // header = "[" name "]" / bracketed-header
@@ -25,12 +26,8 @@ pub(crate) fn read_header<'a>(
     if option.enabled_brackets_in_section_names {
         return read_bracketed_header(alloc, front, text, option);
     }
-    let mut name = String::new(alloc);
-    let rest = read_string(&mut name, text, option.enabled_escape, Endpoints::Name)?;
-    Ok((
-        Some(Item::Header(trim(alloc, name, true)?)),
-        after_first(rest),
-    ))
+    let (name, rest) = read_trimmed(alloc, text, option.enabled_escape, Endpoints::Name, true)?;
+    Ok((Some(Item::Header(name)), after_first(rest)))
 }
 
 // bracketed-header = "[" name "]" *blank, up to LF or CR

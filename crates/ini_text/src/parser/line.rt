@@ -7,6 +7,7 @@ ghost use Rattle.ini_text.specs.Quotes.{BeginsQuoted};
 ghost use Rattle.ini_text.specs.Readers.{Appends};
 ghost use Rattle.ini_text.specs.Scans.{text_of};
 ghost use Rattle.ini_text.specs.Strings.{quote_ends};
+ghost use Rattle.ini_text.specs.ValueParts.{ReadsFirstLine};
 
 use crate::characters::split_first;
 use crate::option::ParseOption;
@@ -14,6 +15,7 @@ use crate::parser::fault::{Endpoints, Stop};
 use crate::parser::scan::after_first;
 use crate::parser::string::read_string;
 use crate::parser::trim::trim_from;
+use crate::parser::trimmed::read_trimmed;
 use std::alloc::Global;
 
 /// Where the quoted part that begins here ends, and what follows its mark.
@@ -28,6 +30,24 @@ fn split_mark(text: &str, option: ParseOption) -> Option<(Endpoints, &str)>
         '"' => Some((Endpoints::DoubleQuotes, after)),
         '\'' => Some((Endpoints::SingleQuotes, after)),
         _ => None,
+    }
+}
+
+/// The value of a first line, and what follows the line, from its end on.
+pub(crate) fn read_first_line<'a>(
+    alloc: Global,
+    text: &'a str,
+    option: ParseOption,
+) -> Result<(String, &'a str), Stop<'a>>
+    ensures { ReadsFirstLine option (chars text.now) result }
+{
+    match split_mark(text, option) {
+        None => read_trimmed(alloc, text, option.enabled_escape, Endpoints::Plain, true),
+        Some(_) => {
+            let mut value = String::new(alloc);
+            let end = read_line(alloc, &mut value, text, option, true)?;
+            Ok((value, end))
+        }
     }
 }
 

@@ -14,6 +14,7 @@ use crate::parser::fault::{Endpoints, Fault, Stop};
 use crate::parser::scan::{Class, after_first, front_before, is_line_end, skip};
 use crate::parser::string::read_string;
 use crate::parser::trim::trim;
+use crate::parser::trimmed::read_trimmed;
 use crate::parser::value::read_value;
 use std::alloc::{AllocError, Global};
 
@@ -28,9 +29,8 @@ pub(crate) fn read_unindented<'a>(
     requires { BeginsWith begins_key (chars text.now) }
     ensures { IsElement option (chars front.now) (chars text.now) result }
 {
-    let mut key = String::new(alloc);
-    let rest = read_string(&mut key, text, option.enabled_escape, Endpoints::Key)?;
-    let key = trim(alloc, key, !option.enabled_preserve_key_leading_whitespace)?;
+    let both = !option.enabled_preserve_key_leading_whitespace;
+    let (key, rest) = read_trimmed(alloc, text, option.enabled_escape, Endpoints::Key, both)?;
     read_pair(alloc, front, text, key, rest, option)
 }
 

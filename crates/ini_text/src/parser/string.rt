@@ -1,17 +1,38 @@
 //! Strings: rows of pieces up to an endpoint. This file knows escapes, and nothing of lines, keys or names.
-ghost use Rattle.std.specs.Prelude.{◌≡◌, ◌∷◌, ◌++◌, [], chars, true, unwrap_or, IfSome, OnOk};
+ghost use Rattle.std.specs.Prelude.{◌≡◌, ◌∷◌, ◌++◌, [], chars, true, unwrap_or, Bool, IfSome, OnOk};
 ghost use Rattle.ini_text.specs.Characters.{backslash, letter_x};
 ghost use Rattle.ini_text.specs.ParserFaults.{ends_of};
 ghost use Rattle.ini_text.specs.Pieces.{control, spelled, spelled_by, Escape, EscapeStops};
 ghost use Rattle.ini_text.specs.Readers.{Appends, Begins};
 ghost use Rattle.ini_text.specs.Scans.{text_of};
 ghost use Rattle.ini_text.specs.Strings.{Str, StrStops};
+ghost use Rattle.ini_text.specs.TrimmedStrings.{IsString};
 ghost use Rattle.ini_text.specs.Units.{ReadsUnit, value_behind_backslash};
 
 use crate::characters::split_first;
 use crate::parser::fault::{Endpoints, Fault, Stop};
 use crate::parser::scan::{push, push_text, split_run};
 use std::alloc::AllocError;
+
+/// A string of one run, and what follows it, from its endpoint on. `None` where it has a backslash, or isn't ended.
+pub(crate) fn split_plain(text: &str, ends: Endpoints) -> Option<(&str, &str)>
+    ensures { IfSome result (λ p. (escapes : Bool) → IsString escapes (ends_of ends) (chars text.now) (chars p.0.now) (chars p.1.now)) }
+{
+    let (run, rest) = split_run(text, ends);
+    match split_first(rest) {
+        Some((c, _)) => {
+            if c == '\\' {
+                return None;
+            }
+        }
+        None => {
+            if !ends.contain_text_end() {
+                return None;
+            }
+        }
+    }
+    Some((run, rest))
+}
 
 // string = *(escape / character) [lone-backslash], up to an endpoint
 /// Appends the value of a string up to an endpoint, and gives what follows it, from its endpoint on.

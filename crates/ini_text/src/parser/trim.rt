@@ -18,6 +18,13 @@ fn begins_white(text: &str) -> bool
     }
 }
 
+/// The part of a text without the white space at its end or at both ends.
+pub(crate) fn trimmed(text: &str, both: bool) -> &str
+    ensures { chars result.now ≡ trimmed_at both (chars text.now) }
+{
+    if both { text.trim() } else { text.trim_end() }
+}
+
 /// Trims what stands from `start` on, at its end or at both ends.
 pub(crate) fn trim_from(
     alloc: Global,

@@ -11,7 +11,7 @@ ghost use Rattle.ini_text.specs.White.{drop_line_feeds, without_outer_line_feeds
 use crate::characters::split_first;
 use crate::option::ParseOption;
 use crate::parser::fault::{Fault, Stop};
-use crate::parser::line::read_line;
+use crate::parser::line::{read_first_line, read_line};
 use crate::parser::scan::{Class, push, skip, split_last};
 use std::alloc::{AllocError, Global};
 
@@ -24,9 +24,8 @@ pub(crate) fn read_value<'a>(
 ) -> Result<(String, &'a str), Stop<'a>>
     ensures { MakesValue option (chars text.now) result }
 {
-    let mut value = String::new(alloc);
     let start = skip(text, Class::InlineWhite);
-    let end = read_line(alloc, &mut value, start, option, true)?;
+    let (mut value, end) = read_first_line(alloc, start, option)?;
     if !option.enabled_indented_mutiline_value {
         return Ok((value, end));
     }

@@ -1,0 +1,29 @@
+//! Strings that are trimmed: names, keys, and values without quotes. This file knows strings and trims, and no line.
+ghost use Rattle.std.specs.Prelude.{chars};
+ghost use Rattle.ini_text.specs.ParserFaults.{ends_of};
+ghost use Rattle.ini_text.specs.TrimmedStrings.{ReadsTrimmed};
+
+use crate::parser::fault::{Endpoints, Stop};
+use crate::parser::string::{read_string, split_plain};
+use crate::parser::trim::{trim, trimmed};
+use std::alloc::Global;
+
+/// A string up to an endpoint, trimmed at its end or at both ends, and what follows it, from its endpoint on.
+pub(crate) fn read_trimmed<'a>(
+    alloc: Global,
+    text: &'a str,
+    escapes: bool,
+    ends: Endpoints,
+    both: bool,
+) -> Result<(String, &'a str), Stop<'a>>
+    ensures { ReadsTrimmed escapes (ends_of ends) both (chars text.now) result }
+{
+    // Most strings are one run of the text: they are copied once, as long as they are.
+    if let Some((run, rest)) = split_plain(text, ends) {
+        let kept = String::from_str(alloc, trimmed(run, both))?;
+        return Ok((kept, rest));
+    }
+    let mut whole = String::new(alloc);
+    let rest = read_string(&mut whole, text, escapes, ends)?;
+    Ok((trim(alloc, whole, both)?, rest))
+}
