@@ -1,7 +1,7 @@
 -- What is appended to a string, as characters.
-use Rattle.std.proofs.Common.{◌≡◌, ◌≢◌, ℕ, arith, List, [], ◌∷◌, ◌++◌, sym, ap, ◌∙◌, append-nil, chars, IsUtf8, IsCharBoundary, encode_utf8, encode_utf8_all, take, drop, length, Bool, true, false, ◌&&◌, refl, Result, Ok, Err, OnOk, is_ok, if◌then◌else◌}
+use Rattle.std.proofs.Common.{◌≡◌, ◌≢◌, ℕ, arith, ◌<◌, get_or, List, [], ◌∷◌, ◌++◌, sym, ap, ◌∙◌, append-nil, chars, IsUtf8, IsCharBoundary, encode_utf8, encode_utf8_all, take, drop, length, Bool, true, false, ◌&&◌, refl, Result, Ok, Err, OnOk, is_ok, if◌then◌else◌}
 use Rattle.std.proofs.Math.Bool.{and-true}
-use Rattle.std.proofs.lemmas.Str.{chars-append, chars-encodes, chars-nil, encodes-chars, encodes-append, scalars-chars, IsCharBoundary-at_seam}
+use Rattle.std.proofs.lemmas.Str.{chars-append, chars-encodes, chars-nil, chars_past_char, encode_ascii, encodes-chars, encodes-append, scalars-chars, IsCharBoundary-at_seam}
 use Rattle.std.proofs.Math.Seq.{take-append_seam, drop-append_seam}
 use Rattle.std.specs.Str.{all_scalars}
 use lib.Utf8.{scalar}
@@ -51,3 +51,9 @@ no_characters (b ∷ bs) h = absurd (omega arith)
 
 pub some_characters : (bs : List ℕ) → IsUtf8 bs → (length bs ≡ 0 → ⊥) → chars bs ≢ []
 some_characters bs u some none = some (ap length (sym (encodes-chars bs u) ∙ ap encode_utf8_all none))
+
+-- a text of one byte below 0x80
+pub one_character : (bs : List ℕ) → IsUtf8 bs → length bs ≡ 1 → get_or bs 0 0 < 128 → chars bs ≡ get_or bs 0 0 ∷ []
+one_character [] u one low = absurd (omega arith)
+one_character (b ∷ []) u one low = chars_past_char (b ∷ []) [] b u (sym (ap (λ x. x ++ []) (encode_ascii b low))) ∙ ap (λ x. b ∷ x) chars-nil
+one_character (b ∷ c ∷ bs) u one low = absurd (omega arith)

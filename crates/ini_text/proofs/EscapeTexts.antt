@@ -1,10 +1,10 @@
 -- The bytes of escapes, and of a text that begins with a character that is escaped.
-use Rattle.std.proofs.Common.{◌≡◌, ℕ, zero, suc, ◌<◌, true, false, not, subst, List, [], ◌∷◌, ◌++◌, refl, ap, arith, cond, Some, None, Option, encode_utf8_all}
+use Rattle.std.proofs.Common.{◌≡◌, ℕ, zero, suc, ◌<◌, true, false, not, subst, List, [], length, ◌∷◌, ◌++◌, refl, ap, arith, cond, Some, None, Option, encode_utf8_all}
 use Rattle.std.specs.Str.{IsAscii}
 use Rattle.std.proofs.lemmas.Bool.Decides.{nat_tests}
-use Rattle.std.proofs.lemmas.Str.{encodes-append, encodes-IsAscii}
+use Rattle.std.proofs.lemmas.Str.{chars-nil, encodes-append, encodes-IsAscii}
 use Rattle.std.proofs.lemmas.Str.Ascii.{IsAscii-nil, IsAscii-cons}
-use Rattle.ini_text.specs.Escapes.{escape, escape_by, escaped, letter_of, hex_digits, digit_count}
+use Rattle.ini_text.specs.Escapes.{escape, escape_by, escaped, escaped_bytes, letter_of, hex_digits, digit_count}
 use Rattle.ini_text.specs.Policies.{is_escaped}
 use Rattle.ini_text.specs.Characters.{BeginsWithNo, backslash, letter_x}
 use Rattle.ini_text.specs.declared.policy.EscapePolicy.{EscapePolicy}
@@ -40,3 +40,8 @@ pub escaped-first : (policy : EscapePolicy) (c : ℕ) (text rest : List ℕ) →
 escaped-first policy c text rest parts begins =
     let first : not (is_escaped policy c) ≡ false = subst (BeginsWithNo (λ d. not (is_escaped policy d))) parts begins in
     grind arith
+
+-- nothing goes out for nothing
+pub escaped_bytes-nil : (policy : EscapePolicy) (bytes : List ℕ) → length bytes ≡ 0 → escaped_bytes policy bytes ≡ []
+escaped_bytes-nil policy [] none = ap (λ cs. encode_utf8_all (escaped policy cs)) chars-nil
+escaped_bytes-nil policy (b ∷ bytes) none = absurd (omega arith)

@@ -67,6 +67,24 @@ impl Gatherer {
         requires { IsClear out.old }
         ensures { Sends W.contents out.old out.new (held self.old) (held self.new) result (escaped_bytes policy text.now) }
     {
+        let (run, rest) = split_verbatim(text, policy);
+        if rest.is_empty() {
+            return self.put(run, out);
+        }
+        self.put_runs(text, policy, out)
+    }
+
+    // Sends a text escaped, run by run.
+    #[inline(never)]
+    fn put_runs<W: Write>(
+        &mut self,
+        text: &str,
+        policy: EscapePolicy,
+        out: &mut Watched<'_, W>,
+    ) -> Result<(), Error>
+        requires { IsClear out.old }
+        ensures { Sends W.contents out.old out.new (held self.old) (held self.new) result (escaped_bytes policy text.now) }
+    {
         let mut rest = text;
         'runs: loop {
             let (run, after) = split_verbatim(rest, policy);
@@ -99,6 +117,15 @@ impl Gatherer {
             self.append(bytes);
             return Ok(());
         }
+        self.put_through(bytes, out)
+    }
+
+    // Sends bytes in a call of their own, behind what is held back.
+    #[inline(never)]
+    fn put_through<W: Write>(&mut self, bytes: &[u8], out: &mut Watched<'_, W>) -> Result<(), Error>
+        requires { IsClear out.old }
+        ensures { Sends W.contents out.old out.new (held self.old) (held self.new) result bytes.now }
+    {
         self.flush(out)?;
         write_bytes(bytes, out)
     }
@@ -149,7 +176,11 @@ impl Gatherer {
         ensures len { self.new.len ≡ self.old.len + length bytes.now }
     {
         let end = self.len + bytes.len();
-        self.bytes[self.len..end].copy_from_slice(bytes);
+        if let [byte] = bytes {
+            self.bytes[self.len] = *byte;
+        } else {
+            self.bytes[self.len..end].copy_from_slice(bytes);
+        }
         self.len = end;
     }
 }

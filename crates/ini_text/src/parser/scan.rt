@@ -118,7 +118,12 @@ pub(crate) fn push(out: &mut String, c: char) -> Result<(), AllocError>
 pub(crate) fn push_text(out: &mut String, text: &str) -> Result<(), AllocError>
     ensures { OnOk result (text_of out.new ≡ text_of out.old ++ chars text.now) }
 {
-    out.push_str(text)
+    // Between escapes few characters stand.
+    match text.as_bytes() {
+        [] => Ok(()),
+        [byte] if *byte < 0x80 => push(out, char::from(*byte)),
+        _ => out.push_str(text),
+    }
 }
 
 /// The part of a text before the rest of it.

@@ -1,44 +1,10 @@
-use Rattle.std.proofs.Common.{ap, rules, subst, encode_utf8_all}
-use Rattle.std.proofs.lemmas.Result.{err_from_is_err_and}
-use Rattle.ini_text.specs.Escapes.{escaped, escaped_bytes}
-use Rattle.ini_text.specs.Held.{held}
-use Rattle.ini_text.proofs.EscapeTexts.{escaped-first, escaped-next}
-use Rattle.ini_text.proofs.SendLemmas.{Sending, Sending-ends, Sending-goes_on, Sending-starts, Sending-stops}
-use Rattle.ini_text.proofs.gather.Gatherer.put_escaped.Given as given
+use Rattle.std.proofs.Common.{◌++◌, ap, sym, ◌∙◌, append-nil, subst, eqb-true}
+use Rattle.ini_text.specs.Gathering.{Sends}
+use Rattle.ini_text.proofs.EscapeTexts.{escaped_bytes-nil}
 use Rattle.ini_text.proofs.gather.Gatherer.put_escaped.Goals as goal
-use Rattle.ini_text.proofs.gather.Gatherer.put_escaped.Goals.{In_ok-put, In-Some}
 
--- the run was sent, and what follows it is left
-after_run : (g : given.Over) (c : In_ok-put g) → Sending g.W.Write.contents c.args.out.now c.put.new.out (held c.args.self.now) (held c.put.new.self)
-    (escaped_bytes c.args.policy c.args.text.now) (escaped_bytes c.args.policy c.split_verbatim.result.1.now)
-after_run g c = Sending-goes_on _ c.split_verbatim.ensures.bytes c.runs.invariant.sending c.in_ok-put.ensures
-
-pub runs-init : goal.runs-init
-runs-init g c = record { is_text = search rules; clear = search rules; sending = Sending-starts _ c.requires }
-
-pub returns-in_err-put : goal.returns-in_err-put
-returns-in_err-put g c =
-    let p = err_from_is_err_and c.from_residual.result c.from_residual.ensures.1 in
-    rw (p.1, p.2) (Sending-stops _ c.split_verbatim.ensures.bytes c.runs.invariant.sending c.in_err-put.ensures)
-
-pub returns-in_default : goal.returns-in_default
-returns-in_default g c =
-    let ended = ap (λ cs. encode_utf8_all (escaped c.args.policy cs)) c.in_default.ensures.characters in
-    Sending-ends (subst (Sending _ _ _ _ _ _) ended (after_run g (goal.at.returns-in_default g c).In_ok-put))
-
-pub returns-in_err-put_escape : goal.returns-in_err-put_escape
-returns-in_err-put_escape g c =
-    let p = err_from_is_err_and c.from_residual-in_err-put_escape.result c.from_residual-in_err-put_escape.ensures.1 in
-    let parts = c.in-Some.ensures.characters in
-    let next = escaped-next c.args.policy c.in-Some.c _ _ parts (escaped-first c.args.policy c.in-Some.c _ _ parts c.split_verbatim.ensures.next) in
-    rw (p.1, p.2) (Sending-stops _ next (after_run g (goal.at.returns-in_err-put_escape g c).In_ok-put) c.in_err-put_escape.ensures)
-
-pub runs-preserved : goal.runs-preserved
-runs-preserved g c =
-    let parts = c.in-Some.ensures.characters in
-    let next = escaped-next c.args.policy c.in-Some.c _ _ parts (escaped-first c.args.policy c.in-Some.c _ _ parts c.split_verbatim.ensures.next) in
-    record {
-      is_text = search rules;
-      clear = search rules;
-      sending = Sending-goes_on _ next (after_run g (goal.at.runs-preserved g c).In_ok-put) c.in_ok-put_escape.ensures;
-    }
+pub returns-then-is_empty : goal.returns-then-is_empty
+returns-then-is_empty g c =
+    let run = c.split_verbatim.result.0.now in
+    let none = escaped_bytes-nil c.args.policy c.split_verbatim.result.1.now (eqb-true _ 0 (sym c.is_empty.ensures ∙ c.if-is_empty.true)) in
+    subst (Sends g.W.Write.contents c.args.out.now c.put.new.out _ _ c.put.result) (sym (c.split_verbatim.ensures.bytes ∙ ap (λ x. run ++ x) none ∙ append-nil run)) c.put.ensures

@@ -1,5 +1,5 @@
 use Rattle.ini_text.proofs.SendLemmas.{Sends-direct, Sends-then}
-use Rattle.ini_text.proofs.gather.Gatherer.put_bytes.Goals as goal
+use Rattle.ini_text.proofs.gather.Gatherer.put_through.Goals as goal
 
 pub returns : goal.returns
 returns g c =

@@ -5,7 +5,7 @@ use Rattle.ini_text.specs.Escapes.{escaped_bytes}
 use Rattle.ini_text.specs.Held.{held}
 use Rattle.ini_text.specs.Watched.{IsClear}
 use Rattle.ini_text.proofs.SendLemmas.{Sending}
-use Rattle.ini_text.proofs.gather.Gatherer.put_escaped.Given as goal
+use Rattle.ini_text.proofs.gather.Gatherer.put_runs.Given as goal
 
 abbrev pub invariant-runs : goal.invariant-runs
 invariant-runs g l = record {
