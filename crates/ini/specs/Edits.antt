@@ -30,6 +30,14 @@ replace_in name key value d = edit_section name (λ pairs. set_value (is_text ke
 abbrev pub delete_in_all : Option Text → Text → Document → Document
 delete_in_all name key d = map (λ s. (s.0, if is_name name s.0 then removed key s.1 else s.1)) d
 
+-- the first section of the name is `pairs`
+abbrev pub section_set : Option Text → Pairs → Document → Document
+section_set name pairs d = set_value (is_name name) d pairs
+
 -- the first section of the name is `pairs`, or a new last one is
 abbrev pub with_section : Option Text → Document → Pairs → Document
 with_section name d pairs = edit_section name (λ _. pairs) ((name, pairs) ∷ []) d
+
+-- the same as an edit of the document
+abbrev pub section_put : Option Text → Pairs → Document → Document
+section_put name pairs d = with_section name d pairs

@@ -1,11 +1,11 @@
 -- What is known of the bytes of files: of some file, that the runtime gave.
-use Rattle.std.specs.Prelude.{ℕ, true, List, Option, encode_utf8_all}
-use Rattle.std.specs.Io.KnownBytes.{Appends}
+use Rattle.std.specs.Prelude.{ℕ, true, List, Option}
 use Rattle.ini_text.specs.declared.error.ParseError.{ParseError}
 use Rattle.ini_text.specs.declared.option.ParseOption.{ParseOption}
 use Rattle.ini.specs.Texts.{Text}
 use Rattle.ini.specs.Documents.{Document}
 use Rattle.ini.specs.Loading.{AreNoText, IsDocumentOfBytes, IsStopOfBytes}
+use Rattle.ini.specs.Writes.{IsWrittenTo}
 
 module _ {F : Type 0} (remaining : F → Option (List ℕ)) where
   -- it is the document of a file's bytes, without a mark at their front
@@ -23,4 +23,4 @@ module _ {F : Type 0} (remaining : F → Option (List ℕ)) where
 module _ {F : Type 0} (contents : F → Option (List ℕ)) where
   -- the text's bytes were appended to those of a file
   abbrev pub IsWrittenToFile : Text → Type 0
-  IsWrittenToFile text = (old : F) × (new : F) × Appends (contents old) (contents new) (encode_utf8_all text)
+  IsWrittenToFile text = (old : F) × (new : F) × IsWrittenTo contents old new text

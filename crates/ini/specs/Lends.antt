@@ -1,7 +1,8 @@
 -- What properties and a document end as, once a `&mut` into them has ended: one part is what was last written there, and the rest stays.
-use Rattle.std.specs.Prelude.{◌-◌, [], ◌∷◌, ◌++◌, length, Option, Result}
+use Rattle.std.specs.Prelude.{◌-◌, [], ◌∷◌, ◌++◌, length, Option, Result, String}
 use Rattle.std.specs.Borrow.{Fml, RattleType, MutBor, Lends, LendsIf, LendsIfOk}
 use Rattle.std.specs.Map.{set_value}
+use Rattle.std.specs.Option.{option_copied_mut, option_map}
 use Rattle.std.specs.contracts.string.String as string
 use Rattle.std.specs.contracts.alloc.Global as global
 use Rattle.std.specs.contracts.impls.GlobalAllocator.TheImpl.{ghosts}
@@ -16,6 +17,10 @@ use Rattle.ini.specs.contracts.properties.Properties as properties
 -- the type `String`, as the logic names it
 abbrev pub string_row : RattleType
 string_row = string.the_row global.the_row ghosts
+
+-- the text of the string that is lent, if one is
+abbrev pub lent_text : {Z : Type 0} → Option (MutBor (String Z)) → Option Text
+lent_text r = option_map text_of (option_copied_mut r)
 
 -- the first value of the key
 abbrev pub lends_value : MutBor Pairs → Text → Option (MutBor string_row.Denot) → Fml

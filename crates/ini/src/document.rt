@@ -1,15 +1,19 @@
 //! Documents: sections in order. This file knows the multimap's calls and those of `Properties`, and copies
 //! names, keys and values without a look at their characters.
-ghost use Rattle.std.specs.Prelude.{◌≡◌, ◌==◌, ◌<◌, ◌^◌, ◌-◌, [], ◌∷◌, ◌++◌, length, slice_get, IsSome, IfNone, IfErr, IfOk, IsOkUnless, OnOk, OnErr, Some, None, alloc_error, unwrap_or};
+ghost use Rattle.std.specs.Prelude.{◌≡◌, ◌==◌, ◌<◌, ◌^◌, ◌-◌, [], ◌∷◌, ◌++◌, length, slice_get};
+ghost use Rattle.std.specs.Prelude.{Some, None, IsSome, IfNone, IfErr, IfOk, IsOkUnless, OnOk, OnErr};
+ghost use Rattle.std.specs.Prelude.{alloc_error, unwrap_or};
 ghost use Rattle.std.specs.Borrow.{sem};
 ghost use Rattle.std.specs.Map.{set_value, values_of};
 ghost use Rattle.std.specs.Option.{option_map, option_copied, option_copied_mut};
 ghost use Rattle.std.specs.Str.{chars};
 ghost use Rattle.ini.specs.Texts.{IsTextName, Text, is_name, name_of, str_name, str_text, text_of};
 ghost use Rattle.ini.specs.Properties.{Pairs};
-ghost use Rattle.ini.specs.Documents.{first_section, names, section_removed, sections_named, value_in, with_pair};
+ghost use Rattle.ini.specs.Documents.{first_section, names, section_removed, sections_named};
+ghost use Rattle.ini.specs.Documents.{value_in, with_pair};
 ghost use Rattle.ini.specs.Edits.{add_in, delete_in, delete_in_all, replace_in, set_in};
-ghost use Rattle.ini.specs.Lends.{lends_found_section, lends_last_section, lends_new_section, lends_section, lends_value_in};
+ghost use Rattle.ini.specs.Lends.{lends_found_section, lends_last_section, lends_new_section, lends_section};
+ghost use Rattle.ini.specs.Lends.{lends_value_in, lent_text};
 ghost use Rattle.ini.specs.Walks.{section_all_mut_rest, section_iter_mut_rest};
 
 use crate::entry::NoRoom;
@@ -99,7 +103,8 @@ impl Ini {
     pub fn section_mut(&mut self, name: Option<&str>) -> Option<&mut Properties>
         ensures* writes_back { sem 𝓛 (lends_section self.entry (str_name name.entry) result) }
         ensures section { option_copied_mut result ≡ first_section (str_name name.entry) self.old }
-        ensures none_to_set { IfNone result ((pairs : Pairs) → set_value (is_name (str_name name.entry)) self.old pairs ≡ self.old) }
+        ensures none_to_set { IfNone result
+            ((pairs : Pairs) → set_value (is_name (str_name name.entry)) self.old pairs ≡ self.old) }
     {
         name_is_text(name);
         self.sections.get_mut(name)
@@ -134,16 +139,19 @@ impl Ini {
 
     /// What `get_from` answers, or the default.
     pub fn get_from_or<'a>(&'a self, name: Option<&str>, key: &str, default: &'a str) -> &'a str
-        ensures { str_text result ≡ unwrap_or (value_in (str_name name.entry) (chars key.now) self.now) (chars default.now) }
+        ensures { str_text result
+            ≡ unwrap_or (value_in (str_name name.entry) (chars key.now) self.now) (chars default.now) }
     {
         self.get_from(name, key).unwrap_or(default)
     }
 
     /// The value that `get_from` answers, for writing. The rest stays.
     pub fn get_from_mut(&mut self, name: Option<&str>, key: &str) -> Option<&mut String>
-        ensures* writes_back { sem 𝓛 (lends_value_in self.entry (str_name name.entry) (chars key.now) result) }
-        ensures value { option_map text_of (option_copied_mut result) ≡ value_in (str_name name.entry) (chars key.now) self.old }
-        ensures none_to_set { IfNone result ((value : Text) → replace_in (str_name name.entry) (chars key.now) value self.old ≡ self.old) }
+        ensures* writes_back { sem 𝓛
+            (lends_value_in self.entry (str_name name.entry) (chars key.now) result) }
+        ensures value { lent_text result ≡ value_in (str_name name.entry) (chars key.now) self.old }
+        ensures none_to_set { IfNone result
+            ((value : Text) → replace_in (str_name name.entry) (chars key.now) value self.old ≡ self.old) }
     {
         self.section_mut(name)?.get_mut(key)
     }
@@ -155,10 +163,12 @@ impl Ini {
     /// takes no memory.
     #[tactic(auto, using(crate::proofs::EditLemmas::edits))]
     pub fn set_to(&mut self, name: Option<&str>, key: String, value: String) -> Result<(), Error>
-        ensures set { OnOk result (self.new ≡ set_in (str_name name.entry) (text_of key) (text_of value) self.old) }
+        ensures set { OnOk result
+            (self.new ≡ set_in (str_name name.entry) (text_of key) (text_of value) self.old) }
         ensures unchanged { OnErr result (self.new ≡ self.old) }
         ensures only_memory { IsOkUnless result (Error.Memory alloc_error) }
-        ensures refused_only_if_new { OnErr result (value_in (str_name name.entry) (text_of key) self.old ≡ None) }
+        ensures refused_only_if_new { OnErr result
+            (value_in (str_name name.entry) (text_of key) self.old ≡ None) }
     {
         match self.section_mut(name) {
             Some(section) => section.put(key, value),
@@ -168,7 +178,8 @@ impl Ini {
 
     // As `set_to`, of copies.
     pub(crate) fn set(&mut self, name: Option<&str>, key: &str, value: &str) -> Result<(), Error>
-        ensures set { OnOk result (self.new ≡ set_in (str_name name.entry) (chars key.now) (chars value.now) self.old) }
+        ensures set { OnOk result
+            (self.new ≡ set_in (str_name name.entry) (chars key.now) (chars value.now) self.old) }
         ensures unchanged { OnErr result (self.new ≡ self.old) }
         ensures only_memory { IsOkUnless result (Error.Memory alloc_error) }
     {
@@ -180,7 +191,8 @@ impl Ini {
     // Appends the pair to the first section of the name; where there is none a new one is opened last.
     #[tactic(auto, using(crate::proofs::EditLemmas::edits))]
     fn add_to(&mut self, name: Option<&str>, key: String, value: String) -> Result<(), Error>
-        ensures added { OnOk result (self.new ≡ add_in (str_name name.entry) (text_of key) (text_of value) self.old) }
+        ensures added { OnOk result
+            (self.new ≡ add_in (str_name name.entry) (text_of key) (text_of value) self.old) }
         ensures unchanged { OnErr result (self.new ≡ self.old) }
         ensures only_memory { IsOkUnless result (Error.Memory alloc_error) }
     {
@@ -192,7 +204,8 @@ impl Ini {
 
     // As `add_to`, of copies.
     pub(crate) fn add(&mut self, name: Option<&str>, key: &str, value: &str) -> Result<(), Error>
-        ensures added { OnOk result (self.new ≡ add_in (str_name name.entry) (chars key.now) (chars value.now) self.old) }
+        ensures added { OnOk result
+            (self.new ≡ add_in (str_name name.entry) (chars key.now) (chars value.now) self.old) }
         ensures unchanged { OnErr result (self.new ≡ self.old) }
         ensures only_memory { IsOkUnless result (Error.Memory alloc_error) }
     {
@@ -203,7 +216,8 @@ impl Ini {
 
     // Puts a new section with one pair last.
     fn open(&mut self, name: Option<&str>, key: String, value: String) -> Result<(), Error>
-        ensures opened { OnOk result (self.new ≡ self.old ++ (str_name name.entry, (text_of key, text_of value) ∷ []) ∷ []) }
+        ensures opened { OnOk result
+            (self.new ≡ self.old ++ (str_name name.entry, (text_of key, text_of value) ∷ []) ∷ []) }
         ensures unchanged { OnErr result (self.new ≡ self.old) }
         ensures only_memory { IsOkUnless result (Error.Memory alloc_error) }
     {

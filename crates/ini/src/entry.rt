@@ -1,5 +1,6 @@
 //! A name's place in a document: vacant, or occupied by its first section. This file knows the calls of a document.
-ghost use Rattle.std.specs.Prelude.{◌≡◌, ◌++◌, ◌∷◌, [], IfErr, IfOk, IsSome, MatchOption, None, OnErr, OnOk, Some, unwrap_or, ⊤};
+ghost use Rattle.std.specs.Prelude.{◌≡◌, ◌++◌, ◌∷◌, [], IfErr, IfOk, IsSome, MatchOption, None, OnErr, OnOk};
+ghost use Rattle.std.specs.Prelude.{Some, unwrap_or, ⊤};
 ghost use Rattle.std.specs.Borrow.{sem};
 ghost use Rattle.ini.specs.Texts.{name_of};
 ghost use Rattle.ini.specs.Documents.{first_section};
@@ -55,14 +56,15 @@ pub struct SectionOccupiedEntry<'a> {
 }
 
 impl Ini {
-    ghost use Rattle.ini.specs.Entries.{MatchEntry, entry_document, entry_name};
+    ghost use Rattle.ini.specs.Entries.{MatchEntry, entry_document, entry_name, entry_now};
 
     /// The name's place: occupied where a section of the name is there. Takes no memory.
     pub fn entry(&mut self, name: SectionKey) -> SectionEntry<'_>
         ensures same_document { (entry_document result).ghost_name ≡ self.entry.ghost_name }
-        ensures unchanged { (entry_document result).now ≡ self.old }
+        ensures unchanged { entry_now result ≡ self.old }
         ensures name { entry_name result ≡ name_of name }
-        ensures found { MatchEntry result (first_section (name_of name) self.old ≡ None) (IsSome (first_section (name_of name) self.old)) }
+        ensures found { let section = first_section (name_of name) self.old in
+            MatchEntry result (section ≡ None) (IsSome section) }
     {
         if self.section(lent(&name)).is_some() {
             SectionEntry::Occupied(SectionOccupiedEntry { ini: self, name })
@@ -73,12 +75,13 @@ impl Ini {
 }
 
 impl<'a> SectionEntry<'a> {
-    ghost use Rattle.ini.specs.Entries.{MatchEntry, entry_document, entry_lends_ok, entry_name};
+    ghost use Rattle.ini.specs.Entries.{MatchEntry, entry_document, entry_lends_ok, entry_now};
+    ghost use Rattle.ini.specs.Entries.{entry_section};
 
     /// Gives the place up, and hands the document back as it is.
     pub fn into_document(self) -> &'a mut Ini
         ensures same_document { result.ghost_name ≡ (entry_document self.entry).ghost_name }
-        ensures unchanged { result.now ≡ (entry_document self.entry).now }
+        ensures unchanged { result.now ≡ entry_now self.entry }
     {
         match self {
             SectionEntry::Vacant(entry) => entry.into_document(),
@@ -92,9 +95,9 @@ impl<'a> SectionEntry<'a> {
     /// refused.
     pub fn or_insert(self, value: Properties) -> Result<&'a mut Properties, NoRoom>
         ensures* writes_back { sem 𝓛 (entry_lends_ok self.entry result) }
-        ensures value { IfOk result (λ section. section.now ≡ unwrap_or (first_section (entry_name self.entry) (entry_document self.entry).now) value) }
+        ensures value { IfOk result (λ section. section.now ≡ unwrap_or (entry_section self.entry) value) }
         ensures handed_back { IfErr result (λ refused. refused.value ≡ value) }
-        ensures refused_only_if_vacant { OnErr result (first_section (entry_name self.entry) (entry_document self.entry).now ≡ None) }
+        ensures refused_only_if_vacant { OnErr result (entry_section self.entry ≡ None) }
     {
         self.or_insert_with(|| value)
     }
@@ -106,9 +109,10 @@ impl<'a> SectionEntry<'a> {
     ) -> Result<&'a mut Properties, NoRoom>
         requires { MatchEntry self (F.pre default) ⊤ }
         ensures* writes_back { sem 𝓛 (entry_lends_ok self.entry result) }
-        ensures value { IfOk result (λ section. MatchOption (first_section (entry_name self.entry) (entry_document self.entry).now) (F.post default section.now) (λ found. section.now ≡ found)) }
+        ensures value { IfOk result (λ section. MatchOption (entry_section self.entry)
+            (F.post default section.now) (λ found. section.now ≡ found)) }
         ensures handed_back { IfErr result (λ refused. F.post default refused.value) }
-        ensures refused_only_if_vacant { OnErr result (first_section (entry_name self.entry) (entry_document self.entry).now ≡ None) }
+        ensures refused_only_if_vacant { OnErr result (entry_section self.entry ≡ None) }
     {
         match self {
             SectionEntry::Vacant(entry) => entry.insert(default()),
@@ -118,12 +122,12 @@ impl<'a> SectionEntry<'a> {
 }
 
 impl<'a> SectionVacantEntry<'a> {
-    ghost use Rattle.ini.specs.Entries.{entry_document, entry_lends_ok, vacant};
+    ghost use Rattle.ini.specs.Entries.{entry_document, entry_lends_ok, entry_now, vacant};
 
     /// Gives the place up, and hands the document back as it is.
     pub fn into_document(self) -> &'a mut Ini
         ensures same_document { result.ghost_name ≡ (entry_document (vacant self.entry)).ghost_name }
-        ensures unchanged { result.now ≡ (entry_document (vacant self.entry)).now }
+        ensures unchanged { result.now ≡ entry_now (vacant self.entry) }
     {
         let SectionVacantEntry { ini, name: _ } = self;
         ini
@@ -143,12 +147,13 @@ impl<'a> SectionVacantEntry<'a> {
 }
 
 impl<'a> SectionOccupiedEntry<'a> {
-    ghost use Rattle.ini.specs.Entries.{entry_document, entry_lends, entry_name, occupied};
+    ghost use Rattle.ini.specs.Entries.{InSameDocument, entry_document, entry_lends, entry_name, entry_now};
+    ghost use Rattle.ini.specs.Entries.{entry_section, occupied};
 
     /// Gives the place up, and hands the document back as it is.
     pub fn into_document(self) -> &'a mut Ini
         ensures same_document { result.ghost_name ≡ (entry_document (occupied self.entry)).ghost_name }
-        ensures unchanged { result.now ≡ (entry_document (occupied self.entry)).now }
+        ensures unchanged { result.now ≡ entry_now (occupied self.entry) }
     {
         let SectionOccupiedEntry { ini, name: _ } = self;
         ini
@@ -157,7 +162,7 @@ impl<'a> SectionOccupiedEntry<'a> {
     /// The first section of the name, for writing.
     pub fn into_mut(self) -> &'a mut Properties
         ensures* writes_back { sem 𝓛 (entry_lends (occupied self.entry) result) }
-        ensures section { first_section (entry_name (occupied self.entry)) (entry_document (occupied self.entry)).now ≡ Some result.now }
+        ensures section { entry_section (occupied self.entry) ≡ Some result.now }
     {
         let SectionOccupiedEntry { ini, name } = self;
         ini.first_section_mut(&name)
@@ -167,10 +172,11 @@ impl<'a> SectionOccupiedEntry<'a> {
     ///
     /// Refused, for want of memory alone, it hands the properties back, and the document stays as it was.
     pub fn append(&mut self, value: Properties) -> Result<(), NoRoom>
-        ensures same_document { (entry_document (occupied self.new)).ghost_name ≡ (entry_document (occupied self.old)).ghost_name }
+        ensures same_document { InSameDocument (occupied self.old) (occupied self.new) }
         ensures name { entry_name (occupied self.new) ≡ entry_name (occupied self.old) }
-        ensures appended { OnOk result ((entry_document (occupied self.new)).now ≡ (entry_document (occupied self.old)).now ++ (entry_name (occupied self.old), value) ∷ []) }
-        ensures unchanged { OnErr result ((entry_document (occupied self.new)).now ≡ (entry_document (occupied self.old)).now) }
+        ensures appended { OnOk result (entry_now (occupied self.new)
+            ≡ entry_now (occupied self.old) ++ (entry_name (occupied self.old), value) ∷ []) }
+        ensures unchanged { OnErr result (entry_now (occupied self.new) ≡ entry_now (occupied self.old)) }
         ensures handed_back { IfErr result (λ refused. refused.value ≡ value) }
     {
         match self.name.clone() {

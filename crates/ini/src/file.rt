@@ -1,8 +1,8 @@
 //! Documents from files and into files. This file opens them, and leaves the rest to reading and writing.
 ghost use Rattle.std.specs.Prelude.{IfErr, IfOk, OnOk, false};
 ghost use Rattle.ini_text.specs.Faults.{IsIoOrNoProgress};
-ghost use Rattle.ini_text.specs.Options.{default_parse_option};
-ghost use Rattle.ini_text.specs.WriteOptions.{IsDefaultWriteOption};
+ghost use Rattle.ini_text.specs.Options.{default_parse_option, without_escapes};
+ghost use Rattle.ini_text.specs.WriteOptions.{IsDefaultWriteOption, with_policy};
 ghost use Rattle.ini_text.specs.declared.write_option.WriteOption.{WriteOption};
 ghost use Rattle.ini.specs.Documents.{HasGeneral};
 ghost use Rattle.ini.specs.Files.{IsDocumentOfFile, IsNoTextOfFile, IsStopOfFile, IsWrittenToFile};
@@ -34,11 +34,9 @@ impl Ini {
         alloc: Global,
         path: Path<'_>,
     ) -> Result<Ini, Error>
-        ensures document { let option = record default_parse_option { enabled_escape = false } in
-            IfOk result (IsDocumentOfFile R.File.remaining option) }
+        ensures document { IfOk result (IsDocumentOfFile R.File.remaining without_escapes) }
         ensures general { IfOk result HasGeneral }
-        ensures fault { let option = record default_parse_option { enabled_escape = false } in
-            IfParse result (IsStopOfFile R.File.remaining option) }
+        ensures fault { IfParse result (IsStopOfFile R.File.remaining without_escapes) }
         ensures not_utf8 { IsNotUtf8 result → IsNoTextOfFile R.File.remaining }
         ensures only { IfErr result IsReadRefusal }
     {
@@ -96,7 +94,7 @@ impl Ini {
         policy: EscapePolicy,
     ) -> Result<(), Error>
         ensures bytes { (w : WriteOption) → IsDefaultWriteOption w
-            → OnOk result (IsWrittenToFile R.File.contents (written self.now (record w { escape_policy = policy }))) }
+            → OnOk result (IsWrittenToFile R.File.contents (written self.now (with_policy policy w))) }
         ensures only { IfErr result IsIoOrNoProgress }
     {
         let option = WriteOption {

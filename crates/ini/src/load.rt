@@ -1,13 +1,16 @@
 //! Documents from texts, and from the bytes of a reader. This file folds the items of a text; of characters it knows the
 //! mark alone that may stand before a text.
-ghost use Rattle.std.specs.Prelude.{◌≡◌, ◌<◌, ◌↔◌, length, chars, false, true, IfOk, IfErr, IfSome, IsOkUnless, OnOk, alloc_error};
+ghost use Rattle.std.specs.Prelude.{◌≡◌, ◌<◌, ◌↔◌, length, chars, false, true, alloc_error};
+ghost use Rattle.std.specs.Prelude.{IfOk, IfErr, IfSome, IsOkUnless, OnOk};
 ghost use Rattle.std.specs.Io.KnownBytes.{IsAtEnd};
 ghost use Rattle.ini_text.specs.Faults.{IsIo, faults_in};
 ghost use Rattle.ini_text.specs.Items.{item_of};
-ghost use Rattle.ini_text.specs.Options.{default_parse_option};
+ghost use Rattle.ini_text.specs.Options.{default_parse_option, without_escapes};
 ghost use Rattle.ini_text.specs.Watched.{IsClear, SameDevice, device_now, failure_count, stall_count};
 ghost use Rattle.ini.specs.Documents.{HasGeneral, with_item};
-ghost use Rattle.ini.specs.Loading.{AreNoText, IfParse, IsDocumentOf, IsDocumentOfBytes, IsIoOrMemory, IsNotUtf8, IsParseOrMemory, IsReadRefusal, IsStopOf, IsStopOfBytes, OnReadThrough, without_mark};
+ghost use Rattle.ini.specs.Loading.{AreNoText, IfParse, IsDocumentOf, IsDocumentOfBytes, IsIoOrMemory};
+ghost use Rattle.ini.specs.Loading.{IsNotUtf8, IsParseOrMemory, IsReadRefusal, IsStopOf, IsStopOfBytes};
+ghost use Rattle.ini.specs.Loading.{OnReadThrough, without_mark};
 
 use crate::document::Ini;
 use crate::properties::Properties;
@@ -28,9 +31,9 @@ impl Ini {
 
     /// The document of a text, by the default options but without escapes. The rest is as `load_from_str_opt` has it.
     pub fn load_from_str_noescape(alloc: Global, text: &str) -> Result<Ini, Error>
-        ensures document { let option = record default_parse_option { enabled_escape = false } in IfOk result (IsDocumentOf option (chars text.now)) }
+        ensures document { IfOk result (IsDocumentOf without_escapes (chars text.now)) }
         ensures general { IfOk result HasGeneral }
-        ensures fault { let option = record default_parse_option { enabled_escape = false } in IfParse result (IsStopOf option (chars text.now)) }
+        ensures fault { IfParse result (IsStopOf without_escapes (chars text.now)) }
         ensures only { IfErr result IsParseOrMemory }
     {
         let option = ParseOption {
@@ -62,7 +65,8 @@ impl Ini {
     /// The document of a reader's bytes, by the default options. A mark at their front is text. The rest is as
     /// `read_watched` has it.
     pub fn read_from<R: Read>(alloc: Global, reader: &mut R) -> Result<Ini, Error>
-        ensures document { IfOk result (IsDocumentOfBytes default_parse_option false (R.remaining reader.old)) }
+        ensures document { IfOk result
+            (IsDocumentOfBytes default_parse_option false (R.remaining reader.old)) }
         ensures general { IfOk result HasGeneral }
         ensures fault { IfParse result (IsStopOfBytes default_parse_option false (R.remaining reader.old)) }
         ensures not_utf8 { IsNotUtf8 result → AreNoText false (R.remaining reader.old) }
@@ -75,9 +79,9 @@ impl Ini {
     /// The document of a reader's bytes, by the default options but without escapes. A mark at their front is text. The
     /// rest is as `read_watched` has it.
     pub fn read_from_noescape<R: Read>(alloc: Global, reader: &mut R) -> Result<Ini, Error>
-        ensures document { let option = record default_parse_option { enabled_escape = false } in IfOk result (IsDocumentOfBytes option false (R.remaining reader.old)) }
+        ensures document { IfOk result (IsDocumentOfBytes without_escapes false (R.remaining reader.old)) }
         ensures general { IfOk result HasGeneral }
-        ensures fault { let option = record default_parse_option { enabled_escape = false } in IfParse result (IsStopOfBytes option false (R.remaining reader.old)) }
+        ensures fault { IfParse result (IsStopOfBytes without_escapes false (R.remaining reader.old)) }
         ensures not_utf8 { IsNotUtf8 result → AreNoText false (R.remaining reader.old) }
         ensures end { OnReadThrough result (IsAtEnd (R.remaining reader.new)) }
         ensures only { IfErr result IsReadRefusal }
@@ -138,7 +142,8 @@ impl Ini {
     ) -> Result<Ini, Error>
         requires { IsClear reader.old }
         ensures same_device { SameDevice reader.old reader.new }
-        ensures document { IfOk result (IsDocumentOfBytes opt drop_mark (R.remaining (device_now reader.old))) }
+        ensures document { IfOk result
+            (IsDocumentOfBytes opt drop_mark (R.remaining (device_now reader.old))) }
         ensures general { IfOk result HasGeneral }
         ensures fault { IfParse result (IsStopOfBytes opt drop_mark (R.remaining (device_now reader.old))) }
         ensures not_utf8 { IsNotUtf8 result → AreNoText drop_mark (R.remaining (device_now reader.old)) }
@@ -168,7 +173,8 @@ const PIECE: usize = 0x1_0000;
 fn read_to_end<R: Read>(alloc: Global, reader: &mut Watched<'_, R>) -> Result<Vec<u8>, Error>
     requires { IsClear reader.old }
     ensures same_device { SameDevice reader.old reader.new }
-    ensures bytes { IfOk result (λ read. IfSome (R.remaining (device_now reader.old)) (λ bytes. read.items ≡ bytes)) }
+    ensures bytes { IfOk result
+        (λ read. IfSome (R.remaining (device_now reader.old)) (λ bytes. read.items ≡ bytes)) }
     ensures end { OnOk result (IsAtEnd (R.remaining (device_now reader.new))) }
     ensures failures { failure_count reader.new ≡ faults_in result }
     ensures stalls { stall_count reader.new ≡ 0 }

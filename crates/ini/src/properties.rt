@@ -1,12 +1,14 @@
 //! The pairs of a section. This file knows the multimap's calls, and nothing of sections.
-ghost use Rattle.std.specs.Prelude.{◌≡◌, ◌==◌, ◌<◌, ◌^◌, ◌↔◌, [], ◌∷◌, ◌++◌, length, is_some, IsTrue, IsSome, Some, None, IfOk, IsOkUnless, OnOk, OnErr, alloc_error};
+ghost use Rattle.std.specs.Prelude.{◌≡◌, ◌==◌, ◌<◌, ◌^◌, ◌↔◌, [], ◌∷◌, ◌++◌, length, is_some};
+ghost use Rattle.std.specs.Prelude.{IsTrue, IsSome, Some, None, IfOk, IsOkUnless, OnOk, OnErr, alloc_error};
 ghost use Rattle.std.specs.Borrow.{sem};
-ghost use Rattle.std.specs.Option.{option_map, option_copied_mut};
+ghost use Rattle.std.specs.Option.{option_map};
 ghost use Rattle.std.specs.Str.{chars};
 ghost use Rattle.ini.specs.Texts.{str_text, text_of};
-ghost use Rattle.ini.specs.Properties.{all_removed, distinct, first_value, inserted, pairs_of, removed, values};
+ghost use Rattle.ini.specs.Properties.{all_removed, distinct, first_value, inserted};
+ghost use Rattle.ini.specs.Properties.{pairs_of, removed, values};
 ghost use Rattle.ini.specs.Equality.{is_pairs, is_pairs_laws};
-ghost use Rattle.ini.specs.Lends.{lends_value};
+ghost use Rattle.ini.specs.Lends.{lends_value, lent_text};
 ghost use Rattle.ini.specs.Walks.{property_iter_mut_rest};
 
 use crate::iter::{
@@ -91,7 +93,7 @@ impl Properties {
     // The first value of the key, for writing. The rest stays.
     pub(crate) fn get_mut(&mut self, key: &str) -> Option<&mut String>
         ensures* writes_back { sem 𝓛 (lends_value self.entry (chars key.now) result) }
-        ensures value { option_map text_of (option_copied_mut result) ≡ first_value (chars key.now) self.old }
+        ensures value { lent_text result ≡ first_value (chars key.now) self.old }
     {
         self.pairs.get_mut(key)
     }

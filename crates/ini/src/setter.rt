@@ -6,7 +6,8 @@ ghost use Rattle.std.specs.Str.{chars};
 ghost use Rattle.ini.specs.Texts.{Text, str_name, str_text};
 ghost use Rattle.ini.specs.Documents.{value_in};
 ghost use Rattle.ini.specs.Edits.{add_in, delete_in_all, set_in};
-ghost use Rattle.ini.specs.Setter.{lent_name, rests_if_refused, setter_document, setter_name};
+ghost use Rattle.ini.specs.Setter.{EditsSameDocument, lent_name, rests_if_refused};
+ghost use Rattle.ini.specs.Setter.{setter_document, setter_name, setter_now};
 
 use crate::document::Ini;
 use ini_text::Error;
@@ -63,7 +64,7 @@ impl Ini {
     /// A setter for the sections of the name. Takes no memory.
     pub fn with_section<'a>(&'a mut self, name: Option<&'a str>) -> SectionSetter<'a>
         ensures same_document { (setter_document result).ghost_name ≡ self.entry.ghost_name }
-        ensures document { (setter_document result).now ≡ self.old }
+        ensures document { setter_now result ≡ self.old }
         ensures name { lent_name (setter_name result) ≡ str_name name.entry }
     {
         SectionSetter {
@@ -75,7 +76,7 @@ impl Ini {
     /// A setter for the general sections. Takes no memory.
     pub fn with_general_section(&mut self) -> SectionSetter<'_>
         ensures same_document { (setter_document result).ghost_name ≡ self.entry.ghost_name }
-        ensures document { (setter_document result).now ≡ self.old }
+        ensures document { setter_now result ≡ self.old }
         ensures name { lent_name (setter_name result) ≡ None }
     {
         self.with_section(None)
@@ -88,8 +89,10 @@ impl<'a, N: SectionName> SectionSetter<'a, N> {
     ///
     /// Refused, for want of memory alone, the document stays as it was, and the setter is gone.
     pub fn set(self, key: &str, value: &str) -> Result<SectionSetter<'a, N>, Error>
-        ensures same_document { IfOk result (λ s. (setter_document s).ghost_name ≡ (setter_document self.entry).ghost_name) }
-        ensures set { IfOk result (λ s. (setter_document s).now ≡ set_in (N.section_name (setter_name self.entry)) (chars key.now) (chars value.now) (setter_document self.entry).now) }
+        ensures same_document { IfOk result (EditsSameDocument self.entry) }
+        ensures set { IfOk result (λ s. setter_now s
+            ≡ set_in (N.section_name (setter_name self.entry)) (chars key.now) (chars value.now)
+            (setter_now self.entry)) }
         ensures name { IfOk result (λ s. setter_name s ≡ setter_name self.entry) }
         ensures only_memory { IsOkUnless result (Error.Memory alloc_error) }
         ensures* unchanged { sem 𝓛 (rests_if_refused (setter_document self.entry) result) }
@@ -106,8 +109,10 @@ impl<'a, N: SectionName> SectionSetter<'a, N> {
     ///
     /// Refused, for want of memory alone, the document stays as it was, and the setter is gone.
     pub fn add(self, key: &str, value: &str) -> Result<SectionSetter<'a, N>, Error>
-        ensures same_document { IfOk result (λ s. (setter_document s).ghost_name ≡ (setter_document self.entry).ghost_name) }
-        ensures added { IfOk result (λ s. (setter_document s).now ≡ add_in (N.section_name (setter_name self.entry)) (chars key.now) (chars value.now) (setter_document self.entry).now) }
+        ensures same_document { IfOk result (EditsSameDocument self.entry) }
+        ensures added { IfOk result (λ s. setter_now s
+            ≡ add_in (N.section_name (setter_name self.entry)) (chars key.now) (chars value.now)
+            (setter_now self.entry)) }
         ensures name { IfOk result (λ s. setter_name s ≡ setter_name self.entry) }
         ensures only_memory { IsOkUnless result (Error.Memory alloc_error) }
         ensures* unchanged { sem 𝓛 (rests_if_refused (setter_document self.entry) result) }
@@ -121,7 +126,8 @@ impl<'a, N: SectionName> SectionSetter<'a, N> {
 
     /// The first value of the key in the first section of the name.
     pub fn get(&self, key: &str) -> Option<&str>
-        ensures { option_map str_text result ≡ value_in (N.section_name (setter_name self.now)) (chars key.now) (setter_document self.now).now }
+        ensures { option_map str_text result
+            ≡ value_in (N.section_name (setter_name self.now)) (chars key.now) (setter_now self.now) }
     {
         self.ini.get_from(self.name.name(), key)
     }
@@ -130,8 +136,9 @@ impl<'a, N: SectionName> SectionSetter<'a, N> {
 impl<'a> SectionSetter<'a> {
     /// Takes the first pair of the key out of every section of the name. The setter is handed on.
     pub fn delete(self, key: &str) -> SectionSetter<'a>
-        ensures same_document { (setter_document result).ghost_name ≡ (setter_document self.entry).ghost_name }
-        ensures deleted { (setter_document result).now ≡ delete_in_all (lent_name (setter_name self.entry)) (chars key.now) (setter_document self.entry).now }
+        ensures same_document { EditsSameDocument self.entry result }
+        ensures deleted { setter_now result
+            ≡ delete_in_all (lent_name (setter_name self.entry)) (chars key.now) (setter_now self.entry) }
         ensures name { setter_name result ≡ setter_name self.entry }
     {
         let SectionSetter { ini, name } = self;

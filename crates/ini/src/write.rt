@@ -1,15 +1,15 @@
 //! Documents on their way to a device. This file knows in which order the parts of a document are written, and leaves
 //! escapes and the device to `ini_text`.
-ghost use Rattle.std.specs.Prelude.{◌≡◌, ◌<◌, ◌↔◌, OnOk, IfErr, ◌++◌, Some, chars, encode_utf8_all};
-ghost use Rattle.std.specs.Io.KnownBytes.{Appends};
+ghost use Rattle.std.specs.Prelude.{◌≡◌, ◌<◌, ◌↔◌, OnOk, IfErr, ◌++◌, Some, chars};
 ghost use Rattle.ini_text.specs.Escapes.{escaped};
 ghost use Rattle.ini_text.specs.Faults.{IsIo, IsNoProgress, IsIoOrNoProgress, faults_in, stalls_in};
-ghost use Rattle.ini_text.specs.Watched.{AppendsFront, IsClear, SameDevice, device_now, failure_count, stall_count};
-ghost use Rattle.ini_text.specs.WriteOptions.{IsDefaultWriteOption};
+ghost use Rattle.ini_text.specs.Watched.{IsClear, SameDevice, device_now, failure_count, stall_count};
+ghost use Rattle.ini_text.specs.WriteOptions.{IsDefaultWriteOption, with_policy};
 ghost use Rattle.ini_text.specs.declared.write_option.WriteOption.{WriteOption};
 ghost use Rattle.ini.specs.Texts.{str_name, str_text};
-ghost use Rattle.ini.specs.Written.{written, written_gap, written_name, written_pair, written_pairs, written_section};
-ghost use Rattle.ini.specs.Writes.{Writes};
+ghost use Rattle.ini.specs.Written.{written, written_gap, written_name, written_pair};
+ghost use Rattle.ini.specs.Written.{written_pairs, written_section};
+ghost use Rattle.ini.specs.Writes.{IsFrontWrittenTo, IsWrittenTo, Writes};
 ghost use Rattle.ini_text.specs.Held.{held};
 
 use crate::document::Ini;
@@ -39,7 +39,8 @@ fn put_part<W: Write>(
     out: &mut Watched<'_, W>,
 ) -> Result<(), Error>
     requires { IsClear out.old }
-    ensures { Writes W.contents out.old out.new (held lines.old) (held lines.new) result (escaped policy (chars text.now) ++ chars behind.now) }
+    ensures { Writes W.contents out.old out.new (held lines.old) (held lines.new) result
+        (escaped policy (chars text.now) ++ chars behind.now) }
 {
     lines.put_escaped(text, policy, out)?;
     put_text(lines, behind, out)
@@ -54,7 +55,8 @@ fn write_pair<W: Write>(
     out: &mut Watched<'_, W>,
 ) -> Result<(), Error>
     requires { IsClear out.old }
-    ensures { Writes W.contents out.old out.new (held lines.old) (held lines.new) result (written_pair option.now (chars key.now, chars value.now)) }
+    ensures { Writes W.contents out.old out.new (held lines.old) (held lines.new) result
+        (written_pair option.now (chars key.now, chars value.now)) }
 {
     let policy = option.escape_policy;
     put_part(lines, key, option.kv_separator, policy, out)?;
@@ -69,7 +71,8 @@ fn write_pairs<W: Write>(
     out: &mut Watched<'_, W>,
 ) -> Result<(), Error>
     requires { IsClear out.old }
-    ensures { Writes W.contents out.old out.new (held lines.old) (held lines.new) result (written_pairs option.now pairs.now) }
+    ensures { Writes W.contents out.old out.new (held lines.old) (held lines.new) result
+        (written_pairs option.now pairs.now) }
 {
     for (key, value) in pairs {
         write_pair(lines, key, value, option, out)?;
@@ -85,7 +88,8 @@ fn write_header<W: Write>(
     out: &mut Watched<'_, W>,
 ) -> Result<(), Error>
     requires { IsClear out.old }
-    ensures { Writes W.contents out.old out.new (held lines.old) (held lines.new) result (written_name option.now (Some (chars name.now))) }
+    ensures { Writes W.contents out.old out.new (held lines.old) (held lines.new) result
+        (written_name option.now (Some (chars name.now))) }
 {
     put_text(lines, "[", out)?;
     put_part(lines, name, "]", option.escape_policy, out)?;
@@ -100,7 +104,8 @@ fn write_name<W: Write>(
     out: &mut Watched<'_, W>,
 ) -> Result<(), Error>
     requires { IsClear out.old }
-    ensures { Writes W.contents out.old out.new (held lines.old) (held lines.new) result (written_name option.now (str_name name.entry)) }
+    ensures { Writes W.contents out.old out.new (held lines.old) (held lines.new) result
+        (written_name option.now (str_name name.entry)) }
 {
     match name {
         Some(name) => write_header(lines, name, option, out),
@@ -118,7 +123,8 @@ fn write_gap<W: Write>(
     out: &mut Watched<'_, W>,
 ) -> Result<(), Error>
     requires { IsClear out.old }
-    ensures { Writes W.contents out.old out.new (held lines.old) (held lines.new) result (written_gap option.now earlier pairs.now) }
+    ensures { Writes W.contents out.old out.new (held lines.old) (held lines.new) result
+        (written_gap option.now earlier pairs.now) }
 {
     if earlier && !pairs.is_empty() {
         put_text(lines, option.line_separator.as_str(), out)
@@ -137,7 +143,8 @@ fn write_section<W: Write>(
     out: &mut Watched<'_, W>,
 ) -> Result<(), Error>
     requires { IsClear out.old }
-    ensures { Writes W.contents out.old out.new (held lines.old) (held lines.new) result (written_section option.now earlier (str_name name.entry, pairs.now)) }
+    ensures { Writes W.contents out.old out.new (held lines.old) (held lines.new) result
+        (written_section option.now earlier (str_name name.entry, pairs.now)) }
 {
     write_gap(lines, earlier, pairs, option, out)?;
     write_name(lines, name, option, out)?;
@@ -158,8 +165,10 @@ impl Ini {
     ) -> Result<(), Error>
         requires { IsClear out.old }
         ensures same_device { SameDevice out.old out.new }
-        ensures bytes { OnOk result (Appends (W.contents (device_now out.old)) (W.contents (device_now out.new)) (encode_utf8_all (written self.now option))) }
-        ensures front { AppendsFront (W.contents (device_now out.old)) (W.contents (device_now out.new)) (encode_utf8_all (written self.now option)) }
+        ensures bytes { OnOk result
+            (IsWrittenTo W.contents (device_now out.old) (device_now out.new) (written self.now option)) }
+        ensures front { IsFrontWrittenTo W.contents
+            (device_now out.old) (device_now out.new) (written self.now option) }
         ensures failures { failure_count out.new ≡ faults_in result }
         ensures stalls { stall_count out.new ≡ stalls_in result }
         ensures io { IsIo result ↔ (failure_count out.old < failure_count out.new) }
@@ -173,8 +182,10 @@ impl Ini {
 
     /// Writes the document's text to a writer, by the default options. The rest is as `write_watched` has it.
     pub fn write_to<W: Write>(&self, writer: &mut W) -> Result<(), Error>
-        ensures bytes { (w : WriteOption) → IsDefaultWriteOption w → OnOk result (Appends (W.contents writer.old) (W.contents writer.new) (encode_utf8_all (written self.now w))) }
-        ensures front { (w : WriteOption) → IsDefaultWriteOption w → AppendsFront (W.contents writer.old) (W.contents writer.new) (encode_utf8_all (written self.now w)) }
+        ensures bytes { (w : WriteOption) → IsDefaultWriteOption w
+            → OnOk result (IsWrittenTo W.contents writer.old writer.new (written self.now w)) }
+        ensures front { (w : WriteOption) → IsDefaultWriteOption w
+            → IsFrontWrittenTo W.contents writer.old writer.new (written self.now w) }
         ensures only { IfErr result IsIoOrNoProgress }
     {
         self.write_to_opt(writer, WriteOption::default())
@@ -187,8 +198,11 @@ impl Ini {
         writer: &mut W,
         policy: EscapePolicy,
     ) -> Result<(), Error>
-        ensures bytes { (w : WriteOption) → IsDefaultWriteOption w → OnOk result (Appends (W.contents writer.old) (W.contents writer.new) (encode_utf8_all (written self.now (record w { escape_policy = policy })))) }
-        ensures front { (w : WriteOption) → IsDefaultWriteOption w → AppendsFront (W.contents writer.old) (W.contents writer.new) (encode_utf8_all (written self.now (record w { escape_policy = policy }))) }
+        ensures bytes { (w : WriteOption) → IsDefaultWriteOption w
+            → OnOk result
+            (IsWrittenTo W.contents writer.old writer.new (written self.now (with_policy policy w))) }
+        ensures front { (w : WriteOption) → IsDefaultWriteOption w
+            → IsFrontWrittenTo W.contents writer.old writer.new (written self.now (with_policy policy w)) }
         ensures only { IfErr result IsIoOrNoProgress }
     {
         let option = WriteOption {
@@ -200,8 +214,9 @@ impl Ini {
 
     /// Writes the document's text to a writer, by the given options. The rest is as `write_watched` has it.
     pub fn write_to_opt<W: Write>(&self, writer: &mut W, option: WriteOption) -> Result<(), Error>
-        ensures bytes { OnOk result (Appends (W.contents writer.old) (W.contents writer.new) (encode_utf8_all (written self.now option))) }
-        ensures front { AppendsFront (W.contents writer.old) (W.contents writer.new) (encode_utf8_all (written self.now option)) }
+        ensures bytes { OnOk result
+            (IsWrittenTo W.contents writer.old writer.new (written self.now option)) }
+        ensures front { IsFrontWrittenTo W.contents writer.old writer.new (written self.now option) }
         ensures only { IfErr result IsIoOrNoProgress }
     {
         self.write_watched(&mut Watched::new(writer), option)
@@ -216,7 +231,8 @@ fn write_sections<W: Write>(
     out: &mut Watched<'_, W>,
 ) -> Result<(), Error>
     requires { IsClear out.old }
-    ensures { Writes W.contents out.old out.new (held lines.old) (held lines.new) result (written document.now option.now) }
+    ensures { Writes W.contents out.old out.new (held lines.old) (held lines.new) result
+        (written document.now option.now) }
 {
     let mut earlier = false;
     for (name, pairs) in document {

@@ -16,7 +16,8 @@ pub fn set_there(
     key: &str,
     value: &str,
 ) -> Result<(), Error>
-    ensures { OnOk result (value_in (str_name name.entry) (chars key.now) document.new ≡ Some (chars value.now)) }
+    ensures { OnOk result
+        (value_in (str_name name.entry) (chars key.now) document.new ≡ Some (chars value.now)) }
 {
     edits::set_is_there();
     document.with_section(name).set(key, value)?;
@@ -48,7 +49,8 @@ pub fn set_two(
     other: &str,
 ) -> Result<(), Error>
     requires { is_text (chars key.now) (chars other.now) ≡ false }
-    ensures { OnOk result (value_in (Some (chars name.now)) (chars key.now) document.new ≡ Some (chars value.now)) }
+    ensures { OnOk result
+        (value_in (Some (chars name.now)) (chars key.now) document.new ≡ Some (chars value.now)) }
 {
     edits::set_is_there();
     edits::other_keys_in_the_section_stay();
@@ -62,7 +64,8 @@ pub fn set_two(
 /// Adds a pair to a section that is there. The rest of the document stays as it is, in order.
 pub fn add_to(document: &mut Ini, name: &str, key: &str, value: &str) -> Result<(), Error>
     requires { IsSome (first_section (Some (chars name.now)) document.old) }
-    ensures { apart_from (Some (chars name.now)) (chars key.now) document.new ≡ apart_from (Some (chars name.now)) (chars key.now) document.old }
+    ensures { apart_from (Some (chars name.now)) (chars key.now) document.new
+        ≡ apart_from (Some (chars name.now)) (chars key.now) document.old }
 {
     edits::rest_stays();
     document.with_section(Some(name)).add(key, value)?;
@@ -74,7 +77,8 @@ pub fn delete_last(document: &mut Ini, name: &str, key: &str, other: &str)
     requires last { length (values_in (Some (chars name.now)) (chars key.now) document.old) ≤ 1 }
     requires other { is_name (Some (chars other.now)) (Some (chars name.now)) ≡ false }
     ensures gone { value_in (Some (chars name.now)) (chars key.now) document.new ≡ None }
-    ensures other { sections_named (Some (chars other.now)) document.new ≡ sections_named (Some (chars other.now)) document.old }
+    ensures other { sections_named (Some (chars other.now)) document.new
+        ≡ sections_named (Some (chars other.now)) document.old }
 {
     edits::deleted_is_gone();
     edits::other_sections_stay();

@@ -2,7 +2,7 @@
 ghost use Rattle.std.specs.Prelude.{◌≡◌, is_some};
 ghost use Rattle.ini.specs.Texts.{name_of};
 ghost use Rattle.ini.specs.Documents.{first_section};
-ghost use Rattle.ini.specs.Entries.{entry_document, occupied};
+ghost use Rattle.ini.specs.Entries.{InSameDocument, occupied};
 
 use ini::{Ini, Properties, SectionEntry, SectionKey, SectionOccupiedEntry};
 
@@ -32,7 +32,7 @@ pub fn look(document: &mut Ini)
 
 /// Appends a section, if the name has one; whether it went in.
 pub fn appended(entry: &mut SectionOccupiedEntry<'_>, section: Properties) -> bool
-    ensures { (entry_document (occupied entry.new)).ghost_name ≡ (entry_document (occupied entry.old)).ghost_name }
+    ensures { InSameDocument (occupied entry.old) (occupied entry.new) }
 {
     !entry.append(section).is_err()
 }

@@ -4,7 +4,7 @@ use Rattle.std.specs.Prelude.{codes, ◌==◌, Some, None}
 use Rattle.std.specs.Char.{is_whitespace}
 use Rattle.std.specs.List.{list_all, list_any}
 use Rattle.std.proofs.lemmas.Bool.{false≢true, or_parts}
-use Rattle.ini_text.specs.Options.{default_parse_option}
+use Rattle.ini_text.specs.Options.{default_parse_option, without_escapes}
 use Rattle.ini_text.specs.Characters.{backslash, line_feed, letter_x}
 use Rattle.ini_text.specs.Pieces.{control, Escape, Units, EscapeStops, spelled}
 use Rattle.ini_text.specs.Strings.{Ends, Row, Str, StrStops}
@@ -18,10 +18,7 @@ use Rattle.ini_text.specs.declared.option.ParseOption.{ParseOption}
 use Rattle.ini_text.proofs.Derivations.{derives, differs, one_line, pair_of, plain_pair, plain_header, white, not_empty, raws, raws_before, plain_key, pair_behind_blanks, plain_line, unquoted_line, raw_string, quoted, lead, indentation}
 use Rattle.ini_text.proofs.Derivations.RestGives.{whole, skip, give}
 
--- The options that differ from the default in one field.
-abbrev pub without_escapes : ParseOption
-without_escapes = record default_parse_option { enabled_escape = false }
-
+-- The options that differ from the default in one field; `without_escapes` is another.
 abbrev pub with_multiline_values : ParseOption
 with_multiline_values = record default_parse_option { enabled_indented_mutiline_value = true }
 

@@ -11,3 +11,7 @@ default_parse_option = record {
   enabled_preserve_key_leading_whitespace = false;
   enabled_brackets_in_section_names = false;
 }
+
+-- the same with escapes off
+abbrev pub without_escapes : ParseOption
+without_escapes = record default_parse_option { enabled_escape = false }

@@ -1,6 +1,7 @@
 -- Line ends, and the options of writing that are used where none are given.
 use Rattle.std.specs.Prelude.{◌≡◌, ℕ, List, [], ◌∷◌, codes}
 use Rattle.ini_text.specs.Characters.{carriage_return, line_feed}
+use Rattle.ini_text.specs.declared.policy.EscapePolicy.{EscapePolicy}
 use Rattle.ini_text.specs.declared.policy.EscapePolicy.TheVariants.{Basics}
 use Rattle.ini_text.specs.declared.write_option.LineSeparator.{LineSeparator}
 use Rattle.ini_text.specs.declared.write_option.LineSeparator.TheVariants.{SystemDefault, CR, CRLF}
@@ -17,3 +18,7 @@ pub record IsDefaultWriteOption (option : WriteOption) : Type 0 where
   pub escape_policy : option.escape_policy ≡ Basics
   pub line_separator : option.line_separator ≡ SystemDefault
   pub kv_separator : option.kv_separator.now ≡ codes "="
+
+-- the same options with this policy
+abbrev pub with_policy : EscapePolicy → WriteOption → WriteOption
+with_policy policy option = record option { escape_policy = policy }

@@ -1,6 +1,7 @@
 //! The walks over the sections of one name, and over names. This file knows the multimap's walks over values and keys.
 ghost use Rattle.std.specs.Prelude.{◌≡◌};
-ghost use Rattle.std.specs.Iterator.{YieldsFirstBy, YieldsLastBy, YieldsFirstMut, YieldsFirstRef, YieldsLastMut, YieldsLastRef, item_count};
+ghost use Rattle.std.specs.Iterator.{YieldsFirstBy, YieldsLastBy, YieldsFirstMut, YieldsFirstRef};
+ghost use Rattle.std.specs.Iterator.{YieldsLastMut, YieldsLastRef, item_count};
 ghost use Rattle.ini_multimap.specs.Iter.{values_mut_rest};
 ghost use Rattle.ini_multimap.specs.Keys.{name_fits};
 ghost use Rattle.ini.specs.Texts.{str_name};

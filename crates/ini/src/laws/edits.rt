@@ -3,12 +3,13 @@
 //! Each law goes over all names, keys, values and documents, so it takes nothing: a caller whose proof needs it calls it
 //! beside the edit.
 ghost use Rattle.std.specs.Prelude.{◌≡◌, ◌≤◌, ◌++◌, [], ◌∷◌, IsSome, None, Option, Some, length};
-ghost use Rattle.std.specs.Map.{set_value};
-ghost use Rattle.ini.specs.Texts.{Text, is_name};
+ghost use Rattle.ini.specs.Texts.{Text};
 ghost use Rattle.ini.specs.Properties.{Pairs, all_removed, first_value, inserted, removed};
 ghost use Rattle.ini.specs.Documents.{Document, first_section, section_removed, value_in};
-ghost use Rattle.ini.specs.Edits.{add_in, delete_in, delete_in_all, set_in, with_section};
-ghost use Rattle.ini.specs.EditLaws.{KeepsLaterSections, KeepsNames, KeepsOtherKeys, KeepsOtherKeysIn, KeepsOtherNames, KeepsOtherPairs, KeepsOtherSections, KeepsOtherValues, KeepsRest, values_in};
+ghost use Rattle.ini.specs.Edits.{add_in, delete_in, delete_in_all, section_put, section_set, set_in};
+ghost use Rattle.ini.specs.EditLaws.{KeepsLaterSections, KeepsNames, KeepsOtherKeys, KeepsOtherKeysIn};
+ghost use Rattle.ini.specs.EditLaws.{KeepsOtherNames, KeepsOtherPairs, KeepsOtherSections};
+ghost use Rattle.ini.specs.EditLaws.{KeepsOtherValues, KeepsRest, values_in};
 
 /// What was inserted is there.
 #[tactic(auto, using(crate::proofs::EditLaws::there))]
@@ -19,21 +20,26 @@ pub fn inserted_is_there()
 /// What was set is there.
 #[tactic(auto, using(crate::proofs::EditLaws::there))]
 pub fn set_is_there()
-    ensures { (name : Option Text) (key value : Text) (d : Document) → value_in name key (set_in name key value d) ≡ Some value }
+    ensures { (name : Option Text) (key value : Text) (d : Document)
+        → value_in name key (set_in name key value d) ≡ Some value }
 {}
 
 /// What was left behind a reference into a section, or behind an entry, is there.
 #[tactic(auto, using(crate::proofs::EditLaws::there))]
 pub fn lent_is_there()
-    ensures section { (name : Option Text) (pairs : Pairs) (d : Document) → IsSome (first_section name d) → first_section name (set_value (is_name name) d pairs) ≡ Some pairs }
-    ensures entry { (name : Option Text) (pairs : Pairs) (d : Document) → first_section name (with_section name d pairs) ≡ Some pairs }
+    ensures section { (name : Option Text) (pairs : Pairs) (d : Document)
+        → IsSome (first_section name d) → first_section name (section_set name pairs d) ≡ Some pairs }
+    ensures entry { (name : Option Text) (pairs : Pairs) (d : Document)
+        → first_section name (section_put name pairs d) ≡ Some pairs }
 {}
 
 /// Where a section has one pair of the key at most, the key isn't there once it was deleted.
 #[tactic(auto, using(crate::proofs::EditLaws::gone))]
 pub fn deleted_is_gone()
-    ensures delete { (name : Option Text) (key : Text) (d : Document) → length (values_in name key d) ≤ 1 → value_in name key (delete_in_all name key d) ≡ None }
-    ensures delete_from { (name : Option Text) (key : Text) (d : Document) → length (values_in name key d) ≤ 1 → value_in name key (delete_in name key d) ≡ None }
+    ensures delete { (name : Option Text) (key : Text) (d : Document)
+        → length (values_in name key d) ≤ 1 → value_in name key (delete_in_all name key d) ≡ None }
+    ensures delete_from { (name : Option Text) (key : Text) (d : Document)
+        → length (values_in name key d) ≤ 1 → value_in name key (delete_in name key d) ≡ None }
 {}
 
 /// The other keys keep their first values.
@@ -70,8 +76,8 @@ pub fn other_names_stay()
     ensures delete { (name : Option Text) (key : Text) → KeepsOtherNames name (delete_in_all name key) }
     ensures delete_from { (name : Option Text) (key : Text) → KeepsOtherNames name (delete_in name key) }
     ensures delete_section { (name : Option Text) → KeepsOtherNames name (section_removed name) }
-    ensures lent { (name : Option Text) (pairs : Pairs) → KeepsOtherNames name (λ d. set_value (is_name name) d pairs) }
-    ensures entry { (name : Option Text) (pairs : Pairs) → KeepsOtherNames name (λ d. with_section name d pairs) }
+    ensures lent { (name : Option Text) (pairs : Pairs) → KeepsOtherNames name (section_set name pairs) }
+    ensures entry { (name : Option Text) (pairs : Pairs) → KeepsOtherNames name (section_put name pairs) }
 {}
 
 /// The other names keep all their sections, in order.
@@ -82,17 +88,21 @@ pub fn other_sections_stay()
     ensures delete { (name : Option Text) (key : Text) → KeepsOtherSections name (delete_in_all name key) }
     ensures delete_from { (name : Option Text) (key : Text) → KeepsOtherSections name (delete_in name key) }
     ensures delete_section { (name : Option Text) → KeepsOtherSections name (section_removed name) }
-    ensures lent { (name : Option Text) (pairs : Pairs) → KeepsOtherSections name (λ d. set_value (is_name name) d pairs) }
-    ensures entry { (name : Option Text) (pairs : Pairs) → KeepsOtherSections name (λ d. with_section name d pairs) }
+    ensures lent { (name : Option Text) (pairs : Pairs) → KeepsOtherSections name (section_set name pairs) }
+    ensures entry { (name : Option Text) (pairs : Pairs) → KeepsOtherSections name (section_put name pairs) }
 {}
 
 /// In the first section of the name the other keys keep their first values.
 #[tactic(auto, using(crate::proofs::EditLaws::keys_in))]
 pub fn other_keys_in_the_section_stay()
-    ensures set { (name : Option Text) (key value : Text) → KeepsOtherKeysIn name key (set_in name key value) }
-    ensures add { (name : Option Text) (key value : Text) → KeepsOtherKeysIn name key (add_in name key value) }
-    ensures delete { (name : Option Text) (key : Text) → KeepsOtherKeysIn name key (delete_in_all name key) }
-    ensures delete_from { (name : Option Text) (key : Text) → KeepsOtherKeysIn name key (delete_in name key) }
+    ensures set { (name : Option Text) (key value : Text)
+        → KeepsOtherKeysIn name key (set_in name key value) }
+    ensures add { (name : Option Text) (key value : Text)
+        → KeepsOtherKeysIn name key (add_in name key value) }
+    ensures delete { (name : Option Text) (key : Text)
+        → KeepsOtherKeysIn name key (delete_in_all name key) }
+    ensures delete_from { (name : Option Text) (key : Text)
+        → KeepsOtherKeysIn name key (delete_in name key) }
 {}
 
 /// A section that is there stays there.
@@ -102,8 +112,8 @@ pub fn sections_stay_there()
     ensures add { (name : Option Text) (key value : Text) → KeepsNames (add_in name key value) }
     ensures delete { (name : Option Text) (key : Text) → KeepsNames (delete_in_all name key) }
     ensures delete_from { (name : Option Text) (key : Text) → KeepsNames (delete_in name key) }
-    ensures lent { (name : Option Text) (pairs : Pairs) → KeepsNames (λ d. set_value (is_name name) d pairs) }
-    ensures entry { (name : Option Text) (pairs : Pairs) → KeepsNames (λ d. with_section name d pairs) }
+    ensures lent { (name : Option Text) (pairs : Pairs) → KeepsNames (section_set name pairs) }
+    ensures entry { (name : Option Text) (pairs : Pairs) → KeepsNames (section_put name pairs) }
 {}
 
 /// All stays in order but the pairs of the key in the sections of the name.
@@ -126,6 +136,8 @@ pub fn later_sections_stay()
 /// Where the name has no section, the document stays whole, and a new section with the one pair comes behind it.
 #[tactic(auto, using(crate::proofs::EditLaws::opened))]
 pub fn new_section_comes_last()
-    ensures set { (name : Option Text) (key value : Text) (d : Document) → first_section name d ≡ None → set_in name key value d ≡ d ++ (name, (key, value) ∷ []) ∷ [] }
-    ensures add { (name : Option Text) (key value : Text) (d : Document) → first_section name d ≡ None → add_in name key value d ≡ d ++ (name, (key, value) ∷ []) ∷ [] }
+    ensures set { (name : Option Text) (key value : Text) (d : Document)
+        → first_section name d ≡ None → set_in name key value d ≡ d ++ (name, (key, value) ∷ []) ∷ [] }
+    ensures add { (name : Option Text) (key value : Text) (d : Document)
+        → first_section name d ≡ None → add_in name key value d ≡ d ++ (name, (key, value) ∷ []) ∷ [] }
 {}
