@@ -1,5 +1,5 @@
 //! Documents from files and into files. This file opens them, and leaves the rest to reading and writing.
-ghost use Rattle.std.specs.Prelude.{IfErr, IfOk, OnOk, false};
+ghost use Rattle.std.specs.Prelude.{IfErr, IfOk, OnOk};
 ghost use Rattle.ini_text.specs.Faults.{IsIoOrNoProgress};
 ghost use Rattle.ini_text.specs.Options.{default_parse_option, without_escapes};
 ghost use Rattle.ini_text.specs.WriteOptions.{IsDefaultWriteOption, with_policy};
@@ -10,6 +10,7 @@ ghost use Rattle.ini.specs.Loading.{IfParse, IsNotUtf8, IsReadRefusal};
 ghost use Rattle.ini.specs.Written.{written};
 
 use crate::document::Ini;
+use crate::load::without_escapes;
 use ini_text::{Error, EscapePolicy, ParseOption, WriteOption};
 use std::alloc::Global;
 use std::fs;
@@ -40,11 +41,7 @@ impl Ini {
         ensures not_utf8 { IsNotUtf8 result → IsNoTextOfFile R.File.remaining }
         ensures only { IfErr result IsReadRefusal }
     {
-        let option = ParseOption {
-            enabled_escape: false,
-            ..ParseOption::default()
-        };
-        Ini::load_from_file_opt(rt, alloc, path, option)
+        Ini::load_from_file_opt(rt, alloc, path, without_escapes())
     }
 
     /// The document of a file, which is opened and read as `read_from_bom` reads: to its end, and without one mark (the

@@ -36,11 +36,7 @@ impl Ini {
         ensures fault { IfParse result (IsStopOf without_escapes (chars text.now)) }
         ensures only { IfErr result IsParseOrMemory }
     {
-        let option = ParseOption {
-            enabled_escape: false,
-            ..ParseOption::default()
-        };
-        Ini::load_from_str_opt(alloc, text, option)
+        Ini::load_from_str_opt(alloc, text, without_escapes())
     }
 
     /// The document of a text: the items that the text gives by the options, put in order into sections.
@@ -86,11 +82,7 @@ impl Ini {
         ensures end { OnReadThrough result (IsAtEnd (R.remaining reader.new)) }
         ensures only { IfErr result IsReadRefusal }
     {
-        let option = ParseOption {
-            enabled_escape: false,
-            ..ParseOption::default()
-        };
-        Ini::read_from_opt(alloc, reader, option)
+        Ini::read_from_opt(alloc, reader, without_escapes())
     }
 
     /// The document of a reader's bytes. A mark at their front is text. The rest is as `read_watched` has it.
@@ -163,6 +155,16 @@ impl Ini {
             text.as_str()
         };
         Ini::load_from_str_opt(alloc, text, opt)
+    }
+}
+
+// The default options, but without escapes.
+pub(crate) fn without_escapes() -> ParseOption
+    ensures { result ≡ without_escapes }
+{
+    ParseOption {
+        enabled_escape: false,
+        ..ParseOption::default()
     }
 }
 
