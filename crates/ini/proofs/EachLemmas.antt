@@ -9,8 +9,3 @@ pub each_of : {X : Type 0} (P : X → Type 0) (xs : List X) → All P xs → Eac
 each_of P [] all = Each.none
 each_of P (x ∷ xs) all =
     Each.more (all zero x (omega arith)) (each_of P xs (λ k d l. all (suc k) d (omega arith)))
-
-pub all_of : {X : Type 0} {P : X → Type 0} {xs : List X} → Each P xs → All P xs
-all_of Each.none k d l = absurd (omega arith)
-all_of (Each.more p each) zero d l = p
-all_of (Each.more p each) (suc k) d l = all_of each k d (omega arith)

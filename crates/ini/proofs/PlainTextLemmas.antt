@@ -1,5 +1,5 @@
 -- The text of a plain document gives its items, and they make the document.
-use Rattle.std.proofs.Common.{◌≡◌, ◌∙◌, ◌<◌, Bool, true, false, ◌&&◌, ◌||◌, cond, eqb, List, [], ◌∷◌, ◌++◌, length, drop, fold, ap, sym, subst, refl, Option, None, Some, IsSomeAnd, arith, append_assoc, append-nil, length-append, chars, eqb-true}
+use Rattle.std.proofs.Common.{◌≡◌, ◌∙◌, ◌<◌, Bool, true, false, ◌&&◌, ◌||◌, cond, eqb, List, [], ◌∷◌, ◌++◌, length, drop, fold, ap, sym, subst, refl, Option, None, Some, IsSomeAnd, arith, append_assoc, append-nil, chars, eqb-true}
 use Rattle.std.proofs.lemmas.Bool.{not-false, and_parts, false≢true}
 use Rattle.std.proofs.lemmas.Grind.{fold-append}
 use Rattle.std.specs.Prelude.{⊤}
@@ -67,9 +67,6 @@ abbrev pub HasNames : Document → Type 0
 HasNames [] = ⊤
 HasNames ((None, ps) ∷ d) = ⊥
 HasNames ((Some name, ps) ∷ d) = HasNames d
-
-some : (s : Option Text × Pairs) (d : Document) → 0 < length (d ++ s ∷ [])
-some s d = omega (arith, length-append d (s ∷ []))
 
 sections_make : (acc d : Document) → HasNames d → fold with_item acc (items_of d) ≡ acc ++ d
 sections_make acc [] h = sym (append-nil acc)

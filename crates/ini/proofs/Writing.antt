@@ -1,5 +1,5 @@
 -- Texts that are written one after another.
-use Rattle.std.proofs.Common.{◌≡◌, ◌∙◌, sym, subst, ap, refl, ℕ, ◌+◌, ◌<◌, List, [], ◌∷◌, ◌++◌, flat_map, get_or, drop, drop-cons, add-one, length, take, Option, Some, Result, Ok, Err, arith, length-append, append_assoc, append-nil, encode_utf8_all}
+use Rattle.std.proofs.Common.{◌≡◌, ◌∙◌, sym, subst, ap, refl, ℕ, ◌+◌, ◌<◌, List, [], ◌∷◌, ◌++◌, flat_map, get_or, drop, drop-cons, add-one, length, Option, Some, Result, Ok, Err, append_assoc, encode_utf8_all}
 use Rattle.std.proofs.lemmas.Str.{encodes-append, encodes-chars}
 use Rattle.std.specs.Str.{chars}
 use Rattle.ini_text.specs.Characters.{close_bracket, open_bracket}
@@ -37,9 +37,6 @@ pub record Writing {W : Type 0} (contents : W → Option (List ℕ)) (a b : Watc
 module _ {W : Type 0} {contents : W → Option (List ℕ)} where
   pub Writing-starts : (a : Watched W) (h : List ℕ) {whole : Text} → IsClear a → Writing contents a a h h whole whole
   Writing-starts a h clear = record { so_far = []; joined = refl; done = record { sends = Sends-nil h clear } }
-
-  pub Writing-ends : (a b : Watched W) (h i : List ℕ) (whole : Text) → Writing contents a b h i whole [] → Writes contents a b h i (Ok (tt {0})) whole
-  Writing-ends a b h i whole left = subst (Writes contents a b h i (Ok (tt {0}))) (sym (append-nil left.so_far) ∙ left.joined) left.done
 
   -- a call that was to write the front xs of the rest
   module _ {a b d : Watched W} {h i j : List ℕ} {whole rest xs : Text} (more : Text) (front : rest ≡ xs ++ more) (left : Writing contents a b h i whole rest) where

@@ -1,5 +1,5 @@
 -- A front grows by what is read.
-use Rattle.std.proofs.Common.{◌≡◌, ℕ, ◌-◌, List, [], ◌++◌, length, take, refl, sym, ap, ◌∙◌, append_assoc, append-nil, arith, length-append}
+use Rattle.std.proofs.Common.{◌≡◌, ℕ, ◌-◌, List, ◌++◌, length, take, sym, ap, ◌∙◌, append_assoc, arith, length-append}
 use Rattle.std.proofs.Math.Seq.{take-append_seam}
 use Rattle.ini_text.specs.Fronts.{front_of, IsRest}
 
@@ -11,9 +11,3 @@ front_grows t r s u h q =
     let whole : (front_of t r ++ s) ++ u ≡ t = append_assoc (front_of t r) s u ∙ ap (λ x. front_of t r ++ x) (sym q) ∙ h in
     let e = front_is (front_of t r ++ s) u t whole in
     (e, ap (λ x. x ++ u) e ∙ whole)
-
-pub front_new : (t : List ℕ) → (front_of t t ≡ []) × IsRest t t
-front_new t = let e = front_is [] t t refl in (e, ap (λ x. x ++ t) e)
-
-pub front_end : (t r : List ℕ) → IsRest t r → r ≡ [] → front_of t r ≡ t
-front_end t r h q = sym (append-nil (front_of t r)) ∙ ap (λ x. front_of t r ++ x) (sym q) ∙ h

@@ -322,15 +322,6 @@ module _ {o : ParseOption} {policy : EscapePolicy} {value : List ℕ} (plain : I
         (λ y. and_right (is_whitespace l) _ (ap not h)) (λ c y white mark. and_left (is_whitespace c) _ white);
   }
 
--- a line end, and a second one in a line's place
-first_end : LineSeparator → ℕ
-first_end SystemDefault = line_feed
-first_end CR = line_feed
-first_end CRLF = carriage_return
-
-second_ends : LineSeparator → Bool → List ℕ
-second_ends s twice = cond twice (line_end s) []
-
 ends_begin : (s : LineSeparator) (x : List ℕ)
     → (l : ℕ) × (y : List ℕ) × (is_line_end l ≡ true) × (line_end s ++ x ≡ l ∷ y)
 ends_begin SystemDefault x = (line_feed, x, refl, refl)

@@ -1,5 +1,5 @@
 -- What a loop over a front counts, and its position.
-use Rattle.std.proofs.Common.{◌≡◌, ◌≢◌, ℕ, ◌+◌, Bool, true, false, ◌||◌, cond, eqb, List, [], ◌∷◌, length, refl, sym, ap, ◌∙◌, arith, count_by, ne_eqb, eq-eqb, subst, ◌≤◌, chars, IsUtf8}
+use Rattle.std.proofs.Common.{◌≡◌, ℕ, ◌+◌, Bool, true, false, cond, eqb, List, [], ◌∷◌, length, refl, sym, ap, ◌∙◌, arith, count_by, eq-eqb, subst, ◌≤◌, chars, IsUtf8}
 use Rattle.std.proofs.lemmas.Str.{encodes-chars, length-le-encodes}
 use Rattle.std.proofs.lemmas.Bool.{cond-false}
 use Rattle.std.specs.List.{list_any, fold}
@@ -21,16 +21,6 @@ at_start false cs e = ap (λ l. 1 + length l) (no_line cs false e refl)
 pub column-front : (cs : List ℕ) → column_from 1 cs ≡ column_of cs
 column-front cs = sym (at_start (list_any is_line_feed cs) cs refl)
 
-over_other : (b : Bool) (n c : ℕ) (cs : List ℕ) → cond b (1 + length (cond b (last_line cs) (c ∷ cs))) (n + length (c ∷ cs)) ≡ cond b (1 + length (last_line cs)) (n + 1 + length cs)
-over_other true n c cs = refl
-over_other false n c cs = omega arith
-
-pub column-other : (n c : ℕ) (t cs : List ℕ) → t ≡ c ∷ cs → c ≢ line_feed → column_from n t ≡ column_from (n + 1) cs
-column-other n c t cs h d =
-    ap (column_from n) h
-    ∙ ap (λ x. cond (x || list_any is_line_feed cs) (1 + length (cond (x || list_any is_line_feed cs) (last_line cs) (c ∷ cs))) (n + length (c ∷ cs))) (ne_eqb c 10 d)
-    ∙ over_other (list_any is_line_feed cs) n c cs
-
 pub column-feed : (n c : ℕ) (t cs : List ℕ) → t ≡ c ∷ cs → c ≡ line_feed → column_from n t ≡ column_from 1 cs
 column-feed n c t cs h d = ap (column_from n) (h ∙ ap (λ x. x ∷ cs) d) ∙ at_start (list_any is_line_feed cs) cs refl
 
@@ -40,9 +30,6 @@ count-from a (c ∷ cs) = count-from (a + cond (is_line_feed c) 1 0) cs ∙ omeg
 
 count-cons : (c : ℕ) (cs : List ℕ) → count_by is_line_feed (c ∷ cs) ≡ cond (eqb c 10) 1 0 + count_by is_line_feed cs
 count-cons c cs = count-from (0 + cond (eqb c 10) 1 0) cs ∙ omega arith
-
-pub line-other : (n c : ℕ) (t cs : List ℕ) → t ≡ c ∷ cs → c ≢ line_feed → n + count_by is_line_feed t ≡ n + count_by is_line_feed cs
-line-other n c t cs h d = ap (λ x. n + count_by is_line_feed x) h ∙ ap (λ x. n + x) (count-cons c cs) ∙ ap (λ b. n + (cond b 1 0 + count_by is_line_feed cs)) (ne_eqb c 10 d) ∙ omega arith
 
 pub line-feed : (n c : ℕ) (t cs : List ℕ) → t ≡ c ∷ cs → c ≡ line_feed → n + count_by is_line_feed t ≡ n + 1 + count_by is_line_feed cs
 line-feed n c t cs h d = ap (λ x. n + count_by is_line_feed x) h ∙ ap (λ x. n + x) (count-cons c cs) ∙ ap (λ b. n + (cond b 1 0 + count_by is_line_feed cs)) (eq-eqb c 10 d) ∙ omega arith

@@ -2,7 +2,7 @@
 use Rattle.std.proofs.Common.{◌≡◌, ℕ, ◌+◌, ◌-◌, List, [], ◌++◌, Option, Some, None, refl, sym, ap, ◌∙◌, subst, length, take, drop, arith, length-append, length-drop, append_assoc, append-nil, take-append-drop, take_all}
 use Rattle.std.proofs.Math.Seq.{take-append-add}
 use Rattle.std.proofs.lemmas.List.{take-append-le}
-use Rattle.std.proofs.KnownBytes.{Appends-nil, Appends-trans}
+use Rattle.std.proofs.KnownBytes.{Appends-trans}
 use Rattle.std.specs.Io.KnownBytes.{Appends, Keeps}
 use Rattle.ini_text.specs.Gathering.{IsUnderWay}
 use Rattle.ini_text.specs.Watched.{AppendsFront}
@@ -11,9 +11,6 @@ pub Appends-kept : (a b : Option (List ℕ)) → Keeps a b → Appends a b []
 Appends-kept None b kept = tt
 Appends-kept (Some xs) None kept = kept
 Appends-kept (Some xs) (Some ys) kept = kept ∙ sym (append-nil xs)
-
-pub under_way_none : (a : Option (List ℕ)) (whole : List ℕ) → IsUnderWay a a whole whole
-under_way_none a whole = record { done = []; appended = Appends-nil a; parts = refl }
 
 -- the next part is appended
 pub under_way_more : {a b c : Option (List ℕ)} {whole rest ys : List ℕ} (xs : List ℕ) → IsUnderWay a b whole rest → rest ≡ xs ++ ys → Appends b c xs

@@ -1,6 +1,6 @@
 -- Runs at the front of a text, and the front before a rest.
 use Rattle.std.proofs.Common.{◌≡◌, ◌≤◌, ℕ, ◌-◌, Bool, true, false, ◌&&◌, cond, List, [], ◌∷◌, ◌++◌, length, take, refl, sym, ap, ◌∙◌, append-nil, arith, length-append, subst, chars, IsUtf8, IsCharBoundary, encode_utf8, encode_utf8_all}
-use Rattle.std.proofs.lemmas.Bool.{cond-true, cond-false, cond_both}
+use Rattle.std.proofs.lemmas.Bool.{cond-true, cond_both}
 use Rattle.std.proofs.lemmas.Str.{chars-append, chars-encodes, encodes-append, encodes-chars, scalars-chars, IsCharBoundary-at_seam, length-le-encodes, cons_from_encodes}
 use Rattle.std.proofs.Math.Seq.{take-append_seam}
 use Rattle.std.specs.Str.{all_scalars}
@@ -30,15 +30,6 @@ skipped-no p (c ∷ cs) = cond_both (p c) (skipped p cs) (c ∷ cs) (BeginsWithN
 pub run-some : (p : ℕ → Bool) (t : List ℕ) → BeginsWith p t → BeginsWith p (run_of p t)
 run-some p [] h = h
 run-some p (c ∷ cs) h = subst (BeginsWith p) (sym (cond-true (p c) (c ∷ run_of p cs) [] h)) h
-
-pub skipped-end : (p : ℕ → Bool) (t : List ℕ) → t ≡ [] → t ≡ skipped p t
-skipped-end p t h = h ∙ ap (skipped p) (sym h)
-
-pub skipped-stop : (p : ℕ → Bool) (t cs : List ℕ) (c : ℕ) → t ≡ c ∷ cs → p c ≡ false → t ≡ skipped p t
-skipped-stop p t cs c h n = h ∙ sym (cond-false (p c) (skipped p cs) (c ∷ cs) n) ∙ ap (skipped p) (sym h)
-
-pub skipped-on : (p : ℕ → Bool) (t cs : List ℕ) (c : ℕ) → t ≡ c ∷ cs → p c ≡ true → skipped p cs ≡ skipped p t
-skipped-on p t cs c h y = sym (cond-true (p c) (skipped p cs) (c ∷ cs) y) ∙ ap (skipped p) (sym h)
 
 -- the front before a rest
 scalars-front : (a b : List ℕ) → all_scalars (a ++ b) ≡ true → all_scalars a ≡ true

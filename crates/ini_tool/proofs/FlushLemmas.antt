@@ -1,5 +1,5 @@
 -- A text that was written by way of a gatherer, once that is flushed.
-use Rattle.std.proofs.Common.{◌≡◌, ℕ, List, [], ◌++◌, Option, Result, Ok, Err, OnOk, refl, sym, ap, ◌∙◌, subst, append-nil, encode_utf8_all}
+use Rattle.std.proofs.Common.{◌≡◌, ℕ, List, [], ◌++◌, Option, Result, Ok, Err, OnOk, sym, ap, ◌∙◌, subst, append-nil, encode_utf8_all}
 use Rattle.std.specs.Io.KnownBytes.{Appends}
 use Rattle.ini_text.specs.Gathering.{IsUnderWay, Sends}
 use Rattle.ini_text.specs.Watched.{AppendsFront}

@@ -1,6 +1,5 @@
-use Rattle.std.proofs.Common.{◌∙◌, ap, subst, sym, append_assoc}
+use Rattle.std.proofs.Common.{subst}
 use Rattle.std.proofs.lemmas.Result.{err_from_is_err_and}
-use Rattle.ini_text.specs.WriteOptions.{line_end}
 use Rattle.std.specs.Str.{chars}
 use Rattle.ini.specs.Writes.{Writes}
 use Rattle.ini.proofs.Writing.{Writes-cut, Writes-then, header_parts}
