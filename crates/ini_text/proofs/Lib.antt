@@ -40,6 +40,7 @@ pub mod OneRefusal
 pub mod MovedLemmas
 pub mod EscapePieceLemmas
 pub mod PlainTrimLemmas
+pub mod VisibleEndLemmas
 pub mod PlainLineLemmas
 pub mod PlainPairLemmas
 pub mod PlainHeaderLemmas

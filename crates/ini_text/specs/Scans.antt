@@ -1,5 +1,5 @@
 -- Characters of a class at the front of a text.
-use Rattle.std.specs.Prelude.{ℕ, Bool, not, ◌==◌, ◌&&◌, false, List, [], ◌∷◌, chars, String, string_bytes, if◌then◌else◌}
+use Rattle.std.specs.Prelude.{ℕ, Bool, not, ◌==◌, ◌&&◌, nat_lt, false, List, [], ◌∷◌, chars, String, string_bytes, if◌then◌else◌}
 use Rattle.std.specs.declared.alloc.Global.{Global}
 use Rattle.std.specs.Char.{is_whitespace}
 use Rattle.ini_text.specs.Characters.{backslash, space, is_blank, is_inline_white, is_line_feed}
@@ -39,3 +39,7 @@ trimmed_at both cs = if both then trimmed cs else end_trimmed cs
 abbrev pub begins_white : List ℕ → Bool
 begins_white [] = false
 begins_white (c ∷ cs) = is_whitespace c
+
+-- a character of ASCII that is no white space
+abbrev pub is_visible : ℕ → Bool
+is_visible c = nat_lt space c && nat_lt c 0x7F

@@ -1,7 +1,7 @@
 //! White space at the ends of what was read. This file knows no line end, and no production.
-ghost use Rattle.std.specs.Prelude.{◌≡◌, ◌≤◌, ◌++◌, true, false, chars, take, drop, string_bytes, string_len, OnOk, IfOk};
+ghost use Rattle.std.specs.Prelude.{◌≡◌, ◌≤◌, ◌++◌, Bool, true, false, chars, take, drop, string_bytes, string_len, OnOk, IfOk};
 ghost use Rattle.std.specs.Str.{IsCharBoundary};
-ghost use Rattle.ini_text.specs.Scans.{text_of, trimmed_at, begins_white};
+ghost use Rattle.ini_text.specs.Scans.{text_of, trimmed_at, begins_white, is_visible};
 ghost use Rattle.ini_text.specs.White.{drop_line_feeds, without_outer_line_feeds};
 
 use crate::characters::split_first;
@@ -22,7 +22,26 @@ fn begins_white(text: &str) -> bool
 pub(crate) fn trimmed(text: &str, both: bool) -> &str
     ensures { chars result.now ≡ trimmed_at both (chars text.now) }
 {
+    if has_visible_ends(text) {
+        return text;
+    }
     if both { text.trim() } else { text.trim_end() }
+}
+
+// Whether the first and the last byte of a text are seen to be no white space: marks, letters and digits of ASCII.
+fn has_visible_ends(text: &str) -> bool
+    ensures { result ≡ true → (both : Bool) → trimmed_at both (chars text.now) ≡ chars text.now }
+{
+    match text.as_bytes() {
+        [first, .., last] => is_visible(*first) && is_visible(*last),
+        _ => false,
+    }
+}
+
+fn is_visible(byte: u8) -> bool
+    ensures { result ≡ is_visible byte }
+{
+    byte > b' ' && byte < 0x7F
 }
 
 /// Trims what stands from `start` on, at its end or at both ends.
