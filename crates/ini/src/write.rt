@@ -1,9 +1,9 @@
 //! Documents on their way to a device. This file knows in which order the parts of a document are written, and leaves
 //! escapes and the device to `ini_text`.
-ghost use Rattle.std.specs.Prelude.{◌≡◌, ◌<◌, ◌↔◌, OnOk, IfErr, ◌++◌, Some, chars};
+ghost use Rattle.std.specs.Prelude.{OnOk, IfErr, ◌++◌, Some, chars, encode_utf8_all};
 ghost use Rattle.ini_text.specs.Escapes.{escaped};
-ghost use Rattle.ini_text.specs.Faults.{IsIo, IsNoProgress, IsIoOrNoProgress, faults_in, stalls_in};
-ghost use Rattle.ini_text.specs.Watched.{IsClear, SameDevice, device_now, failure_count, stall_count};
+ghost use Rattle.ini_text.specs.Faults.{IsIoOrNoProgress};
+ghost use Rattle.ini_text.specs.Watched.{IsClear, WritesBytes};
 ghost use Rattle.ini_text.specs.WriteOptions.{IsDefaultWriteOption, with_policy};
 ghost use Rattle.ini_text.specs.declared.write_option.WriteOption.{WriteOption};
 ghost use Rattle.ini.specs.Texts.{str_name, str_text};
@@ -164,16 +164,7 @@ impl Ini {
         option: WriteOption,
     ) -> Result<(), Error>
         requires { IsClear out.old }
-        ensures same_device { SameDevice out.old out.new }
-        ensures bytes { OnOk result
-            (IsWrittenTo W.contents (device_now out.old) (device_now out.new) (written self.now option)) }
-        ensures front { IsFrontWrittenTo W.contents
-            (device_now out.old) (device_now out.new) (written self.now option) }
-        ensures failures { failure_count out.new ≡ faults_in result }
-        ensures stalls { stall_count out.new ≡ stalls_in result }
-        ensures io { IsIo result ↔ (failure_count out.old < failure_count out.new) }
-        ensures no_progress { IsNoProgress result ↔ (stall_count out.old < stall_count out.new) }
-        ensures only { IfErr result IsIoOrNoProgress }
+        ensures { WritesBytes W.contents out.old out.new result (encode_utf8_all (written self.now option)) }
     {
         let mut lines = Gatherer::new();
         write_sections(&mut lines, self, &option, out)?;

@@ -1,13 +1,14 @@
 -- Texts that are sent one after another by way of a gatherer.
-use Rattle.std.proofs.Common.{◌≡◌, ℕ, List, [], ◌++◌, Option, Result, Ok, Err, OnOk, OnErr, refl, sym, ap, ◌∙◌, subst, append_assoc, append-nil, length, take, arith, length-append, IfErr}
+use Rattle.std.proofs.Common.{◌≡◌, ◌<◌, ◌↔◌, ℕ, List, [], ◌++◌, Option, Result, Ok, Err, OnOk, OnErr, refl, sym, ap, ◌∙◌, subst, append_assoc, append-nil, length, take, arith, length-append}
 use Rattle.std.proofs.KnownBytes.{Appends-nil, Appends-trans}
 use Rattle.std.proofs.Math.Seq.{take-append_seam}
 use Rattle.std.proofs.lemmas.List.{take-append-le}
 use Rattle.ini_text.specs.Gathering.{IsUnderWay, Sends}
 use Rattle.std.specs.Io.KnownBytes.{Appends}
-use Rattle.ini_text.specs.Faults.{IsIoOrNoProgress, faults_in, stalls_in}
-use Rattle.ini_text.specs.Watched.{AppendsFront, IsClear, SameDevice, failure_count, stall_count}
+use Rattle.ini_text.specs.Faults.{IsIo, IsNoProgress, faults_in, stalls_in}
+use Rattle.ini_text.specs.Watched.{AppendsFront, IsClear, WritesBytes}
 use Rattle.ini_text.specs.declared.error.Error.{Error}
+use Rattle.ini_text.specs.declared.error.Error.TheVariants.{Io, Memory, NoProgress, NotUtf8, Parse}
 use Rattle.ini_text.specs.declared.watched.Watched.{Watched}
 use Rattle.ini_text.proofs.Progress.{under_way_front}
 
@@ -31,6 +32,23 @@ front-more : (a b : Option (List ℕ)) (xs ys : List ℕ) → AppendsFront a b x
 front-more a b xs ys (n, within, some) =
     (n, omega (arith, within, length-append xs ys), rw (take-append-le n xs ys within) some)
 
+-- the answer is a fault just where one was counted, and no progress just where a stall was
+io_counted : {m n : ℕ} (r : Result (Unit {0}) Error) → m ≡ 0 → n ≡ faults_in r → IsIo r ↔ (m < n)
+io_counted (Ok x) old new = (λ no. absurd no, λ more. omega (arith, old, new, more))
+io_counted (Err (Io x)) old new = (λ _. omega (arith, old, new), λ _. tt)
+io_counted (Err (Memory x)) old new = (λ no. absurd no, λ more. omega (arith, old, new, more))
+io_counted (Err NoProgress) old new = (λ no. absurd no, λ more. omega (arith, old, new, more))
+io_counted (Err NotUtf8) old new = (λ no. absurd no, λ more. omega (arith, old, new, more))
+io_counted (Err (Parse x)) old new = (λ no. absurd no, λ more. omega (arith, old, new, more))
+
+no_progress_counted : {m n : ℕ} (r : Result (Unit {0}) Error) → m ≡ 0 → n ≡ stalls_in r → IsNoProgress r ↔ (m < n)
+no_progress_counted (Ok x) old new = (λ no. absurd no, λ more. omega (arith, old, new, more))
+no_progress_counted (Err (Io x)) old new = (λ no. absurd no, λ more. omega (arith, old, new, more))
+no_progress_counted (Err (Memory x)) old new = (λ no. absurd no, λ more. omega (arith, old, new, more))
+no_progress_counted (Err NoProgress) old new = (λ _. omega (arith, old, new), λ _. tt)
+no_progress_counted (Err NotUtf8) old new = (λ no. absurd no, λ more. omega (arith, old, new, more))
+no_progress_counted (Err (Parse x)) old new = (λ no. absurd no, λ more. omega (arith, old, new, more))
+
 module _ {W : Type 0} {contents : W → Option (List ℕ)} where
   -- nothing is sent
   pub Sends-nil : {a : Watched W} (h : List ℕ) → IsClear a → Sends contents a a h h (Ok (tt {0})) []
@@ -44,16 +62,14 @@ module _ {W : Type 0} {contents : W → Option (List ℕ)} where
   }
 
   -- bytes that go out while nothing is held back
-  pub Sends-direct : {a b : Watched W} {h xs : List ℕ} {r : Result (Unit {0}) Error} → h ≡ [] → SameDevice a b
-      → OnOk r (Appends (contents a.device.now) (contents b.device.now) xs) → AppendsFront (contents a.device.now) (contents b.device.now) xs
-      → failure_count b ≡ faults_in r → stall_count b ≡ stalls_in r → IfErr r IsIoOrNoProgress → Sends contents a b h h r xs
-  Sends-direct {a} {b} {h} {xs} {r} empty same bytes front failures stalls only = record {
-    same_device = same;
-    sent = at r bytes;
+  pub Sends-direct : {a b : Watched W} {h xs : List ℕ} {r : Result (Unit {0}) Error} → h ≡ [] → WritesBytes contents a b r xs → Sends contents a b h h r xs
+  Sends-direct {a} {b} {h} {xs} {r} empty all = record {
+    same_device = all.same_device;
+    sent = at r all.bytes;
     front = stopped r;
-    failures = failures;
-    stalls = stalls;
-    only = only;
+    failures = all.failures;
+    stalls = all.stalls;
+    only = all.only;
   }
     where
       at : (r : Result (Unit {0}) Error) → OnOk r (Appends (contents a.device.now) (contents b.device.now) xs) → OnOk r (IsUnderWay (contents a.device.now) (contents b.device.now) (h ++ xs) h)
@@ -62,7 +78,7 @@ module _ {W : Type 0} {contents : W → Option (List ℕ)} where
 
       stopped : (r : Result (Unit {0}) Error) → OnErr r (AppendsFront (contents a.device.now) (contents b.device.now) (h ++ xs))
       stopped (Ok x) = tt
-      stopped (Err e) = rw empty front
+      stopped (Err e) = rw empty all.front
 
   -- the second text behind the first
   pub Sends-then : {a b c : Watched W} {before between after xs ys : List ℕ} {r : Result (Unit {0}) Error} → Sends contents a b before between (Ok (tt {0})) xs
@@ -97,6 +113,32 @@ module _ {W : Type 0} {contents : W → Option (List ℕ)} where
         subst (Appends _ _) (sym (ap (take (length done)) sends.sent.parts ∙ take-append_seam done after)) sends.sent.appended,
       )
   Sends-front (Err e) sends = sends.front
+
+  -- by way of a gatherer that held nothing before, and after `Ok` holds nothing
+  pub Sends-all : {a b : Watched W} {before after xs : List ℕ} {r : Result (Unit {0}) Error} → IsClear a → before ≡ []
+      → Sends contents a b before after r xs → OnOk r (after ≡ []) → WritesBytes contents a b r xs
+  Sends-all {a} {b} {before} {after} {xs} {r} clear none sends empty = record {
+    same_device = sends.same_device;
+    bytes = at r sends.sent empty;
+    front = subst (AppendsFront _ _) (ap (λ l. l ++ xs) none) (Sends-front r sends);
+    failures = sends.failures;
+    stalls = sends.stalls;
+    io = io_counted r clear.0 sends.failures;
+    no_progress = no_progress_counted r clear.1 sends.stalls;
+    only = sends.only;
+  }
+    where
+      at : (r : Result (Unit {0}) Error) → OnOk r (IsUnderWay (contents a.device.now) (contents b.device.now) (before ++ xs) after) → OnOk r (after ≡ [])
+          → OnOk r (Appends (contents a.device.now) (contents b.device.now) xs)
+      at (Ok x) sent end =
+          subst (Appends _ _) (sym (append-nil sent.done) ∙ ap (λ l. sent.done ++ l) (sym end) ∙ sym sent.parts ∙ ap (λ l. l ++ xs) none) sent.appended
+      at (Err e) sent end = tt
+
+  -- the same, once it is flushed
+  pub Sends-flushed : {a b c : Watched W} {before between after xs : List ℕ} {r : Result (Unit {0}) Error} → IsClear a → before ≡ []
+      → Sends contents a b before between (Ok (tt {0})) xs → Sends contents b c between after r [] → OnOk r (after ≡ []) → WritesBytes contents a c r xs
+  Sends-flushed {a} {b} {c} {xs = xs} {r = r} clear none first second empty =
+      subst (WritesBytes contents a c r) (append-nil xs) (Sends-all clear none (Sends-then first second) empty)
 
   -- a text that was cut short, and what should have followed
   pub Sends-cut : {a b : Watched W} {before after xs : List ℕ} {e : Error} (ys : List ℕ) → Sends contents a b before after (Err e) xs → Sends contents a b before after (Err e) (xs ++ ys)

@@ -1,7 +1,9 @@
 -- What a clause reads of a watched device, and what a writer's bytes are after a write that may have failed.
-use Rattle.std.specs.Prelude.{ℕ, ◌≡◌, ◌≤◌, List, length, take, Option}
+use Rattle.std.specs.Prelude.{ℕ, ◌≡◌, ◌<◌, ◌≤◌, ◌↔◌, List, length, take, Option, Result, OnOk, IfErr}
 use Rattle.std.specs.Borrow.{MutBor}
 use Rattle.std.specs.Io.KnownBytes.{Appends}
+use Rattle.ini_text.specs.Faults.{IsIo, IsIoOrNoProgress, IsNoProgress, faults_in, stalls_in}
+use Rattle.ini_text.specs.declared.error.Error.{Error}
 use Rattle.ini_text.specs.declared.watched.Watched.{Watched}
 
 -- the device as it is now
@@ -38,3 +40,16 @@ Writes contents old new bytes = Appends (contents (device_now old)) (contents (d
 
 abbrev pub WritesFront : {D : Type 0} → (D → Option (List ℕ)) → Watched D → Watched D → List ℕ → Type 0
 WritesFront contents old new bytes = AppendsFront (contents (device_now old)) (contents (device_now new)) bytes
+
+-- bytes were written: at `Ok` all of them, and else a front; a fault of the device, or a write that took no
+-- bytes, is the answer, and is counted
+pub record WritesBytes {D : Type 0} (contents : D → Option (List ℕ)) (old new : Watched D)
+    (result : Result (Unit {0}) Error) (whole : List ℕ) : Type 0 where
+  pub same_device : SameDevice old new
+  pub bytes : OnOk result (Writes contents old new whole)
+  pub front : WritesFront contents old new whole
+  pub failures : failure_count new ≡ faults_in result
+  pub stalls : stall_count new ≡ stalls_in result
+  pub io : IsIo result ↔ (failure_count old < failure_count new)
+  pub no_progress : IsNoProgress result ↔ (stall_count old < stall_count new)
+  pub only : IfErr result IsIoOrNoProgress

@@ -3,7 +3,8 @@ ghost use Rattle.std.specs.Prelude.{◌≡◌, ◌<◌, [], ◌∷◌, length, c
 
 /// The first character of a text, and what follows it.
 pub(crate) fn split_first(text: &str) -> Option<(char, &str)>
-    ensures characters { MatchOption result (chars text.now ≡ []) (λ p. chars text.now ≡ p.0 ∷ chars p.1.now) }
+    ensures characters { MatchOption result
+        (chars text.now ≡ []) (λ p. chars text.now ≡ p.0 ∷ chars p.1.now) }
     ensures shorter { IfSome result (λ p. length p.1.now < length text.now) }
 {
     let mut characters = text.chars();

@@ -65,7 +65,8 @@ impl Gatherer {
         out: &mut Watched<'_, W>,
     ) -> Result<(), Error>
         requires { IsClear out.old }
-        ensures { Sends W.contents out.old out.new (held self.old) (held self.new) result (escaped_bytes policy text.now) }
+        ensures { Sends W.contents out.old out.new (held self.old) (held self.new) result
+            (escaped_bytes policy text.now) }
     {
         let (run, rest) = split_verbatim(text, policy);
         if rest.is_empty() {

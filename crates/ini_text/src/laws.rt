@@ -69,5 +69,6 @@ pub fn pair_line(
     requires separator { IsPlainSeparator (chars write.now.kv_separator.now) }
     requires plain { IsPlainPair read write.now.escape_policy (chars key.now) (chars value.now) }
     requires follows { FollowsPair read write.now.escape_policy (chars follows.now) }
-    ensures { IsPairLine read write.now twice (chars before.now) (chars key.now) (chars value.now) (chars follows.now) }
+    ensures { IsPairLine read write.now twice
+        (chars before.now) (chars key.now) (chars value.now) (chars follows.now) }
 {}

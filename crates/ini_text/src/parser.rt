@@ -88,7 +88,8 @@ impl<'a> Parser<'a> {
     pub fn next_item(&mut self) -> Result<Option<Item>, Error>
         ensures option { self.new.option ≡ self.old.option }
         ensures text { self.new.text ≡ self.old.text }
-        ensures item { self.old.refusal ≡ None → AnswersItem self.old.option self.old.text self.old.front self.new.front result }
+        ensures item { self.old.refusal ≡ None
+            → AnswersItem self.old.option self.old.text self.old.front self.new.front result }
         ensures ended { self.old.refusal ≡ None → self.old.front ≡ self.old.text → result ≡ Ok None }
 
         // A refusal is kept, and told again.

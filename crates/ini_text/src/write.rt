@@ -1,8 +1,7 @@
 //! Texts on their way to a device, as they are or escaped. This file knows no section, key or value.
-ghost use Rattle.std.specs.Prelude.{◌≡◌, ◌<◌, ◌↔◌, [], OnOk, IfErr};
+ghost use Rattle.std.specs.Prelude.{◌≡◌, []};
 ghost use Rattle.ini_text.specs.Escapes.{escaped_bytes};
-ghost use Rattle.ini_text.specs.Faults.{IsIo, IsNoProgress, IsIoOrNoProgress, faults_in, stalls_in};
-ghost use Rattle.ini_text.specs.Watched.{IsClear, SameDevice, Writes, WritesFront, failure_count, stall_count};
+ghost use Rattle.ini_text.specs.Watched.{IsClear, WritesBytes};
 
 use crate::error::Error;
 use crate::gather::Gatherer;
@@ -18,15 +17,8 @@ use std::io::Write;
 /// and nothing more is asked of the device.
 pub fn write_raw<W: Write>(text: &str, out: &mut Watched<'_, W>) -> Result<(), Error>
     requires { IsClear out.old }
-    ensures same_device { SameDevice out.old out.new }
-    ensures bytes { OnOk result (Writes W.contents out.old out.new text.now) }
-    ensures front { WritesFront W.contents out.old out.new text.now }
+    ensures written { WritesBytes W.contents out.old out.new result text.now }
     ensures nothing { text.now ≡ [] → out.new ≡ out.old }
-    ensures failures { failure_count out.new ≡ faults_in result }
-    ensures stalls { stall_count out.new ≡ stalls_in result }
-    ensures io { IsIo result ↔ (failure_count out.old < failure_count out.new) }
-    ensures no_progress { IsNoProgress result ↔ (stall_count out.old < stall_count out.new) }
-    ensures only { IfErr result IsIoOrNoProgress }
 {
     write_bytes(text.as_bytes(), out)
 }
@@ -45,15 +37,8 @@ pub fn write_escaped<W: Write>(
     out: &mut Watched<'_, W>,
 ) -> Result<(), Error>
     requires { IsClear out.old }
-    ensures same_device { SameDevice out.old out.new }
-    ensures bytes { OnOk result (Writes W.contents out.old out.new (escaped_bytes policy text.now)) }
-    ensures front { WritesFront W.contents out.old out.new (escaped_bytes policy text.now) }
+    ensures written { WritesBytes W.contents out.old out.new result (escaped_bytes policy text.now) }
     ensures nothing { text.now ≡ [] → out.new ≡ out.old }
-    ensures failures { failure_count out.new ≡ faults_in result }
-    ensures stalls { stall_count out.new ≡ stalls_in result }
-    ensures io { IsIo result ↔ (failure_count out.old < failure_count out.new) }
-    ensures no_progress { IsNoProgress result ↔ (stall_count out.old < stall_count out.new) }
-    ensures only { IfErr result IsIoOrNoProgress }
 {
     if text.is_empty() {
         return Ok(());
@@ -66,13 +51,8 @@ pub fn write_escaped<W: Write>(
 /// Writes all the bytes.
 pub(crate) fn write_bytes<W: Write>(bytes: &[u8], out: &mut Watched<'_, W>) -> Result<(), Error>
     requires { IsClear out.old }
-    ensures same_device { SameDevice out.old out.new }
-    ensures bytes { OnOk result (Writes W.contents out.old out.new bytes.now) }
-    ensures front { WritesFront W.contents out.old out.new bytes.now }
+    ensures written { WritesBytes W.contents out.old out.new result bytes.now }
     ensures nothing { bytes.now ≡ [] → out.new ≡ out.old }
-    ensures failures { failure_count out.new ≡ faults_in result }
-    ensures stalls { stall_count out.new ≡ stalls_in result }
-    ensures only { IfErr result IsIoOrNoProgress }
 {
     let mut rest = bytes;
     'pieces: while !rest.is_empty() {

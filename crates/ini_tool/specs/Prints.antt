@@ -1,22 +1,12 @@
 -- What a command did to its writer.
 use Rattle.std.specs.Prelude.{◌≡◌, ℕ, Bool, false, List, [], encode_utf8_all, ⊤}
 use Rattle.std.specs.Prelude.{Option, IsSome, is_some, unwrap_or, Result, Ok, Err, IfOk, IfErr, OnOk, OnErr}
-use Rattle.ini_text.specs.Faults.{IsIoOrNoProgress, faults_in, stalls_in}
+use Rattle.ini_text.specs.Faults.{faults_in, stalls_in}
 use Rattle.ini_text.specs.Watched.{SameDevice, Writes, WritesFront, device_now, failure_count, stall_count}
 use Rattle.ini_text.specs.declared.error.Error.{Error}
 use Rattle.ini_text.specs.declared.error.Error.TheVariants.{Io, Memory, NoProgress}
 use Rattle.ini_text.specs.declared.watched.Watched.{Watched}
 use Rattle.ini.specs.Texts.{Text}
-
--- a text was written: at `Ok` its bytes, and else a front of them; a fault of the writer is the answer, and is counted
-pub record WritesText {W : Type 0} (contents : W → Option (List ℕ)) (old new : Watched W)
-    (result : Result (Unit {0}) Error) (text : Text) : Type 0 where
-  pub same_device : SameDevice old new
-  pub bytes : OnOk result (Writes contents old new (encode_utf8_all text))
-  pub front : WritesFront contents old new (encode_utf8_all text)
-  pub failures : failure_count new ≡ faults_in result
-  pub stalls : stall_count new ≡ stalls_in result
-  pub only : IfErr result IsIoOrNoProgress
 
 -- nothing was there to write, or memory was refused
 abbrev pub IsSilent : Result Bool Error → Type 0

@@ -1,15 +1,15 @@
 //! What each command writes of a document. This file knows no word and no reader.
-ghost use Rattle.std.specs.Prelude.{Some, [], ◌∷◌, ◌++◌, chars, flat_map};
+ghost use Rattle.std.specs.Prelude.{Some, [], ◌∷◌, ◌++◌, chars, encode_utf8_all, flat_map};
 ghost use Rattle.ini_text.specs.Characters.{line_feed};
 ghost use Rattle.ini_text.specs.Escapes.{escaped};
 ghost use Rattle.ini_text.specs.Held.{held};
-ghost use Rattle.ini_text.specs.Watched.{IsClear};
+ghost use Rattle.ini_text.specs.Watched.{IsClear, WritesBytes};
 ghost use Rattle.ini_text.specs.declared.policy.EscapePolicy.TheVariants.{Basics};
 ghost use Rattle.ini.specs.Texts.{str_name};
 ghost use Rattle.ini.specs.Writes.{Writes};
 ghost use Rattle.ini_tool.specs.Requests.{Del, Fmt, Set, request_of};
 ghost use Rattle.ini_tool.specs.Outputs.{IsWriteOption, listed, listed_pair, output, part_text, value_line};
-ghost use Rattle.ini_tool.specs.Prints.{Prints, WritesText};
+ghost use Rattle.ini_tool.specs.Prints.{Prints};
 
 use crate::words::{Command, Options};
 use ini::{Error, EscapePolicy, Gatherer, Ini, Properties, Watched, WriteOption};
@@ -145,7 +145,7 @@ fn list<W: Write>(document: &Ini, out: &mut Watched<'_, W>) -> Result<bool, Erro
 // A line for each pair of each section, written as the sections are gone over.
 fn write_listed<W: Write>(document: &Ini, out: &mut Watched<'_, W>) -> Result<(), Error>
     requires { IsClear out.old }
-    ensures { WritesText W.contents out.old out.new result (listed document.now) }
+    ensures { WritesBytes W.contents out.old out.new result (encode_utf8_all (listed document.now)) }
 {
     let mut lines = Gatherer::new();
     list_sections(&mut lines, document, out)?;
@@ -159,7 +159,8 @@ fn list_sections<W: Write>(
     out: &mut Watched<'_, W>,
 ) -> Result<(), Error>
     requires { IsClear out.old }
-    ensures { Writes W.contents out.old out.new (held lines.old) (held lines.new) result (listed document.now) }
+    ensures { Writes W.contents out.old out.new (held lines.old) (held lines.new) result
+        (listed document.now) }
 {
     for (name, pairs) in document {
         list_pairs(lines, name, pairs, out)?;
@@ -212,7 +213,8 @@ fn put_parts<W: Write>(
     out: &mut Watched<'_, W>,
 ) -> Result<(), Error>
     requires { IsClear out.old }
-    ensures { Writes W.contents out.old out.new (held lines.old) (held lines.new) result (flat_map part_text parts.now) }
+    ensures { Writes W.contents out.old out.new (held lines.old) (held lines.new) result
+        (flat_map part_text parts.now) }
 {
     for (before, text) in parts {
         put_part(lines, before, text, out)?;
@@ -238,7 +240,8 @@ fn put_part<W: Write>(
 // A text as it is, on a line of its own.
 fn write_line<W: Write>(text: &str, out: &mut Watched<'_, W>) -> Result<(), Error>
     requires { IsClear out.old }
-    ensures { WritesText W.contents out.old out.new result (chars text.now ++ line_feed ∷ []) }
+    ensures { WritesBytes W.contents out.old out.new result
+        (encode_utf8_all (chars text.now ++ line_feed ∷ [])) }
 {
     let mut lines = Gatherer::new();
     put_line(&mut lines, text, out)?;
@@ -252,7 +255,8 @@ fn put_line<W: Write>(
     out: &mut Watched<'_, W>,
 ) -> Result<(), Error>
     requires { IsClear out.old }
-    ensures { Writes W.contents out.old out.new (held lines.old) (held lines.new) result (chars text.now ++ line_feed ∷ []) }
+    ensures { Writes W.contents out.old out.new (held lines.old) (held lines.new) result
+        (chars text.now ++ line_feed ∷ []) }
 {
     put_text(lines, text, out)?;
     put_text(lines, "\n", out)

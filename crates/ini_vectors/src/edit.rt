@@ -93,7 +93,8 @@ pub fn edit_text<W: Write>(
         × Writes W.contents out.old out.new output) }
     ensures fault { IfParse result (IsStopOf opt (chars text.now)) }
     ensures silent { OnParseOrMemory result (device_now out.new ≡ device_now out.old) }
-    ensures front { OnDeviceRefusal result ((output : List ℕ) × IsEditedText opt (chars text.now) edits.now w output
+    ensures front { OnDeviceRefusal result
+        ((output : List ℕ) × IsEditedText opt (chars text.now) edits.now w output
         × WritesFront W.contents out.old out.new output) }
     ensures failures { failure_count out.new ≡ faults_in result }
     ensures stalls { stall_count out.new ≡ stalls_in result }

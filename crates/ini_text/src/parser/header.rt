@@ -57,7 +57,8 @@ fn read_bracketed_header<'a>(
 
 /// What stands before the last closing bracket of a text, if blanks alone stand behind that.
 fn before_bracket(text: &str) -> Option<&str>
-    ensures { MatchOption result ((name : List ℕ) → ¬ IsBracketed (chars text.now) name) (λ name. IsBracketed (chars text.now) (chars name.now)) }
+    ensures { MatchOption result ((name : List ℕ) → ¬ IsBracketed (chars text.now) name)
+        (λ name. IsBracketed (chars text.now) (chars name.now)) }
 {
     let mut rest = text;
     'blanks: while let Some((before, c)) = split_last(rest) {

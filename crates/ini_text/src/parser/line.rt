@@ -20,7 +20,8 @@ use std::alloc::Global;
 
 /// Where the quoted part that begins here ends, and what follows its mark.
 fn split_mark(text: &str, option: ParseOption) -> Option<(Endpoints, &str)>
-    ensures { MatchOption result (BeginsPlain option (chars text.now)) (λ p. BeginsQuoted option (chars text.now) (ends_of p.0) (chars p.1.now)) }
+    ensures { MatchOption result (BeginsPlain option (chars text.now))
+        (λ p. BeginsQuoted option (chars text.now) (ends_of p.0) (chars p.1.now)) }
 {
     let (c, after) = split_first(text)?;
     if !option.enabled_quote {
@@ -60,7 +61,8 @@ pub(crate) fn read_line<'a>(
     option: ParseOption,
     is_first: bool,
 ) -> Result<&'a str, Stop<'a>>
-    ensures { Appends (Line option is_first) (LineStops option) (text_of out.old) (text_of out.new) (chars text.now) result }
+    ensures { Appends (Line option is_first) (LineStops option)
+        (text_of out.old) (text_of out.new) (chars text.now) result }
 {
     let mut rest = text;
     let mut is_quoted = false;

@@ -42,7 +42,8 @@ pub(crate) fn read_string<'a>(
     escapes: bool,
     ends: Endpoints,
 ) -> Result<&'a str, Stop<'a>>
-    ensures { Appends (Str escapes (ends_of ends)) (StrStops escapes (ends_of ends)) (text_of out.old) (text_of out.new) (chars text.now) result }
+    ensures { Appends (Str escapes (ends_of ends)) (StrStops escapes (ends_of ends))
+        (text_of out.old) (text_of out.new) (chars text.now) result }
 {
     let mut rest = text;
     'pieces: loop {
@@ -105,7 +106,8 @@ fn escaped_value(c: char) -> char
 // coded = "\x" 4unit
 /// Appends the character that the four units behind `\x` spell.
 fn read_coded<'a>(out: &mut String, text: &'a str, ends: Endpoints) -> Result<&'a str, Stop<'a>>
-    ensures { Appends (λ s r v. Escape true s v) EscapeStops (text_of out.old) (text_of out.new) (backslash ∷ letter_x ∷ chars text.now) result }
+    ensures { Appends (λ s r v. Escape true s v) EscapeStops
+        (text_of out.old) (text_of out.new) (backslash ∷ letter_x ∷ chars text.now) result }
 {
     if let Some((value, rest)) = split_coded(text) {
         push(out, value)?;
@@ -124,7 +126,8 @@ fn read_coded<'a>(out: &mut String, text: &'a str, ends: Endpoints) -> Result<&'
 
 /// The character that the four characters behind `\x` spell, and what follows them.
 fn split_coded(text: &str) -> Option<(char, &str)>
-    ensures { IfSome result (λ p. Begins (backslash ∷ letter_x ∷ chars text.now) (chars p.1.now) (λ s. Escape true s (p.0 ∷ []))) }
+    ensures { IfSome result (λ p.
+        Begins (backslash ∷ letter_x ∷ chars text.now) (chars p.1.now) (λ s. Escape true s (p.0 ∷ []))) }
 {
     let (a, rest) = split_first(text)?;
     let (b, rest) = split_first(rest)?;

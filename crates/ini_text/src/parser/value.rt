@@ -75,7 +75,8 @@ fn read_more<'a>(
     text: &'a str,
     option: ParseOption,
 ) -> Result<&'a str, Stop<'a>>
-    ensures { Appends (MoreLines option) (MoreLinesStop option) (text_of out.old) (text_of out.new) (chars text.now) result }
+    ensures { Appends (MoreLines option) (MoreLinesStop option)
+        (text_of out.old) (text_of out.new) (chars text.now) result }
 {
     let mut rest = text;
     'lines: while let Some((c, after)) = split_first(rest) {

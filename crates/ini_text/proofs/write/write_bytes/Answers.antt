@@ -2,9 +2,10 @@ use Rattle.std.proofs.Common.{length, ap, arith, rules}
 use Rattle.ini_text.proofs.Progress.{under_way_kept, under_way_past}
 use Rattle.ini_text.proofs.write.write_bytes.Goals as goal
 
-pub returns-in_err-taken-clause-front : goal.returns-in_err-taken-clause-front
-returns-in_err-taken-clause-front g c =
-    under_way_kept _ c.pieces.invariant.under_way c.in_err-taken.ensures.bytes
+pub returns-in_err-taken-clause-written : goal.returns-in_err-taken-clause-written
+returns-in_err-taken-clause-written g c =
+    let front = under_way_kept _ c.pieces.invariant.under_way c.in_err-taken.ensures.bytes in
+    search (front, rules)
 
 pub pieces-preserved : goal.pieces-preserved
 pieces-preserved g c = record {

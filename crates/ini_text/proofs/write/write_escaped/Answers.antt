@@ -1,26 +1,28 @@
-use Rattle.std.proofs.Common.{◌≡◌, [], append-nil, ◌∙◌, ap, arith, refl, sym, subst}
-use Rattle.std.proofs.KnownBytes.{Appends-nil}
+use Rattle.std.proofs.Common.{◌≡◌, [], ◌∙◌, ap, arith, refl, sym, subst}
 use Rattle.std.proofs.lemmas.List.{nil_from_length}
-use Rattle.std.specs.Io.KnownBytes.{Appends}
+use Rattle.std.proofs.lemmas.Result.{err_from_is_err_and}
 use Rattle.std.specs.Str.{chars}
 use Rattle.ini_text.specs.declared.policy.EscapePolicy.{EscapePolicy}
 use Rattle.ini_text.specs.Escapes.{escaped_bytes}
-use Rattle.ini_text.specs.Watched.{device_now}
-use Rattle.ini_text.proofs.SendLemmas.{Sends-front, Sends-then}
+use Rattle.ini_text.specs.Watched.{WritesBytes}
+use Rattle.ini_text.proofs.SendLemmas.{Sends-all, Sends-flushed, Sends-nil}
 use Rattle.ini_text.proofs.write.write_escaped.Goals as goal
 
 nothing_escaped : (policy : EscapePolicy) → escaped_bytes policy [] ≡ []
 unfolding chars
 nothing_escaped policy = refl
 
-pub returns-then-is_empty-clause-bytes : goal.returns-then-is_empty-clause-bytes
-returns-then-is_empty-clause-bytes g c =
+pub returns-then-is_empty-clause-written : goal.returns-then-is_empty-clause-written
+returns-then-is_empty-clause-written g c =
     let nothing : c.args.text.now ≡ [] = nil_from_length _ (grind (arith)) in
-    let out = g.W.Write.contents (device_now c.args.out.now) in
-    subst (Appends out out) (sym (ap (escaped_bytes c.args.policy) nothing ∙ nothing_escaped c.args.policy)) (Appends-nil out)
+    subst (WritesBytes _ _ _ _) (sym (ap (escaped_bytes c.args.policy) nothing ∙ nothing_escaped c.args.policy))
+    (Sends-all c.requires refl (Sends-nil [] c.requires) refl)
 
-pub returns-clause-front : goal.returns-clause-front
-returns-clause-front g c =
-    let bytes = escaped_bytes c.args.policy c.args.text.now in
-    let whole = Sends-front c.flush.result (Sends-then {xs = bytes} {ys = []} c.in_ok-put_escaped.ensures c.flush.ensures.sends) in
-    simp (append-nil, c.new-gatherer.ensures) at whole
+pub returns-in_err-put_escaped-clause-written : goal.returns-in_err-put_escaped-clause-written
+returns-in_err-put_escaped-clause-written g c =
+    let p = err_from_is_err_and c.from_residual.result c.from_residual.ensures.1 in
+    rw (p.1, p.2) (Sends-all c.requires c.new-gatherer.ensures c.in_err-put_escaped.ensures tt)
+
+pub returns-clause-written : goal.returns-clause-written
+returns-clause-written g c =
+    Sends-flushed c.requires c.new-gatherer.ensures c.in_ok-put_escaped.ensures c.flush.ensures.sends c.flush.ensures.empty

@@ -1,10 +1,12 @@
-use Rattle.std.proofs.Common.{[], append-nil, encode_utf8_all}
-use Rattle.ini_text.proofs.SendLemmas.{Sends-front, Sends-then}
-use Rattle.ini.specs.Written.{written}
+use Rattle.std.proofs.lemmas.Result.{err_from_is_err_and}
+use Rattle.ini_text.proofs.SendLemmas.{Sends-all, Sends-flushed}
 use Rattle.ini.proofs.document.Ini.write_watched.Goals as goal
 
-pub returns-clause-front : goal.returns-clause-front
-returns-clause-front g c =
-    let bytes = encode_utf8_all (written c.args.self.now c.args.option) in
-    let whole = Sends-front c.flush.result (Sends-then {xs = bytes} {ys = []} c.in_ok-write_sections.ensures.sends c.flush.ensures.sends) in
-    simp (append-nil, c.new-lines.ensures) at whole
+pub returns-in_err-write_sections : goal.returns-in_err-write_sections
+returns-in_err-write_sections g c =
+    let p = err_from_is_err_and c.from_residual.result c.from_residual.ensures.1 in
+    rw (p.1, p.2) (Sends-all c.requires c.new-lines.ensures c.in_err-write_sections.ensures.sends tt)
+
+pub returns : goal.returns
+returns g c =
+    Sends-flushed c.requires c.new-lines.ensures c.in_ok-write_sections.ensures.sends c.flush.ensures.sends c.flush.ensures.empty

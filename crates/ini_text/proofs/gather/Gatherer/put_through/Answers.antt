@@ -3,5 +3,4 @@ use Rattle.ini_text.proofs.gather.Gatherer.put_through.Goals as goal
 
 pub returns : goal.returns
 returns g c =
-    let out = c.write_bytes.ensures in
-    Sends-then c.in_ok-flush.ensures.sends (Sends-direct c.in_ok-flush.ensures.empty out.same_device out.bytes out.front out.failures out.stalls out.only)
+    Sends-then c.in_ok-flush.ensures.sends (Sends-direct c.in_ok-flush.ensures.empty c.write_bytes.ensures.written)
