@@ -1,6 +1,7 @@
 -- What is appended to a string, as characters.
-use Rattle.std.proofs.Common.{◌≡◌, ◌≢◌, ℕ, arith, ◌<◌, get_or, List, [], ◌∷◌, ◌++◌, sym, ap, ◌∙◌, append-nil, chars, IsUtf8, IsCharBoundary, encode_utf8, encode_utf8_all, take, drop, length, Bool, true, false, ◌&&◌, refl, Result, Ok, Err, OnOk, is_ok, if◌then◌else◌}
+use Rattle.std.proofs.Common.{◌≡◌, ◌≢◌, ℕ, arith, ◌<◌, get_or, List, [], ◌∷◌, ◌++◌, sym, ap, ◌∙◌, append-nil, chars, IsUtf8, IsCharBoundary, encode_utf8, encode_utf8_all, take, drop, length, true, refl, Result, Ok, Err, OnOk, is_ok, if◌then◌else◌}
 use Rattle.std.proofs.Math.Bool.{and-true}
+use Rattle.std.proofs.lemmas.Bool.{and_parts}
 use Rattle.std.proofs.lemmas.Str.{chars-append, chars-encodes, chars-nil, chars_past_char, encode_ascii, encodes-chars, encodes-append, scalars-chars, IsCharBoundary-at_seam}
 use Rattle.std.proofs.Math.Seq.{take-append_seam, drop-append_seam}
 use Rattle.std.specs.Str.{all_scalars}
@@ -21,11 +22,7 @@ pushed (Err x) new old c u h e = tt
 
 scalars-back : (a b : List ℕ) → all_scalars (a ++ b) ≡ true → all_scalars b ≡ true
 scalars-back [] b h = h
-scalars-back (c ∷ a) b h = scalars-back a b (second (scalar c) h)
-  where
-    second : (x : Bool) {y : Bool} → (x && y) ≡ true → y ≡ true
-    second true h = h
-    second false h = cc
+scalars-back (c ∷ a) b h = scalars-back a b (and_parts (scalar c) (all_scalars (a ++ b)) h).1
 
 -- where a text grew by v, it can be cut before v
 pub record IsGrown (old new v : List ℕ) : Type 0 where

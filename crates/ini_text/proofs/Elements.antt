@@ -1,7 +1,7 @@
 -- Elements, as they are read.
 use Rattle.std.proofs.Common.{◌≡◌, ◌≢◌, ℕ, Bool, true, false, not, eqb, eqb-true, List, [], ◌∷◌, ◌++◌, drop, refl, sym, ap, ◌∙◌, append_assoc, subst, chars, inl, inr}
 use Rattle.std.proofs.Math.Bool.{or-false}
-use Rattle.std.proofs.lemmas.Bool.{not-false, or_cases}
+use Rattle.std.proofs.lemmas.Bool.{both_ways, false_from_ne_true, not-false, or_cases}
 use Rattle.std.specs.Char.{is_whitespace}
 use Rattle.std.specs.List.{list_all}
 use Rattle.ini_text.specs.Characters.{line_feed, open_bracket, close_bracket, is_blank, is_line_feed, is_line_end, is_comment_mark, BeginsWithNo}
@@ -25,6 +25,16 @@ pub blank_is_white : (c : ℕ) → is_blank c ≡ true → is_whitespace c ≡ t
 blank_is_white c h = elim (or_cases (eqb c 32) (eqb c 9) h) [
   | inl q ↦ subst (λ x. is_whitespace x ≡ true) (sym (eqb-true c 32 q)) refl
   | inr q ↦ subst (λ x. is_whitespace x ≡ true) (sym (eqb-true c 9 q)) refl
+]
+
+pub no_white_no_blank : (c : ℕ) → is_whitespace c ≡ false → is_blank c ≡ false
+no_white_no_blank c h =
+    false_from_ne_true (is_blank c) (λ q. both_ways (is_whitespace c) h (blank_is_white c q))
+
+pub line_end_no_blank : (c : ℕ) → is_line_end c ≡ true → is_blank c ≡ false
+line_end_no_blank c h = elim (or_cases (eqb c 10) (eqb c 13) h) [
+  | inl q ↦ subst (λ x. is_blank x ≡ false) (sym (eqb-true c 10 q)) refl
+  | inr q ↦ subst (λ x. is_blank x ≡ false) (sym (eqb-true c 13 q)) refl
 ]
 
 module _ {o : ParseOption} {b : List ℕ} where

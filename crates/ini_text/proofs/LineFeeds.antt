@@ -1,6 +1,6 @@
 -- Line feeds taken off the ends of a text one by one.
-use Rattle.std.proofs.Common.{◌≡◌, ◌≢◌, ◌<◌, ℕ, Bool, true, false, ◌&&◌, ◌==◌, cond, eqb, List, [], ◌∷◌, ◌++◌, length, refl, sym, ap, ◌∙◌, arith, length-append, ne_eqb}
-use Rattle.std.proofs.lemmas.Bool.{cond-false}
+use Rattle.std.proofs.Common.{◌≡◌, ◌≢◌, ◌<◌, ℕ, true, false, ◌&&◌, ◌==◌, cond, eqb, List, [], ◌∷◌, ◌++◌, length, refl, sym, ap, ◌∙◌, arith, length-append, ne_eqb}
+use Rattle.std.proofs.lemmas.Bool.{and_right, cond-false}
 use Rattle.ini_text.specs.Characters.{line_feed, is_line_feed}
 use Rattle.ini_text.specs.White.{skip_line_feeds, drop_line_feeds, without_outer_line_feeds}
 use Rattle.ini_text.specs.Scans.{skipped}
@@ -23,15 +23,11 @@ kept_length : (xs : List ℕ) (c : ℕ) → (length (xs ++ c ∷ []) == 0) ≡ f
 kept_length [] c = refl
 kept_length (x ∷ xs) c = ne_eqb (length (x ∷ (xs ++ c ∷ []))) 0 (λ q. absurd (omega arith))
 
-and_false : (a b : Bool) → b ≡ false → (a && b) ≡ false
-and_false true b h = h
-and_false false b h = refl
-
 feed_kept : (xs : List ℕ) (c : ℕ) → c ≢ line_feed → drop_line_feeds (xs ++ c ∷ []) ≡ xs ++ c ∷ []
 feed_kept [] c n = cond-false (eqb c 10 && true) [] (c ∷ []) (ap (λ b. b && true) (ne_eqb c 10 n))
 feed_kept (x ∷ xs) c n =
     ap (λ y. cond (eqb x 10 && (length y == 0)) [] (x ∷ y)) (feed_kept xs c n)
-    ∙ cond-false (eqb x 10 && (length (xs ++ c ∷ []) == 0)) [] (x ∷ (xs ++ c ∷ [])) (and_false (eqb x 10) (length (xs ++ c ∷ []) == 0) (kept_length xs c))
+    ∙ cond-false (eqb x 10 && (length (xs ++ c ∷ []) == 0)) [] (x ∷ (xs ++ c ∷ [])) (and_right (eqb x 10) (length (xs ++ c ∷ []) == 0) (kept_length xs c))
 
 pub feeds_done : (t before : List ℕ) (c : ℕ) → t ≡ before ++ c ∷ [] → c ≢ line_feed → t ≡ drop_line_feeds t
 feeds_done t before c h n = h ∙ sym (feed_kept before c n) ∙ ap drop_line_feeds (sym h)

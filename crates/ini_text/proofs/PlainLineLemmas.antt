@@ -1,6 +1,6 @@
 -- Headers and pairs as they are written, read back.
-use Rattle.std.proofs.Common.{◌≡◌, inl, inr, ℕ, Bool, true, false, not, ◌||◌, cond, eqb, eqb-true, List, [], ◌∷◌, ◌++◌, refl, sym, ap, ◌∙◌, subst, append_assoc, append-nil}
-use Rattle.std.proofs.lemmas.Bool.{or_left, or_from, or_cases, and_parts, and_from, not-true, both_ways}
+use Rattle.std.proofs.Common.{◌≡◌, ℕ, Bool, true, false, not, ◌||◌, cond, eqb, List, [], ◌∷◌, ◌++◌, refl, sym, ap, ◌∙◌, subst, append_assoc, append-nil}
+use Rattle.std.proofs.lemmas.Bool.{or_left, or_from, and_parts, and_from, not-true, both_ways}
 use Rattle.std.specs.List.{list_all}
 use Rattle.ini_text.specs.declared.option.ParseOption.{ParseOption}
 use Rattle.ini_text.specs.declared.policy.EscapePolicy.{EscapePolicy}
@@ -17,17 +17,12 @@ use Rattle.ini_text.specs.Texts.{Reads}
 use Rattle.ini_text.specs.Plain.{IsPlainName}
 use Rattle.ini_text.specs.PlainLaws.{AreGaps, IsElementThenGaps, IsHeaderLine, header_source, line_ends}
 use Rattle.ini_text.specs.WriteOptions.{line_end}
+use Rattle.ini_text.proofs.Elements.{line_end_no_blank}
 use Rattle.ini_text.proofs.EscapePieceLemmas.{AllRead, NoRawEnd, all_read, row_escaped}
 use Rattle.ini_text.proofs.MovedLemmas.{last_or-behind}
 use Rattle.ini_text.proofs.PlainTrimLemmas.{line_end_is_white}
 
 -- line ends are gaps
-line_end_no_blank : (c : ℕ) → is_line_end c ≡ true → is_blank c ≡ false
-line_end_no_blank c h = elim (or_cases (eqb c 10) (eqb c 13) h) [
-  | inl q ↦ subst (λ x. is_blank x ≡ false) (sym (eqb-true c 10 q)) refl
-  | inr q ↦ subst (λ x. is_blank x ≡ false) (sym (eqb-true c 13 q)) refl
-]
-
 line_end_gap : {b r : List ℕ} (c : ℕ) → is_line_end c ≡ true → Gap b (c ∷ []) r
 line_end_gap c h =
     Gap.white (line_end_is_white c h) (λ q. absurd (both_ways (is_blank c) (line_end_no_blank c h) q))

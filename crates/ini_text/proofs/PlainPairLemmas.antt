@@ -22,7 +22,7 @@ use Rattle.ini_text.specs.Elements.{Pair, Element}
 use Rattle.ini_text.specs.Plain.{IsPlainSeparator, IsBareKey, IsIndentedByEscape, IsPlainKey, IsPlainValue, IsPlainPair}
 use Rattle.ini_text.specs.PlainLaws.{AreGaps, FollowsPair, IsPairLine, line_ends, pair_source}
 use Rattle.ini_text.specs.WriteOptions.{line_end}
-use Rattle.ini_text.proofs.Elements.{blank_is_white}
+use Rattle.ini_text.proofs.Elements.{no_white_no_blank}
 use Rattle.ini_text.proofs.EscapePieceLemmas.{AllRead, NoRawEnd, all_read, row_escaped}
 use Rattle.ini_text.proofs.PlainLineLemmas.{GivesLine, element_then_gaps-gives, line_end_gaps, line_ends_column, row_of}
 use Rattle.ini_text.proofs.PlainTrimLemmas.{line_end_is_white, trimmed_begins, trimmed_end, end_trimmed-blanks, trimmed-blanks, end_trimmed-behind, some_behind, without_line_feeds-trimmed}
@@ -76,10 +76,6 @@ module _ (P : List ℕ → Type 0) (slash : (y : List ℕ) → P (backslash ∷ 
   value_begins {o} {value = []} l x plain h ends raw = ends x
   value_begins {o} {value = c ∷ cs} l x plain h ends raw =
       escaped_begins c cs (l ∷ x) (λ _ y. raw c y (trimmed_begins (c ∷ cs) plain.is_trimmed) plain.no_mark)
-
-no_white_no_blank : (c : ℕ) → is_whitespace c ≡ false → is_blank c ≡ false
-no_white_no_blank c h =
-    false_from_ne_true (is_blank c) (λ q. both_ways (is_whitespace c) h (blank_is_white c q))
 
 no_white_no_line_end : (c : ℕ) → is_whitespace c ≡ false → is_line_end c ≡ false
 no_white_no_line_end c h =

@@ -1,6 +1,6 @@
 -- Trimming texts that are trimmed already, and what stands around them.
 use Rattle.std.proofs.Common.{◌≡◌, ◌≢◌, ◌≤◌, ℕ, suc, Bool, true, false, ◌&&◌, cond, eqb, List, [], ◌∷◌, ◌++◌, length, refl, sym, ap, ◌∙◌, subst, arith, eqb-true, ne_eqb, inl, inr}
-use Rattle.std.proofs.lemmas.Bool.{cond_both, cond-true, cond-false, or_cases, and_parts, and_from, both_ways, false_from_ne_true}
+use Rattle.std.proofs.lemmas.Bool.{cond_both, cond-true, cond-false, or_cases, and_parts, and_right, and_from, both_ways, false_from_ne_true}
 use Rattle.std.specs.Char.{is_whitespace}
 use Rattle.std.specs.List.{list_all}
 use Rattle.std.specs.Str.{skip_leading_whitespace, drop_trailing_whitespace}
@@ -80,16 +80,12 @@ pub some_behind : (w cs : List ℕ) → cs ≢ [] → (w ++ cs) ≢ []
 some_behind [] cs some = some
 some_behind (c ∷ w) cs some = λ e. cc
 
-and_no : (x y : Bool) → y ≡ false → (x && y) ≡ false
-and_no true y h = h
-and_no false y h = refl
-
 pub end_trimmed-behind : (w cs : List ℕ) → cs ≢ [] → end_trimmed cs ≡ cs → end_trimmed (w ++ cs) ≡ w ++ cs
 end_trimmed-behind [] cs some h = h
 end_trimmed-behind (c ∷ w) cs some h =
     ap (λ l. cond (is_whitespace c && eqb (length l) 0) [] (c ∷ l)) (end_trimmed-behind w cs some h)
     ∙ cond-false (is_whitespace c && eqb (length (w ++ cs)) 0) [] (c ∷ (w ++ cs))
-    (and_no (is_whitespace c) _ (not_zero (w ++ cs) (some_behind w cs some)))
+    (and_right (is_whitespace c) _ (not_zero (w ++ cs) (some_behind w cs some)))
 
 -- a text whose end is trimmed has no line feeds at its end
 not_nil : (c : ℕ) (cs : List ℕ) → [] ≢ (c ∷ cs)

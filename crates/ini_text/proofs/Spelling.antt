@@ -1,5 +1,6 @@
 -- Four digits and the character that they spell.
 use Rattle.std.proofs.Common.{◌≡◌, ◌≢◌, ℕ, Bool, true, false, cond, eqb, refl, sym, ap, ◌∙◌, subst, ◌&&◌, ◌||◌, ◌+◌, ◌*◌, ◌<◌, SomeIff, lt-ltb, Option, Some, None, eq-eqb, ne_eqb}
+use Rattle.std.proofs.Math.Bool.{or-true}
 use Rattle.std.proofs.lemmas.Bool.{cond-true, cond-false}
 use lib.Utf8.{scalar}
 use Rattle.std.specs.Char.{is_digit, digit_value}
@@ -24,12 +25,8 @@ spelled_value a b c d f y z x m r ha hf hb hc hd e h =
     ∙ ap (λ z. first_digit a * 0x1000 + digit_value b * 0x100 + z * 0x10 + x) hc.1 ∙ ap (λ x. first_digit a * 0x1000 + digit_value b * 0x100 + digit_value c * 0x10 + x) hd.1 in
     some_iff_cond _ _ _ r (five_true ha (lt-ltb _ 16 hb.0) (lt-ltb _ 16 hc.0) (lt-ltb _ 16 hd.0)) (subst (λ m. SomeIff r (scalar m ≡ true) m) n h)
 
-or_true : (b : Bool) → (b || true) ≡ true
-or_true true = refl
-or_true false = refl
-
 pub first_plus : (a f : ℕ) → a ≡ plus → f ≡ 0 → ((is_digit a 16 || eqb a plus) ≡ true) × (f ≡ first_digit a)
-first_plus a f h q = (ap (λ t. is_digit a 16 || t) (eq-eqb a 43 h) ∙ or_true (is_digit a 16), q ∙ sym (cond-true (eqb a 43) 0 (digit_value a) (eq-eqb a 43 h)))
+first_plus a f h q = (ap (λ t. is_digit a 16 || t) (eq-eqb a 43 h) ∙ or-true (is_digit a 16), q ∙ sym (cond-true (eqb a 43) 0 (digit_value a) (eq-eqb a 43 h)))
 
 pub first_other : (a f y : ℕ) → a ≢ plus → (digit_value a < 16) × (y ≡ digit_value a) → f ≡ y → ((is_digit a 16 || eqb a plus) ≡ true) × (f ≡ first_digit a)
 first_other a f y h d q = (ap (λ t. t || eqb a plus) (lt-ltb (digit_value a) 16 d.0), q ∙ d.1 ∙ sym (cond-false (eqb a 43) 0 (digit_value a) (ne_eqb a 43 h)))

@@ -1,5 +1,6 @@
 -- A string, as it is read: a row of pieces that grows at its end.
 use Rattle.std.proofs.Common.{◌≡◌, ◌≢◌, ℕ, Bool, true, false, ◌&&◌, not, List, [], ◌∷◌, ◌++◌, refl, sym, ap, ◌∙◌, append_assoc, append-nil, subst, eqb, ne_eqb, eq-eqb, true≢false}
+use Rattle.std.proofs.lemmas.Bool.{and_parts}
 use Rattle.std.specs.List.{list_all}
 use Rattle.ini_text.specs.Characters.{backslash, BeginsWithNo}
 use Rattle.ini_text.specs.Pieces.{Escape, EscapeStops}
@@ -9,10 +10,6 @@ use Rattle.ini_text.specs.Strings.{Ends, is_endpoint, Row, Str, StrStops, Closes
 use Rattle.ini_text.specs.declared.error.ParseKind.TheVariants.{EndOfText}
 use Rattle.ini_text.specs.declared.parser.fault.Stop.{Stop}
 use Rattle.ini_text.proofs.Appending.{and_then, and_done, and_stops}
-
-both : (a : Bool) {b : Bool} → (a && b) ≡ true → (a ≡ true) × (b ≡ true)
-both true {b} h = (refl, h)
-both false h = cc
 
 plain_parts : (ends : Ends) (c : ℕ) → is_plain ends c ≡ true → (c ≢ backslash) × (is_endpoint ends c ≡ false)
 plain_parts ends c h = apart (eqb c backslash) (is_endpoint ends c) refl h
@@ -38,7 +35,7 @@ module _ {e : Bool} {ends : Ends} where
 
   run_row : (run : List ℕ) → list_all (is_plain ends) run ≡ true → Row e ends run run
   run_row [] h = Row.none
-  run_row (c ∷ run) h = let b = both (is_plain ends c) {b = list_all (is_plain ends) run} h in let p = plain_parts ends c b.0 in Row.raw p.0 p.1 (run_row run b.1)
+  run_row (c ∷ run) h = let b = and_parts (is_plain ends c) (list_all (is_plain ends) run) h in let p = plain_parts ends c b.0 in Row.raw p.0 p.1 (run_row run b.1)
 
   -- a run of characters that stand for themselves
   pub and_run : {old new newer t rest after : List ℕ} (run : List ℕ) → Appended old new t rest (Row e ends) → newer ≡ new ++ run → rest ≡ run ++ after → list_all (is_plain ends) run ≡ true

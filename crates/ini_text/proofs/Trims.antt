@@ -1,7 +1,7 @@
 -- Trimming a text trims its characters.
 use Rattle.std.proofs.Common.{◌≡◌, ℕ, Bool, true, false, ◌&&◌, ◌==◌, List, [], ◌∷◌, length, refl, sym, ap, ◌∙◌, subst, chars, IsUtf8, IsCharBoundary, ◌++◌, ◌+◌, ◌≤◌, ◌⊎◌, inl, inr, take, drop, arith, length-append, take-append-drop, Result, Ok, Err, OnOk}
 use Rattle.std.specs.declared.alloc.AllocError.{AllocError}
-use Rattle.std.proofs.lemmas.Bool.{cond_both, cond-true, cond-false}
+use Rattle.std.proofs.lemmas.Bool.{and_parts, cond_both, cond-true, cond-false}
 use Rattle.std.proofs.lemmas.Str.{chars-encodes, scalars-chars, chars-append, IsUtf8-append, IsUtf8-take, IsCharBoundary-from_take}
 use Rattle.std.specs.Char.{is_whitespace}
 use Rattle.std.specs.Str.{all_scalars, skip_leading_whitespace, drop_trailing_whitespace, trim_start, trim_end, trim}
@@ -11,22 +11,18 @@ use Rattle.std.proofs.Math.Seq.{take-append-add, take-append_seam}
 use Rattle.ini_text.specs.Scans.{trimmed_at, begins_white}
 use Rattle.ini_text.specs.White.{trimmed, end_trimmed}
 
-tail : (a b : Bool) → (a && b) ≡ true → b ≡ true
-tail true b h = h
-tail false b h = cc
-
 keep : (a b c : Bool) → (a && b) ≡ true → c ≡ true → (a && c) ≡ true
 keep true b c h q = q
 keep false b c h q = h
 
 scalars-skip : (cs : List ℕ) → all_scalars cs ≡ true → all_scalars (skip_leading_whitespace cs) ≡ true
 scalars-skip [] h = refl
-scalars-skip (c ∷ cs) h = cond_both (is_whitespace c) _ _ (λ l. all_scalars l ≡ true) (λ q. scalars-skip cs (tail (scalar c) (all_scalars cs) h)) (λ q. h)
+scalars-skip (c ∷ cs) h = cond_both (is_whitespace c) _ _ (λ l. all_scalars l ≡ true) (λ q. scalars-skip cs (and_parts (scalar c) (all_scalars cs) h).1) (λ q. h)
 
 scalars-drop : (cs : List ℕ) → all_scalars cs ≡ true → all_scalars (drop_trailing_whitespace cs) ≡ true
 scalars-drop [] h = refl
 scalars-drop (c ∷ cs) h = cond_both (is_whitespace c && (length (drop_trailing_whitespace cs) == 0)) _ _ (λ l. all_scalars l ≡ true) (λ q. refl)
-    (λ q. keep (scalar c) (all_scalars cs) (all_scalars (drop_trailing_whitespace cs)) h (scalars-drop cs (tail (scalar c) (all_scalars cs) h)))
+    (λ q. keep (scalar c) (all_scalars cs) (all_scalars (drop_trailing_whitespace cs)) h (scalars-drop cs (and_parts (scalar c) (all_scalars cs) h).1))
 
 pub chars_trim : (bs : List ℕ) → IsUtf8 bs → chars (trim bs) ≡ trimmed (chars bs)
 unfolding trim_start trim_end

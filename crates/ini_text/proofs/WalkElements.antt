@@ -7,7 +7,7 @@ use Rattle.std.specs.List.{list_all}
 use Rattle.ini_text.specs.declared.option.ParseOption.{ParseOption}
 use Rattle.ini_text.specs.declared.error.ParseKind.{ParseKind}
 use Rattle.ini_text.specs.declared.error.ParseKind.TheVariants.{EndOfText, HeaderEnd, InlineComment, MissingKey}
-use Rattle.ini_text.specs.Characters.{line_feed, carriage_return, hash, semicolon, open_bracket, close_bracket, is_line_feed, is_line_end, is_blank, is_separator, is_comment_mark, BeginsWith, BeginsWithNo}
+use Rattle.ini_text.specs.Characters.{line_feed, hash, semicolon, open_bracket, close_bracket, is_line_feed, is_line_end, is_blank, is_separator, is_comment_mark, BeginsWith, BeginsWithNo}
 use Rattle.ini_text.specs.Positions.{starts_line, is_column_one}
 use Rattle.ini_text.specs.White.{trimmed, end_trimmed}
 use Rattle.ini_text.specs.Strings.{Str, StrStops, name_ends, bracketed_name_ends, key_ends}
@@ -17,7 +17,7 @@ use Rattle.ini_text.specs.Elements.{Given, Header, Pair, Gap, Element, ElementSt
 use Rattle.ini_text.proofs.WalkReaders.{Answer, found, stopped, Says, IsReader}
 use Rattle.ini_text.proofs.WalkStrings.{StringSays, string, string-reads}
 use Rattle.ini_text.proofs.BracketedNameLemmas.{name_in, finds_name, name_found, no_name, none_found}
-use Rattle.ini_text.proofs.Elements.{blank_is_white}
+use Rattle.ini_text.proofs.Elements.{no_white_no_blank, line_end_no_blank}
 use Rattle.ini_text.proofs.Keys.{endpoint_follows, stopped_at_end}
 use Rattle.ini_text.proofs.WalkRuns.{either_true, run-finds, run-sound}
 use Rattle.ini_text.specs.Scans.{run_of, skipped}
@@ -25,15 +25,6 @@ use Rattle.ini_text.proofs.WalkValues.{value, value-reads}
 
 abbrev is_comment_part : ℕ → Bool
 is_comment_part c = not (is_line_feed c)
-
-not_white : (c : ℕ) → is_whitespace c ≡ false → is_blank c ≡ false
-not_white c h = elim (cases_Bool (is_blank c)) [
-  | inl q ↦ cc (blank_is_white c q)
-  | inr q ↦ q
-]
-
-end-apart : (c : ℕ) → is_line_end c ≡ true → is_blank c ≡ false
-end-apart c h = either_true (c == line_feed) (c == carriage_return) (is_blank c ≡ false) h (λ e. rw (eqb-true c 10 e) refl) (λ e. rw (eqb-true c 13 e) refl)
 
 comment_mark-apart : (c : ℕ) → is_comment_mark c ≡ true → (is_blank c ≡ false) × (is_whitespace c ≡ false)
 comment_mark-apart c h =
@@ -286,7 +277,7 @@ module _ (o : ParseOption) (b : List ℕ) where
   element-unindented (c ∷ t) begins =
       let x = or_parts (is_whitespace c || is_comment_mark c) (c == open_bracket) (not-true _ begins) in
       let y = or_parts (is_whitespace c) (is_comment_mark c) x.0 in
-      rw (not_white c y.0, y.0, y.1, x.1)
+      rw (no_white_no_blank c y.0, y.0, y.1, x.1)
 
   element-key : {k x key : List ℕ} {m : ℕ} → KeyFront o b k (m ∷ x) key → is_separator m ≡ true → element (k ++ m ∷ x) ≡ behind_separator key x
   element-key {x = x} {m = m} (KeyFront.unindented {s} begins str) sep = rw (element-unindented (s ++ m ∷ x) begins, key-reads.finds str)
@@ -300,7 +291,7 @@ module _ (o : ParseOption) (b : List ℕ) where
   element-gap : {s r : List ℕ} → Gap b s r → element (s ++ r) ≡ found [] r
   unfolding element
   element-gap {r = r} (Gap.blank_line {w} c ind end) =
-      rw (append_assoc w (c ∷ []) r, element-blanks (c ∷ r) ind (end-apart c end)) (cond-true (is_line_end c) _ _ end)
+      rw (append_assoc w (c ∷ []) r, element-blanks (c ∷ r) ind (line_end_no_blank c end)) (cond-true (is_line_end c) _ _ end)
   element-gap (Gap.before_header {w} {r} ind) = element-blanks (open_bracket ∷ r) ind refl
   element-gap (Gap.white {c} w n) = rw (no_line_start c n, w)
 
