@@ -1,10 +1,10 @@
 -- Runs that are seen sixteen bytes at a time.
-use Rattle.std.proofs.Common.{◌≡◌, ℕ, ◌+◌, ◌*◌, ◌%◌, ◌^◌, ◌<◌, ◌≤◌, Bool, true, false, not, ◌&&◌, ◌||◌, cond, eqb, ltb, List, [], ◌∷◌, map, length, drop, replicate, refl, sym, ap, ap₂, ◌∙◌, arith}
-use Rattle.std.proofs.lemmas.Simd.{chunk-drop, length-chunk, leading_from_mask_l, trailing_mask_l, zip2_splat, zip2_of_maps, map-map, mask_l-mod}
-use Rattle.std.proofs.lemmas.List.{length-drop, length-map}
+use Rattle.std.proofs.Common.{◌≡◌, ℕ, ◌+◌, ◌-◌, ◌*◌, ◌%◌, ◌^◌, ◌<◌, ◌≤◌, Bool, true, false, not, ◌&&◌, ◌||◌, cond, eqb, ltb, List, [], ◌∷◌, map, length, drop, replicate, ◌++◌, get_or, length-append, inl, inr, subst, refl, sym, ap, ap₂, ◌∙◌, arith}
+use Rattle.std.proofs.lemmas.Simd.{chunk-drop, get_or-chunk, length-chunk, leading_from_mask_l, trailing_mask_l, zip2_splat, zip2_of_maps, map-map, mask_l-mod}
+use Rattle.std.proofs.lemmas.List.{get_or_append_left, get_or-append-add, length-drop, length-map}
 use Rattle.std.proofs.lemmas.List.Folds.{prefix_len-append}
-use Rattle.std.proofs.lemmas.List.Sums.{prefix_len-le-length}
-use Rattle.std.proofs.lemmas.Bool.{eq-eqb, ne_eqb}
+use Rattle.std.proofs.lemmas.List.Sums.{prefix_len-le-length, prefix_len_is, prefix_len_passes}
+use Rattle.std.proofs.lemmas.Bool.{cases_lt, eq-eqb, ne_eqb}
 use Rattle.std.specs.List.{prefix_len, position_or_len}
 use lib.Bits.{bit_or}
 use lib.Lanes.{chunk, mask_l, top, zip2}
@@ -94,3 +94,32 @@ no_marks false false false = refl
 pub not_three : (a : Bool) → not (a || a || a) ≡ not a
 not_three true = refl
 not_three false = refl
+
+none_marked : (p : ℕ → Bool) (v : List ℕ) → mask_l (map p v) ≡ 0 → (k : ℕ) → k < length v → p (get_or v k 0) ≡ false
+none_marked p v none k within = not-true (p (get_or v k 0)) (prefix_len_passes (λ x. not (p x)) v k 0 (omega (arith, leading_from_mask_l p v none)))
+  where
+    not-true : (b : Bool) → not b ≡ true → b ≡ false
+    not-true true h = cc
+    not-true false h = refl
+
+-- eight to sixteen bytes, of which neither the first eight nor the last eight are marked
+pub unmarked : (p : ℕ → Bool) (bytes : List ℕ) → 8 ≤ length bytes → length bytes ≤ 16 → mask_l (map p (chunk 0 8 bytes ++ chunk (length bytes - 8) 8 bytes)) ≡ 0
+    → position_or_len p bytes ≡ length bytes
+unmarked p bytes some few none =
+    let back = length bytes - 8 in
+    let a = chunk 0 8 bytes in
+    let b = chunk back 8 bytes in
+    let long-a : length a ≡ 8 = length-chunk 0 8 bytes (omega arith) in
+    let long-b : length b ≡ 8 = length-chunk back 8 bytes (omega arith) in
+    let free = none_marked p (a ++ b) none in
+    prefix_len_is (λ x. not (p x)) bytes (length bytes) 0 (omega arith)
+    (λ k within. ap not (elim (cases_lt k 8) [
+      | inl low ↦
+          let place : 0 + k ≡ k = omega arith in
+          subst (λ x. p x ≡ false) (get_or_append_left a b 0 k (omega arith) ∙ get_or-chunk 0 8 bytes k 0 low ∙ ap (λ i. get_or bytes i 0) place) (free k (omega (arith, length-append a b)))
+      | inr high ↦
+          let j = k - back in
+          let place : back + j ≡ k = omega arith in
+          subst (λ x. p x ≡ false) (get_or-append-add a b j 0 ∙ get_or-chunk back 8 bytes j 0 (omega arith) ∙ ap (λ i. get_or bytes i 0) place) (free (length a + j) (omega (arith, length-append a b)))
+    ]))
+    (λ past. absurd (omega arith))

@@ -1,5 +1,5 @@
 -- A text whose ends are seen to be no white space.
-use Rattle.std.proofs.Common.{◌≡◌, ◌≢◌, ℕ, suc, ◌-◌, ◌<◌, ◌≤◌, Bool, true, false, ◌&&◌, cond, List, [], ◌∷◌, ◌++◌, length, take, drop, get_or, refl, sym, ap, ◌∙◌, arith, subst, chars, IsUtf8, IsCharBoundary}
+use Rattle.std.proofs.Common.{◌≡◌, ℕ, suc, ◌<◌, Bool, true, false, List, [], ◌∷◌, ◌++◌, length, take, drop, get_or, refl, sym, ap, ◌∙◌, arith, subst, chars, IsUtf8, IsCharBoundary}
 use Rattle.std.specs.Char.{is_whitespace}
 use Rattle.std.proofs.lemmas.Bool.Decides.{nat_tests}
 use Rattle.std.proofs.lemmas.List.{drop_all}
@@ -7,7 +7,7 @@ use Rattle.std.proofs.lemmas.Str.{IsCharBoundary-before_ascii, IsUtf8-drop, char
 use Rattle.std.proofs.Math.Seq.{drop-cons}
 use Rattle.ini_text.specs.Characters.{BeginsWithNo}
 use Rattle.ini_text.specs.Scans.{is_visible, trimmed_at}
-use Rattle.ini_text.specs.White.{end_trimmed, trimmed}
+use Rattle.ini_text.specs.White.{end_trimmed}
 use Rattle.ini_text.proofs.Appends.{one_character}
 use Rattle.ini_text.proofs.PlainTrimLemmas.{end_trimmed-behind, skip_none}
 use Rattle.ini_text.proofs.Runs.{split_chars}

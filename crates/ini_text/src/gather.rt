@@ -1,6 +1,6 @@
 //! Texts on their way to a device, gathered so that many of them reach it together. This file knows bytes and escapes, and
 //! no section, key or value.
-ghost use Rattle.std.specs.Prelude.{◌≡◌, ◌+◌, ◌++◌, ◌≤◌, [], length, OnOk};
+ghost use Rattle.std.specs.Prelude.{◌≡◌, ◌+◌, ◌++◌, ◌≤◌, [], length, OnOk, if◌then◌else◌};
 ghost use Rattle.ini_text.specs.Escapes.{escape, escaped_bytes};
 ghost use Rattle.ini_text.specs.Gathering.{Sends};
 ghost use Rattle.ini_text.specs.Watched.{IsClear};
@@ -68,11 +68,25 @@ impl Gatherer {
         ensures { Sends W.contents out.old out.new (held self.old) (held self.new) result
             (escaped_bytes policy text.now) }
     {
-        let (run, rest) = split_verbatim(text, policy);
-        if rest.is_empty() {
-            return self.put(run, out);
+        if self.hold_verbatim(text, policy) {
+            return Ok(());
         }
         self.put_runs(text, policy, out)
+    }
+
+    // Holds a text back if no character of it is escaped and there is room.
+    fn hold_verbatim(&mut self, text: &str, policy: EscapePolicy) -> bool
+        ensures { held self.new ≡ held self.old ++ (if result then escaped_bytes policy text.now else []) }
+    {
+        let (run, rest) = split_verbatim(text, policy);
+        if !rest.is_empty() {
+            return false;
+        }
+        if run.len() > ROOM - self.len {
+            return false;
+        }
+        self.append(run.as_bytes());
+        true
     }
 
     // Sends a text escaped, run by run.

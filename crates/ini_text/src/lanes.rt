@@ -1,13 +1,17 @@
 //! Runs of bytes up to the first that is marked, sixteen bytes at a time. This file knows bytes, and no text.
-ghost use Rattle.std.specs.Prelude.{◌≡◌, ◌≤◌, ℕ, Bool, length, map};
+ghost use Rattle.std.specs.Prelude.{◌≡◌, ◌++◌, ◌-◌, ◌<◌, ◌≤◌, ℕ, Bool, length, map};
 ghost use Rattle.std.specs.List.{position_or_len};
-ghost use Rattle.std.specs.Simd.Lanes.{mask_l};
+ghost use Rattle.std.specs.Simd.Lanes.{chunk, mask_l};
 ghost use Rattle.ini_text.specs.Lanes.{is_one_of};
+ghost use Rattle.ini_text.specs.declared.lanes.TheConstants.{HALF, LANES};
 
 use std::simd::prelude::*;
 
 // How many bytes are tested together.
 const LANES: usize = 16;
+
+// Half of them.
+const HALF: usize = 8;
 
 /// Bytes at which a run ends.
 pub(crate) trait Marks {
@@ -38,16 +42,31 @@ pub(crate) fn run_before<M: Marks>(bytes: &[u8], marks: &M) -> usize
     at + few_before(&bytes[at..], marks)
 }
 
-// The same, byte by byte.
+// The same of fewer bytes than are tested together.
 #[inline(always)]
 fn few_before<M: Marks>(bytes: &[u8], marks: &M) -> usize
+    requires { length bytes.now < LANES }
     ensures len { result ≡ position_or_len (M.is_marked marks.now) bytes.now }
     ensures within { result ≤ length bytes.now }
 {
+    if bytes.len() >= HALF && marks.find(both_ends(bytes)) == 0 {
+        return bytes.len();
+    }
     bytes
         .iter()
         .take_while(|byte| !marks.contain(**byte))
         .count()
+}
+
+// The first eight bytes and the last eight, which may overlap.
+#[inline(always)]
+fn both_ends(bytes: &[u8]) -> u8x16
+    requires { HALF ≤ length bytes.now }
+    ensures { result ≡ chunk 0 HALF bytes.now ++ chunk (length bytes.now - HALF) HALF bytes.now }
+{
+    let front = u8x8::from_slice(bytes);
+    let back = u8x8::from_slice(&bytes[bytes.len() - HALF..]);
+    front.shuffle(back, [0, 1, 2, 3, 4, 5, 6, 7, 8, 9, 10, 11, 12, 13, 14, 15])
 }
 
 /// Three bytes, some of which may be one.

@@ -1,4 +1,4 @@
-use Rattle.std.proofs.Common.{◌≡◌, ◌-◌, true, length, get_or, refl, sym, ap, ◌∙◌, arith}
+use Rattle.std.proofs.Common.{◌-◌, length, get_or, sym, ap, ◌∙◌, arith}
 use Rattle.ini_text.proofs.VisibleEndLemmas.{visible_ends}
 use Rattle.ini_text.proofs.parser.trim.has_visible_ends.Goals as goal
 
