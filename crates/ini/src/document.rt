@@ -25,7 +25,6 @@ use ini_multimap::Multimap;
 use ini_text::Error;
 use std::alloc::{AllocError, Global};
 use std::marker::Model;
-use std::ops::{Index, IndexMut};
 
 /// The name of a section; `None` is the general section's.
 pub type SectionKey = Option<String>;
@@ -156,11 +155,11 @@ impl Ini {
         self.section_mut(name)?.get_mut(key)
     }
 
-    /// Sets the value of the key in the first section of the name, as `Properties::insert` does; where there is no such
-    /// section a new one with that pair is opened last.
+    /// Sets the value of the key in the first section of the name, as `Properties::insert` does; where
+    /// there is no such section a new one with that pair is opened last.
     ///
-    /// Refused, for want of memory alone, it changes nothing, and the two texts are given up. Where the key is there it
-    /// takes no memory.
+    /// Refused, for want of memory alone, it changes nothing, and the two texts are given up. Where the
+    /// key is there it takes no memory.
     #[tactic(auto, using(crate::proofs::EditLemmas::edits))]
     pub fn set_to(&mut self, name: Option<&str>, key: String, value: String) -> Result<(), Error>
         ensures set { OnOk result
@@ -415,54 +414,6 @@ impl Clone for Ini {
             sections: self.sections.clone()?,
             alloc: self.alloc,
         })
-    }
-}
-
-/// The first section of a name that is there: `section` is the test.
-impl Index<Option<&str>> for Ini {
-    type Output = Properties;
-
-    ghost can_index = { λ d name. IsSome (first_section (str_name name) d) };
-
-    ghost index_gives = { λ d name section. first_section (str_name name) d ≡ Some section };
-
-    fn index(&self, name: Option<&str>) -> &Properties {
-        self.section(name).unwrap()
-    }
-}
-
-/// The first section of a name that is there, for writing. The rest stays.
-impl IndexMut<Option<&str>> for Ini {
-    fn index_mut(&mut self, name: Option<&str>) -> &mut Properties
-        requires { IsSome (first_section (str_name name) self.old) }
-        ensures* writes_back { sem 𝓛 (lends_found_section self.entry (str_name name.entry) result) }
-        ensures section { first_section (str_name name.entry) self.old ≡ Some result.now }
-    {
-        self.section_mut(name).unwrap()
-    }
-}
-
-/// As by `Some(name)`.
-impl Index<&str> for Ini {
-    type Output = Properties;
-
-    ghost can_index = { λ d name. IsSome (first_section (Some (str_text name)) d) };
-
-    ghost index_gives = { λ d name section. first_section (Some (str_text name)) d ≡ Some section };
-
-    fn index(&self, name: &str) -> &Properties {
-        self.section(Some(name)).unwrap()
-    }
-}
-
-/// As by `Some(name)`.
-impl IndexMut<&str> for Ini {
-    fn index_mut(&mut self, name: &str) -> &mut Properties
-        requires { IsSome (first_section (Some (chars name.now)) self.old) }
-        ensures* writes_back { sem 𝓛 (lends_found_section self.entry (Some (chars name.now)) result) }
-        ensures section { first_section (Some (chars name.now)) self.old ≡ Some result.now }
-    {
-        self.section_mut(Some(name)).unwrap()
     }
 }
 

@@ -1,4 +1,5 @@
-//! A name's place in a document: vacant, or occupied by its first section. This file knows the calls of a document.
+//! A name's place in a document: vacant, or occupied by its first section. This file knows the calls of
+//! a document.
 ghost use Rattle.std.specs.Prelude.{◌≡◌, ◌++◌, ◌∷◌, [], IfErr, IfOk, IsSome, MatchOption, None, OnErr, OnOk};
 ghost use Rattle.std.specs.Prelude.{Some, unwrap_or, ⊤};
 ghost use Rattle.std.specs.Borrow.{sem};
@@ -89,10 +90,11 @@ impl<'a> SectionEntry<'a> {
         }
     }
 
-    /// The first section of the name, for writing; where there is none one with these properties is opened last.
+    /// The first section of the name, for writing; where there is none one with these properties is
+    /// opened last.
     ///
-    /// Refused, for want of memory alone, it hands them back, and the document stays as it was. An occupied entry is never
-    /// refused.
+    /// Refused, for want of memory alone, it hands them back, and the document stays as it was. An
+    /// occupied entry is never refused.
     pub fn or_insert(self, value: Properties) -> Result<&'a mut Properties, NoRoom>
         ensures* writes_back { sem 𝓛 (entry_lends_ok self.entry result) }
         ensures value { IfOk result (λ section. section.now ≡ unwrap_or (entry_section self.entry) value) }

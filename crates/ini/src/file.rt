@@ -29,7 +29,8 @@ impl Ini {
         Ini::load_from_file_opt(rt, alloc, path, ParseOption::default())
     }
 
-    /// The document of a file, by the default options but without escapes. The rest is as `load_from_file_opt` has it.
+    /// The document of a file, by the default options but without escapes. The rest is as
+    /// `load_from_file_opt` has it.
     pub fn load_from_file_noescape<R: Files>(
         rt: &R,
         alloc: Global,
@@ -44,13 +45,13 @@ impl Ini {
         Ini::load_from_file_opt(rt, alloc, path, without_escapes())
     }
 
-    /// The document of a file, which is opened and read as `read_from_bom` reads: to its end, and without one mark (the
-    /// bytes EF BB BF) at its front.
+    /// The document of a file, which is opened and read as `read_from_bom` reads: to its end, and
+    /// without one mark (the bytes EF BB BF) at its front.
     ///
     /// # Errors
     ///
-    /// `Io` where the file can't be opened, as one that isn't there, or where a read of it fails; `NotUtf8`, `Parse` and
-    /// `Memory` as `read_watched` has them.
+    /// `Io` where the file can't be opened, as one that isn't there, or where a read of it fails;
+    /// `NotUtf8`, `Parse` and `Memory` as `read_watched` has them.
     pub fn load_from_file_opt<R: Files>(
         rt: &R,
         alloc: Global,
@@ -67,10 +68,11 @@ impl Ini {
         Ini::read_from_bom(alloc, &mut file, opt)
     }
 
-    /// Writes the document's text to a file, by the default options. The rest is as `write_to_file_opt` has it.
+    /// Writes the document's text to a file, by the default options. The rest is as `write_to_file_opt`
+    /// has it.
     ///
-    /// A save that fails half way leaves a file cut short: a careful caller writes to a new name beside it, and then
-    /// renames that by `std::fs::rename`.
+    /// A save that fails half way leaves a file cut short: a careful caller writes to a new name beside
+    /// it, and then renames that by `std::fs::rename`.
     pub fn write_to_file<R: Files>(&self, rt: &R, path: Path<'_>) -> Result<(), Error>
         ensures bytes { (w : WriteOption) → IsDefaultWriteOption w
             → OnOk result (IsWrittenToFile R.File.contents (written self.now w)) }
@@ -82,8 +84,8 @@ impl Ini {
     /// Writes the document's text to a file, by the default options but for the policy. The rest is as
     /// `write_to_file_opt` has it.
     ///
-    /// A save that fails half way leaves a file cut short: a careful caller writes to a new name beside it, and then
-    /// renames that by `std::fs::rename`.
+    /// A save that fails half way leaves a file cut short: a careful caller writes to a new name beside
+    /// it, and then renames that by `std::fs::rename`.
     pub fn write_to_file_policy<R: Files>(
         &self,
         rt: &R,
@@ -101,16 +103,16 @@ impl Ini {
         self.write_to_file_opt(rt, path, option)
     }
 
-    /// Writes the document's text to a file, which is made if it isn't there, and cut to nothing if it is. Takes no memory,
-    /// and flushes nothing.
+    /// Writes the document's text to a file, which is made if it isn't there, and cut to nothing if it
+    /// is. Takes no memory, and flushes nothing.
     ///
-    /// A save that fails half way leaves a file cut short: a careful caller writes to a new name beside it, and then
-    /// renames that by `std::fs::rename`.
+    /// A save that fails half way leaves a file cut short: a careful caller writes to a new name beside
+    /// it, and then renames that by `std::fs::rename`.
     ///
     /// # Errors
     ///
-    /// `Io` where the file can't be made or opened for writing, or where a write fails; `NoProgress` where it takes no
-    /// bytes. std's file tells no fault of its closing.
+    /// `Io` where the file can't be made or opened for writing, or where a write fails; `NoProgress`
+    /// where it takes no bytes. std's file tells no fault of its closing.
     pub fn write_to_file_opt<R: Files>(
         &self,
         rt: &R,

@@ -1,5 +1,5 @@
-//! The walks, which go from both ends: front items and back items together are the list, each item once. They know the
-//! multimap's walks, and what its keys and values show.
+//! The walks, which go from both ends: front items and back items together are the list, each item once.
+//! They know the multimap's walks, and what its keys and values show.
 
 mod names;
 mod properties;

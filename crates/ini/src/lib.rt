@@ -1,13 +1,15 @@
 //! Documents of INI files: texts in, edits, texts out.
 //!
-//! An `Ini` is seen as the list of its sections, each a name and the list of its pairs; a text as the list of its
-//! characters. Loading puts the items of a text into sections, writing puts sections into a text; what a text means and how
-//! a name, a key or a value is written is said by `ini_text`, where each pair stands by `ini_multimap`.
+//! An `Ini` is seen as the list of its sections, each a name and the list of its pairs; a text as the
+//! list of its characters. Loading puts the items of a text into sections, writing puts sections into a
+//! text; what a text means and how a name, a key or a value is written is said by `ini_text`, where each
+//! pair stands by `ini_multimap`.
 #![tactic(auto)]
 
 mod document;
 mod entry;
 mod file;
+mod index;
 mod iter;
 pub mod laws;
 mod load;

@@ -1,5 +1,5 @@
-//! Documents from texts, and from the bytes of a reader. This file folds the items of a text; of characters it knows the
-//! mark alone that may stand before a text.
+//! Documents from texts, and from the bytes of a reader. This file folds the items of a text; of
+//! characters it knows the mark alone that may stand before a text.
 ghost use Rattle.std.specs.Prelude.{◌≡◌, ◌<◌, ◌↔◌, length, chars, false, true, alloc_error};
 ghost use Rattle.std.specs.Prelude.{IfOk, IfErr, IfSome, IsOkUnless, OnOk};
 ghost use Rattle.std.specs.Io.KnownBytes.{IsAtEnd};
@@ -29,7 +29,8 @@ impl Ini {
         Ini::load_from_str_opt(alloc, text, ParseOption::default())
     }
 
-    /// The document of a text, by the default options but without escapes. The rest is as `load_from_str_opt` has it.
+    /// The document of a text, by the default options but without escapes. The rest is as
+    /// `load_from_str_opt` has it.
     pub fn load_from_str_noescape(alloc: Global, text: &str) -> Result<Ini, Error>
         ensures document { IfOk result (IsDocumentOf without_escapes (chars text.now)) }
         ensures general { IfOk result HasGeneral }
@@ -58,8 +59,8 @@ impl Ini {
         Ok(document)
     }
 
-    /// The document of a reader's bytes, by the default options. A mark at their front is text. The rest is as
-    /// `read_watched` has it.
+    /// The document of a reader's bytes, by the default options. A mark at their front is text. The rest
+    /// is as `read_watched` has it.
     pub fn read_from<R: Read>(alloc: Global, reader: &mut R) -> Result<Ini, Error>
         ensures document { IfOk result
             (IsDocumentOfBytes default_parse_option false (R.remaining reader.old)) }
@@ -72,8 +73,8 @@ impl Ini {
         Ini::read_from_opt(alloc, reader, ParseOption::default())
     }
 
-    /// The document of a reader's bytes, by the default options but without escapes. A mark at their front is text. The
-    /// rest is as `read_watched` has it.
+    /// The document of a reader's bytes, by the default options but without escapes. A mark at their
+    /// front is text. The rest is as `read_watched` has it.
     pub fn read_from_noescape<R: Read>(alloc: Global, reader: &mut R) -> Result<Ini, Error>
         ensures document { IfOk result (IsDocumentOfBytes without_escapes false (R.remaining reader.old)) }
         ensures general { IfOk result HasGeneral }
@@ -85,7 +86,8 @@ impl Ini {
         Ini::read_from_opt(alloc, reader, without_escapes())
     }
 
-    /// The document of a reader's bytes. A mark at their front is text. The rest is as `read_watched` has it.
+    /// The document of a reader's bytes. A mark at their front is text. The rest is as `read_watched`
+    /// has it.
     pub fn read_from_opt<R: Read>(
         alloc: Global,
         reader: &mut R,
@@ -101,8 +103,8 @@ impl Ini {
         Ini::read_watched(alloc, &mut Watched::new(reader), opt, false)
     }
 
-    /// The document of a reader's bytes, without one mark (the bytes EF BB BF) at their front. The rest is as
-    /// `read_watched` has it.
+    /// The document of a reader's bytes, without one mark (the bytes EF BB BF) at their front. The rest
+    /// is as `read_watched` has it.
     pub fn read_from_bom<R: Read>(
         alloc: Global,
         reader: &mut R,
@@ -118,14 +120,15 @@ impl Ini {
         Ini::read_watched(alloc, &mut Watched::new(reader), opt, true)
     }
 
-    /// The document of a watched reader's bytes, which are read to the end: to the first read that gives none. With
-    /// `drop_mark` one mark (the bytes EF BB BF) at their front is left out, and places count from behind it.
+    /// The document of a watched reader's bytes, which are read to the end: to the first read that gives
+    /// none. With `drop_mark` one mark (the bytes EF BB BF) at their front is left out, and places count
+    /// from behind it.
     ///
     /// # Errors
     ///
-    /// `Io` where the reader answers a fault, at once and with nothing more asked of it; `NotUtf8` where the bytes are not
-    /// UTF-8; `Parse` where reading their text stops; `Memory` where memory is refused. All bytes are read before they are
-    /// tested, and tested before their text is read.
+    /// `Io` where the reader answers a fault, at once and with nothing more asked of it; `NotUtf8` where
+    /// the bytes are not UTF-8; `Parse` where reading their text stops; `Memory` where memory is
+    /// refused. All bytes are read before they are tested, and tested before their text is read.
     pub fn read_watched<R: Read>(
         alloc: Global,
         reader: &mut Watched<'_, R>,

@@ -111,7 +111,8 @@ impl Properties {
         self.push(key, value)
     }
 
-    /// Gives the first pair of the key the value, at its place, and takes out its later pairs. A new pair goes last.
+    /// Gives the first pair of the key the value, at its place, and takes out its later pairs. A new
+    /// pair goes last.
     ///
     /// Refused, for want of memory alone, it changes nothing.
     pub fn insert(&mut self, key: &str, value: &str) -> Result<(), Error>

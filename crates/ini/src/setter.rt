@@ -1,4 +1,5 @@
-//! Edits of the sections of one name, one after another. This file knows the edits of a document, and how a name is lent.
+//! Edits of the sections of one name, one after another. This file knows the edits of a document, and
+//! how a name is lent.
 ghost use Rattle.std.specs.Prelude.{◌≡◌, IfOk, IsOkUnless, Option, None, alloc_error};
 ghost use Rattle.std.specs.Borrow.{sem};
 ghost use Rattle.std.specs.Option.{option_map};
@@ -53,7 +54,8 @@ impl<'n> SectionName for LentName<'n> {
 
 /// Edits the sections of one name of a document.
 ///
-/// `set`, `add` and `delete` hand the setter on, so that edits are chained: `setter.delete("k").set("j", "w")?`.
+/// `set`, `add` and `delete` hand the setter on, so that edits are chained: `setter.delete("k").set("j",
+/// "w")?`.
 #[derive(Drop)]
 pub struct SectionSetter<'a, N = LentName<'a>> {
     ini: &'a mut Ini,
@@ -84,8 +86,8 @@ impl Ini {
 }
 
 impl<'a, N: SectionName> SectionSetter<'a, N> {
-    /// Sets the value of the key in the first section of the name, as `Properties::insert` does; where there is no such
-    /// section a new one with that pair is opened last. The setter is handed on.
+    /// Sets the value of the key in the first section of the name, as `Properties::insert` does; where
+    /// there is no such section a new one with that pair is opened last. The setter is handed on.
     ///
     /// Refused, for want of memory alone, the document stays as it was, and the setter is gone.
     pub fn set(self, key: &str, value: &str) -> Result<SectionSetter<'a, N>, Error>
@@ -104,8 +106,8 @@ impl<'a, N: SectionName> SectionSetter<'a, N> {
         }
     }
 
-    /// Appends the pair to the first section of the name; where there is none a new one with that pair is opened last. The
-    /// setter is handed on.
+    /// Appends the pair to the first section of the name; where there is none a new one with that pair
+    /// is opened last. The setter is handed on.
     ///
     /// Refused, for want of memory alone, the document stays as it was, and the setter is gone.
     pub fn add(self, key: &str, value: &str) -> Result<SectionSetter<'a, N>, Error>

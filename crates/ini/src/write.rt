@@ -1,5 +1,5 @@
-//! Documents on their way to a device. This file knows in which order the parts of a document are written, and leaves
-//! escapes and the device to `ini_text`.
+//! Documents on their way to a device. This file knows in which order the parts of a document are
+//! written, and leaves escapes and the device to `ini_text`.
 ghost use Rattle.std.specs.Prelude.{OnOk, IfErr, ◌++◌, Some, chars, encode_utf8_all};
 ghost use Rattle.ini_text.specs.Escapes.{escaped};
 ghost use Rattle.ini_text.specs.Faults.{IsIoOrNoProgress};
@@ -156,8 +156,8 @@ impl Ini {
     ///
     /// # Errors
     ///
-    /// `Io` where the writer answers a fault, `NoProgress` where it takes no bytes. A front of the text was written then,
-    /// and nothing more is asked of the writer.
+    /// `Io` where the writer answers a fault, `NoProgress` where it takes no bytes. A front of the text
+    /// was written then, and nothing more is asked of the writer.
     pub fn write_watched<W: Write>(
         &self,
         out: &mut Watched<'_, W>,
@@ -171,7 +171,8 @@ impl Ini {
         lines.flush(out)
     }
 
-    /// Writes the document's text to a writer, by the default options. The rest is as `write_watched` has it.
+    /// Writes the document's text to a writer, by the default options. The rest is as `write_watched`
+    /// has it.
     pub fn write_to<W: Write>(&self, writer: &mut W) -> Result<(), Error>
         ensures bytes { (w : WriteOption) → IsDefaultWriteOption w
             → OnOk result (IsWrittenTo W.contents writer.old writer.new (written self.now w)) }
@@ -182,8 +183,8 @@ impl Ini {
         self.write_to_opt(writer, WriteOption::default())
     }
 
-    /// Writes the document's text to a writer, by the default options but for the policy. The rest is as `write_watched`
-    /// has it.
+    /// Writes the document's text to a writer, by the default options but for the policy. The rest is as
+    /// `write_watched` has it.
     pub fn write_to_policy<W: Write>(
         &self,
         writer: &mut W,

@@ -2,13 +2,15 @@
 //! A removal leaves a hole, and the holes are closed where they outnumber the pairs.
 //!
 //! A growing call makes its room before anything changes, so a refused one changes nothing.
-ghost use Rattle.std.specs.Prelude.{◌-◌, ◌^◌, ◌≡◌, ◌+◌, ◌<◌, ◌≤◌, ◌==◌, [], ◌∷◌, ◌++◌, length, filter, IsSome, IfOk, IfErr, OnOk, OnErr, IfNone, slice_get, Some, None};
+ghost use Rattle.std.specs.Prelude.{◌-◌, ◌^◌, ◌≡◌, ◌+◌, ◌<◌, ◌≤◌, ◌==◌, [], ◌∷◌, ◌++◌, length, filter};
+ghost use Rattle.std.specs.Prelude.{IsSome, IfOk, IfErr, OnOk, OnErr, IfNone, slice_get, Some, None};
 ghost use Rattle.std.specs.Option.{option_copied, option_copied_mut};
 ghost use Rattle.std.specs.Borrow.{sem};
 ghost use Rattle.std.specs.Map.{values_of, lookup, remove_entry, set_value};
 ghost use Rattle.ini_multimap.specs.Iter.{iter_mut_rest, values_mut_rest};
 ghost use Rattle.ini_multimap.specs.Lends.{lends_first, lends_nth, lends_last};
-ghost use Rattle.ini_multimap.specs.Pairs.{AreClones, distinct_keys, values_at, insert_pair, set_nth_value, without};
+ghost use Rattle.ini_multimap.specs.Pairs.{AreClones, distinct_keys, values_at, insert_pair};
+ghost use Rattle.ini_multimap.specs.Pairs.{set_nth_value, without};
 ghost use Rattle.ini_multimap.specs.Slots.{without_nth};
 
 use crate::key::{MapKey, Probe};
@@ -357,7 +359,8 @@ impl<K: MapKey + Clone, V: Clone> Clone for Multimap<K, V> {
     /// equal their elements. Refused, nothing is left behind.
     fn clone(&self) -> Result<Self, AllocError>
         ensures clones { IfOk result (AreClones K.is_clone V.is_clone self.now) }
-        ensures equal_if_clones_are { IfOk result (λ copy. ((x y : K) → K.is_clone x y → y ≡ x) → ((x y : V) → V.is_clone x y → y ≡ x) → copy ≡ self.now) }
+        ensures equal_if_clones_are { IfOk result (λ copy. ((x y : K) → K.is_clone x y → y ≡ x)
+            → ((x y : V) → V.is_clone x y → y ≡ x) → copy ≡ self.now) }
     {
         let mut copy = Multimap::new(*self.values.allocator());
         let mut rest = self.iter();

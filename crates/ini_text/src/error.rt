@@ -28,8 +28,9 @@ pub enum ParseKind {
 
 /// Where and why reading a text stopped.
 ///
-/// The place is the one behind the character that was looked at, or behind the last one where the text ended. Lines and
-/// columns count from 1, and columns count characters. LF alone ends a line here; CR counts as a character.
+/// The place is the one behind the character that was looked at, or behind the last one where the text
+/// ended. Lines and columns count from 1, and columns count characters. LF alone ends a line here; CR
+/// counts as a character.
 #[derive(Debug, Drop)]
 pub struct ParseError {
     /// The line of the place.
@@ -97,8 +98,8 @@ impl<T: Drop> From<AllocFailed<T>> for Error {
     }
 }
 
-/// A device's fault as it was. The rest by its kind: `InvalidData` for a text or bytes that are refused, `OutOfMemory`, and
-/// `WriteZero`; where a text was refused, the line and the column are given up.
+/// A device's fault as it was. The rest by its kind: `InvalidData` for a text or bytes that are refused,
+/// `OutOfMemory`, and `WriteZero`; where a text was refused, the line and the column are given up.
 impl From<Error> for io::Error {
     ghost use Rattle.ini_text.specs.Refusals.{IsIoErrorOf};
 

@@ -1,4 +1,5 @@
-//! The parts of an escape that is written: its letter, or its digits. This file knows one character, and no device.
+//! The parts of an escape that is written: its letter, or its digits. This file knows one character, and
+//! no device.
 ghost use Rattle.std.specs.Prelude.{◌≡◌, ◌/◌, ◌%◌, ◌<◌};
 ghost use Rattle.std.specs.Char.{digit_char};
 ghost use Rattle.ini_text.specs.Escapes.{letter_of};

@@ -1,5 +1,5 @@
-//! Texts on their way to a device, gathered so that many of them reach it together. This file knows bytes and escapes, and
-//! no section, key or value.
+//! Texts on their way to a device, gathered so that many of them reach it together. This file knows
+//! bytes and escapes, and no section, key or value.
 ghost use Rattle.std.specs.Prelude.{◌≡◌, ◌+◌, ◌++◌, ◌≤◌, [], length, OnOk, if◌then◌else◌};
 ghost use Rattle.ini_text.specs.Escapes.{escape, escaped_bytes};
 ghost use Rattle.ini_text.specs.Gathering.{Sends};
@@ -23,8 +23,9 @@ const LONGEST: usize = 8;
 
 /// Holds bytes back on their way to a device, so that many short texts reach it in one call.
 ///
-/// What is held back goes out by `flush`, or where there is no room left; a gatherer that is dropped before takes it along.
-/// It takes no memory. A refused call leaves unsaid what is held back, and the device is asked nothing more.
+/// What is held back goes out by `flush`, or where there is no room left; a gatherer that is dropped
+/// before takes it along. It takes no memory. A refused call leaves unsaid what is held back, and the
+/// device is asked nothing more.
 #[derive(Drop)]
 pub struct Gatherer {
     bytes: [u8; ROOM],

@@ -3,7 +3,8 @@
 ghost use Rattle.std.specs.Prelude.{◌≡◌, true, ◌++◌, chars};
 ghost use Rattle.ini_text.specs.Laws.{HasOneOutcome, IsAtCharacter};
 ghost use Rattle.ini_text.specs.Plain.{IsPlainName, IsPlainPair, IsPlainSeparator};
-ghost use Rattle.ini_text.specs.PlainLaws.{FollowsPair, GivesHeaderFirst, IsEmptyOrHeader, IsHeaderLine, IsPairLine, Moves};
+ghost use Rattle.ini_text.specs.PlainLaws.{FollowsPair, GivesHeaderFirst, IsEmptyOrHeader, IsHeaderLine};
+ghost use Rattle.ini_text.specs.PlainLaws.{IsPairLine, Moves};
 ghost use Rattle.ini_text.specs.Positions.{is_column_one};
 ghost use Rattle.ini_text.specs.Texts.{Stops};
 
@@ -11,14 +12,14 @@ use crate::error::ParseKind;
 use crate::option::ParseOption;
 use crate::write_option::WriteOption;
 
-/// A text derives just one list of items, or reading it stops for just one reason at just one place, and never
-/// both.
+/// A text derives just one list of items, or reading it stops for just one reason at just one place, and
+/// never both.
 pub fn one_outcome(text: &str, option: ParseOption)
     ensures { HasOneOutcome option (chars text.now) }
 {}
 
-/// Where reading a text stops at a character, and not for the text's end, it stops there too if something else
-/// follows.
+/// Where reading a text stops at a character, and not for the text's end, it stops there too if
+/// something else follows.
 #[tactic(auto, using(crate::proofs::OneRefusal::refusal_stands))]
 pub fn refusal_stands(front: &str, follows: &str, other: &str, option: ParseOption, kind: ParseKind)
     requires stops { Stops option (chars front.now ++ chars follows.now) kind (chars front.now) }
@@ -53,8 +54,8 @@ pub fn header_line(
     ensures { IsHeaderLine read write.now twice (chars before.now) (chars name.now) (chars follows.now) }
 {}
 
-/// A plain pair, written with its line end, once or twice, is a pair that gives it: in column one, and before
-/// nothing, a header or a plain key. Multiline values take the line ends, else they are gaps.
+/// A plain pair, written with its line end, once or twice, is a pair that gives it: in column one, and
+/// before nothing, a header or a plain key. Multiline values take the line ends, else they are gaps.
 #[tactic(auto, using(crate::proofs::PlainPairLemmas::pair_line))]
 pub fn pair_line(
     before: &str,

@@ -7,15 +7,15 @@ ghost use Rattle.ini_text.specs.Options.{default_parse_option};
 pub struct ParseOption {
     /// A part of a value may stand in double or single quotes.
     pub enabled_quote: bool,
-    /// A backslash begins an escape. Without it a backslash and the character behind it stay, and that character ends
-    /// nothing; before LF both go, with and without it.
+    /// A backslash begins an escape. Without it a backslash and the character behind it stay, and that
+    /// character ends nothing; before LF both go, with and without it.
     pub enabled_escape: bool,
     /// A value goes on over the lines below it that begin with a space or a tab.
     pub enabled_indented_mutiline_value: bool,
     /// The spaces and tabs before a key belong to it.
     pub enabled_preserve_key_leading_whitespace: bool,
-    /// Brackets may stand in the name of a section: its header goes up to the line's end, and the last closing bracket
-    /// ends the name.
+    /// Brackets may stand in the name of a section: its header goes up to the line's end, and the last
+    /// closing bracket ends the name.
     pub enabled_brackets_in_section_names: bool,
 }
 

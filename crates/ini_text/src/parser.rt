@@ -1,10 +1,11 @@
-//! The parser: the items of a text, one at a time. This file knows fronts, elements and refusals, and nothing
-//! of what an element is made of.
+//! The parser: the items of a text, one at a time. This file knows fronts, elements and refusals, and
+//! nothing of what an element is made of.
 //!
 //! The files below, from the least part to the greatest: characters and runs (`scan`), `string`, `trim`,
 //! `line`, `value`, `pair` and `header`, `element`. Beside them `fault` has why reading stops, `position`
 //! where, and `refusal` what a parser answers from then on.
-ghost use Rattle.std.specs.Prelude.{◌≡◌, chars, [], None, Some, Ok, IfSome, IsOkAnd, IsErrAnd, OnErr, MatchResult};
+ghost use Rattle.std.specs.Prelude.{◌≡◌, chars, [], None, Some, Ok, IfSome, IsOkAnd, IsErrAnd, OnErr};
+ghost use Rattle.std.specs.Prelude.{MatchResult};
 ghost use Rattle.ini_text.specs.Fronts.{IsRest};
 ghost use Rattle.ini_text.specs.Parser.{AnswersItem, FindsItem, IsStopOf, KeepsRefusal, StopIsWithin, Tells};
 
@@ -35,8 +36,8 @@ mod value;
 
 /// Gives the items of a text one by one.
 ///
-/// A clause sees where a parser stands: its options, the text, the front of the text that was read, and the refusal that
-/// it has answered.
+/// A clause sees where a parser stands: its options, the text, the front of the text that was read, and
+/// the refusal that it has answered.
 #[derive(Drop)]
 pub struct Parser<'a> {
     alloc: Global,
@@ -83,8 +84,8 @@ impl<'a> Parser<'a> {
 
     /// The next item, and `None` at the text's end.
     ///
-    /// The text is refused by `Error::Parse` where reading it stops, and by `Error::Memory` for want of memory. After a
-    /// refusal the parser stays where it was, and answers the same refusal from then on.
+    /// The text is refused by `Error::Parse` where reading it stops, and by `Error::Memory` for want of
+    /// memory. After a refusal the parser stays where it was, and answers the same refusal from then on.
     pub fn next_item(&mut self) -> Result<Option<Item>, Error>
         ensures option { self.new.option ≡ self.old.option }
         ensures text { self.new.text ≡ self.old.text }

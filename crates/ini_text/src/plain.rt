@@ -7,7 +7,11 @@ ghost use Rattle.std.specs.List.{list_all};
 ghost use Rattle.ini_text.specs.Characters.{is_blank, is_mark, is_separator};
 ghost use Rattle.ini_text.specs.Plain.{IsPlainName, IsPlainPair, IsPlainSeparator};
 ghost use Rattle.ini_text.specs.Policies.{is_escaped};
-ghost use Rattle.ini_text.specs.PlainTests.{begins, escapes_nothing, has_no_close_bracket, has_no_escapes, has_no_raw_separator, has_read_escapes, is_bare_key, is_end_trimmed, is_indented_by_escape, is_plain_key, is_plain_value, is_read_back, is_read_escaped, is_read_raw, is_trimmed, may_begin_key, may_indent};
+ghost use Rattle.ini_text.specs.PlainTests.{begins, escapes_nothing, has_no_close_bracket};
+ghost use Rattle.ini_text.specs.PlainTests.{has_no_escapes, has_no_raw_separator, has_read_escapes};
+ghost use Rattle.ini_text.specs.PlainTests.{is_bare_key, is_end_trimmed, is_indented_by_escape};
+ghost use Rattle.ini_text.specs.PlainTests.{is_plain_key, is_plain_value, is_read_back, is_read_escaped};
+ghost use Rattle.ini_text.specs.PlainTests.{is_read_raw, is_trimmed, may_begin_key, may_indent};
 
 use crate::characters::split_first;
 use crate::option::ParseOption;
@@ -26,7 +30,8 @@ pub fn is_plain_separator(text: &str) -> bool
 }
 
 /// Whether a section's name, written by the policy, is read back by the options just as it was: it is
-/// trimmed, without `]` unless brackets may stand in names, and what is written for its characters is read as those.
+/// trimmed, without `]` unless brackets may stand in names, and what is written for its characters is
+/// read as those.
 pub fn is_plain_name(name: &str, policy: EscapePolicy, read: ParseOption) -> bool
     ensures { IsTrue result ↔ IsPlainName read policy (chars name.now) }
 {

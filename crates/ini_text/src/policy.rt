@@ -1,11 +1,13 @@
-//! Which characters are escaped when a text is written. This file knows single characters, and not how an escape looks.
+//! Which characters are escaped when a text is written. This file knows single characters, and not how
+//! an escape looks.
 ghost use Rattle.std.specs.Prelude.{◌≡◌};
 ghost use Rattle.ini_text.specs.Policies.{is_escaped};
 
 /// Which characters of a name, a key or a value are written as escapes.
 ///
-/// Basic are the backslash and the control characters U+0000 to U+001F and U+007F, reserved are `;`, `#`, `=` and `:`.
-/// Every other ASCII character, quotes, brackets and the space among them, is escaped by no policy.
+/// Basic are the backslash and the control characters U+0000 to U+001F and U+007F, reserved are `;`,
+/// `#`, `=` and `:`. Every other ASCII character, quotes, brackets and the space among them, is escaped
+/// by no policy.
 #[derive(Copy, Clone, PartialEq, Debug)]
 pub enum EscapePolicy {
     /// No character. A text with a backslash or a line end in it may then load back as another.

@@ -1,4 +1,5 @@
-//! Runs of characters that a policy leaves as they are, found by their bytes. This file knows no device and no escape's text.
+//! Runs of characters that a policy leaves as they are, found by their bytes. This file knows no device
+//! and no escape's text.
 ghost use Rattle.std.specs.Prelude.{◌≡◌, ◌++◌, ◌+◌, ◌≤◌, not, length, chars};
 ghost use Rattle.std.specs.List.{position_or_len};
 ghost use Rattle.ini_text.specs.Characters.{BeginsWithNo};
@@ -11,7 +12,8 @@ use crate::lanes::{Marks, run_before};
 use crate::policy::EscapePolicy;
 use std::simd::prelude::*;
 
-/// The run at the front of a text that goes out as it is, and what follows: nothing, or a character that is escaped.
+/// The run at the front of a text that goes out as it is, and what follows: nothing, or a character that
+/// is escaped.
 pub(crate) fn split_verbatim(text: &str, policy: EscapePolicy) -> (&str, &str)
     ensures bytes { escaped_bytes policy text.now
         ≡ result.0.now ++ escaped_bytes policy result.1.now }

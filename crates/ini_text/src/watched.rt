@@ -3,15 +3,16 @@ ghost use Rattle.std.specs.Prelude.{◌≡◌, ◌<◌, ◌≤◌, ◌↔◌, le
 ghost use Rattle.std.specs.Io.{ReadsAtMost};
 ghost use Rattle.std.specs.Io.KnownBytes.{ReadConsumes, WriteAppends};
 ghost use Rattle.ini_text.specs.Faults.{IsIo, IsIoOrNoProgress, faults_in, stalls_in};
-ghost use Rattle.ini_text.specs.Watched.{IsClear, SameDevice, Watches, device_now, failure_count, stall_count};
+ghost use Rattle.ini_text.specs.Watched.{IsClear, SameDevice, Watches, device_now, failure_count};
+ghost use Rattle.ini_text.specs.Watched.{stall_count};
 
 use crate::error::Error;
 use std::io::{Read, Write};
 
 /// A reader or a writer, with the number of its calls that went wrong.
 ///
-/// Every call that reads or writes through a `Watched` has the condition that both counts are 0, so each is 0 or 1, and
-/// no call of the device follows one that went wrong.
+/// Every call that reads or writes through a `Watched` has the condition that both counts are 0, so each
+/// is 0 or 1, and no call of the device follows one that went wrong.
 #[derive(Drop)]
 pub struct Watched<'a, D> {
     device: &'a mut D,
@@ -49,7 +50,8 @@ impl<'a, D> Watched<'a, D> {
 }
 
 impl<R: Read> Watched<'_, R> {
-    /// One read of the device, which answers the number of bytes read: 0 at its end, or where `piece` is empty.
+    /// One read of the device, which answers the number of bytes read: 0 at its end, or where `piece` is
+    /// empty.
     ///
     /// # Errors
     ///
@@ -76,11 +78,13 @@ impl<R: Read> Watched<'_, R> {
 }
 
 impl<W: Write> Watched<'_, W> {
-    /// One write to the device, of a piece that isn't empty. It answers how many bytes of it were taken, at least one.
+    /// One write to the device, of a piece that isn't empty. It answers how many bytes of it were taken,
+    /// at least one.
     ///
     /// # Errors
     ///
-    /// `Io` where the device answers a fault, `NoProgress` where it takes no bytes. Nothing was written then.
+    /// `Io` where the device answers a fault, `NoProgress` where it takes no bytes. Nothing was written
+    /// then.
     pub(crate) fn write(&mut self, piece: &[u8]) -> Result<usize, Error>
         requires clear { IsClear self.old }
         requires some { 0 < length piece.now }

@@ -13,8 +13,8 @@ use std::io::Write;
 ///
 /// # Errors
 ///
-/// `Io` where the device answers a fault, `NoProgress` where it takes no bytes. A front of the text was written then,
-/// and nothing more is asked of the device.
+/// `Io` where the device answers a fault, `NoProgress` where it takes no bytes. A front of the text was
+/// written then, and nothing more is asked of the device.
 pub fn write_raw<W: Write>(text: &str, out: &mut Watched<'_, W>) -> Result<(), Error>
     requires { IsClear out.old }
     ensures written { WritesBytes W.contents out.old out.new result text.now }
@@ -29,8 +29,8 @@ pub fn write_raw<W: Write>(text: &str, out: &mut Watched<'_, W>) -> Result<(), E
 ///
 /// # Errors
 ///
-/// `Io` where the device answers a fault, `NoProgress` where it takes no bytes. A front of the escaped text was written
-/// then, which may end within an escape, and nothing more is asked of the device.
+/// `Io` where the device answers a fault, `NoProgress` where it takes no bytes. A front of the escaped
+/// text was written then, which may end within an escape, and nothing more is asked of the device.
 pub fn write_escaped<W: Write>(
     text: &str,
     policy: EscapePolicy,

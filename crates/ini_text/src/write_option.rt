@@ -44,8 +44,9 @@ pub struct WriteOption {
     pub escape_policy: EscapePolicy,
     /// What ends each line.
     pub line_separator: LineSeparator,
-    /// What stands between a key and its value. It is written as it is, and what was written loads back where it is one
-    /// `=` or `:` with spaces and tabs alone around it; some other white space around it is trimmed too.
+    /// What stands between a key and its value. It is written as it is, and what was written loads back
+    /// where it is one `=` or `:` with spaces and tabs alone around it; some other white space around it
+    /// is trimmed too.
     pub kv_separator: &'static str,
 }
 

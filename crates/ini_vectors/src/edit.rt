@@ -1,10 +1,13 @@
 //! Edits of a document as values, and whole runs over them: from a text to a document, edited, to a text. This file knows
 //! documents by the public calls of `ini` alone.
-ghost use Rattle.std.specs.Prelude.{◌≡◌, ◌<◌, ◌↔◌, ℕ, List, IfErr, IsOkUnless, OnErr, OnOk, alloc_error, chars};
+ghost use Rattle.std.specs.Prelude.{◌≡◌, ◌<◌, ◌↔◌, ℕ, List, IfErr, IsOkUnless, OnErr, OnOk, alloc_error};
+ghost use Rattle.std.specs.Prelude.{chars};
 ghost use Rattle.ini_text.specs.Faults.{IsIo, IsNoProgress, faults_in, stalls_in};
-ghost use Rattle.ini_text.specs.Watched.{IsClear, SameDevice, Writes, WritesFront, device_now, failure_count, stall_count};
+ghost use Rattle.ini_text.specs.Watched.{IsClear, SameDevice, Writes, WritesFront, device_now};
+ghost use Rattle.ini_text.specs.Watched.{failure_count, stall_count};
 ghost use Rattle.ini.specs.Loading.{IfParse, IsStopOf};
-ghost use Rattle.ini_vectors.specs.EditLists.{Grows, IsCutShort, IsEditRefusal, IsEditedText, OnDeviceRefusal, OnParseOrMemory, edited, edited_once};
+ghost use Rattle.ini_vectors.specs.EditLists.{Grows, IsCutShort, IsEditRefusal, IsEditedText};
+ghost use Rattle.ini_vectors.specs.EditLists.{OnDeviceRefusal, OnParseOrMemory, edited, edited_once};
 
 use ini::{Error, Ini, ParseOption, Watched, WriteOption};
 use std::alloc::Global;

@@ -1,4 +1,5 @@
-//! The walks over the sections of one name, and over names. This file knows the multimap's walks over values and keys.
+//! The walks over the sections of one name, and over names. This file knows the multimap's walks over
+//! values and keys.
 ghost use Rattle.std.specs.Prelude.{◌≡◌};
 ghost use Rattle.std.specs.Iterator.{YieldsFirstBy, YieldsLastBy, YieldsFirstMut, YieldsFirstRef};
 ghost use Rattle.std.specs.Iterator.{YieldsLastMut, YieldsLastRef, item_count};
@@ -61,8 +62,8 @@ impl<'a, 'n> DoubleEndedIterator for SectionAll<'a, 'n> {
     }
 }
 
-/// The sections of one name in order, lent for writing. `section_all_mut_rest` is the list of the sections' pairs that are
-/// left; what is written through the walk is not followed.
+/// The sections of one name in order, lent for writing. `section_all_mut_rest` is the list of the
+/// sections' pairs that are left; what is written through the walk is not followed.
 #[derive(Drop)]
 pub struct SectionAllMut<'a, 'n> {
     rest: ValuesMut<'a, Option<String>, Properties, Option<&'n str>>,
@@ -101,7 +102,8 @@ impl<'a, 'n> DoubleEndedIterator for SectionAllMut<'a, 'n> {
     }
 }
 
-/// Each distinct name once, in the order of first occurrence, lent. Seen as the list of the names that are left.
+/// Each distinct name once, in the order of first occurrence, lent. Seen as the list of the names that
+/// are left.
 #[derive(Drop)]
 pub struct SectionNames<'a> {
     rest: Keys<'a, Option<String>, Properties>,

@@ -1,4 +1,5 @@
-//! The walks over pairs, and over the values of one key. This file knows the multimap's walks, and nothing of sections.
+//! The walks over pairs, and over the values of one key. This file knows the multimap's walks, and
+//! nothing of sections.
 ghost use Rattle.std.specs.Prelude.{◌≡◌, length, IfSome, Some};
 ghost use Rattle.std.specs.Iterator.{YieldsFirstBy, YieldsLastBy, item_count, at_most, UpTo};
 ghost use Rattle.std.specs.Iterator.SizeHint.{IsWithinCount};
@@ -64,8 +65,8 @@ impl<'a> DoubleEndedIterator for PropertyIter<'a> {
     }
 }
 
-/// Every pair in order, its value lent for writing. `property_iter_mut_rest` is the list of the pairs that are left;
-/// what is written through the walk is not followed.
+/// Every pair in order, its value lent for writing. `property_iter_mut_rest` is the list of the pairs
+/// that are left; what is written through the walk is not followed.
 #[derive(Drop)]
 pub struct PropertyIterMut<'a> {
     rest: IterMut<'a, String, String>,

@@ -75,8 +75,8 @@ impl<'a> DoubleEndedIterator for SectionIter<'a> {
     }
 }
 
-/// Every section in order, its properties lent for writing. `section_iter_mut_rest` is the list of the sections that are
-/// left; what is written through the walk is not followed.
+/// Every section in order, its properties lent for writing. `section_iter_mut_rest` is the list of the
+/// sections that are left; what is written through the walk is not followed.
 #[derive(Drop)]
 pub struct SectionIterMut<'a> {
     rest: IterMut<'a, Option<String>, Properties>,

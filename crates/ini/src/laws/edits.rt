@@ -1,7 +1,7 @@
 //! Laws of edits: what is there after one, and what it leaves as it is. They speak of the definitions alone.
 //!
-//! Each law goes over all names, keys, values and documents, so it takes nothing: a caller whose proof needs it calls it
-//! beside the edit.
+//! Each law goes over all names, keys, values and documents, so it takes nothing: a caller whose proof
+//! needs it calls it beside the edit.
 ghost use Rattle.std.specs.Prelude.{◌≡◌, ◌≤◌, ◌++◌, [], ◌∷◌, IsSome, None, Option, Some, length};
 ghost use Rattle.ini.specs.Texts.{Text};
 ghost use Rattle.ini.specs.Properties.{Pairs, all_removed, first_value, inserted, removed};
@@ -133,7 +133,8 @@ pub fn later_sections_stay()
     ensures delete_from { (name : Option Text) (key : Text) → KeepsLaterSections name (delete_in name key) }
 {}
 
-/// Where the name has no section, the document stays whole, and a new section with the one pair comes behind it.
+/// Where the name has no section, the document stays whole, and a new section with the one pair comes
+/// behind it.
 #[tactic(auto, using(crate::proofs::EditLaws::opened))]
 pub fn new_section_comes_last()
     ensures set { (name : Option Text) (key value : Text) (d : Document)

@@ -1,10 +1,12 @@
 //! The chains of the codes: each slot is linked to the slots before and after it with the same code,
 //! and a map has the first and the last slot of each code.
-ghost use Rattle.std.specs.Prelude.{◌≡◌, ◌<◌, ℕ, ◌∷◌, ◌++◌, [], nat_eq, length, slice_set, Some, None, OnOk, IfSome};
+ghost use Rattle.std.specs.Prelude.{◌≡◌, ◌<◌, ℕ, ◌∷◌, ◌++◌, [], nat_eq, length, slice_set, Some, None};
+ghost use Rattle.std.specs.Prelude.{OnOk, IfSome};
 ghost use Rattle.std.specs.Prelude.{IsSome, vec_capacity};
 ghost use Rattle.std.specs.HashMap.{get, spare};
 ghost use Rattle.ini_multimap.specs.Slots.{code_at};
-ghost use Rattle.ini_multimap.specs.Chains.{AreChained, AreClosed, AreSet, HasRoom, IsNextSet, IsPrevSet, IsPutLast};
+ghost use Rattle.ini_multimap.specs.Chains.{AreChained, AreClosed, AreSet, HasRoom, IsNextSet};
+ghost use Rattle.ini_multimap.specs.Chains.{IsPrevSet, IsPutLast};
 ghost use Rattle.ini_multimap.specs.Chains.{first_of, last_of, named, next_at, no_slot, prev_at};
 
 use crate::key::MapKey;

@@ -1,4 +1,5 @@
-//! Elements: white space, comments, and where a header or a pair begins. This file knows headers and pairs, and no string.
+//! Elements: white space, comments, and where a header or a pair begins. This file knows headers and
+//! pairs, and no string.
 ghost use Rattle.std.specs.Prelude.{◌≡◌, ◌∷◌, chars};
 ghost use Rattle.ini_text.specs.ElementParts.{IsElement};
 
@@ -13,7 +14,8 @@ use crate::parser::scan::{
 use std::alloc::Global;
 
 // element = gap / comment / header / pair / dropped-tail
-/// The element with which a text that begins with `c` goes on behind a front, if it gives an item, and what follows it.
+/// The element with which a text that begins with `c` goes on behind a front, if it gives an item, and
+/// what follows it.
 pub(crate) fn read_element<'a>(
     alloc: Global,
     front: &str,

@@ -1,4 +1,5 @@
-//! Lines of a value: quoted parts, and then one plain part to the line's end. This file knows strings, and no key.
+//! Lines of a value: quoted parts, and then one plain part to the line's end. This file knows strings,
+//! and no key.
 ghost use Rattle.std.specs.Prelude.{◌≡◌, ◌∷◌, true, false, chars, MatchOption};
 ghost use Rattle.ini_text.specs.Characters.{is_mark, BeginsWithNo};
 ghost use Rattle.ini_text.specs.ParserFaults.{ends_of};

@@ -1,5 +1,5 @@
-//! Pairs: keys, indented or not, and what follows them; and what else a line may give that begins with blanks. This file
-//! knows strings and values.
+//! Pairs: keys, indented or not, and what follows them; and what else a line may give that begins with
+//! blanks. This file knows strings and values.
 ghost use Rattle.std.specs.Prelude.{◌≡◌, ◌∷◌, ◌++◌, chars, true, IfOk};
 ghost use Rattle.ini_text.specs.Characters.{BeginsWith, is_blank};
 ghost use Rattle.ini_text.specs.ElementParts.{IsElement, IsKey, TailStops, kept_blanks};

@@ -98,7 +98,8 @@ fn run_len(bytes: &[u8], ends: Endpoints) -> usize
     run_before(bytes, &ends.marks())
 }
 
-/// The characters at the front of a text that are neither a backslash nor an endpoint, and what follows them.
+/// The characters at the front of a text that are neither a backslash nor an endpoint, and what follows
+/// them.
 pub(crate) fn split_run(text: &str, ends: Endpoints) -> (&str, &str)
     ensures parts { chars text.now ≡ chars result.0.now ++ chars result.1.now }
     ensures run { list_all (is_plain (ends_of ends)) (chars result.0.now) ≡ true }

@@ -1,5 +1,6 @@
 //! White space at the ends of what was read. This file knows no line end, and no production.
-ghost use Rattle.std.specs.Prelude.{◌≡◌, ◌≤◌, ◌++◌, Bool, true, false, chars, take, drop, string_bytes, string_len, OnOk, IfOk};
+ghost use Rattle.std.specs.Prelude.{◌≡◌, ◌≤◌, ◌++◌, Bool, true, false, chars, take, drop, string_bytes};
+ghost use Rattle.std.specs.Prelude.{string_len, OnOk, IfOk};
 ghost use Rattle.std.specs.Str.{IsCharBoundary};
 ghost use Rattle.ini_text.specs.Scans.{text_of, trimmed_at, begins_white, is_visible};
 ghost use Rattle.ini_text.specs.White.{drop_line_feeds, without_outer_line_feeds};

@@ -1,5 +1,5 @@
-//! Values: a line, and in multiline values the lines with which it goes on, less the line feeds at both ends.
-//! This file knows lines, and no key.
+//! Values: a line, and in multiline values the lines with which it goes on, less the line feeds at both
+//! ends. This file knows lines, and no key.
 ghost use Rattle.std.specs.Prelude.{◌≡◌, ◌∷◌, ◌++◌, chars, MatchOption, MatchResult, IfOk};
 ghost use Rattle.ini_text.specs.Characters.{carriage_return, is_line_end};
 ghost use Rattle.ini_text.specs.Readers.{Appends};
