@@ -6,7 +6,7 @@ use Rattle.ini_text.proofs.EscapeTexts.{escaped-first, escaped-next}
 use Rattle.ini_text.proofs.SendLemmas.{Sending, Sending-ends, Sending-goes_on, Sending-starts, Sending-stops}
 use Rattle.ini_text.proofs.gather.Gatherer.put_runs.Given as given
 use Rattle.ini_text.proofs.gather.Gatherer.put_runs.Goals as goal
-use Rattle.ini_text.proofs.gather.Gatherer.put_runs.Goals.{In_ok-put, In-Some}
+use Rattle.ini_text.proofs.gather.Gatherer.put_runs.Goals.{In_ok-put}
 
 -- the run was sent, and what follows it is left
 after_run : (g : given.Over) (c : In_ok-put g) → Sending g.W.Write.contents c.args.out.now c.put.new.out (held c.args.self.now) (held c.put.new.self)
