@@ -45,6 +45,7 @@ pub struct Parser<'a> {
     rest: &'a str,
     option: ParseOption,
     refusal: Option<Refusal>,
+    scratch: String,
 }
 
 impl<'a> Model for Parser<'a> {
@@ -79,6 +80,7 @@ impl<'a> Parser<'a> {
             rest: text,
             option: opt,
             refusal: None,
+            scratch: String::new(alloc),
         }
     }
 
@@ -101,7 +103,13 @@ impl<'a> Parser<'a> {
         if let Some(refusal) = self.refusal {
             return Err(refusal.error());
         }
-        match find_item(self.alloc, self.text, self.rest, self.option) {
+        match find_item(
+            self.alloc,
+            &mut self.scratch,
+            self.text,
+            self.rest,
+            self.option,
+        ) {
             Ok((item, rest)) => {
                 self.rest = rest;
                 Ok(item)
@@ -117,6 +125,7 @@ impl<'a> Parser<'a> {
 /// The first item of what is left of a text, and what follows it.
 fn find_item<'a>(
     alloc: Global,
+    scratch: &mut String,
     text: &'a str,
     start: &'a str,
     option: ParseOption,
@@ -129,6 +138,7 @@ fn find_item<'a>(
     'elements: while let Some((c, after)) = split_first(rest) {
         let (given, end) = match read_element(
             alloc,
+            scratch,
             front_before(text, rest),
             rest,
             c,

@@ -18,6 +18,7 @@ use std::alloc::Global;
 /// what follows it.
 pub(crate) fn read_element<'a>(
     alloc: Global,
+    scratch: &mut String,
     front: &str,
     text: &'a str,
     c: char,
@@ -29,7 +30,7 @@ pub(crate) fn read_element<'a>(
 {
     if Class::Blank.contain(c) {
         if starts_line(front) {
-            return read_indented(alloc, front, text, option);
+            return read_indented(alloc, scratch, front, text, option);
         }
         return Ok((None, after));
     }
@@ -43,7 +44,7 @@ pub(crate) fn read_element<'a>(
         return Ok((None, after_first(skip_line(after))));
     }
     if c == '[' {
-        return read_header(alloc, front, after, option);
+        return read_header(alloc, scratch, front, after, option);
     }
-    read_unindented(alloc, front, text, option)
+    read_unindented(alloc, scratch, front, text, option)
 }

@@ -17,6 +17,7 @@ use std::alloc::Global;
 /// A header behind its bracket.
 pub(crate) fn read_header<'a>(
     alloc: Global,
+    scratch: &mut String,
     front: &str,
     text: &'a str,
     option: ParseOption,
@@ -26,7 +27,14 @@ pub(crate) fn read_header<'a>(
     if option.enabled_brackets_in_section_names {
         return read_bracketed_header(alloc, front, text, option);
     }
-    let (name, rest) = read_trimmed(alloc, text, option.enabled_escape, Endpoints::Name, true)?;
+    let (name, rest) = read_trimmed(
+        alloc,
+        scratch,
+        text,
+        option.enabled_escape,
+        Endpoints::Name,
+        true,
+    )?;
     Ok((Some(Item::Header(name)), after_first(rest)))
 }
 

@@ -38,17 +38,25 @@ fn split_mark(text: &str, option: ParseOption) -> Option<(Endpoints, &str)>
 /// The value of a first line, and what follows the line, from its end on.
 pub(crate) fn read_first_line<'a>(
     alloc: Global,
+    scratch: &mut String,
     text: &'a str,
     option: ParseOption,
 ) -> Result<(String, &'a str), Stop<'a>>
     ensures { ReadsFirstLine option (chars text.now) result }
 {
     match split_mark(text, option) {
-        None => read_trimmed(alloc, text, option.enabled_escape, Endpoints::Plain, true),
+        None => read_trimmed(
+            alloc,
+            scratch,
+            text,
+            option.enabled_escape,
+            Endpoints::Plain,
+            true,
+        ),
         Some(_) => {
-            let mut value = String::new(alloc);
-            let end = read_line(alloc, &mut value, text, option, true)?;
-            Ok((value, end))
+            scratch.clear();
+            let end = read_line(alloc, scratch, text, option, true)?;
+            Ok((String::from_str(alloc, scratch.as_str())?, end))
         }
     }
 }

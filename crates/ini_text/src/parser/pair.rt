@@ -22,6 +22,7 @@ use std::alloc::{AllocError, Global};
 /// A pair whose key isn't indented.
 pub(crate) fn read_unindented<'a>(
     alloc: Global,
+    scratch: &mut String,
     front: &str,
     text: &'a str,
     option: ParseOption,
@@ -30,14 +31,22 @@ pub(crate) fn read_unindented<'a>(
     ensures { IsElement option (chars front.now) (chars text.now) result }
 {
     let both = !option.enabled_preserve_key_leading_whitespace;
-    let (key, rest) = read_trimmed(alloc, text, option.enabled_escape, Endpoints::Key, both)?;
-    read_pair(alloc, front, text, key, rest, option)
+    let (key, rest) = read_trimmed(
+        alloc,
+        scratch,
+        text,
+        option.enabled_escape,
+        Endpoints::Key,
+        both,
+    )?;
+    read_pair(alloc, scratch, front, text, key, rest, option)
 }
 
 // gap / 1*blank key separator value / dropped-tail, where blanks begin a line
 /// What a line gives that begins with blanks: a gap, a dropped tail, or a pair whose key is indented.
 pub(crate) fn read_indented<'a>(
     alloc: Global,
+    scratch: &mut String,
     front: &str,
     text: &'a str,
     option: ParseOption,
@@ -60,7 +69,7 @@ pub(crate) fn read_indented<'a>(
     match read_string(&mut key, start, option.enabled_escape, Endpoints::Key) {
         Ok(rest) => {
             let key = trim(alloc, key, !option.enabled_preserve_key_leading_whitespace)?;
-            read_pair(alloc, front, text, key, rest, option)
+            read_pair(alloc, scratch, front, text, key, rest, option)
         }
         Err(stop) => drop_tail(front, text, start, option, stop),
     }
@@ -100,6 +109,7 @@ fn drop_tail<'a>(
 /// What follows a key, from its separator on.
 fn read_pair<'a>(
     alloc: Global,
+    scratch: &mut String,
     front: &str,
     text: &str,
     key: String,
@@ -113,6 +123,6 @@ fn read_pair<'a>(
     if key.is_empty() {
         return Err(Stop::Fault(Fault::MissingKey, after));
     }
-    let (value, end) = read_value(alloc, after, option)?;
+    let (value, end) = read_value(alloc, scratch, after, option)?;
     Ok((Some(Item::Pair(key, value)), end))
 }

@@ -5,12 +5,14 @@ ghost use Rattle.ini_text.specs.TrimmedStrings.{ReadsTrimmed};
 
 use crate::parser::fault::{Endpoints, Stop};
 use crate::parser::string::{read_string, split_plain};
-use crate::parser::trim::{trim, trimmed};
+use crate::parser::trim::trimmed;
 use std::alloc::Global;
 
-/// A string up to an endpoint, trimmed at its end or at both ends, and what follows it, from its endpoint on.
+/// A string up to an endpoint, trimmed at its end or at both ends, and what follows it, from its endpoint on. What
+/// `scratch` holds is lost.
 pub(crate) fn read_trimmed<'a>(
     alloc: Global,
+    scratch: &mut String,
     text: &'a str,
     escapes: bool,
     ends: Endpoints,
@@ -23,7 +25,8 @@ pub(crate) fn read_trimmed<'a>(
         let kept = String::from_str(alloc, trimmed(run, both))?;
         return Ok((kept, rest));
     }
-    let mut whole = String::new(alloc);
-    let rest = read_string(&mut whole, text, escapes, ends)?;
-    Ok((trim(alloc, whole, both)?, rest))
+    scratch.clear();
+    let rest = read_string(scratch, text, escapes, ends)?;
+    let kept = String::from_str(alloc, trimmed(scratch.as_str(), both))?;
+    Ok((kept, rest))
 }

@@ -19,13 +19,14 @@ use std::alloc::{AllocError, Global};
 /// The value that begins behind a separator, and what follows it.
 pub(crate) fn read_value<'a>(
     alloc: Global,
+    scratch: &mut String,
     text: &'a str,
     option: ParseOption,
 ) -> Result<(String, &'a str), Stop<'a>>
     ensures { MakesValue option (chars text.now) result }
 {
     let start = skip(text, Class::InlineWhite);
-    let (mut value, end) = read_first_line(alloc, start, option)?;
+    let (mut value, end) = read_first_line(alloc, scratch, start, option)?;
     if !option.enabled_indented_mutiline_value {
         return Ok((value, end));
     }
