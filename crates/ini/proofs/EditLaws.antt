@@ -3,7 +3,7 @@ use Rattle.std.proofs.Common.{◌≡◌, [], ◌∷◌, ◌++◌, Option, None, 
 use Rattle.ini.specs.Texts.{Text}
 use Rattle.ini.specs.Properties.{Pairs, inserted, removed}
 use Rattle.ini.specs.Documents.{Document, first_section}
-use Rattle.ini.specs.Edits.{add_in, delete_in, delete_in_all, set_in, with_section}
+use Rattle.ini.specs.Edits.{add_in, delete_in, delete_in_all, section_put, set_in}
 use Rattle.ini.specs.EditLaws.{KeepsLaterSections, KeepsNames, KeepsOtherKeysIn, KeepsOtherNames, KeepsOtherSections, KeepsRest}
 use Rattle.ini.proofs.EditLemmas.{edit_section-last}
 use Rattle.ini.proofs.KeepingLemmas.{deleted-last, deleted_from-last, entry-there, first-all_removed, first-appended, first-deleted, first-edited, first-inserted, first-removed, first-section_removed, first-section_set, inserted-there, later-edited, lent-there, name_refl, named-deleted, named-edited, named-section_removed, named-section_set, others-appended, others-inserted, others-removed, rest-deleted, rest-edited, set-there, there-deleted, there-edited, there-section_set, value-deleted, value-edited, values-all_removed, values-appended, values-inserted, values-removed}
@@ -82,13 +82,13 @@ module _ (name : Option Text) (key : Text) where
   delete-rest d there = rest-deleted name key d
 
 module _ (name : Option Text) (pairs : Pairs) where
-  pub entry-names : KeepsOtherNames name (λ d. with_section name d pairs)
+  pub entry-names : KeepsOtherNames name (section_put name pairs)
   entry-names other d apart = first-edited name (λ _. pairs) ((name, pairs) ∷ []) other (grind (arith, apart)) apart d
 
-  pub entry-sections : KeepsOtherSections name (λ d. with_section name d pairs)
+  pub entry-sections : KeepsOtherSections name (section_put name pairs)
   entry-sections other d apart = named-edited name (λ _. pairs) ((name, pairs) ∷ []) other (grind (arith, apart)) apart d
 
-  pub entry-there_still : KeepsNames (λ d. with_section name d pairs)
+  pub entry-there_still : KeepsNames (section_put name pairs)
   entry-there_still = there-edited name (λ _. pairs) ((name, pairs) ∷ [])
 
 pub ruleset there = (inserted-there, set-there, lent-there, entry-there)

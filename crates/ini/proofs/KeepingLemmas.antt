@@ -2,11 +2,10 @@
 use Rattle.std.proofs.Common.{◌≡◌, ◌≤◌, true, false, [], ◌∷◌, ◌++◌, length, drop, Option, None, Some, IsSome, refl, ap, arith}
 use Rattle.std.proofs.lemmas.Bool.{false≢true}
 use Rattle.std.specs.Cmp.Lexicographic.{nat_list_eq_equiv, options_equiv, bytes_decides}
-use Rattle.std.specs.Map.{set_value}
 use Rattle.ini.specs.Texts.{Text, is_name, is_text}
 use Rattle.ini.specs.Properties.{Pairs, all_removed, first_value, inserted, removed, values}
 use Rattle.ini.specs.Documents.{Document, first_section, section_removed, sections_named, value_in}
-use Rattle.ini.specs.Edits.{delete_in, delete_in_all, edit_section, set_in, with_section}
+use Rattle.ini.specs.Edits.{delete_in, delete_in_all, edit_section, section_set, set_in, with_section}
 use Rattle.ini.specs.EditLaws.{apart_from, values_in}
 
 pub text_refl : (t : Text) → is_text t t ≡ true
@@ -142,15 +141,15 @@ module _ (name other : Option Text) (apart : is_name other name ≡ false) where
   named-section_removed [] = refl
   named-section_removed (s ∷ d) = grind (arith, named-section_removed d, names_equal name s.0, apart)
 
-  pub first-section_set : (pairs : Pairs) (d : Document) → first_section other (set_value (is_name name) d pairs) ≡ first_section other d
+  pub first-section_set : (pairs : Pairs) (d : Document) → first_section other (section_set name pairs d) ≡ first_section other d
   first-section_set pairs [] = refl
   first-section_set pairs (s ∷ d) = grind (arith, first-section_set pairs d, names_equal name s.0, apart)
 
-  pub named-section_set : (pairs : Pairs) (d : Document) → sections_named other (set_value (is_name name) d pairs) ≡ sections_named other d
+  pub named-section_set : (pairs : Pairs) (d : Document) → sections_named other (section_set name pairs d) ≡ sections_named other d
   named-section_set pairs [] = refl
   named-section_set pairs (s ∷ d) = grind (arith, named-section_set pairs d, names_equal name s.0, apart)
 
-pub there-section_set : (name other : Option Text) (pairs : Pairs) (d : Document) → IsSome (first_section other d) → IsSome (first_section other (set_value (is_name name) d pairs))
+pub there-section_set : (name other : Option Text) (pairs : Pairs) (d : Document) → IsSome (first_section other d) → IsSome (first_section other (section_set name pairs d))
 there-section_set name other pairs [] there = absurd (false≢true there)
 there-section_set name other pairs (s ∷ d) there = grind (arith, there-section_set name other pairs d)
 
@@ -159,7 +158,7 @@ pub set-there : (name : Option Text) (key value : Text) (d : Document) → value
 set-there name key value [] = grind (arith, name_refl name, text_refl key)
 set-there name key value (s ∷ d) = grind (arith, set-there name key value d, inserted-there key value s.1)
 
-pub lent-there : (name : Option Text) (pairs : Pairs) (d : Document) → IsSome (first_section name d) → first_section name (set_value (is_name name) d pairs) ≡ Some pairs
+pub lent-there : (name : Option Text) (pairs : Pairs) (d : Document) → IsSome (first_section name d) → first_section name (section_set name pairs d) ≡ Some pairs
 lent-there name pairs [] there = absurd (false≢true there)
 lent-there name pairs (s ∷ d) there = grind (arith, lent-there name pairs d)
 

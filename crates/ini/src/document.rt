@@ -11,7 +11,7 @@ ghost use Rattle.ini.specs.Texts.{IsTextName, Text, is_name, name_of, str_name, 
 ghost use Rattle.ini.specs.Properties.{Pairs};
 ghost use Rattle.ini.specs.Documents.{first_section, names, section_removed, sections_named};
 ghost use Rattle.ini.specs.Documents.{value_in, with_pair};
-ghost use Rattle.ini.specs.Edits.{add_in, delete_in, delete_in_all, replace_in, set_in};
+ghost use Rattle.ini.specs.Edits.{add_in, delete_in, delete_in_all, replace_in, section_set, set_in};
 ghost use Rattle.ini.specs.Lends.{lends_found_section, lends_last_section, lends_new_section, lends_section};
 ghost use Rattle.ini.specs.Lends.{lends_value_in, lent_text};
 ghost use Rattle.ini.specs.Walks.{section_all_mut_rest, section_iter_mut_rest};
@@ -103,7 +103,7 @@ impl Ini {
         ensures* writes_back { sem 𝓛 (lends_section self.entry (str_name name.entry) result) }
         ensures section { option_copied_mut result ≡ first_section (str_name name.entry) self.old }
         ensures none_to_set { IfNone result
-            ((pairs : Pairs) → set_value (is_name (str_name name.entry)) self.old pairs ≡ self.old) }
+            ((pairs : Pairs) → section_set (str_name name.entry) pairs self.old ≡ self.old) }
     {
         name_is_text(name);
         self.sections.get_mut(name)

@@ -54,8 +54,8 @@ pub(crate) fn trim_from(
 ) -> Result<(), AllocError>
     requires { IsCharBoundary (string_bytes out.old) start }
     ensures { OnOk result (text_of out.new
-        ≡ chars (take start (string_bytes out.old)) ++ trimmed_at both
-        (chars (drop start (string_bytes out.old)))) }
+        ≡ chars (take start (string_bytes out.old))
+        ++ trimmed_at both (chars (drop start (string_bytes out.old)))) }
 {
     let part = &out.as_str()[start..];
     if both && begins_white(part) {
