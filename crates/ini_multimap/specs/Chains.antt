@@ -1,5 +1,5 @@
 -- The chains of the codes: which slots follow one another, and how links and ends say it. Private functions say it.
-use Rattle.std.specs.Prelude.{◌≡◌, ◌≢◌, ℕ, suc, ◌+◌, ◌-◌, ◌<◌, ◌≤◌, Bool, true, false, cond, nat_eq, unwrap_or, List, length, map, Option, Some, None, MatchOption, IfSome, vec_len, vec_capacity}
+use Rattle.std.specs.Prelude.{◌≡◌, ◌≢◌, ℕ, zero, suc, ◌+◌, ◌-◌, ◌<◌, ◌≤◌, Bool, true, false, cond, nat_eq, unwrap_or, List, length, map, Option, Some, None, MatchOption, IfSome, vec_len, vec_capacity}
 use Rattle.std.specs.Option.{option_map}
 use Rattle.std.specs.Global.{Box}
 use Rattle.std.specs.HashMap.{get, spare}
@@ -14,8 +14,7 @@ IsNext at c i (Some t) = (i ≤ t) × (at t ≡ Some c) × ((k : ℕ) → i ≤ 
 
 -- r is the last place before i that has the code c
 abbrev pub IsPrev : (ℕ → Option ℕ) → ℕ → ℕ → Option ℕ → Type 0
-IsPrev at c i None = (k : ℕ) → k < i → at k ≢ Some c
-IsPrev at c i (Some t) = (t < i) × (at t ≡ Some c) × ((k : ℕ) → t < k → k < i → at k ≢ Some c)
+IsPrev at c i r = MatchOption r ((k : ℕ) → k < i → at k ≢ Some c) (λ t. (t < i) × (at t ≡ Some c) × ((k : ℕ) → t < k → k < i → at k ≢ Some c))
 
 -- the first and the last of a code
 abbrev pub first_of : (ℕ → Option (ℕ × ℕ)) → ℕ → Option ℕ
@@ -105,9 +104,15 @@ abbrev pub walk_left : ℕ → Option ℕ → ℕ
 walk_left n None = 0
 walk_left n (Some s) = suc (n - s)
 
--- a walk back along the chain of the code c from `at` stands at r: no pair that fits is from there up to `at`
-abbrev pub IsReachedBack : {K V : Type 0} → (K → ℕ) → (K → Bool) → ℕ → List (Option K) → List (Option V) → ℕ → Option ℕ → Type 0
-IsReachedBack code test c ks vs at r = MatchOption r (fits_before test ks vs at ≡ 0) (λ s. (s < at) × (code_at code ks s ≡ Some c) × (fits_before test ks vs at ≡ fits_before test ks vs (suc s)))
+-- the slot before s with its code, by the links; where there are none, the one beside it
+abbrev pub before_in : Option (Box Chains) → ℕ → Option ℕ
+before_in (Some chains) s = prev_at chains.value.links.items s
+before_in None zero = None
+before_in None (suc s) = Some s
+
+-- a walk back from `at` stands at r: no pair that fits is from there up to `at`, and where there are chains r has the code c
+abbrev pub IsReachedBack : {K V : Type 0} → Option (Box Chains) → (K → ℕ) → (K → Bool) → ℕ → List (Option K) → List (Option V) → ℕ → Option ℕ → Type 0
+IsReachedBack index code test c ks vs at r = MatchOption r (fits_before test ks vs at ≡ 0) (λ s. (s < at) × IfSome index (λ _. code_at code ks s ≡ Some c) × (fits_before test ks vs at ≡ fits_before test ks vs (suc s)))
 
 -- how far such a walk has to go
 abbrev pub back_left : Option ℕ → ℕ

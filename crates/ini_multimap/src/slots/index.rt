@@ -3,7 +3,7 @@
 ghost use Rattle.std.specs.Prelude.{◌≡◌, ◌<◌, ◌≤◌, ◌^◌, ◌∷◌, ◌++◌, [], Some, None, suc, length, slice_set};
 ghost use Rattle.std.specs.Prelude.{IfSome, OnOk, vec_len, vec_capacity};
 ghost use Rattle.ini_multimap.specs.Slots.{code_at};
-ghost use Rattle.ini_multimap.specs.Chains.{HasCode, HasRoom, IsIndexed, IsNext, IsPrev};
+ghost use Rattle.ini_multimap.specs.Chains.{HasCode, HasRoom, IsIndexed, IsNext, before_in};
 
 use super::Chains;
 use crate::key::MapKey;
@@ -33,21 +33,6 @@ fn scan<K: MapKey>(keys: &[Option<K>], code: u64, from: usize) -> Option<usize>
             return Some(s);
         }
         s += 1;
-    }
-    None
-}
-
-// The last slot before `before` that has the code, by a look at each.
-fn scan_back<K: MapKey>(keys: &[Option<K>], code: u64, before: usize) -> Option<usize>
-    requires { before ≤ length keys.now }
-    ensures { IsPrev (code_at K.key_code keys.now) code before result }
-{
-    let mut s = before;
-    while s > 0 {
-        s -= 1;
-        if has_code(keys, s, code) {
-            return Some(s);
-        }
     }
     None
 }
@@ -85,20 +70,14 @@ pub(super) fn slot_after<K: MapKey>(
     }
 }
 
-// The slot before s with the same code.
-pub(crate) fn slot_before<K: MapKey>(
-    keys: &[Option<K>],
-    index: &Option<Box<Chains>>,
-    code: u64,
-    s: usize,
-) -> Option<usize>
-    requires indexed { IsIndexed K.key_code keys.now index.now }
-    requires here { code_at K.key_code keys.now s ≡ Some code }
-    ensures { IsPrev (code_at K.key_code keys.now) code s result }
+// The slot before s where an equal key may stand next: by its link, and where there are no chains the one beside it.
+pub(crate) fn slot_before(index: &Option<Box<Chains>>, s: usize) -> Option<usize>
+    requires { IfSome index.now (λ chains. s < length chains.value.links.items) }
+    ensures { result ≡ before_in index.now s }
 {
     match index {
         Some(chains) => chains.prev(s),
-        None => scan_back(keys, code, s),
+        None => s.checked_sub(1),
     }
 }
 
