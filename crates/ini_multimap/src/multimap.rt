@@ -1,4 +1,4 @@
-//! The multimap, kept as slots in list order: a look-up asks the probe only about pairs of its code.
+//! The multimap, kept as slots in list order: where there are many, a look-up asks the probe only about pairs of its code.
 //! A removal leaves a hole, and the holes are closed where they outnumber the pairs.
 //!
 //! A growing call makes its room before anything changes, so a refused one changes nothing.
@@ -188,7 +188,7 @@ impl<K: MapKey, V> Multimap<K, V> {
         ensures values { result ≡ values_at (Q.fits q) self.now }
         ensures countable { length result < 2 ^ 64 }
     {
-        Values::new(Iter::new(self.keys.as_slice(), self.values.as_slice()), q)
+        Values::new(self.keys.as_slice(), self.values.as_slice(), &self.index, q)
     }
 
     /// All values of the key, in list order, for writing.

@@ -2,8 +2,8 @@
 //! another of the same length, so that values can be lent for writing while nothing that a look-up
 //! rests on can change.
 //!
-//! Where slots are few, those of one code are found by a look at each key. Where they are many, those
-//! of one code are a chain. These files know keys and codes, and no multimap.
+//! Where slots are few, a look-up goes over each of them. Where they are many, those of one code are
+//! a chain, and it goes along that. These files know keys and codes, and no multimap.
 mod anew;
 mod chains;
 mod close;
@@ -12,5 +12,8 @@ mod index;
 
 pub(crate) use chains::Chains;
 pub(crate) use close::{close_holes, count_holes, is_sparse};
-pub(crate) use find::{count_fits, is_full, last_slot, nth_slot};
-pub(crate) use index::{link_last, make_room, slot_before, unlink};
+pub(crate) use find::{count_fits, fitting_value, is_full, last_slot, nth_slot};
+pub(crate) use index::{
+    candidate_after, candidate_before, first_candidate, last_candidate, link_last, make_room,
+    unlink,
+};

@@ -133,6 +133,16 @@ impl Chains {
         }
     }
 
+    // The last slot of the code.
+    pub(super) fn last(&self, code: u64) -> Option<usize>
+        ensures { result ≡ last_of (get nat_eq self.now.ends) code }
+    {
+        match self.ends.get(&code) {
+            Some(both) => Some(both.1 as usize),
+            None => None,
+        }
+    }
+
     // The slot after s with the same code.
     pub(super) fn next(&self, s: usize) -> Option<usize>
         requires { s < length self.now.links.items }

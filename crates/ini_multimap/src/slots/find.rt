@@ -1,11 +1,29 @@
 //! The walks over the slots of one code, and over all.
-ghost use Rattle.std.specs.Prelude.{◌≡◌, ◌<◌, ◌^◌, true, length};
-ghost use Rattle.ini_multimap.specs.Slots.{IsNthFit, IsLastFull, fits_at, fits_before};
+ghost use Rattle.std.specs.Prelude.{◌≡◌, ◌<◌, ◌^◌, true, length, is_some, IfSome, Some};
+ghost use Rattle.ini_multimap.specs.Slots.{IsNthFit, IsLastFull, fits_at, fits_before, value_in};
 ghost use Rattle.ini_multimap.specs.Chains.{IsIndexed};
 
 use super::Chains;
-use super::index::{first_slot, slot_after};
+use super::index::{candidate_after, first_candidate};
 use crate::key::{MapKey, Probe};
+
+// The value in slot s, where it holds a pair that fits.
+pub(crate) fn fitting_value<'a, K: MapKey, V, Q: Probe<K> + Copy>(
+    keys: &[Option<K>],
+    values: &'a [Option<V>],
+    s: usize,
+    q: Q,
+) -> Option<&'a V>
+    requires long { length values.now ≡ length keys.now }
+    requires within { s < length keys.now }
+    ensures fits { is_some result ≡ fits_at (Q.fits q) keys.now values.now s }
+    ensures value { IfSome result (λ v. value_in values.now s ≡ Some v.now) }
+{
+    match (&keys[s], &values[s]) {
+        (Some(key), Some(value)) if q.is(key) => Some(value),
+        _ => None,
+    }
+}
 
 // Whether slot s holds a pair that fits.
 fn fits_at<K: MapKey, V, Q: Probe<K> + Copy>(
@@ -18,10 +36,7 @@ fn fits_at<K: MapKey, V, Q: Probe<K> + Copy>(
     requires within { s < length keys.now }
     ensures { result ≡ fits_at (Q.fits q) keys.now values.now s }
 {
-    match (&keys[s], &values[s]) {
-        (Some(key), Some(_)) => q.is(key),
-        _ => false,
-    }
+    fitting_value(keys, values, s, q).is_some()
 }
 
 // Whether slot s holds a pair.
@@ -36,7 +51,7 @@ pub(crate) fn is_full<K, V>(keys: &[Option<K>], values: &[Option<V>], s: usize) 
     }
 }
 
-// The slot of pair number n of those that fit. Only the pairs of its code are asked about.
+// The slot of pair number n of those that fit. Where there are chains, only the pairs of its code are asked about.
 pub(crate) fn nth_slot<K: MapKey, V, Q: Probe<K> + Copy>(
     keys: &[Option<K>],
     values: &[Option<V>],
@@ -49,9 +64,8 @@ pub(crate) fn nth_slot<K: MapKey, V, Q: Probe<K> + Copy>(
     requires countable { length keys.now < 2 ^ 64 }
     ensures { IsNthFit (Q.fits q) keys.now values.now n result }
 {
-    let code = q.code();
     let mut left = n;
-    let mut at = first_slot(keys, index, code);
+    let mut at = first_candidate(keys, index, q);
     while let Some(s) = at {
         if fits_at(keys, values, s, q) {
             if left == 0 {
@@ -59,12 +73,12 @@ pub(crate) fn nth_slot<K: MapKey, V, Q: Probe<K> + Copy>(
             }
             left -= 1;
         }
-        at = slot_after(keys, index, code, s);
+        at = candidate_after(index, keys.len(), s);
     }
     None
 }
 
-// How many pairs fit. Only the pairs of the probe's code are asked about.
+// How many pairs fit. The same ones are asked about.
 pub(crate) fn count_fits<K: MapKey, V, Q: Probe<K> + Copy>(
     keys: &[Option<K>],
     values: &[Option<V>],
@@ -76,14 +90,13 @@ pub(crate) fn count_fits<K: MapKey, V, Q: Probe<K> + Copy>(
     requires countable { length keys.now < 2 ^ 64 }
     ensures { result ≡ fits_before (Q.fits q) keys.now values.now (length keys.now) }
 {
-    let code = q.code();
     let mut fits = 0;
-    let mut at = first_slot(keys, index, code);
+    let mut at = first_candidate(keys, index, q);
     while let Some(s) = at {
         if fits_at(keys, values, s, q) {
             fits += 1;
         }
-        at = slot_after(keys, index, code, s);
+        at = candidate_after(index, keys.len(), s);
     }
     fits
 }

@@ -1,77 +1,61 @@
-//! Which slots have one code: by the chains where there are any, and else by a look at each key.
-//! Whoever asks doesn't know of it.
+//! Which slots are to be looked at for a code, the candidates: those of its chain where there are chains, and else each of
+//! the few. Whoever asks doesn't know of it.
 ghost use Rattle.std.specs.Prelude.{◌≡◌, ◌<◌, ◌≤◌, ◌^◌, ◌∷◌, ◌++◌, [], Some, None, suc, length, slice_set};
 ghost use Rattle.std.specs.Prelude.{IfSome, OnOk, vec_len, vec_capacity};
 ghost use Rattle.ini_multimap.specs.Slots.{code_at};
-ghost use Rattle.ini_multimap.specs.Chains.{HasCode, HasRoom, IsIndexed, IsNext, before_in};
+ghost use Rattle.ini_multimap.specs.Chains.{HasRoom, IsIndexed, after_in, before_in, first_in, last_in};
 
 use super::Chains;
-use crate::key::MapKey;
+use crate::key::{MapKey, Probe};
 use std::alloc::AllocError;
 
 // So many slots have no chains.
 const FEW: usize = 16;
 
-// Whether slot s has the code.
-fn has_code<K: MapKey>(keys: &[Option<K>], s: usize, code: u64) -> bool
-    requires { s < length keys.now }
-    ensures { HasCode K.key_code keys.now s code result }
-{
-    match &keys[s] {
-        Some(key) => key.code() == code,
-        None => false,
-    }
-}
-
-// The first slot from `from` on that has the code, by a look at each.
-fn scan<K: MapKey>(keys: &[Option<K>], code: u64, from: usize) -> Option<usize>
-    ensures { IsNext (code_at K.key_code keys.now) code from result }
-{
-    let mut s = from;
-    while s < keys.len() {
-        if has_code(keys, s, code) {
-            return Some(s);
-        }
-        s += 1;
-    }
-    None
-}
-
-// The first slot of the code.
-pub(super) fn first_slot<K: MapKey>(
+// The first candidate for the code that the probe has.
+pub(crate) fn first_candidate<K: MapKey, Q: Probe<K> + Copy>(
     keys: &[Option<K>],
     index: &Option<Box<Chains>>,
-    code: u64,
+    q: Q,
 ) -> Option<usize>
-    requires { IsIndexed K.key_code keys.now index.now }
-    ensures { IsNext (code_at K.key_code keys.now) code 0 result }
+    ensures { result ≡ first_in index.now (length keys.now) (Q.probe_code q) }
 {
     match index {
-        Some(chains) => chains.first(code),
-        None => scan(keys, code, 0),
+        Some(chains) => chains.first(q.code()),
+        None if 0 < keys.len() => Some(0),
+        None => None,
     }
 }
 
-// The slot after s with the same code.
-pub(super) fn slot_after<K: MapKey>(
+// The last candidate for the code that the probe has.
+pub(crate) fn last_candidate<K: MapKey, Q: Probe<K> + Copy>(
     keys: &[Option<K>],
     index: &Option<Box<Chains>>,
-    code: u64,
-    s: usize,
+    q: Q,
 ) -> Option<usize>
-    requires indexed { IsIndexed K.key_code keys.now index.now }
-    requires countable { length keys.now < 2 ^ 64 }
-    requires here { code_at K.key_code keys.now s ≡ Some code }
-    ensures { IsNext (code_at K.key_code keys.now) code (suc s) result }
+    ensures { result ≡ last_in index.now (length keys.now) (Q.probe_code q) }
+{
+    match index {
+        Some(chains) => chains.last(q.code()),
+        None => keys.len().checked_sub(1),
+    }
+}
+
+// The candidate after s, of so many slots.
+pub(crate) fn candidate_after(index: &Option<Box<Chains>>, slots: usize, s: usize) -> Option<usize>
+    requires within { s < slots }
+    requires linked { IfSome index.now (λ chains. s < length chains.value.links.items) }
+    ensures { result ≡ after_in index.now slots s }
 {
     match index {
         Some(chains) => chains.next(s),
-        None => scan(keys, code, s + 1),
+        None if s + 1 < slots => Some(s + 1),
+        None => None,
     }
 }
 
-// The slot before s where an equal key may stand next: by its link, and where there are no chains the one beside it.
-pub(crate) fn slot_before(index: &Option<Box<Chains>>, s: usize) -> Option<usize>
+// The candidate before s.
+pub(crate) fn candidate_before(index: &Option<Box<Chains>>, s: usize) -> Option<usize>
     requires { IfSome index.now (λ chains. s < length chains.value.links.items) }
     ensures { result ≡ before_in index.now s }
 {
