@@ -3,9 +3,10 @@ use Rattle.std.proofs.Common.{◌≡◌, ℕ, zero, suc, ◌<◌, ◌≤◌, Boo
 use Rattle.std.specs.Global.{Box}
 use Rattle.std.proofs.lemmas.List.{take_all, drop_all, length-take}
 use Rattle.ini_multimap.specs.Pairs.{values_at}
-use Rattle.ini_multimap.specs.Slots.{pairs_in, value_in, fits_at, fits_before}
-use Rattle.ini_multimap.specs.Chains.{IsCandidate, IsIndexed, after_in, before_in, first_in, last_in, walk_left, back_left}
-use Rattle.ini_multimap.specs.Filled.{AreBetween, values_from}
+use Rattle.ini_multimap.specs.Slots.{pairs_in}
+use Rattle.ini_multimap.specs.Inside.Fits.{value_in, fits_at, fits_before}
+use Rattle.ini_multimap.specs.Inside.Chains.{IsCandidate, IsIndexed, after_in, before_in, first_in, last_in, walk_left, back_left}
+use Rattle.ini_multimap.specs.Inside.Filled.{AreBetween, values_from}
 use Rattle.ini_multimap.specs.declared.slots.chains.Chains.{Chains}
 use Rattle.ini_multimap.proofs.CellLemmas.{nth_is, fits_count}
 use Rattle.ini_multimap.proofs.WalkLemmas.{IsAhead, IsBehind, first_is, last_is, after_is, before_is, walk_shorter, back_shorter, before_zero, before_hit, before_miss, before_more, none_ahead, no_more, none_behind, none_before}

@@ -1,9 +1,7 @@
-pub mod Filled
+pub mod Inside
 pub mod Iter
 pub mod KeyLaws
 pub mod Keys
 pub mod Lends
-pub mod Chains
-pub mod Moves
 pub mod Pairs
 pub mod Slots

@@ -6,11 +6,11 @@
 //! `Probe`. The crate knows neither texts nor documents; it stands on `std` alone.
 #![tactic(auto)]
 
+mod iter;
 mod key;
 mod multimap;
 mod slots;
-mod walk;
 
+pub use iter::{IntoIter, Iter, IterMut, Keys, Removed, Values, ValuesMut};
 pub use key::{MapKey, Probe};
 pub use multimap::{Multimap, Refused};
-pub use walk::{IntoIter, Iter, IterMut, Keys, Removed, Values, ValuesMut};

@@ -11,14 +11,14 @@ ghost use Rattle.ini_multimap.specs.Iter.{iter_mut_rest, values_mut_rest};
 ghost use Rattle.ini_multimap.specs.Lends.{lends_first, lends_nth, lends_last};
 ghost use Rattle.ini_multimap.specs.Pairs.{AreClones, distinct_keys, values_at, insert_pair};
 ghost use Rattle.ini_multimap.specs.Pairs.{set_nth_value, without};
-ghost use Rattle.ini_multimap.specs.Slots.{without_nth};
+ghost use Rattle.ini_multimap.specs.Inside.Fits.{without_nth};
 
+use crate::iter::{IntoIter, Iter, IterMut, Keys, Removed, Values, ValuesMut};
 use crate::key::{MapKey, Probe};
 use crate::slots::{
     Chains, close_holes, count_fits, count_holes, is_sparse, last_slot, link_last, make_room,
     nth_slot, unlink,
 };
-use crate::walk::{IntoIter, Iter, IterMut, Keys, Removed, Values, ValuesMut};
 use std::alloc::{AllocError, Global};
 use std::marker::Model;
 use std::mem;
@@ -55,7 +55,7 @@ impl<K: MapKey, V> Model for Multimap<K, V> {
     ghost coded = { coded_list (coded× K.code V.code) };
 
     ghost use Rattle.ini_multimap.specs.Slots.{pairs_in};
-    ghost use Rattle.ini_multimap.specs.Filled.{AreFilled};
+    ghost use Rattle.ini_multimap.specs.Inside.Filled.{AreFilled};
 
     ghost view = { λ m. pairs_in m.keys.items m.values.items };
 
@@ -376,7 +376,7 @@ impl<K: MapKey + Clone, V: Clone> Clone for Multimap<K, V> {
 
 // What the edits share. None of these takes memory.
 impl<K: MapKey, V> Multimap<K, V> {
-    ghost use Rattle.ini_multimap.specs.Slots.{first_alone};
+    ghost use Rattle.ini_multimap.specs.Inside.Fits.{first_alone};
 
     // Takes out pair number n of those that fit, and leaves a hole.
     fn take_nth<Q: Probe<K> + Copy>(&mut self, q: Q, n: usize) -> Option<V>

@@ -1,9 +1,9 @@
 //! Chains that are made whole: for keys that have none yet, and for keys that have moved down.
 ghost use Rattle.std.specs.Prelude.{◌≡◌, ◌<◌, ◌≤◌, length, nat_eq, IfOk, IsSome, OnOk, Some};
 ghost use Rattle.std.specs.HashMap.{get};
-ghost use Rattle.ini_multimap.specs.Slots.{code_at};
-ghost use Rattle.ini_multimap.specs.Chains.{AreChained, AreSet, last_of, no_slot};
-ghost use Rattle.ini_multimap.specs.Moves.{IsPutAnew, IsStale, known};
+ghost use Rattle.ini_multimap.specs.Inside.Fits.{code_at};
+ghost use Rattle.ini_multimap.specs.Inside.Chains.{AreChained, AreSet, last_of, no_slot};
+ghost use Rattle.ini_multimap.specs.Inside.Moves.{IsPutAnew, IsStale, known};
 
 use super::chains::{Chains, Link, NO_SLOT, link_after, link_to, replace_ends};
 use crate::key::MapKey;

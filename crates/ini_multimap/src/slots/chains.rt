@@ -4,10 +4,10 @@ ghost use Rattle.std.specs.Prelude.{◌≡◌, ◌<◌, ℕ, ◌∷◌, ◌++◌
 ghost use Rattle.std.specs.Prelude.{OnOk, IfSome};
 ghost use Rattle.std.specs.Prelude.{IsSome, vec_capacity};
 ghost use Rattle.std.specs.HashMap.{get, spare};
-ghost use Rattle.ini_multimap.specs.Slots.{code_at};
-ghost use Rattle.ini_multimap.specs.Chains.{AreChained, AreClosed, AreSet, HasRoom, IsNextSet};
-ghost use Rattle.ini_multimap.specs.Chains.{IsPrevSet, IsPutLast};
-ghost use Rattle.ini_multimap.specs.Chains.{first_of, last_of, named, next_at, no_slot, prev_at};
+ghost use Rattle.ini_multimap.specs.Inside.Fits.{code_at};
+ghost use Rattle.ini_multimap.specs.Inside.Chains.{AreChained, AreClosed, AreSet, HasRoom, IsNextSet};
+ghost use Rattle.ini_multimap.specs.Inside.Chains.{IsPrevSet, IsPutLast};
+ghost use Rattle.ini_multimap.specs.Inside.Chains.{first_of, last_of, named, next_at, no_slot, prev_at};
 
 use crate::key::MapKey;
 use std::alloc::AllocError;

@@ -2,9 +2,10 @@
 //! made anew.
 ghost use Rattle.std.specs.Prelude.{◌≡◌, ◌<◌, ◌-◌, ◌^◌, length, nat_lt, None};
 ghost use Rattle.std.specs.Bool.{OnTrue};
-ghost use Rattle.ini_multimap.specs.Slots.{holes_in, pairs_in, value_in};
-ghost use Rattle.ini_multimap.specs.Chains.{IsIndexed};
-ghost use Rattle.ini_multimap.specs.Moves.{MovesDown};
+ghost use Rattle.ini_multimap.specs.Slots.{pairs_in};
+ghost use Rattle.ini_multimap.specs.Inside.Fits.{holes_in, value_in};
+ghost use Rattle.ini_multimap.specs.Inside.Chains.{IsIndexed};
+ghost use Rattle.ini_multimap.specs.Inside.Moves.{MovesDown};
 
 use super::Chains;
 use crate::key::MapKey;

@@ -1,7 +1,7 @@
 //! The walks over the slots of one code, and over all.
 ghost use Rattle.std.specs.Prelude.{◌≡◌, ◌<◌, ◌^◌, true, length, is_some, IfSome, Some};
-ghost use Rattle.ini_multimap.specs.Slots.{IsNthFit, IsLastFull, fits_at, fits_before, value_in};
-ghost use Rattle.ini_multimap.specs.Chains.{IsIndexed};
+ghost use Rattle.ini_multimap.specs.Inside.Fits.{IsNthFit, IsLastFull, fits_at, fits_before, value_in};
+ghost use Rattle.ini_multimap.specs.Inside.Chains.{IsIndexed};
 
 use super::Chains;
 use super::index::{candidate_after, first_candidate};

@@ -2,8 +2,8 @@
 //! the few. Whoever asks doesn't know of it.
 ghost use Rattle.std.specs.Prelude.{◌≡◌, ◌<◌, ◌≤◌, ◌^◌, ◌∷◌, ◌++◌, [], Some, None, suc, length, slice_set};
 ghost use Rattle.std.specs.Prelude.{IfSome, OnOk, vec_len, vec_capacity};
-ghost use Rattle.ini_multimap.specs.Slots.{code_at};
-ghost use Rattle.ini_multimap.specs.Chains.{HasRoom, IsIndexed, after_in, before_in, first_in, last_in};
+ghost use Rattle.ini_multimap.specs.Inside.Fits.{code_at};
+ghost use Rattle.ini_multimap.specs.Inside.Chains.{HasRoom, IsIndexed, after_in, before_in, first_in, last_in};
 
 use super::Chains;
 use crate::key::{MapKey, Probe};

@@ -1,6 +1,6 @@
 use Rattle.std.proofs.Common.{◌<◌, ℕ, Option, IfSome, sym, subst, refl, length}
 use Rattle.std.proofs.Math.ListN.{set}
-use Rattle.ini_multimap.specs.Chains.{IsNextSet}
+use Rattle.ini_multimap.specs.Inside.Chains.{IsNextSet}
 use Rattle.ini_multimap.proofs.LinkLemmas.{next_set}
 use Rattle.ini_multimap.proofs.slots.chains.link_after.Goals as goal
 

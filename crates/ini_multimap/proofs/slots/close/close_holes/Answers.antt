@@ -1,8 +1,8 @@
 use Rattle.std.proofs.Common.{sym, ap, subst, arith, length, List, Option, nat_eq}
 use Rattle.std.specs.Global.{Box}
 use Rattle.std.specs.HashMap.{get}
-use Rattle.ini_multimap.specs.Chains.{AreChained, IsIndexed}
-use Rattle.ini_multimap.specs.Moves.{MovesDown, IsStale}
+use Rattle.ini_multimap.specs.Inside.Chains.{AreChained, IsIndexed}
+use Rattle.ini_multimap.specs.Inside.Moves.{MovesDown, IsStale}
 use Rattle.ini_multimap.specs.declared.slots.chains.Chains.{Chains}
 use Rattle.ini_multimap.proofs.MoveLemmas.{then_down, stale_of}
 use Rattle.ini_multimap.proofs.slots.close.close_holes.Goals as goal

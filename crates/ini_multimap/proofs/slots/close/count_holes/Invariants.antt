@@ -1,5 +1,5 @@
 use Rattle.std.proofs.Common.{◌≡◌, ◌≤◌, ◌+◌, length}
-use Rattle.ini_multimap.specs.Slots.{holes_in}
+use Rattle.ini_multimap.specs.Inside.Fits.{holes_in}
 use Rattle.ini_multimap.proofs.slots.close.count_holes.Given as goal
 
 abbrev pub invariant-loop-key : goal.invariant-loop-key

@@ -1,5 +1,5 @@
 use Rattle.std.proofs.Common.{◌<◌, sym, ◌∙◌, arith, length}
-use Rattle.ini_multimap.specs.Slots.{fit}
+use Rattle.ini_multimap.specs.Inside.Fits.{fit}
 use Rattle.ini_multimap.proofs.SlotLemmas.{fits_read, value_read}
 use Rattle.ini_multimap.proofs.slots.find.fitting_value.Goals as goal
 use Rattle.ini_multimap.proofs.slots.find.fitting_value.Goals.{in_default-via-in-Some-Some+else-is, in_default-via-in-Some+in_default, in_default-via-in_default}

@@ -1,5 +1,5 @@
 use Rattle.std.proofs.Common.{List, Option, sym, subst}
-use Rattle.ini_multimap.specs.Chains.{AreChained}
+use Rattle.ini_multimap.specs.Inside.Chains.{AreChained}
 use Rattle.ini_multimap.specs.declared.slots.chains.Chains.{Chains}
 use Rattle.ini_multimap.proofs.LinkLemmas.{chained_same}
 use Rattle.ini_multimap.proofs.slots.index.make_room.Goals as goal

@@ -1,7 +1,7 @@
 use Rattle.std.proofs.Common.{◌≡◌, ◌++◌, ◌∷◌, [], ℕ, Option, List, Some, sym, ◌∙◌, ap, subst, refl, arith, length, length-append, nat_eq}
 use Rattle.std.specs.HashMap.{get}
-use Rattle.ini_multimap.specs.Chains.{IsLinked, IsNextSet, IsPutLast, last_of, next_at, prev_at}
-use Rattle.ini_multimap.specs.Slots.{code_at}
+use Rattle.ini_multimap.specs.Inside.Chains.{IsLinked, IsNextSet, IsPutLast, last_of, next_at, prev_at}
+use Rattle.ini_multimap.specs.Inside.Fits.{code_at}
 use Rattle.ini_multimap.specs.declared.slots.chains.Link.{Link}
 use Rattle.ini_multimap.proofs.LinkLemmas.{linked_push}
 use Rattle.ini_multimap.proofs.slots.chains.Chains.link_last.Goals as goal

@@ -1,6 +1,6 @@
 use Rattle.std.proofs.Common.{◌≡◌, ℕ, add-one, sym, ◌∙◌, ap, subst, arith, length, length-append, nat_eq}
 use Rattle.std.specs.HashMap.{get}
-use Rattle.ini_multimap.specs.Moves.{IsStale}
+use Rattle.ini_multimap.specs.Inside.Moves.{IsStale}
 use Rattle.ini_multimap.proofs.SlotLemmas.{not_some}
 use Rattle.ini_multimap.proofs.RelinkLemmas.{stale_hole, stale_put}
 use Rattle.ini_multimap.proofs.slots.chains.Chains.of_keys.Goals as goal

@@ -1,6 +1,6 @@
 use Rattle.std.proofs.Common.{◌≡◌, ◌≤◌, length, nat_eq, vec_capacity}
 use Rattle.std.specs.HashMap.{get}
-use Rattle.ini_multimap.specs.Moves.{IsStale}
+use Rattle.ini_multimap.specs.Inside.Moves.{IsStale}
 use Rattle.ini_multimap.proofs.slots.chains.Chains.of_keys.Given as goal
 
 abbrev pub invariant-loop-s : goal.invariant-loop-s

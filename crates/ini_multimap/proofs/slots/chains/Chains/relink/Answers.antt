@@ -1,9 +1,9 @@
 use Rattle.std.proofs.Common.{◌≡◌, ◌≢◌, ◌<◌, ℕ, suc, Option, Some, None, IfSome, add-one, sym, ◌∙◌, subst, refl, arith, length, nat_eq, unwrap_or}
 use Rattle.std.specs.HashMap.{get}
 use Rattle.std.proofs.Math.ListN.{set, length-set}
-use Rattle.ini_multimap.specs.Slots.{code_at, value_in}
-use Rattle.ini_multimap.specs.Chains.{IsLinked, first_of, last_of, named, next_at, no_slot, prev_at}
-use Rattle.ini_multimap.specs.Moves.{IsStale, upto, known}
+use Rattle.ini_multimap.specs.Inside.Fits.{code_at, value_in}
+use Rattle.ini_multimap.specs.Inside.Chains.{IsLinked, first_of, last_of, named, next_at, no_slot, prev_at}
+use Rattle.ini_multimap.specs.Inside.Moves.{IsStale, upto, known}
 use Rattle.ini_multimap.specs.declared.slots.chains.Link.{Link}
 use Rattle.ini_multimap.proofs.SlotLemmas.{value_within, not_some}
 use Rattle.ini_multimap.proofs.LinkLemmas.{prev_within, last_within, ends_here, ends_apart, link_here, link_other}

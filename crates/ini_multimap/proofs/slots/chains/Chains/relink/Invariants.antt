@@ -1,8 +1,8 @@
 use Rattle.std.proofs.Common.{◌≡◌, length, nat_eq}
 use Rattle.std.specs.HashMap.{get}
-use Rattle.ini_multimap.specs.Slots.{code_at}
-use Rattle.ini_multimap.specs.Chains.{IsLinked, next_at, prev_at}
-use Rattle.ini_multimap.specs.Moves.{IsStale, upto, known}
+use Rattle.ini_multimap.specs.Inside.Fits.{code_at}
+use Rattle.ini_multimap.specs.Inside.Chains.{IsLinked, next_at, prev_at}
+use Rattle.ini_multimap.specs.Inside.Moves.{IsStale, upto, known}
 use Rattle.ini_multimap.proofs.slots.chains.Chains.relink.Given as goal
 
 -- the first slots are linked anew

@@ -1,8 +1,8 @@
 use Rattle.std.proofs.Common.{◌<◌, ℕ, suc, Option, None, IfSome, sym, ◌∙◌, subst, arith, length, nat_eq}
 use Rattle.std.specs.HashMap.{get}
 use Rattle.std.proofs.Math.ListN.{length-set}
-use Rattle.ini_multimap.specs.Slots.{code_at}
-use Rattle.ini_multimap.specs.Chains.{next_at, prev_at}
+use Rattle.ini_multimap.specs.Inside.Fits.{code_at}
+use Rattle.ini_multimap.specs.Inside.Chains.{next_at, prev_at}
 use Rattle.ini_multimap.proofs.LinkLemmas.{prev_within, next_within, ends_there, prev_read, next_read, linked_without}
 use Rattle.ini_multimap.proofs.slots.chains.Chains.unlink.Goals as goal
 

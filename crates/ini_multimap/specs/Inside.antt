@@ -1,0 +1,4 @@
+pub mod Chains
+pub mod Filled
+pub mod Fits
+pub mod Moves
