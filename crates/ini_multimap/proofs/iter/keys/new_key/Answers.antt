@@ -2,8 +2,8 @@ use Rattle.std.proofs.Common.{[], ◌∷◌, sym, ◌∙◌, ap, take, cond}
 use Rattle.std.specs.Option.{option_map}
 use Rattle.ini_multimap.specs.Pairs.{fresh}
 use Rattle.ini_multimap.specs.Slots.{pairs_in, with_cell}
-use Rattle.ini_multimap.proofs.SlotLemmas.{value_read}
-use Rattle.ini_multimap.proofs.KeyWalkLemmas.{fresh_read, no_value}
+use Rattle.ini_multimap.proofs.SlotLemmas.{no_value, value_read}
+use Rattle.ini_multimap.proofs.KeyWalkLemmas.{fresh_read}
 use Rattle.ini_multimap.proofs.iter.keys.new_key.Goals as goal
 use Rattle.ini_multimap.proofs.iter.keys.new_key.Goals.{in_default-via-in-Some-Some+else-not-has_key, in_default-via-in-Some+in_default, in_default-via-in_default}
 
