@@ -7,10 +7,18 @@ use super::Chains;
 use super::index::{candidate_after, first_candidate};
 use crate::key::{MapKey, Probe};
 
+// Whether the probe stands for the key. It is asked about keys of its code alone, as all of a chain are.
+fn stands_for<K: MapKey, Q: Probe<K> + Copy>(q: Q, key: &K, is_in_chain: bool) -> bool
+    ensures { result ≡ Q.fits q key.now }
+{
+    (is_in_chain || key.code() == q.code()) && q.is(key)
+}
+
 // The value in slot s, where it holds a pair that fits.
 pub(crate) fn fitting_value<'a, K: MapKey, V, Q: Probe<K> + Copy>(
     keys: &[Option<K>],
     values: &'a [Option<V>],
+    index: &Option<Box<Chains>>,
     s: usize,
     q: Q,
 ) -> Option<&'a V>
@@ -20,7 +28,7 @@ pub(crate) fn fitting_value<'a, K: MapKey, V, Q: Probe<K> + Copy>(
     ensures value { IfSome result (λ v. value_in values.now s ≡ Some v.now) }
 {
     match (&keys[s], &values[s]) {
-        (Some(key), Some(value)) if q.is(key) => Some(value),
+        (Some(key), Some(value)) if stands_for(q, key, index.is_some()) => Some(value),
         _ => None,
     }
 }
@@ -29,6 +37,7 @@ pub(crate) fn fitting_value<'a, K: MapKey, V, Q: Probe<K> + Copy>(
 fn fits_at<K: MapKey, V, Q: Probe<K> + Copy>(
     keys: &[Option<K>],
     values: &[Option<V>],
+    index: &Option<Box<Chains>>,
     s: usize,
     q: Q,
 ) -> bool
@@ -36,7 +45,7 @@ fn fits_at<K: MapKey, V, Q: Probe<K> + Copy>(
     requires within { s < length keys.now }
     ensures { result ≡ fits_at (Q.fits q) keys.now values.now s }
 {
-    fitting_value(keys, values, s, q).is_some()
+    fitting_value(keys, values, index, s, q).is_some()
 }
 
 // Whether slot s holds a pair.
@@ -51,7 +60,7 @@ pub(crate) fn is_full<K, V>(keys: &[Option<K>], values: &[Option<V>], s: usize) 
     }
 }
 
-// The slot of pair number n of those that fit. Where there are chains, only the pairs of its code are asked about.
+// The slot of pair number n of those that fit.
 pub(crate) fn nth_slot<K: MapKey, V, Q: Probe<K> + Copy>(
     keys: &[Option<K>],
     values: &[Option<V>],
@@ -67,7 +76,7 @@ pub(crate) fn nth_slot<K: MapKey, V, Q: Probe<K> + Copy>(
     let mut left = n;
     let mut at = first_candidate(keys, index, q);
     while let Some(s) = at {
-        if fits_at(keys, values, s, q) {
+        if fits_at(keys, values, index, s, q) {
             if left == 0 {
                 return Some(s);
             }
@@ -78,7 +87,7 @@ pub(crate) fn nth_slot<K: MapKey, V, Q: Probe<K> + Copy>(
     None
 }
 
-// How many pairs fit. The same ones are asked about.
+// How many pairs fit.
 pub(crate) fn count_fits<K: MapKey, V, Q: Probe<K> + Copy>(
     keys: &[Option<K>],
     values: &[Option<V>],
@@ -93,7 +102,7 @@ pub(crate) fn count_fits<K: MapKey, V, Q: Probe<K> + Copy>(
     let mut fits = 0;
     let mut at = first_candidate(keys, index, q);
     while let Some(s) = at {
-        if fits_at(keys, values, s, q) {
+        if fits_at(keys, values, index, s, q) {
             fits += 1;
         }
         at = candidate_after(index, keys.len(), s);
