@@ -3,7 +3,8 @@
 //! rests on can change.
 //!
 //! Where slots are few, a look-up goes over the codes of their keys. Where they are many, those of one
-//! code are a chain, and it goes along that. In either case it asks a probe about keys of its code alone. These files know keys and codes, and no multimap.
+//! code are a chain, and it goes along that. In either case it asks a probe about keys of its code
+//! alone. These files know keys and codes, and no multimap.
 mod anew;
 mod chains;
 mod close;
