@@ -4,10 +4,10 @@ ghost use Rattle.std.specs.Prelude.{◌≡◌, ◌==◌, ◌<◌, ◌^◌, ◌-�
 ghost use Rattle.std.specs.Prelude.{Some, None, IsSome, IfNone, IfErr, IfOk, IsOkUnless, OnOk, OnErr};
 ghost use Rattle.std.specs.Prelude.{alloc_error, unwrap_or};
 ghost use Rattle.std.specs.Borrow.{sem};
-ghost use Rattle.std.specs.Map.{set_value, values_of};
+ghost use Rattle.std.specs.Map.{values_of};
 ghost use Rattle.std.specs.Option.{option_map, option_copied, option_copied_mut};
 ghost use Rattle.std.specs.Str.{chars};
-ghost use Rattle.ini.specs.Texts.{IsTextName, Text, is_name, name_of, str_name, str_text, text_of};
+ghost use Rattle.ini.specs.Texts.{IsTextName, Text, name_of, str_name, str_text, text_of};
 ghost use Rattle.ini.specs.Properties.{Pairs};
 ghost use Rattle.ini.specs.Documents.{first_section, names, section_removed, sections_named};
 ghost use Rattle.ini.specs.Documents.{value_in, with_pair};

@@ -1,14 +1,12 @@
 -- Texts that are sent one after another by way of a gatherer.
-use Rattle.std.proofs.Common.{◌≡◌, ◌<◌, ◌↔◌, ℕ, List, [], ◌++◌, Option, Result, Ok, Err, OnOk, OnErr, refl, sym, ap, ◌∙◌, subst, append_assoc, append-nil, length, take, arith, length-append}
+use Rattle.std.proofs.Common.{◌≡◌, ℕ, List, [], ◌++◌, Option, Result, Ok, Err, OnOk, OnErr, refl, sym, ap, ◌∙◌, subst, append_assoc, append-nil, length, take, arith, length-append, rules}
 use Rattle.std.proofs.KnownBytes.{Appends-nil, Appends-trans}
 use Rattle.std.proofs.Math.Seq.{take-append_seam}
 use Rattle.std.proofs.lemmas.List.{take-append-le}
 use Rattle.ini_text.specs.Gathering.{IsUnderWay, Sends}
 use Rattle.std.specs.Io.KnownBytes.{Appends}
-use Rattle.ini_text.specs.Faults.{IsIo, IsNoProgress, faults_in, stalls_in}
 use Rattle.ini_text.specs.Watched.{AppendsFront, IsClear, WritesBytes}
 use Rattle.ini_text.specs.declared.error.Error.{Error}
-use Rattle.ini_text.specs.declared.error.Error.TheVariants.{Io, Memory, NoProgress, NotUtf8, Parse}
 use Rattle.ini_text.specs.declared.watched.Watched.{Watched}
 use Rattle.ini_text.proofs.Progress.{under_way_front}
 
@@ -31,23 +29,6 @@ under_way-then {a} {b} {c} {whole} {rest} {after} first second = record {
 front-more : (a b : Option (List ℕ)) (xs ys : List ℕ) → AppendsFront a b xs → AppendsFront a b (xs ++ ys)
 front-more a b xs ys (n, within, some) =
     (n, omega (arith, within, length-append xs ys), rw (take-append-le n xs ys within) some)
-
--- the answer is a fault just where one was counted, and no progress just where a stall was
-io_counted : {m n : ℕ} (r : Result (Unit {0}) Error) → m ≡ 0 → n ≡ faults_in r → IsIo r ↔ (m < n)
-io_counted (Ok x) old new = (λ no. absurd no, λ more. omega (arith, old, new, more))
-io_counted (Err (Io x)) old new = (λ _. omega (arith, old, new), λ _. tt)
-io_counted (Err (Memory x)) old new = (λ no. absurd no, λ more. omega (arith, old, new, more))
-io_counted (Err NoProgress) old new = (λ no. absurd no, λ more. omega (arith, old, new, more))
-io_counted (Err NotUtf8) old new = (λ no. absurd no, λ more. omega (arith, old, new, more))
-io_counted (Err (Parse x)) old new = (λ no. absurd no, λ more. omega (arith, old, new, more))
-
-no_progress_counted : {m n : ℕ} (r : Result (Unit {0}) Error) → m ≡ 0 → n ≡ stalls_in r → IsNoProgress r ↔ (m < n)
-no_progress_counted (Ok x) old new = (λ no. absurd no, λ more. omega (arith, old, new, more))
-no_progress_counted (Err (Io x)) old new = (λ no. absurd no, λ more. omega (arith, old, new, more))
-no_progress_counted (Err (Memory x)) old new = (λ no. absurd no, λ more. omega (arith, old, new, more))
-no_progress_counted (Err NoProgress) old new = (λ _. omega (arith, old, new), λ _. tt)
-no_progress_counted (Err NotUtf8) old new = (λ no. absurd no, λ more. omega (arith, old, new, more))
-no_progress_counted (Err (Parse x)) old new = (λ no. absurd no, λ more. omega (arith, old, new, more))
 
 module _ {W : Type 0} {contents : W → Option (List ℕ)} where
   -- nothing is sent
@@ -123,8 +104,8 @@ module _ {W : Type 0} {contents : W → Option (List ℕ)} where
     front = subst (AppendsFront _ _) (ap (λ l. l ++ xs) none) (Sends-front r sends);
     failures = sends.failures;
     stalls = sends.stalls;
-    io = io_counted r clear.0 sends.failures;
-    no_progress = no_progress_counted r clear.1 sends.stalls;
+    io = search (clear.0, sends.failures, rules);
+    no_progress = search (clear.1, sends.stalls, rules);
     only = sends.only;
   }
     where
