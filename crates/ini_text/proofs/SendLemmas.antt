@@ -42,6 +42,17 @@ module _ {W : Type 0} {contents : W → Option (List ℕ)} where
     only = tt;
   }
 
+  -- bytes that are held back
+  pub Sends-held : {a : Watched W} {before after xs : List ℕ} → IsClear a → after ≡ before ++ xs → Sends contents a a before after (Ok (tt {0})) xs
+  Sends-held clear held = record {
+    same_device = refl;
+    sent = record { done = []; appended = Appends-nil _; parts = sym held };
+    front = tt;
+    failures = clear.0;
+    stalls = clear.1;
+    only = tt;
+  }
+
   -- bytes that go out while nothing is held back
   pub Sends-direct : {a b : Watched W} {h xs : List ℕ} {r : Result (Unit {0}) Error} → h ≡ [] → WritesBytes contents a b r xs → Sends contents a b h h r xs
   Sends-direct {a} {b} {h} {xs} {r} empty all = record {
@@ -141,6 +152,10 @@ pub record Sending {W : Type 0} (contents : W → Option (List ℕ)) (a b : Watc
 module _ {W : Type 0} {contents : W → Option (List ℕ)} where
   pub Sending-starts : {a : Watched W} (h : List ℕ) {whole : List ℕ} → IsClear a → Sending contents a a h h whole whole
   Sending-starts h clear = record { so_far = []; joined = refl; sent = Sends-nil h clear }
+
+  -- nothing more is held
+  pub Sending-stays : {a b : Watched W} {before held after whole rest : List ℕ} → after ≡ held ++ [] → Sending contents a b before held whole rest → Sending contents a b before after whole rest
+  Sending-stays {a} {b} {before} {held} {after} {whole} {rest} same sending = subst (λ h. Sending contents a b before h whole rest) (sym (same ∙ append-nil held)) sending
 
   pub Sending-ends : {a b : Watched W} {before held whole : List ℕ} → Sending contents a b before held whole [] → Sends contents a b before held (Ok (tt {0})) whole
   Sending-ends {a} {b} {before} {held} left = subst (Sends contents a b before held (Ok (tt {0}))) (sym (append-nil left.so_far) ∙ left.joined) left.sent

@@ -104,13 +104,30 @@ impl Gatherer {
         let mut rest = text;
         'runs: loop {
             let (run, after) = split_verbatim(rest, policy);
-            self.put(run, out)?;
             let Some((c, following)) = split_first(after) else {
-                return Ok(());
+                return self.put(run, out);
             };
+            if self.hold_escaped(run, c) {
+                rest = following;
+                continue 'runs;
+            }
+            self.put(run, out)?;
             self.put_escape(c, out)?;
             rest = following;
         }
+    }
+
+    // Holds back a run and the escape of the character behind it, if there is room.
+    #[inline(always)]
+    fn hold_escaped(&mut self, run: &str, c: char) -> bool
+        ensures { held self.new ≡ held self.old ++ (if result then run.now ++ escape c else []) }
+    {
+        if run.len() > ROOM - LONGEST || self.len > ROOM - LONGEST - run.len() {
+            return false;
+        }
+        self.append(run.as_bytes());
+        self.append_escape(c);
+        true
     }
 
     /// Sends all that is held back. The errors are those of `put`.
