@@ -1,7 +1,7 @@
 -- A document of items has a general section.
 use Rattle.std.proofs.Common.{List, [], ◌∷◌, None, IsSome, fold, refl, arith}
 use Rattle.std.proofs.lemmas.Bool.{false≢true}
-use Rattle.ini_text.specs.Elements.{Given, Header, Pair}
+use Rattle.ini_text.specs.Grammar.Elements.{Given, Header, Pair}
 use Rattle.ini.specs.Texts.{Text}
 use Rattle.ini.specs.Documents.{Document, document_of, first_section, with_item, with_pair}
 

@@ -2,16 +2,16 @@
 -- ones.
 use Rattle.std.proofs.Common.{◌≡◌, ◌∙◌, zero, suc, ◌+◌, true, [], ◌∷◌, ◌++◌, drop, All, ap, sym, subst, refl, Option, None, Some, append-nil, count_by, inl, inr, arith}
 use Rattle.std.specs.Str.{all_scalars}
-use Rattle.ini_text.specs.Characters.{is_line_feed}
-use Rattle.ini_text.specs.Laws as text_outcome
-use Rattle.ini_text.specs.Positions.{column_of, line_of}
-use Rattle.ini_text.specs.Plain.{IsPlainPair}
-use Rattle.ini_text.specs.PlainLaws.{IsEmptyOrHeader, IsMoved}
-use Rattle.ini_text.specs.Positions.{is_column_one}
-use Rattle.ini_text.specs.Texts.{Reads}
+use Rattle.ini_text.specs.Grammar.CharacterKinds.{is_line_feed}
+use Rattle.ini_text.specs.Laws.Readings as text_outcome
+use Rattle.ini_text.specs.Grammar.Positions.{column_of, line_of}
+use Rattle.ini_text.specs.Laws.Plain.{IsPlainPair}
+use Rattle.ini_text.specs.Laws.PlainLaws.{IsEmptyOrHeader, IsMoved}
+use Rattle.ini_text.specs.Grammar.Positions.{is_column_one}
+use Rattle.ini_text.specs.Grammar.Texts.{Reads}
 use Rattle.ini_text.specs.declared.option.ParseOption.{ParseOption}
 use Rattle.ini_text.specs.declared.write_option.WriteOption.{WriteOption}
-use Rattle.ini_text.proofs.LawLemmas as text_laws
+use Rattle.ini_text.proofs.LawLemmas.ExportedLemmas as text_laws
 use Rattle.ini.specs.Texts.{Text}
 use Rattle.ini.specs.Properties.{Pairs}
 use Rattle.ini.specs.Documents.{Document, document_of}
@@ -108,7 +108,7 @@ module _ (o : ParseOption) (w : WriteOption) {d : Document} (plain : IsPlain d w
 pub one_outcome : (o : ParseOption) (T : Text) → HasOneOutcome o T
 one_outcome o T = at (text_laws.one_outcome o T)
   where
-    at : text_outcome.HasOneOutcome o T → HasOneOutcome o T
+    at : text_outcome.HasOneReading o T → HasOneOutcome o T
     at (inl (items, just)) = record {
       outcome = loaded (document_of items);
       comes = record { items = items; derives = just.derives; document = refl };

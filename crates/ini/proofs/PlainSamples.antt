@@ -3,10 +3,10 @@ use Rattle.std.proofs.Common.{◌≡◌, true, not, ◌&&◌, [], ◌∷◌, ref
 use Rattle.std.specs.Prelude.{codes}
 use Rattle.std.specs.List.{list_all}
 use Rattle.std.specs.Str.{all_scalars, chars}
-use Rattle.ini_text.specs.Options.{default_parse_option}
-use Rattle.ini_text.specs.Plain.{IsBareKey, IsPlainKey, IsPlainName, IsPlainPair, IsPlainSeparator, IsReadBack, has_unread_letter}
-use Rattle.ini_text.specs.Policies.{is_escaped, is_extended}
-use Rattle.ini_text.specs.WriteOptions.{IsDefaultWriteOption}
+use Rattle.ini_text.specs.Options.ReadOptions.{default_parse_option}
+use Rattle.ini_text.specs.Laws.Plain.{IsBareKey, IsPlainKey, IsPlainName, IsPlainPair, IsPlainSeparator, IsReadBack, has_unread_letter}
+use Rattle.ini_text.specs.Escaping.Policies.{is_escaped, is_extended}
+use Rattle.ini_text.specs.Options.WriteOptions.{IsDefaultWriteOption}
 use Rattle.ini_text.specs.declared.option.ParseOption.{ParseOption}
 use Rattle.ini_text.specs.declared.policy.EscapePolicy.TheVariants.{Basics}
 use Rattle.ini_text.specs.declared.write_option.WriteOption.{WriteOption}

@@ -4,23 +4,23 @@ use Rattle.std.proofs.lemmas.Bool.{not-false, and_parts, false≢true}
 use Rattle.std.proofs.lemmas.Grind.{fold-append}
 use Rattle.std.specs.Prelude.{⊤}
 use Rattle.std.specs.Str.{all_scalars}
-use Rattle.ini_text.specs.Characters.{close_bracket, open_bracket}
-use Rattle.ini_text.specs.Elements.{Given, Header, Pair}
-use Rattle.ini_text.specs.Escapes.{escaped}
-use Rattle.ini_text.specs.Plain.{IsPlainKey, IsPlainName, IsPlainPair, IsPlainSeparator}
-use Rattle.ini_text.specs.PlainLaws.{BeginsWithHeader, FollowsPair, IsEmptyOrHeader, header_source, line_ends, pair_source}
-use Rattle.ini_text.specs.Positions.{is_column_one}
-use Rattle.ini_text.specs.Texts.{Reads}
-use Rattle.ini_text.specs.WriteOptions.{line_end}
+use Rattle.ini_text.specs.Grammar.CharacterKinds.{close_bracket, open_bracket}
+use Rattle.ini_text.specs.Grammar.Elements.{Given, Header, Pair}
+use Rattle.ini_text.specs.Escaping.EscapedTexts.{escaped}
+use Rattle.ini_text.specs.Laws.Plain.{IsPlainKey, IsPlainName, IsPlainPair, IsPlainSeparator}
+use Rattle.ini_text.specs.Laws.PlainLaws.{BeginsWithHeader, FollowsPair, IsEmptyOrHeader, header_source, line_ends, pair_source}
+use Rattle.ini_text.specs.Grammar.Positions.{is_column_one}
+use Rattle.ini_text.specs.Grammar.Texts.{Reads}
+use Rattle.ini_text.specs.Options.WriteOptions.{line_end}
 use Rattle.ini_text.specs.declared.option.ParseOption.{ParseOption}
 use Rattle.ini_text.specs.declared.write_option.WriteOption.{WriteOption}
-use Rattle.ini_text.proofs.LawLemmas as text_laws
+use Rattle.ini_text.proofs.LawLemmas.ExportedLemmas as text_laws
 use Rattle.ini.specs.Texts.{Text}
 use Rattle.ini.specs.Properties.{Pairs}
 use Rattle.ini.specs.Documents.{Document, document_of, with_item, with_pair}
 use Rattle.ini.specs.Written.{has_pairs, written_name, written_pair, written_pairs, written_sections}
 use Rattle.ini.proofs.EachLemmas.{Each}
-use Rattle.ini.proofs.Reading.{Reads-append, with_item-some}
+use Rattle.ini.proofs.ReadingLemmas.{Reads-append, with_item-some}
 
 -- the items of pairs, of a section and of sections
 abbrev pub pair_items : Pairs → List Given

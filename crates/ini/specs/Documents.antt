@@ -2,7 +2,7 @@
 use Rattle.std.specs.Prelude.{List, [], ◌∷◌, ◌++◌, fold, map, Option, None, Some, IsSome, String, option_and_then}
 use Rattle.std.specs.Map.{lookup, remove_entry}
 use Rattle.ini_multimap.specs.Pairs.{distinct_keys, values_at}
-use Rattle.ini_text.specs.Elements.{Given, Header, Pair}
+use Rattle.ini_text.specs.Grammar.Elements.{Given, Header, Pair}
 use Rattle.ini.specs.Texts.{Text, is_name, name_of}
 use Rattle.ini.specs.Properties.{Pairs, both, first_value}
 

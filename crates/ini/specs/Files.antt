@@ -5,7 +5,7 @@ use Rattle.ini_text.specs.declared.option.ParseOption.{ParseOption}
 use Rattle.ini.specs.Texts.{Text}
 use Rattle.ini.specs.Documents.{Document}
 use Rattle.ini.specs.Loading.{AreNoText, IsDocumentOfBytes, IsStopOfBytes}
-use Rattle.ini.specs.Writes.{IsWrittenTo}
+use Rattle.ini.specs.WrittenTo.{IsWrittenTo}
 
 module _ {F : Type 0} (remaining : F → Option (List ℕ)) where
   -- it is the document of a file's bytes, without a mark at their front

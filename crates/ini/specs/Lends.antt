@@ -1,13 +1,12 @@
 -- What properties and a document end as, once a `&mut` into them has ended: one part is what was last written there, and the rest stays.
-use Rattle.std.specs.Prelude.{◌-◌, [], ◌∷◌, ◌++◌, length, Option, Result, String}
-use Rattle.std.specs.Borrow.{Fml, RattleType, MutBor, Lends, LendsIf, LendsIfOk}
+use Rattle.std.specs.Prelude.{Option, String}
+use Rattle.std.specs.Borrow.{Fml, RattleType, MutBor, Lends, LendsIf}
 use Rattle.std.specs.Map.{set_value}
 use Rattle.std.specs.Option.{option_copied_mut, option_map}
 use Rattle.std.specs.contracts.string.String as string
 use Rattle.std.specs.contracts.alloc.Global as global
 use Rattle.std.specs.contracts.impls.GlobalAllocator.TheImpl.{ghosts}
-use Rattle.ini_multimap.specs.Pairs.{with_value_at}
-use Rattle.ini.specs.Texts.{Text, is_name, is_text, text_of}
+use Rattle.ini.specs.Texts.{Text, is_name, text_of}
 use Rattle.ini.specs.Properties.{Pairs}
 use Rattle.ini.specs.Documents.{Document}
 use Rattle.ini.specs.Edits.{replace_in}
@@ -22,10 +21,6 @@ string_row = string.the_row global.the_row ghosts
 abbrev pub lent_text : {Z : Type 0} → Option (MutBor (String Z)) → Option Text
 lent_text r = option_map text_of (option_copied_mut r)
 
--- the first value of the key
-abbrev pub lends_value : MutBor Pairs → Text → Option (MutBor string_row.Denot) → Fml
-lends_value p key r = LendsIf properties.the_row string_row p r (λ w. set_value (is_text key) p.now (text_of w)) p.now
-
 -- the first section of the name
 abbrev pub lends_section : MutBor Document → Option Text → Option (MutBor Pairs) → Fml
 lends_section d name r = LendsIf document.the_row properties.the_row d r (set_value (is_name name) d.now) d.now
@@ -37,11 +32,3 @@ lends_found_section d name r = Lends document.the_row properties.the_row d r (se
 -- the first value of the key in the first section of the name
 abbrev pub lends_value_in : MutBor Document → Option Text → Text → Option (MutBor string_row.Denot) → Fml
 lends_value_in d name key r = LendsIf document.the_row string_row d r (λ w. replace_in name key (text_of w) d.now) d.now
-
--- the last section
-abbrev pub lends_last_section : MutBor Document → MutBor Pairs → Fml
-lends_last_section d r = Lends document.the_row properties.the_row d r (with_value_at d.now (length d.now - 1))
-
--- the section that was opened last; refused, the document stays
-abbrev pub lends_new_section : {E : Type 0} → MutBor Document → Option Text → Result (MutBor Pairs) E → Fml
-lends_new_section d name r = LendsIfOk document.the_row properties.the_row d r (λ w. d.now ++ (name, w) ∷ []) d.now

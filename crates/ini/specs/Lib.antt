@@ -7,11 +7,11 @@ pub mod Equality
 pub mod Walks
 pub mod Lends
 pub mod Loading
-pub mod Files
 pub mod Written
-pub mod Writes
+pub mod WrittenTo
+pub mod Files
 pub mod Entries
 pub mod Setter
 pub mod Plain
-pub mod PlainSections
 pub mod Outcomes
+pub mod Inside

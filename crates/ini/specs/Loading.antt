@@ -3,10 +3,10 @@ use Rattle.std.specs.Prelude.{◌≡◌, ℕ, Bool, if◌then◌else◌, nat_eq,
 use Rattle.std.specs.List.{starts_with}
 use Rattle.std.specs.Str.{IsUtf8, chars}
 use Rattle.std.specs.Cow.{cow_str_bytes}
-use Rattle.ini_text.specs.Elements.{Given}
-use Rattle.ini_text.specs.Messages.{HasMessage}
-use Rattle.ini_text.specs.Positions.{column_of, line_of}
-use Rattle.ini_text.specs.Texts.{Derives, Stops}
+use Rattle.ini_text.specs.Grammar.Elements.{Given}
+use Rattle.ini_text.specs.Errors.Messages.{HasMessage}
+use Rattle.ini_text.specs.Grammar.Positions.{column_of, line_of}
+use Rattle.ini_text.specs.Grammar.Texts.{Derives, Stops}
 use Rattle.ini_text.specs.declared.error.Error.{Error}
 use Rattle.ini_text.specs.declared.error.Error.TheVariants.{Io, Memory, NoProgress, NotUtf8, Parse}
 use Rattle.ini_text.specs.declared.error.ParseError.{ParseError}

@@ -1,8 +1,8 @@
 -- What comes of a text, and of a text behind a document's own.
 use Rattle.std.specs.Prelude.{◌≡◌, ℕ, ◌+◌, ◌++◌, drop, count_by}
-use Rattle.ini_text.specs.Characters.{is_line_feed}
-use Rattle.ini_text.specs.Positions.{line_of, column_of}
-use Rattle.ini_text.specs.Texts.{Stops}
+use Rattle.ini_text.specs.Grammar.CharacterKinds.{is_line_feed}
+use Rattle.ini_text.specs.Grammar.Positions.{line_of, column_of}
+use Rattle.ini_text.specs.Grammar.Texts.{Stops}
 use Rattle.ini_text.specs.declared.error.ParseKind.{ParseKind}
 use Rattle.ini_text.specs.declared.option.ParseOption.{ParseOption}
 use Rattle.ini_text.specs.declared.write_option.WriteOption.{WriteOption}

@@ -1,6 +1,6 @@
 -- Plain documents: those that, written by some options, are read back by others just as they were.
 use Rattle.std.specs.Prelude.{◌≡◌, ◌∷◌, None, IsSomeAnd, All, chars}
-use Rattle.ini_text.specs.Plain.{IsPlainName, IsPlainPair, IsPlainSeparator}
+use Rattle.ini_text.specs.Laws.Plain.{IsPlainName, IsPlainPair, IsPlainSeparator}
 use Rattle.ini_text.specs.declared.option.ParseOption.{ParseOption}
 use Rattle.ini_text.specs.declared.write_option.WriteOption.{WriteOption}
 use Rattle.ini.specs.Properties.{Pairs}

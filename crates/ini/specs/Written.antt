@@ -1,8 +1,8 @@
 -- The text that is written for a document.
 use Rattle.std.specs.Prelude.{Bool, false, not, ◌&&◌, ◌||◌, ◌==◌, if◌then◌else◌, length, [], ◌∷◌, ◌++◌, flat_map, Option, None, Some, chars}
-use Rattle.ini_text.specs.Characters.{open_bracket, close_bracket}
-use Rattle.ini_text.specs.Escapes.{escaped}
-use Rattle.ini_text.specs.WriteOptions.{line_end}
+use Rattle.ini_text.specs.Grammar.CharacterKinds.{open_bracket, close_bracket}
+use Rattle.ini_text.specs.Escaping.EscapedTexts.{escaped}
+use Rattle.ini_text.specs.Options.WriteOptions.{line_end}
 use Rattle.ini_text.specs.declared.write_option.WriteOption.{WriteOption}
 use Rattle.ini.specs.Texts.{Text}
 use Rattle.ini.specs.Properties.{Pairs}

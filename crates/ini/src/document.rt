@@ -12,7 +12,8 @@ ghost use Rattle.ini.specs.Properties.{Pairs};
 ghost use Rattle.ini.specs.Documents.{first_section, names, section_removed, sections_named};
 ghost use Rattle.ini.specs.Documents.{value_in, with_pair};
 ghost use Rattle.ini.specs.Edits.{add_in, delete_in, delete_in_all, replace_in, section_set, set_in};
-ghost use Rattle.ini.specs.Lends.{lends_found_section, lends_last_section, lends_new_section, lends_section};
+ghost use Rattle.ini.specs.Lends.{lends_found_section, lends_section};
+ghost use Rattle.ini.specs.Inside.InnerLends.{lends_last_section, lends_new_section};
 ghost use Rattle.ini.specs.Lends.{lends_value_in, lent_text};
 ghost use Rattle.ini.specs.Walks.{section_all_mut_rest, section_iter_mut_rest};
 
@@ -37,7 +38,7 @@ pub struct Ini {
 }
 
 impl Model for Ini {
-    ghost use Rattle.std.specs.Prelude.{ℕ, List, Option};
+    ghost use Rattle.std.specs.Prelude.{Option};
     ghost use Rattle.ini.specs.Documents.{Document, sections_of};
 
     ghost Value = { Document };

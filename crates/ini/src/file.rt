@@ -1,8 +1,8 @@
 //! Documents from files and into files. This file opens them, and leaves the rest to reading and writing.
 ghost use Rattle.std.specs.Prelude.{IfErr, IfOk, OnOk};
-ghost use Rattle.ini_text.specs.Faults.{IsIoOrNoProgress};
-ghost use Rattle.ini_text.specs.Options.{default_parse_option, without_escapes};
-ghost use Rattle.ini_text.specs.WriteOptions.{IsDefaultWriteOption, with_policy};
+ghost use Rattle.ini_text.specs.Device.DeviceRefusals.{IsIoOrNoProgress};
+ghost use Rattle.ini_text.specs.Options.ReadOptions.{default_parse_option, without_escapes};
+ghost use Rattle.ini_text.specs.Options.WriteOptions.{IsDefaultWriteOption, with_policy};
 ghost use Rattle.ini_text.specs.declared.write_option.WriteOption.{WriteOption};
 ghost use Rattle.ini.specs.Documents.{HasGeneral};
 ghost use Rattle.ini.specs.Files.{IsDocumentOfFile, IsNoTextOfFile, IsStopOfFile, IsWrittenToFile};

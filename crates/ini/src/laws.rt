@@ -2,7 +2,7 @@
 //! alone.
 ghost use Rattle.std.specs.Prelude.{◌≡◌, chars, true};
 ghost use Rattle.std.specs.Str.{all_scalars};
-ghost use Rattle.ini_text.specs.PlainLaws.{IsEmptyOrHeader};
+ghost use Rattle.ini_text.specs.Laws.PlainLaws.{IsEmptyOrHeader};
 ghost use Rattle.ini.specs.Loading.{IsDocumentOf};
 ghost use Rattle.ini.specs.Outcomes.{HasOneOutcome, Inverts};
 ghost use Rattle.ini.specs.Plain.{IsPlain};

@@ -3,10 +3,10 @@
 ghost use Rattle.std.specs.Prelude.{◌≡◌, ◌<◌, ◌↔◌, length, chars, false, true, alloc_error};
 ghost use Rattle.std.specs.Prelude.{IfOk, IfErr, IfSome, IsOkUnless, OnOk};
 ghost use Rattle.std.specs.Io.KnownBytes.{IsAtEnd};
-ghost use Rattle.ini_text.specs.Faults.{IsIo, faults_in};
-ghost use Rattle.ini_text.specs.Items.{item_of};
-ghost use Rattle.ini_text.specs.Options.{default_parse_option, without_escapes};
-ghost use Rattle.ini_text.specs.Watched.{IsClear, SameDevice, device_now, failure_count, stall_count};
+ghost use Rattle.ini_text.specs.Device.DeviceRefusals.{IsIo, failures_in};
+ghost use Rattle.ini_text.specs.Parsing.Items.{item_of};
+ghost use Rattle.ini_text.specs.Options.ReadOptions.{default_parse_option, without_escapes};
+ghost use Rattle.ini_text.specs.Device.Watched.{IsClear, SameDevice, device_now, failure_count, stall_count};
 ghost use Rattle.ini.specs.Documents.{HasGeneral, with_item};
 ghost use Rattle.ini.specs.Loading.{AreNoText, IfParse, IsDocumentOf, IsDocumentOfBytes, IsIoOrMemory};
 ghost use Rattle.ini.specs.Loading.{IsNotUtf8, IsParseOrMemory, IsReadRefusal, IsStopOf, IsStopOfBytes};
@@ -143,7 +143,7 @@ impl Ini {
         ensures fault { IfParse result (IsStopOfBytes opt drop_mark (R.remaining (device_now reader.old))) }
         ensures not_utf8 { IsNotUtf8 result → AreNoText drop_mark (R.remaining (device_now reader.old)) }
         ensures end { OnReadThrough result (IsAtEnd (R.remaining (device_now reader.new))) }
-        ensures failures { failure_count reader.new ≡ faults_in result }
+        ensures failures { failure_count reader.new ≡ failures_in result }
         ensures stalls { stall_count reader.new ≡ 0 }
         ensures io { IsIo result ↔ (failure_count reader.old < failure_count reader.new) }
         ensures only { IfErr result IsReadRefusal }
@@ -181,7 +181,7 @@ fn read_to_end<R: Read>(alloc: Global, reader: &mut Watched<'_, R>) -> Result<Ve
     ensures bytes { IfOk result
         (λ read. IfSome (R.remaining (device_now reader.old)) (λ bytes. read.items ≡ bytes)) }
     ensures end { OnOk result (IsAtEnd (R.remaining (device_now reader.new))) }
-    ensures failures { failure_count reader.new ≡ faults_in result }
+    ensures failures { failure_count reader.new ≡ failures_in result }
     ensures stalls { stall_count reader.new ≡ 0 }
     ensures only { IfErr result IsIoOrMemory }
 {

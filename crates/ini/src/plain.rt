@@ -2,7 +2,7 @@
 //! and leaves names, pairs and the separator to `ini_text`.
 ghost use Rattle.std.specs.Prelude.{◌↔◌, All, IsTrue};
 ghost use Rattle.ini.specs.Plain.{IsPlain};
-ghost use Rattle.ini.specs.PlainSections.{ArePlainPairs, HasPlainName, IsPlainSection};
+ghost use Rattle.ini.specs.Inside.PlainSections.{ArePlainPairs, HasPlainName, IsPlainSection};
 ghost use Rattle.ini.specs.Texts.{str_name};
 
 use crate::document::Ini;

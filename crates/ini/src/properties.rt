@@ -8,7 +8,8 @@ ghost use Rattle.ini.specs.Texts.{str_text, text_of};
 ghost use Rattle.ini.specs.Properties.{all_removed, distinct, first_value, inserted};
 ghost use Rattle.ini.specs.Properties.{pairs_of, removed, values};
 ghost use Rattle.ini.specs.Equality.{is_pairs, is_pairs_laws};
-ghost use Rattle.ini.specs.Lends.{lends_value, lent_text};
+ghost use Rattle.ini.specs.Lends.{lent_text};
+ghost use Rattle.ini.specs.Inside.InnerLends.{lends_value};
 ghost use Rattle.ini.specs.Walks.{property_iter_mut_rest};
 
 use crate::iter::{
@@ -31,7 +32,6 @@ pub struct Properties {
 }
 
 impl Model for Properties {
-    ghost use Rattle.std.specs.Prelude.{ℕ, List};
     ghost use Rattle.ini.specs.Properties.{Pairs, pairs_of};
 
     ghost Value = { Pairs };

@@ -1,16 +1,17 @@
 //! Documents on their way to a device. This file knows in which order the parts of a document are
 //! written, and leaves escapes and the device to `ini_text`.
 ghost use Rattle.std.specs.Prelude.{OnOk, IfErr, ◌++◌, Some, chars, encode_utf8_all};
-ghost use Rattle.ini_text.specs.Escapes.{escaped};
-ghost use Rattle.ini_text.specs.Faults.{IsIoOrNoProgress};
-ghost use Rattle.ini_text.specs.Watched.{IsClear, WritesBytes};
-ghost use Rattle.ini_text.specs.WriteOptions.{IsDefaultWriteOption, with_policy};
+ghost use Rattle.ini_text.specs.Escaping.EscapedTexts.{escaped};
+ghost use Rattle.ini_text.specs.Device.DeviceRefusals.{IsIoOrNoProgress};
+ghost use Rattle.ini_text.specs.Device.Watched.{IsClear, WritesBytes};
+ghost use Rattle.ini_text.specs.Options.WriteOptions.{IsDefaultWriteOption, with_policy};
 ghost use Rattle.ini_text.specs.declared.write_option.WriteOption.{WriteOption};
-ghost use Rattle.ini.specs.Texts.{str_name, str_text};
+ghost use Rattle.ini.specs.Texts.{str_name};
 ghost use Rattle.ini.specs.Written.{written, written_gap, written_name, written_pair};
 ghost use Rattle.ini.specs.Written.{written_pairs, written_section};
-ghost use Rattle.ini.specs.Writes.{IsFrontWrittenTo, IsWrittenTo, Writes};
-ghost use Rattle.ini_text.specs.Held.{held};
+ghost use Rattle.ini.specs.WrittenTo.{IsFrontWrittenTo, IsWrittenTo};
+ghost use Rattle.ini.specs.Inside.SentTexts.{SendsText};
+ghost use Rattle.ini_text.specs.Device.HeldBack.{held};
 
 use crate::document::Ini;
 use crate::properties::Properties;
@@ -18,14 +19,14 @@ use ini_text::{Error, EscapePolicy, Gatherer, Watched, WriteOption};
 use std::io::Write;
 
 // A text as it is, seen as its characters.
-#[tactic(auto, using(crate::proofs::Writing::steps))]
+#[tactic(auto, using(crate::proofs::WritingLemmas::steps))]
 fn put_text<W: Write>(
     lines: &mut Gatherer,
     text: &str,
     out: &mut Watched<'_, W>,
 ) -> Result<(), Error>
     requires { IsClear out.old }
-    ensures { Writes W.contents out.old out.new (held lines.old) (held lines.new) result (chars text.now) }
+    ensures { SendsText W.contents out.old out.new (held lines.old) (held lines.new) result (chars text.now) }
 {
     lines.put(text, out)
 }
@@ -39,7 +40,7 @@ fn put_part<W: Write>(
     out: &mut Watched<'_, W>,
 ) -> Result<(), Error>
     requires { IsClear out.old }
-    ensures { Writes W.contents out.old out.new (held lines.old) (held lines.new) result
+    ensures { SendsText W.contents out.old out.new (held lines.old) (held lines.new) result
         (escaped policy (chars text.now) ++ chars behind.now) }
 {
     lines.put_escaped(text, policy, out)?;
@@ -55,7 +56,7 @@ fn write_pair<W: Write>(
     out: &mut Watched<'_, W>,
 ) -> Result<(), Error>
     requires { IsClear out.old }
-    ensures { Writes W.contents out.old out.new (held lines.old) (held lines.new) result
+    ensures { SendsText W.contents out.old out.new (held lines.old) (held lines.new) result
         (written_pair option.now (chars key.now, chars value.now)) }
 {
     let policy = option.escape_policy;
@@ -71,7 +72,7 @@ fn write_pairs<W: Write>(
     out: &mut Watched<'_, W>,
 ) -> Result<(), Error>
     requires { IsClear out.old }
-    ensures { Writes W.contents out.old out.new (held lines.old) (held lines.new) result
+    ensures { SendsText W.contents out.old out.new (held lines.old) (held lines.new) result
         (written_pairs option.now pairs.now) }
 {
     for (key, value) in pairs {
@@ -88,7 +89,7 @@ fn write_header<W: Write>(
     out: &mut Watched<'_, W>,
 ) -> Result<(), Error>
     requires { IsClear out.old }
-    ensures { Writes W.contents out.old out.new (held lines.old) (held lines.new) result
+    ensures { SendsText W.contents out.old out.new (held lines.old) (held lines.new) result
         (written_name option.now (Some (chars name.now))) }
 {
     put_text(lines, "[", out)?;
@@ -104,7 +105,7 @@ fn write_name<W: Write>(
     out: &mut Watched<'_, W>,
 ) -> Result<(), Error>
     requires { IsClear out.old }
-    ensures { Writes W.contents out.old out.new (held lines.old) (held lines.new) result
+    ensures { SendsText W.contents out.old out.new (held lines.old) (held lines.new) result
         (written_name option.now (str_name name.entry)) }
 {
     match name {
@@ -114,7 +115,7 @@ fn write_name<W: Write>(
 }
 
 // An empty line before pairs, where an earlier section had some.
-#[tactic(auto, using(crate::proofs::Writing::steps))]
+#[tactic(auto, using(crate::proofs::WritingLemmas::steps))]
 fn write_gap<W: Write>(
     lines: &mut Gatherer,
     earlier: bool,
@@ -123,7 +124,7 @@ fn write_gap<W: Write>(
     out: &mut Watched<'_, W>,
 ) -> Result<(), Error>
     requires { IsClear out.old }
-    ensures { Writes W.contents out.old out.new (held lines.old) (held lines.new) result
+    ensures { SendsText W.contents out.old out.new (held lines.old) (held lines.new) result
         (written_gap option.now earlier pairs.now) }
 {
     if earlier && !pairs.is_empty() {
@@ -143,7 +144,7 @@ fn write_section<W: Write>(
     out: &mut Watched<'_, W>,
 ) -> Result<(), Error>
     requires { IsClear out.old }
-    ensures { Writes W.contents out.old out.new (held lines.old) (held lines.new) result
+    ensures { SendsText W.contents out.old out.new (held lines.old) (held lines.new) result
         (written_section option.now earlier (str_name name.entry, pairs.now)) }
 {
     write_gap(lines, earlier, pairs, option, out)?;
@@ -223,7 +224,7 @@ fn write_sections<W: Write>(
     out: &mut Watched<'_, W>,
 ) -> Result<(), Error>
     requires { IsClear out.old }
-    ensures { Writes W.contents out.old out.new (held lines.old) (held lines.new) result
+    ensures { SendsText W.contents out.old out.new (held lines.old) (held lines.new) result
         (written document.now option.now) }
 {
     let mut earlier = false;

@@ -1,6 +1,6 @@
 //! Refusals that are handed on by `?`, and what is known of them then.
 ghost use Rattle.std.specs.Prelude.{◌≡◌, [], chars};
-ghost use Rattle.ini_text.specs.Watched.{IsClear, device_now};
+ghost use Rattle.ini_text.specs.Device.Watched.{IsClear, device_now};
 
 use ini::{Error, EscapePolicy, Ini, Properties, SectionKey, Watched, write_escaped, write_raw};
 use std::alloc::Global;

@@ -1,6 +1,6 @@
 //! Whole runs from a text to the bytes of its edited document, over devices that fail and with each request
 //! for memory refused; and lists of edits with each request refused.
-ghost use Rattle.ini_text.specs.Watched.{IsClear};
+ghost use Rattle.ini_text.specs.Device.Watched.{IsClear};
 
 use crate::devices::{LimitedWriter, WRITE_FAULTS};
 use crate::scarce::{CALLS, Famine};

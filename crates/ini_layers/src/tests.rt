@@ -15,7 +15,7 @@ fn layers_of(alloc: Global, texts: &[&'static str]) -> Result<Layers, Fail> {
 }
 
 /// The text that is written of a document.
-fn text_of(alloc: Global, document: &Ini) -> Result<String, Fail> {
+fn written_text(alloc: Global, document: &Ini) -> Result<String, Fail> {
     let mut taken: Vec<u8> = Vec::new(alloc);
     document.write_to(&mut taken)?;
     match String::from_utf8(taken) {
@@ -34,7 +34,7 @@ fn no_layers(rt: HostRuntime) -> Result<(), Fail> {
     assert_eq!(rt; layers.get_from(None, "k"), None);
     let merged = layers.merged()?;
     assert_eq!(rt; merged.len(), 1);
-    assert_eq!(rt; text_of(rt.alloc(), &merged)?.as_str(), "");
+    assert_eq!(rt; written_text(rt.alloc(), &merged)?.as_str(), "");
     Ok(())
 }
 
@@ -88,7 +88,7 @@ fn merged_layers_are_written(rt: HostRuntime) -> Result<(), Fail> {
     for (texts, want) in rows {
         let merged = layers_of(rt.alloc(), texts)?.merged()?;
         assert_eq!(rt;
-            text_of(rt.alloc(), &merged)?.as_str(),
+            written_text(rt.alloc(), &merged)?.as_str(),
             want,
             "at {texts:?}"
         );

@@ -1,8 +1,8 @@
 -- What a run of the program is: what it writes, and its status.
 use Rattle.std.specs.Prelude.{◌≡◌, ℕ, List, length, Option, Result, Err, ⊤, encode_utf8_all}
 use Rattle.std.specs.Io.KnownBytes.{Appends}
-use Rattle.ini_text.specs.Watched.{AppendsFront, device_now}
-use Rattle.ini_text.specs.WriteOptions.{IsDefaultWriteOption}
+use Rattle.ini_text.specs.Device.Watched.{AppendsFront, device_now}
+use Rattle.ini_text.specs.Options.WriteOptions.{IsDefaultWriteOption}
 use Rattle.ini_text.specs.declared.error.Error.{Error}
 use Rattle.ini_text.specs.declared.error.Error.TheVariants.{Io, Parse, Memory, NotUtf8, NoProgress}
 use Rattle.ini_text.specs.declared.watched.Watched.{Watched}
@@ -72,9 +72,9 @@ IsWriteRefusal NoProgress = ⊤
 IsWriteRefusal _ = ⊥
 
 -- 1 where the writer failed, else 0
-abbrev pub faults_of : Outcome → ℕ
-faults_of (Refused (Io _)) = 1
-faults_of _ = 0
+abbrev pub failures_of : Outcome → ℕ
+failures_of (Refused (Io _)) = 1
+failures_of _ = 0
 
 -- 1 where a write took no bytes, else 0
 abbrev pub stalls_of : Outcome → ℕ

@@ -6,11 +6,11 @@
 #![tactic(auto)]
 
 ghost use Rattle.std.specs.Prelude.{◌≡◌, ◌+◌, ◌<◌, ◌↔◌, length, ℕ, List, IfErr, IfOk, OnOk};
-ghost use Rattle.ini_text.specs.Faults.{faults_in, stalls_in};
-ghost use Rattle.ini_text.specs.Watched.{IsClear, SameDevice, device_now, failure_count, stall_count};
+ghost use Rattle.ini_text.specs.Device.DeviceRefusals.{failures_in, stalls_in};
+ghost use Rattle.ini_text.specs.Device.Watched.{IsClear, SameDevice, device_now, failure_count, stall_count};
 ghost use Rattle.ini_merge.specs.Runs.{IfNotLoaded, IfRefused, IsDone, IsOutput, IsUsage, IsWriteRefusal};
 ghost use Rattle.ini_merge.specs.Runs.{OnMemory, OnSilent, WritesAll, WritesFront};
-ghost use Rattle.ini_merge.specs.Runs.{faults_of, merged_bytes, refusal_status, stalls_of, status_of};
+ghost use Rattle.ini_merge.specs.Runs.{failures_of, merged_bytes, refusal_status, stalls_of, status_of};
 
 use ini::{Error, Ini, Watched, WriteOption};
 use ini_layers::{Layers, NoLayer};
@@ -97,7 +97,7 @@ pub fn write_merged<W: Write>(
     ensures bytes { OnOk result (WritesAll W.contents out.old out.new (merged_bytes layers.now option)) }
     ensures front { WritesFront W.contents out.old out.new (merged_bytes layers.now option) }
     ensures silent { OnMemory result (device_now out.new ≡ device_now out.old) }
-    ensures failures { failure_count out.new ≡ faults_in result }
+    ensures failures { failure_count out.new ≡ failures_in result }
     ensures stalls { stall_count out.new ≡ stalls_in result }
     ensures only { IfErr result IsWriteRefusal }
 {
@@ -121,7 +121,7 @@ pub fn run<R: Files, W: Write>(
     ensures done { IsDone result → (output : List ℕ) × IsOutput (length words.now) output
         × WritesAll W.contents writer.old writer.new output }
     ensures silent { OnSilent result (device_now writer.new ≡ device_now writer.old) }
-    ensures failures { failure_count writer.new ≡ faults_of result }
+    ensures failures { failure_count writer.new ≡ failures_of result }
     ensures stalls { stall_count writer.new ≡ stalls_of result }
     ensures file { IfNotLoaded result (λ at. at < length words.now) }
     ensures only { IfRefused result IsWriteRefusal }

@@ -47,7 +47,7 @@ pub struct ParseError {
 
 /// Prints the line, a colon, the column, a space and the message.
 impl fmt::Display for ParseError {
-    ghost use Rattle.ini_text.specs.Refusals.{printed_fault};
+    ghost use Rattle.ini_text.specs.Errors.ErrorForms.{printed_fault};
 
     ghost output = { λ e. Some (printed_fault e) };
 
@@ -101,7 +101,7 @@ impl<T: Drop> From<AllocFailed<T>> for Error {
 /// A device's fault as it was. The rest by its kind: `InvalidData` for a text or bytes that are refused,
 /// `OutOfMemory`, and `WriteZero`; where a text was refused, the line and the column are given up.
 impl From<Error> for io::Error {
-    ghost use Rattle.ini_text.specs.Refusals.{IsIoErrorOf};
+    ghost use Rattle.ini_text.specs.Errors.ErrorForms.{IsIoErrorOf};
 
     ghost from_gives = { IsIoErrorOf };
 

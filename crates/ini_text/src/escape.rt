@@ -2,7 +2,7 @@
 //! no device.
 ghost use Rattle.std.specs.Prelude.{◌≡◌, ◌/◌, ◌%◌, ◌<◌};
 ghost use Rattle.std.specs.Char.{digit_char};
-ghost use Rattle.ini_text.specs.Escapes.{letter_of};
+ghost use Rattle.ini_text.specs.Escaping.EscapedTexts.{letter_of};
 
 /// The character that follows the backslash, where one is enough.
 pub(crate) fn letter_of(c: char) -> Option<u8>

@@ -1,9 +1,9 @@
 //! Texts on their way to a device, gathered so that many of them reach it together. This file knows
 //! bytes and escapes, and no section, key or value.
 ghost use Rattle.std.specs.Prelude.{◌≡◌, ◌+◌, ◌++◌, ◌≤◌, [], length, OnOk, if◌then◌else◌};
-ghost use Rattle.ini_text.specs.Escapes.{escape, escaped_bytes};
-ghost use Rattle.ini_text.specs.Gathering.{Sends};
-ghost use Rattle.ini_text.specs.Watched.{IsClear};
+ghost use Rattle.ini_text.specs.Escaping.EscapedTexts.{escape, escaped_bytes};
+ghost use Rattle.ini_text.specs.Device.Gathering.{Sends};
+ghost use Rattle.ini_text.specs.Device.Watched.{IsClear};
 ghost use Rattle.ini_text.specs.declared.gather.TheConstants.{ROOM};
 
 use crate::characters::split_first;
@@ -34,7 +34,7 @@ pub struct Gatherer {
 }
 
 impl Gatherer {
-    ghost use Rattle.ini_text.specs.Held.{held};
+    ghost use Rattle.ini_text.specs.Device.HeldBack.{held};
 
     /// Nothing is held back.
     pub fn new() -> Gatherer
@@ -178,7 +178,7 @@ impl Gatherer {
     }
 
     // Holds back the escape of a character.
-    #[tactic(auto, unfolding(crate::specs::Escapes::escape))]
+    #[tactic(auto, unfolding(crate::specs::Escaping::EscapedTexts::escape))]
     fn append_escape(&mut self, c: char)
         requires { length (held self.old) + LONGEST ≤ ROOM }
         ensures { held self.new ≡ held self.old ++ escape c }

@@ -2,7 +2,7 @@
 ghost use Rattle.std.specs.Prelude.{◌≡◌, ◌++◌, ◌-◌, ◌<◌, ◌≤◌, ℕ, Bool, length, map};
 ghost use Rattle.std.specs.List.{position_or_len};
 ghost use Rattle.std.specs.Simd.Lanes.{chunk, mask_l};
-ghost use Rattle.ini_text.specs.Lanes.{is_one_of};
+ghost use Rattle.ini_text.specs.Inside.Lanes.{is_one_of};
 ghost use Rattle.ini_text.specs.declared.lanes.TheConstants.{HALF, LANES};
 
 use std::simd::prelude::*;

@@ -1,6 +1,6 @@
 //! The options by which a text is read. This file knows no grammar.
 ghost use Rattle.std.specs.Prelude.{◌≡◌};
-ghost use Rattle.ini_text.specs.Options.{default_parse_option};
+ghost use Rattle.ini_text.specs.Options.ReadOptions.{default_parse_option};
 
 /// What the reader of a text allows.
 #[derive(Clone, Copy)]

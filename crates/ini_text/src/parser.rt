@@ -5,9 +5,9 @@
 //! `line`, `value`, `pair` and `header`, `element`. Beside them `fault` has why reading stops, `position`
 //! where, and `refusal` what a parser answers from then on.
 ghost use Rattle.std.specs.Prelude.{◌≡◌, chars, [], None, Some, Ok, IfSome, IsOkAnd, IsErrAnd, OnErr};
-ghost use Rattle.std.specs.Prelude.{MatchResult};
-ghost use Rattle.ini_text.specs.Fronts.{IsRest};
-ghost use Rattle.ini_text.specs.Parser.{AnswersItem, FindsItem, IsStopOf, KeepsRefusal, StopIsWithin, Tells};
+ghost use Rattle.ini_text.specs.Parsing.Fronts.{IsRest};
+ghost use Rattle.ini_text.specs.Parsing.Parser.{AnswersItem, KeepsRefusal, Tells};
+ghost use Rattle.ini_text.specs.Inside.ItemSearch.{FindsItem, IsRefusalOfStop, StopIsWithin};
 
 use crate::characters::split_first;
 use crate::error::Error;
@@ -16,7 +16,7 @@ use crate::option::ParseOption;
 use crate::parser::element::read_element;
 use crate::parser::fault::Stop;
 use crate::parser::position::position;
-use crate::parser::refusal::{KeptFault, Refusal, Refused};
+use crate::parser::refusal::{KeptFault, Refusal, RefusalWith};
 use crate::parser::scan::front_before;
 use std::alloc::Global;
 use std::marker::Model;
@@ -51,8 +51,8 @@ pub struct Parser<'a> {
 impl<'a> Model for Parser<'a> {
     ghost use Rattle.std.specs.Prelude.{chars};
     ghost use Rattle.std.specs.Option.{option_map};
-    ghost use Rattle.ini_text.specs.Fronts.{front_of, IsRest};
-    ghost use Rattle.ini_text.specs.Parser.{Place, refusal_of};
+    ghost use Rattle.ini_text.specs.Parsing.Fronts.{front_of, IsRest};
+    ghost use Rattle.ini_text.specs.Parsing.Parser.{Place, refusal_of};
 
     ghost Value = { Place };
 
@@ -159,13 +159,13 @@ fn find_item<'a>(
 /// The refusal of a text that stops before a rest of it.
 fn refuse(text: &str, stop: Stop<'_>) -> Refusal
     requires { StopIsWithin (chars text.now) stop }
-    ensures { IsStopOf (chars text.now) stop.entry result }
+    ensures { IsRefusalOfStop (chars text.now) stop.entry result }
 {
     match stop {
-        Stop::Memory => Refused::Memory,
+        Stop::Memory => RefusalWith::Memory,
         Stop::Fault(fault, rest) => {
             let (line, column) = position(front_before(text, rest));
-            Refused::Parse(KeptFault {
+            RefusalWith::Parse(KeptFault {
                 kind: fault.kind(),
                 line,
                 column,

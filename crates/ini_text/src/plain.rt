@@ -4,14 +4,14 @@
 ghost use Rattle.std.specs.Prelude.{◌≡◌, ◌&&◌, ◌↔◌, IsTrue, chars};
 ghost use Rattle.std.specs.Char.{is_whitespace};
 ghost use Rattle.std.specs.List.{list_all};
-ghost use Rattle.ini_text.specs.Characters.{is_blank, is_mark, is_separator};
-ghost use Rattle.ini_text.specs.Plain.{IsPlainName, IsPlainPair, IsPlainSeparator};
-ghost use Rattle.ini_text.specs.Policies.{is_escaped};
-ghost use Rattle.ini_text.specs.PlainTests.{begins, escapes_nothing, has_no_close_bracket};
-ghost use Rattle.ini_text.specs.PlainTests.{has_no_escapes, has_no_raw_separator, has_read_escapes};
-ghost use Rattle.ini_text.specs.PlainTests.{is_bare_key, is_end_trimmed, is_indented_by_escape};
-ghost use Rattle.ini_text.specs.PlainTests.{is_plain_key, is_plain_value, is_read_back, is_read_escaped};
-ghost use Rattle.ini_text.specs.PlainTests.{is_read_raw, is_trimmed, may_begin_key, may_indent};
+ghost use Rattle.ini_text.specs.Grammar.CharacterKinds.{is_blank, is_mark, is_separator};
+ghost use Rattle.ini_text.specs.Laws.Plain.{IsPlainName, IsPlainPair, IsPlainSeparator};
+ghost use Rattle.ini_text.specs.Escaping.Policies.{is_escaped};
+ghost use Rattle.ini_text.specs.Inside.PlainTests.{begins, escapes_nothing, has_no_close_bracket};
+ghost use Rattle.ini_text.specs.Inside.PlainTests.{has_no_escapes, has_no_raw_separator, has_read_escapes};
+ghost use Rattle.ini_text.specs.Inside.PlainTests.{is_bare_key, is_end_trimmed, is_indented_by_escape};
+ghost use Rattle.ini_text.specs.Inside.PlainTests.{is_plain_key, is_plain_value, is_read_back, is_read_escaped};
+ghost use Rattle.ini_text.specs.Inside.PlainTests.{is_read_raw, is_trimmed, may_begin_key, may_indent};
 
 use crate::characters::split_first;
 use crate::option::ParseOption;

@@ -1,7 +1,7 @@
 //! Which characters are escaped when a text is written. This file knows single characters, and not how
 //! an escape looks.
 ghost use Rattle.std.specs.Prelude.{◌≡◌};
-ghost use Rattle.ini_text.specs.Policies.{is_escaped};
+ghost use Rattle.ini_text.specs.Escaping.Policies.{is_escaped};
 
 /// Which characters of a name, a key or a value are written as escapes.
 ///

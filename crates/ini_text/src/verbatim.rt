@@ -1,11 +1,11 @@
 //! Runs of characters that a policy leaves as they are, found by their bytes. This file knows no device
 //! and no escape's text.
-ghost use Rattle.std.specs.Prelude.{◌≡◌, ◌++◌, ◌+◌, ◌≤◌, not, length, chars};
+ghost use Rattle.std.specs.Prelude.{◌≡◌, ◌++◌, ◌+◌, not, length, chars};
 ghost use Rattle.std.specs.List.{position_or_len};
-ghost use Rattle.ini_text.specs.Characters.{BeginsWithNo};
-ghost use Rattle.ini_text.specs.Escapes.{escaped_bytes};
-ghost use Rattle.ini_text.specs.Policies.{is_escaped};
-ghost use Rattle.ini_text.specs.Verbatim.{begins_escaped};
+ghost use Rattle.ini_text.specs.Grammar.CharacterKinds.{BeginsWithNo};
+ghost use Rattle.ini_text.specs.Escaping.EscapedTexts.{escaped_bytes};
+ghost use Rattle.ini_text.specs.Escaping.Policies.{is_escaped};
+ghost use Rattle.ini_text.specs.Inside.Verbatim.{begins_escaped};
 ghost use Rattle.ini_text.specs.declared.policy.EscapePolicy.TheVariants as policies;
 
 use crate::lanes::{Marks, run_before};

@@ -2,9 +2,9 @@
 ghost use Rattle.std.specs.Prelude.{◌≡◌, ◌<◌, ◌≤◌, ◌↔◌, length, IfOk, IfErr, OnErr};
 ghost use Rattle.std.specs.Io.{ReadsAtMost};
 ghost use Rattle.std.specs.Io.KnownBytes.{ReadConsumes, WriteAppends};
-ghost use Rattle.ini_text.specs.Faults.{IsIo, IsIoOrNoProgress, faults_in, stalls_in};
-ghost use Rattle.ini_text.specs.Watched.{IsClear, SameDevice, Watches, device_now, failure_count};
-ghost use Rattle.ini_text.specs.Watched.{stall_count};
+ghost use Rattle.ini_text.specs.Device.DeviceRefusals.{IsIo, IsIoOrNoProgress, failures_in, stalls_in};
+ghost use Rattle.ini_text.specs.Device.Watched.{IsClear, SameDevice, Watches, device_now, failure_count};
+ghost use Rattle.ini_text.specs.Device.Watched.{stall_count};
 
 use crate::error::Error;
 use std::io::{Read, Write};
@@ -62,7 +62,7 @@ impl<R: Read> Watched<'_, R> {
         ensures bound { ReadsAtMost result piece.new }
         ensures bytes { ReadConsumes (R.remaining (device_now self.old)) (R.remaining (device_now self.new))
             result piece.new }
-        ensures failures { failure_count self.new ≡ faults_in result }
+        ensures failures { failure_count self.new ≡ failures_in result }
         ensures stalls { stall_count self.new ≡ 0 }
         ensures io { IsIo result ↔ (failure_count self.old < failure_count self.new) }
         ensures only { OnErr result (IsIo result) }
@@ -92,7 +92,7 @@ impl<W: Write> Watched<'_, W> {
         ensures bound { IfOk result (λ n. (0 < n) × (n ≤ length piece.now)) }
         ensures bytes { WriteAppends (W.contents (device_now self.old)) (W.contents (device_now self.new))
             result piece.now }
-        ensures failures { failure_count self.new ≡ faults_in result }
+        ensures failures { failure_count self.new ≡ failures_in result }
         ensures stalls { stall_count self.new ≡ stalls_in result }
         ensures only { IfErr result IsIoOrNoProgress }
     {

@@ -1,7 +1,7 @@
 //! Texts on their way to a device, as they are or escaped. This file knows no section, key or value.
 ghost use Rattle.std.specs.Prelude.{◌≡◌, []};
-ghost use Rattle.ini_text.specs.Escapes.{escaped_bytes};
-ghost use Rattle.ini_text.specs.Watched.{IsClear, WritesBytes};
+ghost use Rattle.ini_text.specs.Escaping.EscapedTexts.{escaped_bytes};
+ghost use Rattle.ini_text.specs.Device.Watched.{IsClear, WritesBytes};
 
 use crate::error::Error;
 use crate::gather::Gatherer;

@@ -1,6 +1,6 @@
 //! The options by which a document is written. This file knows line ends, and no device.
 ghost use Rattle.std.specs.Prelude.{◌≡◌, Some};
-ghost use Rattle.ini_text.specs.WriteOptions.{line_end, IsDefaultWriteOption};
+ghost use Rattle.ini_text.specs.Options.WriteOptions.{line_end, IsDefaultWriteOption};
 
 use crate::policy::EscapePolicy;
 use std::fmt;

@@ -1,7 +1,7 @@
 -- The characters that stand between the parts of a line.
 use Rattle.std.proofs.Common.{◌≡◌, [], ◌∷◌, refl}
 use Rattle.std.specs.Str.{chars}
-use Rattle.ini_text.specs.Characters.{close_bracket, tab}
+use Rattle.ini_text.specs.Grammar.CharacterKinds.{close_bracket, tab}
 
 pub chars-nothing : chars [] ≡ []
 unfolding chars

@@ -2,8 +2,8 @@
 use Rattle.std.specs.Prelude.{◌≡◌, ℕ, List, [], ◌∷◌, ◌++◌, flat_map, codes, chars, Option, None, Some}
 use Rattle.std.specs.Borrow.{Bor}
 use Rattle.std.specs.Option.{option_map}
-use Rattle.ini_text.specs.Characters.{close_bracket, line_feed, open_bracket, tab}
-use Rattle.ini_text.specs.Escapes.{escaped}
+use Rattle.ini_text.specs.Grammar.CharacterKinds.{close_bracket, line_feed, open_bracket, tab}
+use Rattle.ini_text.specs.Escaping.EscapedTexts.{escaped}
 use Rattle.ini_text.specs.declared.policy.EscapePolicy.TheVariants.{Basics}
 use Rattle.ini_text.specs.declared.write_option.WriteOption.{WriteOption}
 use Rattle.ini.specs.Texts.{Text}

@@ -1,8 +1,8 @@
 -- What a command did to its writer.
 use Rattle.std.specs.Prelude.{◌≡◌, ℕ, Bool, false, List, [], encode_utf8_all, ⊤}
 use Rattle.std.specs.Prelude.{Option, IsSome, is_some, unwrap_or, Result, Ok, Err, IfOk, IfErr, OnOk, OnErr}
-use Rattle.ini_text.specs.Faults.{faults_in, stalls_in}
-use Rattle.ini_text.specs.Watched.{SameDevice, Writes, WritesFront, device_now, failure_count, stall_count}
+use Rattle.ini_text.specs.Device.DeviceRefusals.{failures_in, stalls_in}
+use Rattle.ini_text.specs.Device.Watched.{SameDevice, WritesAll, WritesFront, device_now, failure_count, stall_count}
 use Rattle.ini_text.specs.declared.error.Error.{Error}
 use Rattle.ini_text.specs.declared.error.Error.TheVariants.{Io, Memory, NoProgress}
 use Rattle.ini_text.specs.declared.watched.Watched.{Watched}
@@ -32,9 +32,9 @@ pub record Prints {W : Type 0} (contents : W → Option (List ℕ)) (old new : W
   pub same_device : SameDevice old new
   pub found : IfOk result (λ found. found ≡ is_some output)
   pub refused : OnErr result (IsSome output)
-  pub bytes : OnOk result (Writes contents old new (output_bytes output))
+  pub bytes : OnOk result (WritesAll contents old new (output_bytes output))
   pub front : WritesFront contents old new (output_bytes output)
   pub silent : IsSilent result → device_now new ≡ device_now old
-  pub failures : failure_count new ≡ faults_in result
+  pub failures : failure_count new ≡ failures_in result
   pub stalls : stall_count new ≡ stalls_in result
   pub only : IfErr result IsCommandRefusal

@@ -3,7 +3,7 @@ use Rattle.std.specs.Prelude.{◌≡◌, ℕ, List, Option, Some, true, ⊤, IfS
 use Rattle.std.specs.Prelude.{◌++◌, codes, map, string_bytes, String}
 use Rattle.std.specs.Str.{IsUtf8}
 use Rattle.std.specs.declared.alloc.Global.{Global}
-use Rattle.ini_text.specs.Watched.{Writes, WritesFront}
+use Rattle.ini_text.specs.Device.Watched.{WritesAll, WritesFront}
 use Rattle.ini_text.specs.declared.watched.Watched.{Watched}
 use Rattle.ini_text.specs.declared.error.Error.TheVariants.{Io, Parse, Memory, NotUtf8, NoProgress}
 use Rattle.ini_text.specs.declared.error.ParseError.{ParseError}
@@ -79,15 +79,15 @@ HasOutput words P input = (text : Text) × IsOutput words input (Some text) × P
 module _ {W : Type 0} (contents : W → Option (List ℕ)) (words : List (String Global)) where
   -- the output was written, where it is known what is read; a front of it was
   abbrev pub WritesOutput : Option (List ℕ) → Watched W → Watched W → Type 0
-  WritesOutput input old new = IfSome input (HasOutput words (Writes contents old new))
+  WritesOutput input old new = IfSome input (HasOutput words (WritesAll contents old new))
 
   abbrev pub WritesOutputFront : Option (List ℕ) → Watched W → Watched W → Type 0
   WritesOutputFront input old new = IfSome input (HasOutput words (WritesFront contents old new))
 
 -- 1 where a device failed, else 0
-abbrev pub faults_of : Outcome → ℕ
-faults_of (Refused (Io _)) = 1
-faults_of _ = 0
+abbrev pub failures_of : Outcome → ℕ
+failures_of (Refused (Io _)) = 1
+failures_of _ = 0
 
 -- 1 where a write took no bytes, else 0
 abbrev pub stalls_of : Outcome → ℕ

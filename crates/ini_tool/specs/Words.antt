@@ -2,7 +2,7 @@
 use Rattle.std.specs.Prelude.{ℕ, true, false, if◌then◌else◌, List, [], ◌∷◌, codes, chars}
 use Rattle.std.specs.Prelude.{Option, None, Some, option_and_then}
 use Rattle.std.specs.Option.{option_map, option_map_or}
-use Rattle.ini_text.specs.Options.{default_parse_option}
+use Rattle.ini_text.specs.Options.ReadOptions.{default_parse_option}
 use Rattle.ini_text.specs.declared.option.ParseOption.{ParseOption}
 use Rattle.ini_text.specs.declared.policy.EscapePolicy.{EscapePolicy}
 use Rattle.ini_text.specs.declared.policy.EscapePolicy.TheVariants.{Nothing, Basics, BasicsUnicode}

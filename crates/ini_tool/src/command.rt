@@ -1,12 +1,12 @@
 //! What each command writes of a document. This file knows no word and no reader.
 ghost use Rattle.std.specs.Prelude.{Some, [], ◌∷◌, ◌++◌, chars, encode_utf8_all, flat_map};
-ghost use Rattle.ini_text.specs.Characters.{line_feed};
-ghost use Rattle.ini_text.specs.Escapes.{escaped};
-ghost use Rattle.ini_text.specs.Held.{held};
-ghost use Rattle.ini_text.specs.Watched.{IsClear, WritesBytes};
+ghost use Rattle.ini_text.specs.Grammar.CharacterKinds.{line_feed};
+ghost use Rattle.ini_text.specs.Escaping.EscapedTexts.{escaped};
+ghost use Rattle.ini_text.specs.Device.HeldBack.{held};
+ghost use Rattle.ini_text.specs.Device.Watched.{IsClear, WritesBytes};
 ghost use Rattle.ini_text.specs.declared.policy.EscapePolicy.TheVariants.{Basics};
 ghost use Rattle.ini.specs.Texts.{str_name};
-ghost use Rattle.ini.specs.Writes.{Writes};
+ghost use Rattle.ini.specs.Inside.SentTexts.{SendsText};
 ghost use Rattle.ini_tool.specs.Requests.{Del, Fmt, Set, request_of};
 ghost use Rattle.ini_tool.specs.Outputs.{IsWriteOption, listed, listed_pair, output, part_text, value_line};
 ghost use Rattle.ini_tool.specs.Prints.{Prints};
@@ -159,7 +159,7 @@ fn list_sections<W: Write>(
     out: &mut Watched<'_, W>,
 ) -> Result<(), Error>
     requires { IsClear out.old }
-    ensures { Writes W.contents out.old out.new (held lines.old) (held lines.new) result
+    ensures { SendsText W.contents out.old out.new (held lines.old) (held lines.new) result
         (listed document.now) }
 {
     for (name, pairs) in document {
@@ -176,7 +176,7 @@ fn list_pairs<W: Write>(
     out: &mut Watched<'_, W>,
 ) -> Result<(), Error>
     requires { IsClear out.old }
-    ensures { Writes W.contents out.old out.new (held lines.old) (held lines.new) result
+    ensures { SendsText W.contents out.old out.new (held lines.old) (held lines.new) result
         (flat_map (listed_pair (str_name name.entry)) pairs.now) }
 {
     for (key, value) in pairs {
@@ -194,7 +194,7 @@ fn list_pair<'a, W: Write>(
     out: &mut Watched<'_, W>,
 ) -> Result<(), Error>
     requires { IsClear out.old }
-    ensures { Writes W.contents out.old out.new (held lines.old) (held lines.new) result
+    ensures { SendsText W.contents out.old out.new (held lines.old) (held lines.new) result
         (listed_pair (str_name name.entry) (chars key.now, chars value.now)) }
 {
     match name {
@@ -213,7 +213,7 @@ fn put_parts<W: Write>(
     out: &mut Watched<'_, W>,
 ) -> Result<(), Error>
     requires { IsClear out.old }
-    ensures { Writes W.contents out.old out.new (held lines.old) (held lines.new) result
+    ensures { SendsText W.contents out.old out.new (held lines.old) (held lines.new) result
         (flat_map part_text parts.now) }
 {
     for (before, text) in parts {
@@ -230,7 +230,7 @@ fn put_part<W: Write>(
     out: &mut Watched<'_, W>,
 ) -> Result<(), Error>
     requires { IsClear out.old }
-    ensures { Writes W.contents out.old out.new (held lines.old) (held lines.new) result
+    ensures { SendsText W.contents out.old out.new (held lines.old) (held lines.new) result
         (chars before.now ++ escaped Basics (chars text.now)) }
 {
     put_text(lines, before, out)?;
@@ -255,7 +255,7 @@ fn put_line<W: Write>(
     out: &mut Watched<'_, W>,
 ) -> Result<(), Error>
     requires { IsClear out.old }
-    ensures { Writes W.contents out.old out.new (held lines.old) (held lines.new) result
+    ensures { SendsText W.contents out.old out.new (held lines.old) (held lines.new) result
         (chars text.now ++ line_feed ∷ []) }
 {
     put_text(lines, text, out)?;
@@ -263,14 +263,14 @@ fn put_line<W: Write>(
 }
 
 // A text as it is, seen as its characters.
-#[tactic(auto, using(ini::proofs::Writing::steps))]
+#[tactic(auto, using(ini::proofs::WritingLemmas::steps))]
 fn put_text<W: Write>(
     lines: &mut Gatherer,
     text: &str,
     out: &mut Watched<'_, W>,
 ) -> Result<(), Error>
     requires { IsClear out.old }
-    ensures { Writes W.contents out.old out.new (held lines.old) (held lines.new) result (chars text.now) }
+    ensures { SendsText W.contents out.old out.new (held lines.old) (held lines.new) result (chars text.now) }
 {
     lines.put(text, out)
 }

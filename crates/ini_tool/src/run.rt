@@ -1,11 +1,11 @@
 //! The program as a function of its words and of two devices. This file knows how a run ends, and what is
 //! told of it.
 ghost use Rattle.std.specs.Prelude.{◌≡◌, ◌+◌, ◌↔◌, ◌⊎◌, IfSome, None};
-ghost use Rattle.ini_text.specs.Watched.{AppendsFront, IsClear, SameDevice};
-ghost use Rattle.ini_text.specs.Watched.{device_now, failure_count, stall_count};
+ghost use Rattle.ini_text.specs.Device.Watched.{AppendsFront, IsClear, SameDevice};
+ghost use Rattle.ini_text.specs.Device.Watched.{device_now, failure_count, stall_count};
 ghost use Rattle.ini_tool.specs.Runs.{IsDone, IsNotFound, IsUsage, OnNotUtf8, OnParse, OnSilent};
 ghost use Rattle.ini_tool.specs.Runs.{IsOutput, IsStop, IsText, WritesOutput, WritesOutputFront};
-ghost use Rattle.ini_tool.specs.Runs.{asked_by, faults_of, stalls_of, status_of, usage_line};
+ghost use Rattle.ini_tool.specs.Runs.{asked_by, failures_of, stalls_of, status_of, usage_line};
 
 use crate::command::{answer, write_option};
 use crate::words::{USAGE, parse};
@@ -77,7 +77,7 @@ pub fn run<R: Read, W: Write>(
         writer.old writer.new }
 
     // A device's fault is told, and no call follows it.
-    ensures failures { failure_count reader.new + failure_count writer.new ≡ faults_of result }
+    ensures failures { failure_count reader.new + failure_count writer.new ≡ failures_of result }
     ensures stalls { stall_count writer.new ≡ stalls_of result }
     ensures reader_stalls { stall_count reader.new ≡ 0 }
 {

@@ -1,6 +1,6 @@
 -- What loading answers of a text's outcome.
 use Rattle.std.specs.Prelude.{◌≡◌, Ok, Err, Result, count_by, ⊤}
-use Rattle.ini_text.specs.Characters.{is_line_feed}
+use Rattle.ini_text.specs.Grammar.CharacterKinds.{is_line_feed}
 use Rattle.ini_text.specs.declared.error.Error.{Error}
 use Rattle.ini_text.specs.declared.error.Error.TheVariants.{NotUtf8, Parse}
 use Rattle.ini_text.specs.declared.option.ParseOption.{ParseOption}

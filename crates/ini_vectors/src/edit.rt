@@ -2,9 +2,9 @@
 //! documents by the public calls of `ini` alone.
 ghost use Rattle.std.specs.Prelude.{◌≡◌, ◌<◌, ◌↔◌, ℕ, List, IfErr, IsOkUnless, OnErr, OnOk, alloc_error};
 ghost use Rattle.std.specs.Prelude.{chars};
-ghost use Rattle.ini_text.specs.Faults.{IsIo, IsNoProgress, faults_in, stalls_in};
-ghost use Rattle.ini_text.specs.Watched.{IsClear, SameDevice, Writes, WritesFront, device_now};
-ghost use Rattle.ini_text.specs.Watched.{failure_count, stall_count};
+ghost use Rattle.ini_text.specs.Device.DeviceRefusals.{IsIo, IsNoProgress, failures_in, stalls_in};
+ghost use Rattle.ini_text.specs.Device.Watched.{IsClear, SameDevice, WritesAll, WritesFront, device_now};
+ghost use Rattle.ini_text.specs.Device.Watched.{failure_count, stall_count};
 ghost use Rattle.ini.specs.Loading.{IfParse, IsStopOf};
 ghost use Rattle.ini_vectors.specs.EditLists.{Grows, IsCutShort, IsEditRefusal, IsEditedText};
 ghost use Rattle.ini_vectors.specs.EditLists.{OnDeviceRefusal, OnParseOrMemory, edited, edited_once};
@@ -93,13 +93,13 @@ pub fn edit_text<W: Write>(
     requires { IsClear out.old }
     ensures same_device { SameDevice out.old out.new }
     ensures bytes { OnOk result ((output : List ℕ) × IsEditedText opt (chars text.now) edits.now w output
-        × Writes W.contents out.old out.new output) }
+        × WritesAll W.contents out.old out.new output) }
     ensures fault { IfParse result (IsStopOf opt (chars text.now)) }
     ensures silent { OnParseOrMemory result (device_now out.new ≡ device_now out.old) }
     ensures front { OnDeviceRefusal result
         ((output : List ℕ) × IsEditedText opt (chars text.now) edits.now w output
         × WritesFront W.contents out.old out.new output) }
-    ensures failures { failure_count out.new ≡ faults_in result }
+    ensures failures { failure_count out.new ≡ failures_in result }
     ensures stalls { stall_count out.new ≡ stalls_in result }
     ensures io { IsIo result ↔ (failure_count out.old < failure_count out.new) }
     ensures no_progress { IsNoProgress result ↔ (stall_count out.old < stall_count out.new) }

@@ -2,7 +2,7 @@
 //! by the contracts of writing and loading, alone.
 ghost use Rattle.std.specs.Prelude.{◌≡◌, chars, true, IfErr, IfOk};
 ghost use Rattle.std.specs.Str.{all_scalars};
-ghost use Rattle.ini_text.specs.PlainLaws.{IsEmptyOrHeader};
+ghost use Rattle.ini_text.specs.Laws.PlainLaws.{IsEmptyOrHeader};
 ghost use Rattle.ini.specs.Outcomes.{loaded};
 ghost use Rattle.ini.specs.Plain.{IsPlain};
 ghost use Rattle.ini.specs.Texts.{text_of};
@@ -14,7 +14,7 @@ use ini::{Error, Ini, ParseOption, WriteOption};
 use std::alloc::Global;
 
 // The text that is written of a document.
-fn text_of(alloc: Global, document: &Ini, option: WriteOption) -> Result<String, Error>
+fn written_text(alloc: Global, document: &Ini, option: WriteOption) -> Result<String, Error>
     requires characters { all_scalars (written document.now option) ≡ true }
     ensures text { IfOk result (λ text. text_of text ≡ written document.now option) }
     ensures only { IfErr result IsNoRefusal }
@@ -46,7 +46,7 @@ pub fn reload(
     ensures { Tells (loaded document.now) result }
 {
     inversion(document, &write, read, "");
-    let text = text_of(alloc, document, write)?;
+    let text = written_text(alloc, document, write)?;
     load(alloc, &text, read)
 }
 
@@ -64,7 +64,7 @@ pub fn reload_with(
     ensures { TellsBehind read write document.now (chars more.now) result }
 {
     inversion(document, &write, read, more);
-    let mut text = text_of(alloc, document, write)?;
+    let mut text = written_text(alloc, document, write)?;
     text.push_str(more)?;
     load(alloc, &text, read)
 }

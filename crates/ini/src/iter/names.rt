@@ -21,7 +21,7 @@ pub struct SectionAll<'a, 'n> {
 }
 
 impl<'a, 'n> Model for SectionAll<'a, 'n> {
-    ghost use Rattle.std.specs.Prelude.{ℕ, List};
+    ghost use Rattle.std.specs.Prelude.{List};
     ghost use Rattle.ini.specs.Properties.{Pairs};
 
     ghost Value = { List Pairs };
@@ -110,7 +110,7 @@ pub struct SectionNames<'a> {
 }
 
 impl<'a> Model for SectionNames<'a> {
-    ghost use Rattle.std.specs.Prelude.{ℕ, List, Option};
+    ghost use Rattle.std.specs.Prelude.{List, Option};
     ghost use Rattle.ini.specs.Texts.{Text};
     ghost use Rattle.ini.specs.Documents.{names_of};
 

@@ -18,7 +18,7 @@ pub struct PropertyIter<'a> {
 }
 
 impl<'a> Model for PropertyIter<'a> {
-    ghost use Rattle.std.specs.Prelude.{ℕ, List};
+    ghost use Rattle.std.specs.Prelude.{List};
     ghost use Rattle.ini.specs.Properties.{Pairs, pairs_of};
 
     ghost Value = { Pairs };
@@ -118,7 +118,7 @@ pub struct PropertiesIntoIter {
 }
 
 impl Model for PropertiesIntoIter {
-    ghost use Rattle.std.specs.Prelude.{ℕ, List};
+    ghost use Rattle.std.specs.Prelude.{List};
     ghost use Rattle.ini.specs.Properties.{Pairs, pairs_of};
 
     ghost Value = { Pairs };
@@ -170,7 +170,7 @@ pub struct PropertyValues<'a, 'k> {
 }
 
 impl<'a, 'k> Model for PropertyValues<'a, 'k> {
-    ghost use Rattle.std.specs.Prelude.{ℕ, List};
+    ghost use Rattle.std.specs.Prelude.{List};
     ghost use Rattle.ini.specs.Texts.{Text};
     ghost use Rattle.ini.specs.Properties.{texts_of};
 
@@ -221,7 +221,7 @@ pub struct RemovedValues {
 }
 
 impl Model for RemovedValues {
-    ghost use Rattle.std.specs.Prelude.{ℕ, List};
+    ghost use Rattle.std.specs.Prelude.{List};
     ghost use Rattle.ini.specs.Texts.{Text};
     ghost use Rattle.ini.specs.Properties.{texts_of};
 

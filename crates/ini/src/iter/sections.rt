@@ -28,7 +28,7 @@ pub struct SectionIter<'a> {
 }
 
 impl<'a> Model for SectionIter<'a> {
-    ghost use Rattle.std.specs.Prelude.{ℕ, List, Option};
+    ghost use Rattle.std.specs.Prelude.{Option};
     ghost use Rattle.ini.specs.Documents.{Document, sections_of};
 
     ghost Value = { Document };
@@ -128,7 +128,7 @@ pub struct SectionIntoIter {
 }
 
 impl Model for SectionIntoIter {
-    ghost use Rattle.std.specs.Prelude.{ℕ, List, Option};
+    ghost use Rattle.std.specs.Prelude.{Option};
     ghost use Rattle.ini.specs.Documents.{Document, sections_of};
 
     ghost Value = { Document };

@@ -12,20 +12,20 @@ ghost use Rattle.ini.specs.EditLaws.{KeepsOtherNames, KeepsOtherPairs, KeepsOthe
 ghost use Rattle.ini.specs.EditLaws.{KeepsOtherValues, KeepsRest, values_in};
 
 /// What was inserted is there.
-#[tactic(auto, using(crate::proofs::EditLaws::there))]
+#[tactic(auto, using(crate::proofs::EditLawLemmas::there))]
 pub fn inserted_is_there()
     ensures { (key value : Text) (pairs : Pairs) → first_value key (inserted key value pairs) ≡ Some value }
 {}
 
 /// What was set is there.
-#[tactic(auto, using(crate::proofs::EditLaws::there))]
+#[tactic(auto, using(crate::proofs::EditLawLemmas::there))]
 pub fn set_is_there()
     ensures { (name : Option Text) (key value : Text) (d : Document)
         → value_in name key (set_in name key value d) ≡ Some value }
 {}
 
 /// What was left behind a reference into a section, or behind an entry, is there.
-#[tactic(auto, using(crate::proofs::EditLaws::there))]
+#[tactic(auto, using(crate::proofs::EditLawLemmas::there))]
 pub fn lent_is_there()
     ensures section { (name : Option Text) (pairs : Pairs) (d : Document)
         → IsSome (first_section name d) → first_section name (section_set name pairs d) ≡ Some pairs }
@@ -34,7 +34,7 @@ pub fn lent_is_there()
 {}
 
 /// Where a section has one pair of the key at most, the key isn't there once it was deleted.
-#[tactic(auto, using(crate::proofs::EditLaws::gone))]
+#[tactic(auto, using(crate::proofs::EditLawLemmas::gone))]
 pub fn deleted_is_gone()
     ensures delete { (name : Option Text) (key : Text) (d : Document)
         → length (values_in name key d) ≤ 1 → value_in name key (delete_in_all name key d) ≡ None }
@@ -43,7 +43,7 @@ pub fn deleted_is_gone()
 {}
 
 /// The other keys keep their first values.
-#[tactic(auto, using(crate::proofs::EditLaws::keys))]
+#[tactic(auto, using(crate::proofs::EditLawLemmas::keys))]
 pub fn other_keys_stay()
     ensures insert { (key value : Text) → KeepsOtherKeys key (inserted key value) }
     ensures append { (key value : Text) → KeepsOtherKeys key (λ pairs. pairs ++ (key, value) ∷ []) }
@@ -52,7 +52,7 @@ pub fn other_keys_stay()
 {}
 
 /// The other keys keep all their values, in order.
-#[tactic(auto, using(crate::proofs::EditLaws::values))]
+#[tactic(auto, using(crate::proofs::EditLawLemmas::values))]
 pub fn other_values_stay()
     ensures insert { (key value : Text) → KeepsOtherValues key (inserted key value) }
     ensures append { (key value : Text) → KeepsOtherValues key (λ pairs. pairs ++ (key, value) ∷ []) }
@@ -61,7 +61,7 @@ pub fn other_values_stay()
 {}
 
 /// The pairs of the other keys stay, in order, repeated keys among them.
-#[tactic(auto, using(crate::proofs::EditLaws::pairs))]
+#[tactic(auto, using(crate::proofs::EditLawLemmas::pairs))]
 pub fn other_pairs_stay()
     ensures insert { (key value : Text) → KeepsOtherPairs key (inserted key value) }
     ensures append { (key value : Text) → KeepsOtherPairs key (λ pairs. pairs ++ (key, value) ∷ []) }
@@ -69,7 +69,7 @@ pub fn other_pairs_stay()
 {}
 
 /// The other names keep their first sections.
-#[tactic(auto, using(crate::proofs::EditLaws::names))]
+#[tactic(auto, using(crate::proofs::EditLawLemmas::names))]
 pub fn other_names_stay()
     ensures set { (name : Option Text) (key value : Text) → KeepsOtherNames name (set_in name key value) }
     ensures add { (name : Option Text) (key value : Text) → KeepsOtherNames name (add_in name key value) }
@@ -81,7 +81,7 @@ pub fn other_names_stay()
 {}
 
 /// The other names keep all their sections, in order.
-#[tactic(auto, using(crate::proofs::EditLaws::sections))]
+#[tactic(auto, using(crate::proofs::EditLawLemmas::sections))]
 pub fn other_sections_stay()
     ensures set { (name : Option Text) (key value : Text) → KeepsOtherSections name (set_in name key value) }
     ensures add { (name : Option Text) (key value : Text) → KeepsOtherSections name (add_in name key value) }
@@ -93,7 +93,7 @@ pub fn other_sections_stay()
 {}
 
 /// In the first section of the name the other keys keep their first values.
-#[tactic(auto, using(crate::proofs::EditLaws::keys_in))]
+#[tactic(auto, using(crate::proofs::EditLawLemmas::keys_in))]
 pub fn other_keys_in_the_section_stay()
     ensures set { (name : Option Text) (key value : Text)
         → KeepsOtherKeysIn name key (set_in name key value) }
@@ -106,7 +106,7 @@ pub fn other_keys_in_the_section_stay()
 {}
 
 /// A section that is there stays there.
-#[tactic(auto, using(crate::proofs::EditLaws::names_there))]
+#[tactic(auto, using(crate::proofs::EditLawLemmas::names_there))]
 pub fn sections_stay_there()
     ensures set { (name : Option Text) (key value : Text) → KeepsNames (set_in name key value) }
     ensures add { (name : Option Text) (key value : Text) → KeepsNames (add_in name key value) }
@@ -117,7 +117,7 @@ pub fn sections_stay_there()
 {}
 
 /// All stays in order but the pairs of the key in the sections of the name.
-#[tactic(auto, using(crate::proofs::EditLaws::rest))]
+#[tactic(auto, using(crate::proofs::EditLawLemmas::rest))]
 pub fn rest_stays()
     ensures set { (name : Option Text) (key value : Text) → KeepsRest name key (set_in name key value) }
     ensures add { (name : Option Text) (key value : Text) → KeepsRest name key (add_in name key value) }
@@ -126,7 +126,7 @@ pub fn rest_stays()
 {}
 
 /// The later sections of the name stay.
-#[tactic(auto, using(crate::proofs::EditLaws::later))]
+#[tactic(auto, using(crate::proofs::EditLawLemmas::later))]
 pub fn later_sections_stay()
     ensures set { (name : Option Text) (key value : Text) → KeepsLaterSections name (set_in name key value) }
     ensures add { (name : Option Text) (key value : Text) → KeepsLaterSections name (add_in name key value) }
@@ -135,7 +135,7 @@ pub fn later_sections_stay()
 
 /// Where the name has no section, the document stays whole, and a new section with the one pair comes
 /// behind it.
-#[tactic(auto, using(crate::proofs::EditLaws::opened))]
+#[tactic(auto, using(crate::proofs::EditLawLemmas::opened))]
 pub fn new_section_comes_last()
     ensures set { (name : Option Text) (key value : Text) (d : Document)
         → first_section name d ≡ None → set_in name key value d ≡ d ++ (name, (key, value) ∷ []) ∷ [] }

@@ -1,7 +1,7 @@
 //! Elements: white space, comments, and where a header or a pair begins. This file knows headers and
 //! pairs, and no string.
 ghost use Rattle.std.specs.Prelude.{◌≡◌, ◌∷◌, chars};
-ghost use Rattle.ini_text.specs.ElementParts.{IsElement};
+ghost use Rattle.ini_text.specs.Inside.ElementParts.{IsElement};
 
 use crate::item::Item;
 use crate::option::ParseOption;

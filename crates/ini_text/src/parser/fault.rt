@@ -1,11 +1,11 @@
 //! Where strings end, and why reading stops, before its place is known as a line and a column. This file
 //! knows endpoints and messages, and no production.
 ghost use Rattle.std.specs.Prelude.{◌≡◌, ℕ, not};
-ghost use Rattle.ini_text.specs.Lanes.{is_one_of};
-ghost use Rattle.ini_text.specs.ParserFaults.{kind_of, ends_of};
-ghost use Rattle.ini_text.specs.Messages.{HasMessage};
-ghost use Rattle.ini_text.specs.Scans.{is_plain};
-ghost use Rattle.ini_text.specs.Strings.{is_endpoint};
+ghost use Rattle.ini_text.specs.Inside.Lanes.{is_one_of};
+ghost use Rattle.ini_text.specs.Inside.ParserFaults.{kind_of, ends_of};
+ghost use Rattle.ini_text.specs.Errors.Messages.{HasMessage};
+ghost use Rattle.ini_text.specs.Inside.Scans.{is_plain};
+ghost use Rattle.ini_text.specs.Grammar.Strings.{is_endpoint};
 
 use crate::error::ParseKind;
 use crate::lanes::Three;
@@ -38,7 +38,7 @@ impl Endpoints {
     }
 
     /// The bytes at which a string stops: a backslash, and the characters at which it ends.
-    #[tactic(auto, using(crate::proofs::LaneLemmas::no_marks))]
+    #[tactic(auto, using(crate::proofs::StringLemmas::LaneLemmas::no_marks))]
     pub(crate) fn marks(self) -> Three
         ensures { (c : ℕ) → is_plain (ends_of self) c ≡ not (is_one_of result.0 result.1 result.2 c) }
     {

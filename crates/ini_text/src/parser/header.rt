@@ -1,8 +1,8 @@
 //! Headers, with and without brackets in names. This file knows strings, and no element.
-ghost use Rattle.std.specs.Prelude.{◌≡◌, ◌∷◌, true, false, chars, List, ℕ, MatchOption};
-ghost use Rattle.ini_text.specs.Characters.{open_bracket};
-ghost use Rattle.ini_text.specs.ElementParts.{IsElement};
-ghost use Rattle.ini_text.specs.Elements.{IsBracketed};
+ghost use Rattle.std.specs.Prelude.{◌≡◌, ◌∷◌, true, chars, List, ℕ, MatchOption};
+ghost use Rattle.ini_text.specs.Grammar.CharacterKinds.{open_bracket};
+ghost use Rattle.ini_text.specs.Inside.ElementParts.{IsElement};
+ghost use Rattle.ini_text.specs.Grammar.Elements.{IsBracketed};
 
 use crate::item::Item;
 use crate::option::ParseOption;

@@ -1,14 +1,12 @@
 //! Lines of a value: quoted parts, and then one plain part to the line's end. This file knows strings,
 //! and no key.
-ghost use Rattle.std.specs.Prelude.{◌≡◌, ◌∷◌, true, false, chars, MatchOption};
-ghost use Rattle.ini_text.specs.Characters.{is_mark, BeginsWithNo};
-ghost use Rattle.ini_text.specs.ParserFaults.{ends_of};
-ghost use Rattle.ini_text.specs.Lines.{BeginsPlain, Line, LineStops};
-ghost use Rattle.ini_text.specs.Quotes.{BeginsQuoted};
-ghost use Rattle.ini_text.specs.Readers.{Appends};
-ghost use Rattle.ini_text.specs.Scans.{text_of};
-ghost use Rattle.ini_text.specs.Strings.{quote_ends};
-ghost use Rattle.ini_text.specs.ValueParts.{ReadsFirstLine};
+ghost use Rattle.std.specs.Prelude.{true, false, chars, MatchOption};
+ghost use Rattle.ini_text.specs.Inside.ParserFaults.{ends_of};
+ghost use Rattle.ini_text.specs.Grammar.Lines.{BeginsPlain, Line, LineStops};
+ghost use Rattle.ini_text.specs.Inside.Quotes.{BeginsQuoted};
+ghost use Rattle.ini_text.specs.Inside.Readers.{AppendsValue};
+ghost use Rattle.ini_text.specs.Parsing.Items.{string_text};
+ghost use Rattle.ini_text.specs.Inside.ValueParts.{ReadsFirstLine};
 
 use crate::characters::split_first;
 use crate::option::ParseOption;
@@ -70,8 +68,8 @@ pub(crate) fn read_line<'a>(
     option: ParseOption,
     is_first: bool,
 ) -> Result<&'a str, Stop<'a>>
-    ensures { Appends (Line option is_first) (LineStops option)
-        (text_of out.old) (text_of out.new) (chars text.now) result }
+    ensures { AppendsValue (Line option is_first) (LineStops option)
+        (string_text out.old) (string_text out.new) (chars text.now) result }
 {
     let mut rest = text;
     let mut is_quoted = false;

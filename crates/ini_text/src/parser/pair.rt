@@ -1,11 +1,11 @@
 //! Pairs: keys, indented or not, and what follows them; and what else a line may give that begins with
 //! blanks. This file knows strings and values.
-ghost use Rattle.std.specs.Prelude.{◌≡◌, ◌∷◌, ◌++◌, chars, true, IfOk};
-ghost use Rattle.ini_text.specs.Characters.{BeginsWith, is_blank};
-ghost use Rattle.ini_text.specs.ElementParts.{IsElement, IsKey, TailStops, kept_blanks};
-ghost use Rattle.ini_text.specs.Keys.{begins_key};
-ghost use Rattle.ini_text.specs.Positions.{starts_line};
-ghost use Rattle.ini_text.specs.Scans.{text_of};
+ghost use Rattle.std.specs.Prelude.{◌≡◌, chars, true, IfOk};
+ghost use Rattle.ini_text.specs.Grammar.CharacterKinds.{BeginsWith, is_blank};
+ghost use Rattle.ini_text.specs.Inside.ElementParts.{IsElement, IsKey, TailStops, kept_blanks};
+ghost use Rattle.ini_text.specs.Grammar.Keys.{begins_key};
+ghost use Rattle.ini_text.specs.Grammar.Positions.{starts_line};
+ghost use Rattle.ini_text.specs.Parsing.Items.{string_text};
 
 use crate::characters::split_first;
 use crate::item::Item;
@@ -77,7 +77,7 @@ pub(crate) fn read_indented<'a>(
 
 /// What an indented key begins with: its blanks, where they are kept.
 fn begin_key(alloc: Global, blanks: &str, option: ParseOption) -> Result<String, AllocError>
-    ensures { IfOk result (λ key. text_of key ≡ kept_blanks option (chars blanks.now)) }
+    ensures { IfOk result (λ key. string_text key ≡ kept_blanks option (chars blanks.now)) }
 {
     if option.enabled_preserve_key_leading_whitespace {
         return String::from_str(alloc, blanks);
@@ -116,7 +116,7 @@ fn read_pair<'a>(
     rest: &'a str,
     option: ParseOption,
 ) -> Result<(Option<Item>, &'a str), Stop<'a>>
-    requires { IsKey option (chars front.now) (chars text.now) (text_of key) (chars rest.now) }
+    requires { IsKey option (chars front.now) (chars text.now) (string_text key) (chars rest.now) }
     ensures { IsElement option (chars front.now) (chars text.now) result }
 {
     let after = after_first(rest);

@@ -1,6 +1,6 @@
 //! Lines and columns, counted once a text is refused. This file knows LF alone, and not why reading stopped.
 ghost use Rattle.std.specs.Prelude.{◌≡◌, chars};
-ghost use Rattle.ini_text.specs.Positions.{line_of, column_of};
+ghost use Rattle.ini_text.specs.Grammar.Positions.{line_of, column_of};
 
 use crate::characters::split_first;
 

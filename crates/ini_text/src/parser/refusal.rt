@@ -18,23 +18,23 @@ pub(crate) struct KeptFault {
 
 /// What a parser answers from then on.
 #[derive(Clone, Copy)]
-pub(crate) enum Refused<F> {
+pub(crate) enum RefusalWith<F> {
     Memory,
     Parse(F),
 }
 
-pub(crate) type Refusal = Refused<KeptFault>;
+pub(crate) type Refusal = RefusalWith<KeptFault>;
 
-impl Refused<KeptFault> {
-    ghost use Rattle.ini_text.specs.Parser.{Tells, refusal_of};
+impl RefusalWith<KeptFault> {
+    ghost use Rattle.ini_text.specs.Parsing.Parser.{Tells, refusal_of};
 
     /// The refusal as an error, made anew without memory.
     pub(crate) fn error(self) -> Error
         ensures { Tells (refusal_of self) result }
     {
         match self {
-            Refused::Memory => Error::Memory(AllocError),
-            Refused::Parse(fault) => Error::Parse(ParseError {
+            RefusalWith::Memory => Error::Memory(AllocError),
+            RefusalWith::Parse(fault) => Error::Parse(ParseError {
                 line: fault.line,
                 col: fault.column,
                 msg: CowStr::Borrowed(fault.message),

@@ -2,11 +2,12 @@
 //! end, and no production.
 ghost use Rattle.std.specs.Prelude.{◌≡◌, ◌∷◌, ◌++◌, ◌≤◌, [], true, not, chars, drop, length, MatchOption, OnOk};
 ghost use Rattle.std.specs.List.{list_all, prefix_len};
-ghost use Rattle.ini_text.specs.Characters.{line_feed, is_comment_mark, is_line_end, is_line_feed, BeginsWithNo};
-ghost use Rattle.ini_text.specs.Positions.{last_or, starts_line, is_column_one};
-ghost use Rattle.ini_text.specs.Fronts.{IsRest, front_of};
-ghost use Rattle.ini_text.specs.Scans.{is_in, skipped, is_plain, text_of};
-ghost use Rattle.ini_text.specs.ParserFaults.{ends_of};
+ghost use Rattle.ini_text.specs.Grammar.CharacterKinds.{line_feed, is_comment_mark, is_line_end, is_line_feed, BeginsWithNo};
+ghost use Rattle.ini_text.specs.Grammar.Positions.{last_or, starts_line, is_column_one};
+ghost use Rattle.ini_text.specs.Parsing.Fronts.{IsRest, front_of};
+ghost use Rattle.ini_text.specs.Inside.Scans.{is_in, skipped, is_plain};
+ghost use Rattle.ini_text.specs.Parsing.Items.{string_text};
+ghost use Rattle.ini_text.specs.Inside.ParserFaults.{ends_of};
 
 use crate::characters::split_first;
 use crate::lanes::{Three, run_before};
@@ -110,14 +111,14 @@ pub(crate) fn split_run(text: &str, ends: Endpoints) -> (&str, &str)
 
 /// Appends a character.
 pub(crate) fn push(out: &mut String, c: char) -> Result<(), AllocError>
-    ensures { OnOk result (text_of out.new ≡ text_of out.old ++ c ∷ []) }
+    ensures { OnOk result (string_text out.new ≡ string_text out.old ++ c ∷ []) }
 {
     out.push(c)
 }
 
 /// Appends a text.
 pub(crate) fn push_text(out: &mut String, text: &str) -> Result<(), AllocError>
-    ensures { OnOk result (text_of out.new ≡ text_of out.old ++ chars text.now) }
+    ensures { OnOk result (string_text out.new ≡ string_text out.old ++ chars text.now) }
 {
     // Between escapes few characters stand.
     match text.as_bytes() {
@@ -137,7 +138,7 @@ pub(crate) fn front_before<'a>(text: &'a str, rest: &str) -> &'a str
 }
 
 /// The last character of a front, and LF where it is empty.
-#[tactic(auto, using(crate::proofs::Scans::last_or_append))]
+#[tactic(auto, using(crate::proofs::StringLemmas::ScanLemmas::last_or_append))]
 fn last_or_line_feed(front: &str) -> char
     ensures { result ≡ last_or line_feed (chars front.now) }
 {

@@ -1,13 +1,13 @@
 //! Strings: rows of pieces up to an endpoint. This file knows escapes, and nothing of lines, keys or names.
 ghost use Rattle.std.specs.Prelude.{◌≡◌, ◌∷◌, ◌++◌, [], chars, true, unwrap_or, Bool, IfSome, OnOk};
-ghost use Rattle.ini_text.specs.Characters.{backslash, letter_x};
-ghost use Rattle.ini_text.specs.ParserFaults.{ends_of};
-ghost use Rattle.ini_text.specs.Pieces.{control, spelled, spelled_by, Escape, EscapeStops};
-ghost use Rattle.ini_text.specs.Readers.{Appends, Begins};
-ghost use Rattle.ini_text.specs.Scans.{text_of};
-ghost use Rattle.ini_text.specs.Strings.{Str, StrStops};
-ghost use Rattle.ini_text.specs.TrimmedStrings.{IsString};
-ghost use Rattle.ini_text.specs.Units.{ReadsUnit, value_behind_backslash};
+ghost use Rattle.ini_text.specs.Grammar.CharacterKinds.{backslash, letter_x};
+ghost use Rattle.ini_text.specs.Inside.ParserFaults.{ends_of};
+ghost use Rattle.ini_text.specs.Grammar.EscapeSequences.{control, spelled, spelled_by, EscapeSequence, EscapeStops};
+ghost use Rattle.ini_text.specs.Inside.Readers.{AppendsValue, Begins};
+ghost use Rattle.ini_text.specs.Parsing.Items.{string_text};
+ghost use Rattle.ini_text.specs.Grammar.Strings.{Str, StrStops};
+ghost use Rattle.ini_text.specs.Inside.TrimmedStrings.{IsString};
+ghost use Rattle.ini_text.specs.Inside.Units.{ReadsUnit, value_behind_backslash};
 
 use crate::characters::split_first;
 use crate::parser::fault::{Endpoints, Fault, Stop};
@@ -42,8 +42,8 @@ pub(crate) fn read_string<'a>(
     escapes: bool,
     ends: Endpoints,
 ) -> Result<&'a str, Stop<'a>>
-    ensures { Appends (Str escapes (ends_of ends)) (StrStops escapes (ends_of ends))
-        (text_of out.old) (text_of out.new) (chars text.now) result }
+    ensures { AppendsValue (Str escapes (ends_of ends)) (StrStops escapes (ends_of ends))
+        (string_text out.old) (string_text out.new) (chars text.now) result }
 {
     let mut rest = text;
     'pieces: loop {
@@ -76,7 +76,7 @@ pub(crate) fn read_string<'a>(
 
 /// Appends what a backslash and a character stand for, other than the `x` of a code.
 fn push_escaped(out: &mut String, c: char, escapes: bool) -> Result<(), AllocError>
-    ensures { OnOk result (text_of out.new ≡ text_of out.old ++ value_behind_backslash escapes c) }
+    ensures { OnOk result (string_text out.new ≡ string_text out.old ++ value_behind_backslash escapes c) }
 {
     if c == '\n' {
         return Ok(());
@@ -106,8 +106,8 @@ fn escaped_value(c: char) -> char
 // coded = "\x" 4unit
 /// Appends the character that the four units behind `\x` spell.
 fn read_coded<'a>(out: &mut String, text: &'a str, ends: Endpoints) -> Result<&'a str, Stop<'a>>
-    ensures { Appends (λ s r v. Escape true s v) EscapeStops
-        (text_of out.old) (text_of out.new) (backslash ∷ letter_x ∷ chars text.now) result }
+    ensures { AppendsValue (λ s r v. EscapeSequence true s v) EscapeStops
+        (string_text out.old) (string_text out.new) (backslash ∷ letter_x ∷ chars text.now) result }
 {
     if let Some((value, rest)) = split_coded(text) {
         push(out, value)?;
@@ -127,7 +127,7 @@ fn read_coded<'a>(out: &mut String, text: &'a str, ends: Endpoints) -> Result<&'
 /// The character that the four characters behind `\x` spell, and what follows them.
 fn split_coded(text: &str) -> Option<(char, &str)>
     ensures { IfSome result (λ p.
-        Begins (backslash ∷ letter_x ∷ chars text.now) (chars p.1.now) (λ s. Escape true s (p.0 ∷ []))) }
+        Begins (backslash ∷ letter_x ∷ chars text.now) (chars p.1.now) (λ s. EscapeSequence true s (p.0 ∷ []))) }
 {
     let (a, rest) = split_first(text)?;
     let (b, rest) = split_first(rest)?;
@@ -164,7 +164,7 @@ fn spelled_by(a: Option<char>, b: Option<char>, c: Option<char>, d: Option<char>
 }
 
 /// The character that four characters spell.
-#[tactic(auto, unfolding(crate::specs::Pieces::spelled))]
+#[tactic(auto, unfolding(crate::specs::Grammar::EscapeSequences::spelled))]
 fn spelled(a: char, b: char, c: char, d: char) -> Option<char>
     ensures { result ≡ spelled a b c d }
 {

@@ -1,9 +1,9 @@
 //! White space at the ends of what was read. This file knows no line end, and no production.
-ghost use Rattle.std.specs.Prelude.{◌≡◌, ◌≤◌, ◌++◌, Bool, true, false, chars, take, drop, string_bytes};
-ghost use Rattle.std.specs.Prelude.{string_len, OnOk, IfOk};
+ghost use Rattle.std.specs.Prelude.{◌≡◌, ◌++◌, Bool, true, false, chars, take, drop, string_bytes};
+ghost use Rattle.std.specs.Prelude.{OnOk, IfOk};
 ghost use Rattle.std.specs.Str.{IsCharBoundary};
-ghost use Rattle.ini_text.specs.Scans.{text_of, trimmed_at, begins_white, is_visible};
-ghost use Rattle.ini_text.specs.White.{drop_line_feeds, without_outer_line_feeds};
+ghost use Rattle.ini_text.specs.Inside.Scans.{trimmed_at, begins_white, is_visible};
+ghost use Rattle.ini_text.specs.Parsing.Items.{string_text};
 
 use crate::characters::split_first;
 use crate::parser::scan::{Class, push_text, skip, split_last};
@@ -53,7 +53,7 @@ pub(crate) fn trim_from(
     both: bool,
 ) -> Result<(), AllocError>
     requires { IsCharBoundary (string_bytes out.old) start }
-    ensures { OnOk result (text_of out.new
+    ensures { OnOk result (string_text out.new
         ≡ chars (take start (string_bytes out.old))
         ++ trimmed_at both (chars (drop start (string_bytes out.old)))) }
 {
@@ -70,7 +70,7 @@ pub(crate) fn trim_from(
 
 /// Trims a text, at its end or at both ends.
 pub(crate) fn trim(alloc: Global, text: String, both: bool) -> Result<String, AllocError>
-    ensures { IfOk result (λ trimmed. text_of trimmed ≡ trimmed_at both (text_of text)) }
+    ensures { IfOk result (λ trimmed. string_text trimmed ≡ trimmed_at both (string_text text)) }
 {
     let mut text = text;
     trim_from(alloc, &mut text, 0, both)?;

@@ -1,7 +1,7 @@
 //! Strings that are trimmed: names, keys, and values without quotes. This file knows strings and trims, and no line.
 ghost use Rattle.std.specs.Prelude.{chars};
-ghost use Rattle.ini_text.specs.ParserFaults.{ends_of};
-ghost use Rattle.ini_text.specs.TrimmedStrings.{ReadsTrimmed};
+ghost use Rattle.ini_text.specs.Inside.ParserFaults.{ends_of};
+ghost use Rattle.ini_text.specs.Inside.TrimmedStrings.{ReadsTrimmed};
 
 use crate::parser::fault::{Endpoints, Stop};
 use crate::parser::string::{read_string, split_plain};

@@ -1,12 +1,11 @@
 //! Values: a line, and in multiline values the lines with which it goes on, less the line feeds at both
 //! ends. This file knows lines, and no key.
-ghost use Rattle.std.specs.Prelude.{◌≡◌, ◌∷◌, ◌++◌, chars, MatchOption, MatchResult, IfOk};
-ghost use Rattle.ini_text.specs.Characters.{carriage_return, is_line_end};
-ghost use Rattle.ini_text.specs.Readers.{Appends};
-ghost use Rattle.ini_text.specs.Scans.{text_of};
-ghost use Rattle.ini_text.specs.ValueParts.{AfterLineEnd, AfterCr, MakesValue};
-ghost use Rattle.ini_text.specs.Values.{MoreLines, MoreLinesStop};
-ghost use Rattle.ini_text.specs.White.{drop_line_feeds, without_outer_line_feeds};
+ghost use Rattle.std.specs.Prelude.{◌≡◌, chars, IfOk};
+ghost use Rattle.ini_text.specs.Inside.Readers.{AppendsValue};
+ghost use Rattle.ini_text.specs.Parsing.Items.{string_text};
+ghost use Rattle.ini_text.specs.Inside.ValueParts.{AfterLineEnd, AfterCr, MakesValue};
+ghost use Rattle.ini_text.specs.Grammar.Values.{MoreLines, MoreLinesStop};
+ghost use Rattle.ini_text.specs.Grammar.WhiteSpace.{without_outer_line_feeds};
 
 use crate::characters::split_first;
 use crate::option::ParseOption;
@@ -76,8 +75,8 @@ fn read_more<'a>(
     text: &'a str,
     option: ParseOption,
 ) -> Result<&'a str, Stop<'a>>
-    ensures { Appends (MoreLines option) (MoreLinesStop option)
-        (text_of out.old) (text_of out.new) (chars text.now) result }
+    ensures { AppendsValue (MoreLines option) (MoreLinesStop option)
+        (string_text out.old) (string_text out.new) (chars text.now) result }
 {
     let mut rest = text;
     'lines: while let Some((c, after)) = split_first(rest) {
@@ -103,7 +102,7 @@ fn read_more<'a>(
 
 /// A copy of a text without the line feeds at its ends.
 fn trim_line_feeds(alloc: Global, text: &str) -> Result<String, AllocError>
-    ensures { IfOk result (λ trimmed. text_of trimmed ≡ without_outer_line_feeds (chars text.now)) }
+    ensures { IfOk result (λ trimmed. string_text trimmed ≡ without_outer_line_feeds (chars text.now)) }
 {
     String::from_str(alloc, without_line_feeds(text))
 }

@@ -1,6 +1,6 @@
 use Rattle.std.proofs.Common.{◌-◌, ◌^◌, vec_len}
 use Rattle.std.specs.Io.KnownBytes.{Consumes}
-use Rattle.ini_text.specs.Watched.{IsClear, SameDevice, device_now}
+use Rattle.ini_text.specs.Device.Watched.{IsClear, SameDevice, device_now}
 use Rattle.ini.proofs.load.read_to_end.Given as goal
 
 abbrev pub invariant-pieces : goal.invariant-pieces

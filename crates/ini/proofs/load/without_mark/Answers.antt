@@ -1,5 +1,5 @@
 use Rattle.std.proofs.Common.{◌∙◌, ap, refl}
-use Rattle.ini.proofs.Marks.{stripped}
+use Rattle.ini.proofs.MarkLemmas.{stripped}
 use Rattle.ini.proofs.load.without_mark.Goals as goal
 
 pub returns : goal.returns

@@ -1,23 +1,23 @@
 use Rattle.std.proofs.Common.{subst}
 use Rattle.std.proofs.lemmas.Result.{err_from_is_err_and}
 use Rattle.std.specs.Str.{chars}
-use Rattle.ini.specs.Writes.{Writes}
-use Rattle.ini.proofs.Writing.{Writes-cut, Writes-then, header_parts}
+use Rattle.ini.specs.Inside.SentTexts.{SendsText}
+use Rattle.ini.proofs.WritingLemmas.{SendsText-cut, SendsText-then, header_parts}
 use Rattle.ini.proofs.write.write_header.Goals as goal
 
 pub returns-in_err-put_text : goal.returns-in_err-put_text
 returns-in_err-put_text g c =
     let p = err_from_is_err_and c.from_residual.result c.from_residual.ensures.1 in
     let parts = header_parts c.args.option.now (chars c.args.name.now) in
-    rw (p.1, p.2) (subst (Writes _ _ _ _ _ _) parts (Writes-cut _ (Writes-cut _ c.in_err-put_text.ensures)))
+    rw (p.1, p.2) (subst (SendsText _ _ _ _ _ _) parts (SendsText-cut _ (SendsText-cut _ c.in_err-put_text.ensures)))
 
 pub returns-in_err-put_part : goal.returns-in_err-put_part
 returns-in_err-put_part g c =
     let p = err_from_is_err_and c.from_residual-in_err-put_part.result c.from_residual-in_err-put_part.ensures.1 in
     let parts = header_parts c.args.option.now (chars c.args.name.now) in
-    rw (p.1, p.2) (subst (Writes _ _ _ _ _ _) parts (Writes-cut _ (Writes-then c.in_ok-put_text.ensures c.in_err-put_part.ensures)))
+    rw (p.1, p.2) (subst (SendsText _ _ _ _ _ _) parts (SendsText-cut _ (SendsText-then c.in_ok-put_text.ensures c.in_err-put_part.ensures)))
 
 pub returns : goal.returns
 returns g c =
     let parts = header_parts c.args.option.now (chars c.args.name.now) in
-    subst (Writes _ _ _ _ _ _) parts (Writes-then (Writes-then c.in_ok-put_text.ensures c.in_ok-put_part.ensures) (simp c.as_str.ensures at c.put_text-2.ensures))
+    subst (SendsText _ _ _ _ _ _) parts (SendsText-then (SendsText-then c.in_ok-put_text.ensures c.in_ok-put_part.ensures) (simp c.as_str.ensures at c.put_text-2.ensures))

@@ -1,6 +1,6 @@
 use Rattle.ini.specs.Written.{written_pairs}
-use Rattle.ini_text.specs.Held.{held}
-use Rattle.ini.proofs.Writing.{Writing}
+use Rattle.ini_text.specs.Device.HeldBack.{held}
+use Rattle.ini.proofs.WritingLemmas.{Writing}
 use Rattle.ini.proofs.write.write_pairs.Given as goal
 
 abbrev pub invariant-loop-key : goal.invariant-loop-key

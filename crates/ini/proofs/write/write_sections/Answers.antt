@@ -1,7 +1,7 @@
 use Rattle.std.proofs.Common.{ap}
 use Rattle.std.proofs.lemmas.Result.{err_from_is_err_and}
 use Rattle.ini.specs.Written.{written_sections}
-use Rattle.ini.proofs.Writing.{Writing-goes_on, Writing-starts, Writing-stops}
+use Rattle.ini.proofs.WritingLemmas.{Writing-goes_on, Writing-starts, Writing-stops}
 use Rattle.ini.proofs.write.write_sections.Goals as goal
 
 pub loop-name-init : goal.loop-name-init

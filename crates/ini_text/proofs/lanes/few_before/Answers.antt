@@ -1,6 +1,6 @@
 use Rattle.std.proofs.Common.{ap, map, sym, ◌∙◌, arith}
 use lib.Lanes.{mask_l}
-use Rattle.ini_text.proofs.LaneLemmas.{unmarked}
+use Rattle.ini_text.proofs.StringLemmas.LaneLemmas.{unmarked}
 use Rattle.ini_text.proofs.lanes.few_before.Goals as goal
 
 pub returns-then-find-eq0-clause-len : goal.returns-then-find-eq0-clause-len

@@ -1,6 +1,6 @@
 use Rattle.std.proofs.Common.{sym, ap, ◌∙◌, arith}
 use lib.Count.{count_trailing_zeros}
-use Rattle.ini_text.proofs.LaneLemmas.{passed, run_within, stopped}
+use Rattle.ini_text.proofs.StringLemmas.LaneLemmas.{passed, run_within, stopped}
 use Rattle.ini_text.proofs.lanes.run_before.Goals as goal
 
 pub returns-then-found-ne0-clause-len : goal.returns-then-found-ne0-clause-len

@@ -1,6 +1,6 @@
 -- The line of a header.
 use Rattle.std.proofs.Common.{chars}
-use Rattle.ini_text.proofs.PlainHeaderLemmas.{header_line}
+use Rattle.ini_text.proofs.PlainLemmas.PlainHeaderLemmas.{header_line}
 use Rattle.ini_text.proofs.laws.header_line.Goals as goal
 
 pub returns : goal.returns

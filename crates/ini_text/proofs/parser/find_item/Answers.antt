@@ -1,10 +1,10 @@
 use Rattle.std.proofs.Common.{chars, sym, rules, arith, subst}
-use Rattle.ini_text.specs.Elements.{Element, ElementStops}
-use Rattle.ini_text.specs.Fronts.{front_of}
-use Rattle.ini_text.specs.Items.{given}
-use Rattle.ini_text.specs.Readers.{Begins, StoppedBy}
-use Rattle.ini_text.specs.Texts.{Reads}
-use Rattle.ini_text.proofs.Items.{moved, stop_within, refuses}
+use Rattle.ini_text.specs.Grammar.Elements.{Element, ElementStops}
+use Rattle.ini_text.specs.Parsing.Fronts.{front_of}
+use Rattle.ini_text.specs.Inside.ElementParts.{given}
+use Rattle.ini_text.specs.Inside.Readers.{Begins, StoppedBy}
+use Rattle.ini_text.specs.Grammar.Texts.{Reads}
+use Rattle.ini_text.proofs.GrammarLemmas.ItemLemmas.{moved, stop_within, refuses}
 use Rattle.ini_text.proofs.parser.find_item.Goals as goal
 
 pub elements-init : goal.elements-init

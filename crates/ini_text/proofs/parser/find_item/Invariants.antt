@@ -1,8 +1,8 @@
 use Rattle.std.proofs.Common.{◌≤◌, [], length, chars}
 use denote.Text.{Utf8}
 use denote.Shadow.{shadow}
-use Rattle.ini_text.specs.Fronts.{front_of, IsRest}
-use Rattle.ini_text.specs.Texts.{Reads}
+use Rattle.ini_text.specs.Parsing.Fronts.{front_of, IsRest}
+use Rattle.ini_text.specs.Grammar.Texts.{Reads}
 use Rattle.ini_text.proofs.parser.find_item.Given as goal
 
 abbrev pub decreases-elements : goal.decreases-elements

@@ -2,8 +2,8 @@ use Rattle.std.proofs.Common.{◌≡◌, chars, arith}
 use Rattle.std.proofs.lemmas.Bool.Decides.{Decides-at}
 use Rattle.std.proofs.lemmas.Str.{scalars-chars}
 use Rattle.std.proofs.lemmas.Grind.{common_steps}
-use Rattle.ini_text.specs.PlainTests.{is_plain_pair}
-use Rattle.ini_text.proofs.PlainTestLemmas.{pair_decides}
+use Rattle.ini_text.specs.Inside.PlainTests.{is_plain_pair}
+use Rattle.ini_text.proofs.PlainLemmas.PlainTestLemmas.{pair_decides}
 use Rattle.ini_text.proofs.plain.is_plain_pair.Goals as goal
 
 pub returns-then-is_read_back : goal.returns-then-is_read_back

@@ -1,8 +1,8 @@
 use Rattle.std.proofs.Common.{◌≡◌, false, chars, arith}
 use Rattle.std.proofs.lemmas.Bool.Decides.{Decides-at}
 use Rattle.std.proofs.lemmas.Grind.{common_steps}
-use Rattle.ini_text.specs.PlainTests.{is_plain_separator}
-use Rattle.ini_text.proofs.PlainTestLemmas.{separator_decides}
+use Rattle.ini_text.specs.Inside.PlainTests.{is_plain_separator}
+use Rattle.ini_text.proofs.PlainLemmas.PlainTestLemmas.{separator_decides}
 use Rattle.ini_text.proofs.plain.is_plain_separator.Goals as goal
 
 pub returns-then-is_separator : goal.returns-then-is_separator

@@ -1,7 +1,7 @@
 use Rattle.std.proofs.Common.{ap, ◌∙◌, chars}
 use Rattle.std.specs.Str.{bytes_eq}
-use Rattle.ini_text.proofs.SameTexts.{same_text}
-use Rattle.ini_text.proofs.Trims.{chars_trim}
+use Rattle.ini_text.proofs.StringLemmas.SameTextLemmas.{same_text}
+use Rattle.ini_text.proofs.StringLemmas.TrimLemmas.{chars_trim}
 use Rattle.ini_text.proofs.plain.is_trimmed.Goals as goal
 
 pub returns : goal.returns

@@ -1,7 +1,7 @@
 use Rattle.std.proofs.Common.{◌≡◌, ap, ◌∙◌}
 use Rattle.std.specs.List.{position_or_len}
-use Rattle.ini_text.specs.Verbatim.{begins_escaped}
-use Rattle.ini_text.proofs.VerbatimRuns.{IsCharBoundary-run, escaped_bytes-run, begins-run}
+use Rattle.ini_text.specs.Inside.Verbatim.{begins_escaped}
+use Rattle.ini_text.proofs.WriteLemmas.VerbatimRunLemmas.{IsCharBoundary-run, escaped_bytes-run, begins-run}
 use Rattle.ini_text.proofs.verbatim.split_verbatim.Goals as goal
 use Rattle.ini_text.proofs.verbatim.split_verbatim.Goals.{After-run_len}
 

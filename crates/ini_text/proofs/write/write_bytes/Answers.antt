@@ -1,5 +1,5 @@
 use Rattle.std.proofs.Common.{length, ap, arith, rules}
-use Rattle.ini_text.proofs.Progress.{under_way_kept, under_way_past}
+use Rattle.ini_text.proofs.WriteLemmas.ProgressLemmas.{under_way_kept, under_way_past}
 use Rattle.ini_text.proofs.write.write_bytes.Goals as goal
 
 pub returns-in_err-taken-clause-written : goal.returns-in_err-taken-clause-written

@@ -1,7 +1,7 @@
 use Rattle.std.proofs.Common.{ap, flat_map}
 use Rattle.std.proofs.lemmas.Result.{err_from_is_err_and}
 use Rattle.ini.specs.Texts.{str_name}
-use Rattle.ini.proofs.Writing.{Writing-goes_on, Writing-starts, Writing-stops}
+use Rattle.ini.proofs.WritingLemmas.{Writing-goes_on, Writing-starts, Writing-stops}
 use Rattle.ini_tool.specs.Outputs.{listed_pair}
 use Rattle.ini_tool.proofs.command.list_pairs.Goals as goal
 

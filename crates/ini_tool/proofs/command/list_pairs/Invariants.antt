@@ -1,7 +1,7 @@
 use Rattle.std.proofs.Common.{flat_map}
 use Rattle.ini.specs.Texts.{str_name}
-use Rattle.ini_text.specs.Held.{held}
-use Rattle.ini.proofs.Writing.{Writing}
+use Rattle.ini_text.specs.Device.HeldBack.{held}
+use Rattle.ini.proofs.WritingLemmas.{Writing}
 use Rattle.ini_tool.specs.Outputs.{listed_pair}
 use Rattle.ini_tool.proofs.command.list_pairs.Given as goal
 

@@ -1,6 +1,6 @@
 use Rattle.std.proofs.Common.{ap}
 use Rattle.std.proofs.lemmas.Result.{err_from_is_err_and}
-use Rattle.ini.proofs.Writing.{Writing-goes_on, Writing-starts, Writing-stops}
+use Rattle.ini.proofs.WritingLemmas.{Writing-goes_on, Writing-starts, Writing-stops}
 use Rattle.ini_tool.specs.Outputs.{listed}
 use Rattle.ini_tool.proofs.command.list_sections.Goals as goal
 

@@ -1,6 +1,6 @@
 use Rattle.ini_tool.specs.Outputs.{listed}
-use Rattle.ini_text.specs.Held.{held}
-use Rattle.ini.proofs.Writing.{Writing}
+use Rattle.ini_text.specs.Device.HeldBack.{held}
+use Rattle.ini.proofs.WritingLemmas.{Writing}
 use Rattle.ini_tool.proofs.command.list_sections.Given as goal
 
 abbrev pub invariant-loop-name : goal.invariant-loop-name

@@ -1,5 +1,5 @@
 use Rattle.std.proofs.lemmas.Result.{err_from_is_err_and}
-use Rattle.ini_text.proofs.SendLemmas.{Sends-all, Sends-flushed}
+use Rattle.ini_text.proofs.WriteLemmas.SendLemmas.{Sends-all, Sends-flushed}
 use Rattle.ini_tool.proofs.command.write_line.Goals as goal
 
 pub returns-in_err-put_line : goal.returns-in_err-put_line

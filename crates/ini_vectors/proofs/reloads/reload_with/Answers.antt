@@ -2,7 +2,7 @@
 use Rattle.std.proofs.Common.{◌≡◌, ◌∙◌, ◌++◌, ap, subst, sym, chars, count_by}
 use Rattle.std.proofs.lemmas.Str.{chars-append, IsUtf8-string_bytes}
 use Rattle.std.specs.Prelude.{string_bytes}
-use Rattle.ini_text.specs.Characters.{is_line_feed}
+use Rattle.ini_text.specs.Grammar.CharacterKinds.{is_line_feed}
 use Rattle.ini.specs.Outcomes.{HasOutcome, after}
 use Rattle.ini.specs.Written.{written}
 use Rattle.ini_vectors.proofs.reloads.reload_with.Goals as goal

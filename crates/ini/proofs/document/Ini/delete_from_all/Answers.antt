@@ -6,7 +6,7 @@ use Rattle.ini.specs.Texts.{str_name}
 use Rattle.ini.specs.Properties.{removed}
 use Rattle.ini.specs.Documents.{sections_of}
 use Rattle.ini.specs.Edits.{delete_in_all}
-use Rattle.ini.proofs.EverySection.{all_edited-sections, edited, edited-all, edited-long, edited-more, edited-zero}
+use Rattle.ini.proofs.EverySectionLemmas.{all_edited-sections, edited, edited-all, edited-long, edited-more, edited-zero}
 use Rattle.ini.proofs.document.Ini.delete_from_all.Goals as goal
 
 pub loop-n-init : goal.loop-n-init

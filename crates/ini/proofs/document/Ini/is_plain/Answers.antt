@@ -1,6 +1,6 @@
 use Rattle.std.proofs.Common.{◌≡◌, ◌∷◌, None, ap, sym, ◌∙◌}
 use Rattle.std.proofs.lemmas.Bool.{both_ways}
-use Rattle.ini.proofs.PlainParts.{general_of, others_of, plain_from_parts}
+use Rattle.ini.proofs.PlainPartLemmas.{general_of, others_of, plain_from_parts}
 use Rattle.ini.specs.Texts.{str_name}
 use Rattle.ini.proofs.document.Ini.is_plain.Goals as goal
 use Rattle.ini.proofs.document.Ini.is_plain.Goals.{then-is_plain_separator, else-is_plain_separator}

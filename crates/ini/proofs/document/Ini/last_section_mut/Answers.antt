@@ -1,7 +1,7 @@
 use Rattle.std.proofs.Common.{IsSome, ◌∙◌, ap, arith, refl, subst, sym}
 use Rattle.std.specs.Option.{option_copied_mut}
 use Rattle.ini.specs.Texts.{name_of}
-use Rattle.ini.proofs.LastSection.{last_got, last_is_there, last_set}
+use Rattle.ini.proofs.LastSectionLemmas.{last_got, last_is_there, last_set}
 use Rattle.ini.proofs.document.Ini.last_section_mut.Goals as goal
 
 pub unwrap-requires : goal.unwrap-requires

@@ -2,7 +2,7 @@ use Rattle.std.proofs.Common.{Ok, ap, refl, subst, sym}
 use Rattle.std.proofs.lemmas.Result.{err_from_is_err_and}
 use Rattle.ini.specs.Documents.{HasGeneral}
 use Rattle.ini.proofs.GeneralLemmas.{has_general}
-use Rattle.ini.proofs.Reading.{Loaded-ends, Loaded-item, Loaded-starts, Loaded-stops, front_grows}
+use Rattle.ini.proofs.ReadingLemmas.{Loaded-ends, Loaded-item, Loaded-starts, Loaded-stops, front_grows}
 use Rattle.ini.proofs.document.Ini.load_from_str_opt.Goals as goal
 
 pub items-init : goal.items-init

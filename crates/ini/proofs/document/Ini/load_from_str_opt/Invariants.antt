@@ -1,5 +1,5 @@
 use Rattle.std.proofs.Common.{◌-◌, chars, length}
-use Rattle.ini.proofs.Reading.{Loaded}
+use Rattle.ini.proofs.ReadingLemmas.{Loaded}
 use Rattle.ini.proofs.document.Ini.load_from_str_opt.Given as goal
 
 abbrev pub invariant-items : goal.invariant-items

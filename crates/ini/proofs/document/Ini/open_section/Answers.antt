@@ -1,6 +1,6 @@
 use Rattle.std.proofs.Common.{inl}
 use Rattle.ini.specs.Texts.{name_of}
-use Rattle.ini.proofs.LastSection.{last_pushed, value_pushed}
+use Rattle.ini.proofs.LastSectionLemmas.{last_pushed, value_pushed}
 use Rattle.ini.proofs.document.Ini.open_section.Goals as goal
 
 pub returns-in-Ok : goal.returns-in-Ok

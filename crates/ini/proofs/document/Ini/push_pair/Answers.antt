@@ -2,7 +2,7 @@ use Rattle.std.proofs.Common.{◌∙◌, ◌-◌, ap, length}
 use Rattle.std.proofs.lemmas.Result.{on_err_weaker, on_ok_weaker}
 use Rattle.ini_multimap.specs.Pairs.{with_value_at}
 use Rattle.ini.specs.Texts.{text_of}
-use Rattle.ini.proofs.LastSection.{with_pair-last, with_value_at-last}
+use Rattle.ini.proofs.LastSectionLemmas.{with_pair-last, with_value_at-last}
 use Rattle.ini.proofs.document.Ini.push_pair.Goals as goal
 
 pub returns-clause-pushed : goal.returns-clause-pushed

@@ -2,8 +2,8 @@ use Rattle.std.proofs.Common.{subst, sym}
 use Rattle.std.proofs.lemmas.Bool.{false≢true}
 use Rattle.std.proofs.lemmas.Option.{IfSome_then}
 use Rattle.std.specs.Str.{IsUtf8}
-use Rattle.ini_text.specs.Watched.{device_now}
-use Rattle.ini.proofs.Marks.{IsUtf8-text_bytes}
+use Rattle.ini_text.specs.Device.Watched.{device_now}
+use Rattle.ini.proofs.MarkLemmas.{IsUtf8-text_bytes}
 use Rattle.ini.proofs.document.Ini.read_watched.Goals as goal
 
 pub returns-in_default-clause-not_utf8 : goal.returns-in_default-clause-not_utf8

@@ -1,4 +1,4 @@
-use Rattle.ini.proofs.Writing.{same_written}
+use Rattle.ini.proofs.WritingLemmas.{same_written}
 use Rattle.ini.proofs.document.Ini.write_to_file.Goals as goal
 
 pub returns-clause-bytes : goal.returns-clause-bytes

@@ -1,5 +1,5 @@
 use Rattle.std.proofs.lemmas.Result.{err_from_is_err_and}
-use Rattle.ini_text.proofs.SendLemmas.{Sends-all, Sends-flushed}
+use Rattle.ini_text.proofs.WriteLemmas.SendLemmas.{Sends-all, Sends-flushed}
 use Rattle.ini.proofs.document.Ini.write_watched.Goals as goal
 
 pub returns-in_err-write_sections : goal.returns-in_err-write_sections

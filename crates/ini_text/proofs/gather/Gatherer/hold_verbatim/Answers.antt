@@ -1,6 +1,6 @@
 use Rattle.std.proofs.Common.{◌++◌, ap, sym, ◌∙◌, append-nil, eqb-true}
-use Rattle.ini_text.specs.Held.{held}
-use Rattle.ini_text.proofs.EscapeTexts.{escaped_bytes-nil}
+use Rattle.ini_text.specs.Device.HeldBack.{held}
+use Rattle.ini_text.proofs.WriteLemmas.EscapeByteLemmas.{escaped_bytes-nil}
 use Rattle.ini_text.proofs.gather.Gatherer.hold_verbatim.Goals as goal
 
 pub returns : goal.returns

@@ -1,10 +1,10 @@
 use Rattle.std.proofs.Common.{◌++◌, ◌∙◌, ap, append-nil, append_assoc, encode_utf8_all, rules, subst, sym}
 use Rattle.std.proofs.lemmas.Result.{err_from_is_err_and}
-use Rattle.ini_text.specs.Escapes.{escape, escaped, escaped_bytes}
-use Rattle.ini_text.specs.Gathering.{Sends}
-use Rattle.ini_text.specs.Held.{held}
-use Rattle.ini_text.proofs.EscapeTexts.{escaped-first, escaped-next}
-use Rattle.ini_text.proofs.SendLemmas.{Sends-held, Sends-then, Sending, Sending-goes_on, Sending-starts, Sending-stays, Sending-stops}
+use Rattle.ini_text.specs.Escaping.EscapedTexts.{escape, escaped, escaped_bytes}
+use Rattle.ini_text.specs.Device.Gathering.{Sends}
+use Rattle.ini_text.specs.Device.HeldBack.{held}
+use Rattle.ini_text.proofs.WriteLemmas.EscapeByteLemmas.{escaped-first, escaped-next}
+use Rattle.ini_text.proofs.WriteLemmas.SendLemmas.{Sends-held, Sends-then, Sending, Sending-goes_on, Sending-starts, Sending-stays, Sending-stops}
 use Rattle.ini_text.proofs.gather.Gatherer.put_runs.Given as given
 use Rattle.ini_text.proofs.gather.Gatherer.put_runs.Goals as goal
 use Rattle.ini_text.proofs.gather.Gatherer.put_runs.Goals.{In_ok-put}

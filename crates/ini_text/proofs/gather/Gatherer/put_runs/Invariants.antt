@@ -1,10 +1,10 @@
 use Rattle.std.proofs.Common.{length}
 use denote.Text.{Utf8}
 use denote.Shadow.{shadow}
-use Rattle.ini_text.specs.Escapes.{escaped_bytes}
-use Rattle.ini_text.specs.Held.{held}
-use Rattle.ini_text.specs.Watched.{IsClear}
-use Rattle.ini_text.proofs.SendLemmas.{Sending}
+use Rattle.ini_text.specs.Escaping.EscapedTexts.{escaped_bytes}
+use Rattle.ini_text.specs.Device.HeldBack.{held}
+use Rattle.ini_text.specs.Device.Watched.{IsClear}
+use Rattle.ini_text.proofs.WriteLemmas.SendLemmas.{Sending}
 use Rattle.ini_text.proofs.gather.Gatherer.put_runs.Given as goal
 
 abbrev pub invariant-runs : goal.invariant-runs

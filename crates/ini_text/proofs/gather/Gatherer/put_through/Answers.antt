@@ -1,4 +1,4 @@
-use Rattle.ini_text.proofs.SendLemmas.{Sends-direct, Sends-then}
+use Rattle.ini_text.proofs.WriteLemmas.SendLemmas.{Sends-direct, Sends-then}
 use Rattle.ini_text.proofs.gather.Gatherer.put_through.Goals as goal
 
 pub returns : goal.returns

@@ -1,5 +1,5 @@
-use Rattle.ini_text.specs.Lanes.{is_one_of}
-use Rattle.ini_text.proofs.LaneLemmas.{bits, either, equal}
+use Rattle.ini_text.specs.Inside.Lanes.{is_one_of}
+use Rattle.ini_text.proofs.StringLemmas.LaneLemmas.{bits, either, equal}
 use Rattle.ini_text.proofs.lanes.ThreeMarks.find.Goals as goal
 
 pub returns : goal.returns

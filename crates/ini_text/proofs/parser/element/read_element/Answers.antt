@@ -1,5 +1,5 @@
 use Rattle.std.proofs.Common.{◌∙◌, sym, true≢false}
-use Rattle.ini_text.proofs.Elements.{white_gap, late_comment, comment_read, blank_is_white}
+use Rattle.ini_text.proofs.GrammarLemmas.ElementLemmas.{white_gap, late_comment, comment_read, blank_is_white}
 use Rattle.ini_text.proofs.parser.element.read_element.Goals as goal
 
 pub returns-then-contain : goal.returns-then-contain

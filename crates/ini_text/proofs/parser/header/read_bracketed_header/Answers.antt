@@ -1,9 +1,9 @@
 use Rattle.std.proofs.Common.{chars, sym, ap, ◌∙◌, subst}
 use Rattle.std.proofs.lemmas.Result.{err_from_is_err_and}
-use Rattle.ini_text.specs.Elements.{IsBracketed}
-use Rattle.ini_text.specs.White.{trimmed}
-use Rattle.ini_text.proofs.Appending.{from_nothing}
-use Rattle.ini_text.proofs.Elements.{bracketed_header_read, bracketed_header_stops, header_unended}
+use Rattle.ini_text.specs.Grammar.Elements.{IsBracketed}
+use Rattle.ini_text.specs.Grammar.WhiteSpace.{trimmed}
+use Rattle.ini_text.proofs.GrammarLemmas.AppendedValueLemmas.{from_nothing}
+use Rattle.ini_text.proofs.GrammarLemmas.ElementLemmas.{bracketed_header_read, bracketed_header_stops, header_unended}
 use Rattle.ini_text.proofs.parser.header.read_bracketed_header.Goals as goal
 
 pub returns-in_err-rest : goal.returns-in_err-rest

@@ -1,6 +1,6 @@
 use Rattle.std.proofs.Common.{chars}
 use Rattle.std.proofs.lemmas.Result.{err_from_is_err_and}
-use Rattle.ini_text.proofs.Elements.{header_read, header_stops}
+use Rattle.ini_text.proofs.GrammarLemmas.ElementLemmas.{header_read, header_stops}
 use Rattle.ini_text.proofs.parser.header.read_header.Goals as goal
 
 pub returns-in_err-name : goal.returns-in_err-name

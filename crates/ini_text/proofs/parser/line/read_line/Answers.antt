@@ -1,11 +1,12 @@
 use Rattle.std.proofs.Common.{◌≡◌, ◌++◌, ◌&&◌, not, ◌∙◌, ap, sym, rules, string_bytes, IsCharBoundary, subst, chars, take, drop, length}
 use Rattle.std.proofs.lemmas.Result.{err_from_is_err_and}
 use Rattle.std.proofs.lemmas.Str.{IsUtf8-string_bytes}
-use Rattle.ini_text.specs.Lines.{Quoted}
-use Rattle.ini_text.specs.Scans.{text_of, trimmed_at}
-use Rattle.ini_text.proofs.Appending.{nothing_yet}
-use Rattle.ini_text.proofs.Appends.{grown}
-use Rattle.ini_text.proofs.Lines.{and_quoted, quotes_stop, plain_stops, line_read}
+use Rattle.ini_text.specs.Grammar.Lines.{Quoted}
+use Rattle.ini_text.specs.Inside.Scans.{trimmed_at}
+use Rattle.ini_text.specs.Parsing.Items.{string_text}
+use Rattle.ini_text.proofs.GrammarLemmas.AppendedValueLemmas.{nothing_yet}
+use Rattle.ini_text.proofs.StringLemmas.PushLemmas.{grown}
+use Rattle.ini_text.proofs.GrammarLemmas.LineLemmas.{and_quoted, quotes_stop, plain_stops, line_read}
 use Rattle.ini_text.proofs.parser.line.read_line.Goals.{then-is_first, else-is_first}
 use Rattle.ini_text.proofs.parser.line.read_line.Goals as goal
 
@@ -39,5 +40,5 @@ returns c =
     (c.in_ok-trim_from.ensures
     ∙ ap (λ n. chars (take n (string_bytes c.read_string-2.new.out)) ++ trimmed_at c.if-is_first.trim_from (chars (drop n (string_bytes c.read_string-2.new.out)))) (c.len-start.ensures ∙ c.parts.out.bytes.ok.0)
     ∙ ap (λ x. x ++ trimmed_at c.if-is_first.trim_from (chars (drop (length (string_bytes c.parts.out)) (string_bytes c.read_string-2.new.out)))) g.front
-    ∙ ap (λ x. text_of c.parts.out ++ trimmed_at c.if-is_first.trim_from x) g.back
-    ∙ ap (λ b. text_of c.parts.out ++ trimmed_at b c.in_ok-end-2.ensures.value) both)
+    ∙ ap (λ x. string_text c.parts.out ++ trimmed_at c.if-is_first.trim_from x) g.back
+    ∙ ap (λ b. string_text c.parts.out ++ trimmed_at b c.in_ok-end-2.ensures.value) both)

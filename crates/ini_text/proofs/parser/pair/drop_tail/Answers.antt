@@ -1,8 +1,8 @@
 use Rattle.std.proofs.Common.{◌∙◌, ap, chars, subst}
-use Rattle.ini_text.specs.Readers.{StoppedBy}
-use Rattle.ini_text.specs.Strings.{StrStops, key_ends}
+use Rattle.ini_text.specs.Inside.Readers.{StoppedBy}
+use Rattle.ini_text.specs.Grammar.Strings.{StrStops, key_ends}
 use Rattle.ini_text.specs.declared.parser.fault.Stop.TheVariants as stops
-use Rattle.ini_text.proofs.Keys.{tail_dropped, tail_refused, not_at_end}
+use Rattle.ini_text.proofs.GrammarLemmas.KeyLemmas.{tail_dropped, tail_refused, not_at_end}
 use Rattle.ini_text.proofs.parser.pair.drop_tail.Goals as goal
 
 pub returns-in-EndOfText : goal.returns-in-EndOfText

@@ -1,7 +1,7 @@
 use Rattle.std.proofs.Common.{chars, ap, ◌∙◌, sym}
-use Rattle.ini_text.specs.ElementParts.{kept_blanks}
-use Rattle.ini_text.proofs.Elements.{blanks_at_end, blank_line, blanks_before_header}
-use Rattle.ini_text.proofs.Keys.{indented, key_begins, indented_key, tail_stops}
+use Rattle.ini_text.specs.Inside.ElementParts.{kept_blanks}
+use Rattle.ini_text.proofs.GrammarLemmas.ElementLemmas.{blanks_at_end, blank_line, blanks_before_header}
+use Rattle.ini_text.proofs.GrammarLemmas.KeyLemmas.{indented, key_begins, indented_key, tail_stops}
 use Rattle.ini_text.proofs.parser.pair.read_indented.Goals as goal
 
 pub returns-in_default : goal.returns-in_default

@@ -1,6 +1,6 @@
 use Rattle.std.proofs.Common.{chars}
 use Rattle.std.proofs.lemmas.Result.{err_from_is_err_and}
-use Rattle.ini_text.proofs.Keys.{unindented_key, unindented_stops}
+use Rattle.ini_text.proofs.GrammarLemmas.KeyLemmas.{unindented_key, unindented_stops}
 use Rattle.ini_text.proofs.parser.pair.read_unindented.Goals as goal
 
 pub returns-in_err-key : goal.returns-in_err-key

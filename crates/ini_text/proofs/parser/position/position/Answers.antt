@@ -1,5 +1,5 @@
 use Rattle.std.proofs.Common.{length, chars, ap, ◌∙◌, sym, rules, arith, refl}
-use Rattle.ini_text.proofs.Positions.{column-front, column-feed, line-feed, characters_fit}
+use Rattle.ini_text.proofs.StringLemmas.PositionLemmas.{column-front, column-feed, line-feed, characters_fit}
 use Rattle.ini_text.proofs.parser.position.position.Goals as goal
 
 pub characters-init : goal.characters-init

@@ -1,9 +1,9 @@
 use Rattle.std.proofs.Common.{◌≡◌, ◌+◌, ◌<◌, ◌^◌, length, chars, count_by}
 use denote.Text.{Utf8}
 use denote.Shadow.{shadow}
-use Rattle.ini_text.specs.Characters.{is_line_feed}
-use Rattle.ini_text.specs.Positions.{line_of, column_of}
-use Rattle.ini_text.proofs.Positions.{column_from}
+use Rattle.ini_text.specs.Grammar.CharacterKinds.{is_line_feed}
+use Rattle.ini_text.specs.Grammar.Positions.{line_of, column_of}
+use Rattle.ini_text.proofs.StringLemmas.PositionLemmas.{column_from}
 use Rattle.ini_text.proofs.parser.position.position.Given as goal
 
 abbrev pub decreases-characters : goal.decreases-characters

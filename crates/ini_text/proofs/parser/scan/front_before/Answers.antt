@@ -1,4 +1,4 @@
-use Rattle.ini_text.proofs.Scans.{front_boundary, front_le, front_chars}
+use Rattle.ini_text.proofs.StringLemmas.ScanLemmas.{front_boundary, front_le, front_chars}
 use Rattle.ini_text.proofs.parser.scan.front_before.Goals as goal
 
 pub overflow_sub-text : goal.overflow_sub-text

@@ -1,6 +1,6 @@
 use Rattle.std.proofs.Common.{string_bytes}
 use Rattle.std.proofs.lemmas.Str.{IsUtf8-string_bytes}
-use Rattle.ini_text.proofs.Appends.{pushed}
+use Rattle.ini_text.proofs.StringLemmas.PushLemmas.{pushed}
 use Rattle.ini_text.proofs.parser.scan.push.Goals as goal
 
 pub returns : goal.returns

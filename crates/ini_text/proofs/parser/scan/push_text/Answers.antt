@@ -1,17 +1,17 @@
 use Rattle.std.proofs.Common.{◌≡◌, ◌∷◌, ◌++◌, [], OnOk, ap, append-nil, arith, chars, string_bytes, subst, sym, ◌∙◌}
 use Rattle.std.proofs.lemmas.Str.{IsUtf8-string_bytes}
-use Rattle.ini_text.specs.Scans.{text_of}
-use Rattle.ini_text.proofs.Appends.{appended, no_characters, one_character}
+use Rattle.ini_text.specs.Parsing.Items.{string_text}
+use Rattle.ini_text.proofs.StringLemmas.PushLemmas.{appended, no_characters, one_character}
 use Rattle.ini_text.proofs.parser.scan.push_text.Goals as goal
 
 pub returns-in-empty : goal.returns-in-empty
-returns-in-empty c = sym (ap (λ x. text_of c.args.out.now ++ x) (no_characters c.args.text.now (omega (arith, c.as_bytes.ensures.len))) ∙ append-nil _)
+returns-in-empty c = sym (ap (λ x. string_text c.args.out.now ++ x) (no_characters c.args.text.now (omega (arith, c.as_bytes.ensures.len))) ∙ append-nil _)
 
 pub returns-in-len1 : goal.returns-in-len1
 returns-in-len1 c =
     let bytes = c.as_bytes.result.now in
     let one = one_character bytes c.as_bytes.ensures.utf8 (omega arith) c.if-byte-lt128.true in
-    subst (λ x. OnOk c.push.result (text_of c.push.new.out ≡ text_of c.args.out.now ++ x))
+    subst (λ x. OnOk c.push.result (string_text c.push.new.out ≡ string_text c.args.out.now ++ x))
     (ap (λ b. b ∷ []) c.from.ensures ∙ sym one ∙ ap chars c.as_bytes.ensures.value) c.push.ensures
 
 pub returns-in_default : goal.returns-in_default

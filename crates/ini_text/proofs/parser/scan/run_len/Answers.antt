@@ -1,8 +1,8 @@
 use Rattle.std.proofs.Common.{not, sym, ◌∙◌}
-use Rattle.ini_text.specs.Lanes.{is_one_of}
-use Rattle.ini_text.specs.Scans.{is_plain}
-use Rattle.ini_text.specs.ParserFaults.{ends_of}
-use Rattle.ini_text.proofs.LaneLemmas.{same_run}
+use Rattle.ini_text.specs.Inside.Lanes.{is_one_of}
+use Rattle.ini_text.specs.Inside.Scans.{is_plain}
+use Rattle.ini_text.specs.Inside.ParserFaults.{ends_of}
+use Rattle.ini_text.proofs.StringLemmas.LaneLemmas.{same_run}
 use Rattle.ini_text.proofs.parser.scan.run_len.Goals as goal
 
 pub returns-clause-len : goal.returns-clause-len

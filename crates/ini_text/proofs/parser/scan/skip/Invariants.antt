@@ -1,7 +1,7 @@
 use Rattle.std.proofs.Common.{◌≡◌, length, chars}
 use denote.Text.{Utf8}
 use denote.Shadow.{shadow}
-use Rattle.ini_text.specs.Scans.{is_in, skipped}
+use Rattle.ini_text.specs.Inside.Scans.{is_in, skipped}
 use Rattle.ini_text.proofs.parser.scan.skip.Given as goal
 
 abbrev pub decreases-characters : goal.decreases-characters

@@ -1,8 +1,8 @@
 use Rattle.std.proofs.Common.{◌≡◌, not, ◌∙◌}
 use Rattle.std.specs.List.{prefix_len}
-use Rattle.ini_text.specs.Characters.{is_line_feed}
-use Rattle.ini_text.proofs.Runs.{boundary, line_feed_narrow, run_skipped}
-use Rattle.ini_text.proofs.LaneLemmas.{not_three, same_run}
+use Rattle.ini_text.specs.Grammar.CharacterKinds.{is_line_feed}
+use Rattle.ini_text.proofs.StringLemmas.RunLemmas.{boundary, line_feed_narrow, run_skipped}
+use Rattle.ini_text.proofs.StringLemmas.LaneLemmas.{not_three, same_run}
 use Rattle.ini_text.proofs.parser.scan.skip_line.Goals as goal
 use Rattle.ini_text.proofs.parser.scan.skip_line.Goals.{After-run_before}
 

@@ -1,6 +1,6 @@
 use Rattle.std.proofs.Common.{◌∙◌, ap, sym, length, ◌++◌, encode_utf8}
-use Rattle.ini_text.proofs.Appends.{no_characters}
-use Rattle.ini_text.proofs.Scans.{last_chars}
+use Rattle.ini_text.proofs.StringLemmas.PushLemmas.{no_characters}
+use Rattle.ini_text.proofs.StringLemmas.ScanLemmas.{last_chars}
 use Rattle.ini_text.proofs.parser.scan.split_last.Goals as goal
 
 pub returns-in_err-last : goal.returns-in_err-last

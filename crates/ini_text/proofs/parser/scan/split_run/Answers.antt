@@ -1,7 +1,7 @@
 use Rattle.std.proofs.Common.{refl}
-use Rattle.ini_text.specs.Scans.{is_plain}
-use Rattle.ini_text.specs.ParserFaults.{ends_of}
-use Rattle.ini_text.proofs.Runs.{boundary, plain_wide, split_chars, run_chars, run_stops}
+use Rattle.ini_text.specs.Inside.Scans.{is_plain}
+use Rattle.ini_text.specs.Inside.ParserFaults.{ends_of}
+use Rattle.ini_text.proofs.StringLemmas.RunLemmas.{boundary, plain_wide, split_chars, run_chars, run_stops}
 use Rattle.ini_text.proofs.parser.scan.split_run.Goals as goal
 
 pub split_at-requires : goal.split_at-requires

@@ -1,6 +1,6 @@
 use Rattle.std.proofs.Common.{◌∷◌, [], sym, refl, arith}
 use Rattle.std.proofs.lemmas.Result.{err_from_is_err_and}
-use Rattle.ini_text.proofs.Units.{no_unit, one_more_unit, units_stop, four_unknown, four_spell}
+use Rattle.ini_text.proofs.GrammarLemmas.UnitLemmas.{no_unit, one_more_unit, units_stop, four_unknown, four_spell}
 use Rattle.ini_text.proofs.parser.string.read_coded.Goals as goal
 
 pub returns-in_err-a : goal.returns-in_err-a

@@ -1,11 +1,11 @@
 use Rattle.std.proofs.Common.{◌≡◌, ◌≢◌, ◌∙◌, sym, true, rules}
 use Rattle.std.proofs.lemmas.Bool.{false≢true}
 use Rattle.std.proofs.lemmas.Result.{err_from_is_err_and}
-use Rattle.ini_text.specs.Characters.{letter_x}
-use Rattle.ini_text.specs.Strings.{Row}
-use Rattle.ini_text.proofs.Appending.{nothing_yet}
-use Rattle.ini_text.proofs.Escapes.{one_character, units_stop, with_units}
-use Rattle.ini_text.proofs.Strings.{and_run, and_escape, escape_stops, string_at_end, string_at_endpoint, lone_backslash, ends_early, ends_behind_backslash, behind_backslash}
+use Rattle.ini_text.specs.Grammar.CharacterKinds.{letter_x}
+use Rattle.ini_text.specs.Grammar.Strings.{Row}
+use Rattle.ini_text.proofs.GrammarLemmas.AppendedValueLemmas.{nothing_yet}
+use Rattle.ini_text.proofs.GrammarLemmas.EscapeSequenceLemmas.{one_character, units_stop, with_units}
+use Rattle.ini_text.proofs.GrammarLemmas.StringProductionLemmas.{and_run, and_escape, escape_stops, string_at_end, string_at_endpoint, lone_backslash, ends_early, ends_behind_backslash, behind_backslash}
 use Rattle.ini_text.proofs.parser.string.read_string.Goals as goal
 use Rattle.ini_text.proofs.parser.string.read_string.Goals.{else-escapes-via-then-escapes+else-d-eq120, else-escapes-via-else-escapes}
 

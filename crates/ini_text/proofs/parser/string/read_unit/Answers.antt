@@ -1,4 +1,4 @@
-use Rattle.ini_text.proofs.Units.{unit_end, unit_character, unit_cut, unit_folded, unit_broken}
+use Rattle.ini_text.proofs.GrammarLemmas.UnitLemmas.{unit_end, unit_character, unit_cut, unit_folded, unit_broken}
 use Rattle.ini_text.proofs.parser.string.read_unit.Goals as goal
 
 pub returns-in_default : goal.returns-in_default

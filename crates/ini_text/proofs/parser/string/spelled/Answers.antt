@@ -1,8 +1,8 @@
 use Rattle.std.proofs.Common.{◌≡◌, ◌||◌, eqb, true, refl}
 use Rattle.std.specs.Char.{is_digit}
-use Rattle.ini_text.specs.Characters.{plus}
-use Rattle.ini_text.specs.Pieces.{first_digit}
-use Rattle.ini_text.proofs.Spelling.{spelled_value, first_plus, first_other}
+use Rattle.ini_text.specs.Grammar.CharacterKinds.{plus}
+use Rattle.ini_text.specs.Grammar.EscapeSequences.{first_digit}
+use Rattle.ini_text.proofs.GrammarLemmas.SpellingLemmas.{spelled_value, first_plus, first_other}
 use Rattle.ini_text.proofs.parser.string.spelled.Goals as goal
 use Rattle.ini_text.proofs.parser.string.spelled.Goals.{then-a-eq43, else-a-eq43+in_ok-first}
 

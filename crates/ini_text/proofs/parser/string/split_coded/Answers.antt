@@ -1,5 +1,5 @@
 use Rattle.std.proofs.Common.{sym}
-use Rattle.ini_text.proofs.Escapes.{four_characters}
+use Rattle.ini_text.proofs.GrammarLemmas.EscapeSequenceLemmas.{four_characters}
 use Rattle.ini_text.proofs.parser.string.split_coded.Goals as goal
 
 pub returns : goal.returns

@@ -1,7 +1,7 @@
 use Rattle.std.proofs.Common.{refl, sym, chars, ◌∙◌}
-use Rattle.ini_text.specs.Strings.{Row}
-use Rattle.ini_text.proofs.Appending.{nothing_yet}
-use Rattle.ini_text.proofs.Strings.{and_run, string_at_end, string_at_endpoint}
+use Rattle.ini_text.specs.Grammar.Strings.{Row}
+use Rattle.ini_text.proofs.GrammarLemmas.AppendedValueLemmas.{nothing_yet}
+use Rattle.ini_text.proofs.GrammarLemmas.StringProductionLemmas.{and_run, string_at_end, string_at_endpoint}
 use Rattle.ini_text.proofs.parser.string.split_plain.Goals.{in-Some+else-c-eq92, in-None+else-not-contain_text_end}
 use Rattle.ini_text.proofs.parser.string.split_plain.Goals as goal
 

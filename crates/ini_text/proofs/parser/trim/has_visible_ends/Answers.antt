@@ -1,5 +1,5 @@
 use Rattle.std.proofs.Common.{◌-◌, length, get_or, sym, ap, ◌∙◌, arith}
-use Rattle.ini_text.proofs.VisibleEndLemmas.{visible_ends}
+use Rattle.ini_text.proofs.StringLemmas.VisibleEndLemmas.{visible_ends}
 use Rattle.ini_text.proofs.parser.trim.has_visible_ends.Goals as goal
 
 pub returns-then-is_visible : goal.returns-then-is_visible

@@ -1,7 +1,7 @@
 use Rattle.std.proofs.Common.{◌≡◌, ◌⊎◌, inl, inr, false, chars, ap, ◌∙◌, sym, string_bytes, drop}
 use Rattle.std.proofs.lemmas.Str.{IsUtf8-string_bytes}
-use Rattle.ini_text.specs.Scans.{begins_white}
-use Rattle.ini_text.proofs.Trims.{all_trimmed_from, end_trimmed_from, trimmed_boundary}
+use Rattle.ini_text.specs.Inside.Scans.{begins_white}
+use Rattle.ini_text.proofs.StringLemmas.TrimLemmas.{all_trimmed_from, end_trimmed_from, trimmed_boundary}
 use Rattle.ini_text.proofs.parser.trim.trim_from.Goals.{else-both-via-then-both+else-begins_white, else-both-via-else-both}
 use Rattle.ini_text.proofs.parser.trim.trim_from.Goals as goal
 

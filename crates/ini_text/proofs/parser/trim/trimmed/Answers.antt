@@ -1,5 +1,5 @@
 use Rattle.std.proofs.Common.{ap, chars, ◌∙◌}
-use Rattle.ini_text.proofs.Trims.{chars_trim, chars_trim_end}
+use Rattle.ini_text.proofs.StringLemmas.TrimLemmas.{chars_trim, chars_trim_end}
 use Rattle.ini_text.proofs.parser.trim.trimmed.Goals as goal
 
 pub returns-then-both : goal.returns-then-both

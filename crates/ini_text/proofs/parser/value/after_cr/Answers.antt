@@ -1,4 +1,4 @@
-use Rattle.ini_text.proofs.MoreLines.{cr_alone, cr_at_end}
+use Rattle.ini_text.proofs.GrammarLemmas.MoreLinesLemmas.{cr_alone, cr_at_end}
 use Rattle.ini_text.proofs.parser.value.after_cr.Goals as goal
 
 pub returns-in-None : goal.returns-in-None

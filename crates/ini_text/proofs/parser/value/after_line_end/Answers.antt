@@ -1,5 +1,5 @@
-use Rattle.ini_text.specs.Characters.{is_line_feed}
-use Rattle.ini_text.proofs.LineEnds.{end_lf, end_cr, end_cr_lf, no_line_feed, nothing}
+use Rattle.ini_text.specs.Grammar.CharacterKinds.{is_line_feed}
+use Rattle.ini_text.proofs.GrammarLemmas.LineEndLemmas.{end_lf, end_cr, end_cr_lf, no_line_feed, nothing}
 use Rattle.ini_text.proofs.parser.value.after_line_end.Goals as goal
 
 pub returns-then-c-eq10 : goal.returns-then-c-eq10

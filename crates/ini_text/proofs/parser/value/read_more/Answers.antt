@@ -1,9 +1,9 @@
 use Rattle.std.proofs.Common.{[], ◌∷◌, ◌++◌, chars, ap, ◌∙◌, sym, rules, append_assoc, append-nil, subst}
 use Rattle.std.proofs.lemmas.Result.{err_from_is_err_and}
-use Rattle.ini_text.specs.Characters.{line_feed, is_blank, is_line_end, BeginsWithNo}
-use Rattle.ini_text.specs.Scans.{text_of}
-use Rattle.ini_text.proofs.LineEnds.{nothing, no_line_end}
-use Rattle.ini_text.proofs.MoreLines.{none_read, and_line, empty_lf, empty_cr_lf, continued, last_line, line_stops, cr_stops, lines_stop, lines_read, no_more, shorter}
+use Rattle.ini_text.specs.Grammar.CharacterKinds.{line_feed, is_blank, is_line_end, BeginsWithNo}
+use Rattle.ini_text.specs.Parsing.Items.{string_text}
+use Rattle.ini_text.proofs.GrammarLemmas.LineEndLemmas.{nothing, no_line_end}
+use Rattle.ini_text.proofs.GrammarLemmas.MoreLinesLemmas.{none_read, and_line, empty_lf, empty_cr_lf, continued, last_line, line_stops, cr_stops, lines_stop, lines_read, no_more, shorter}
 use Rattle.ini_text.proofs.parser.value.read_more.Goals as goal
 
 pub lines-init : goal.lines-init
@@ -33,7 +33,7 @@ pub returns-in_default-after_line_end : goal.returns-in_default-after_line_end
 returns-in_default-after_line_end c =
     let read = c.in_ok-end.ensures in
     lines_read c.lines.invariant.lines (last_line c.in-Some.ensures.characters (sym c.contain.ensures ∙ c.if-contain.true) c.skip.ensures read c.in_default-after_line_end.ensures)
-    (read.appended ∙ ap (λ x. x ++ read.value) c.in_ok-push-3.ensures ∙ append_assoc (text_of c.lines.out) (line_feed ∷ []) read.value)
+    (read.appended ∙ ap (λ x. x ++ read.value) c.in_ok-push-3.ensures ∙ append_assoc (string_text c.lines.out) (line_feed ∷ []) read.value)
 
 pub lines-smaller : goal.lines-smaller
 lines-smaller c = shorter (chars c.lines.rest.now) c.skip.ensures c.in_ok-end.ensures c.in-Some-after_line_end.ensures
@@ -43,7 +43,7 @@ lines-preserved c =
     let read = c.in_ok-end.ensures in
     record {
       text = search rules;
-      lines = and_line _ c.lines.invariant.lines (read.appended ∙ ap (λ x. x ++ read.value) c.in_ok-push-3.ensures ∙ append_assoc (text_of c.lines.out) (line_feed ∷ []) read.value)
+      lines = and_line _ c.lines.invariant.lines (read.appended ∙ ap (λ x. x ++ read.value) c.in_ok-push-3.ensures ∙ append_assoc (string_text c.lines.out) (line_feed ∷ []) read.value)
           (continued c.in-Some.ensures.characters (sym c.contain.ensures ∙ c.if-contain.true) c.skip.ensures read c.in-Some-after_line_end.ensures);
     }
 

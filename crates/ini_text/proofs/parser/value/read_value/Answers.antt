@@ -1,7 +1,7 @@
 use Rattle.std.proofs.Common.{◌∙◌, ap, chars}
 use Rattle.std.proofs.lemmas.Result.{err_from_is_err_and}
-use Rattle.ini_text.specs.White.{without_outer_line_feeds}
-use Rattle.ini_text.proofs.Values.{one_line, value_to_end, value_of_lines, first_line_stops, later_line_stops}
+use Rattle.ini_text.specs.Grammar.WhiteSpace.{without_outer_line_feeds}
+use Rattle.ini_text.proofs.GrammarLemmas.ValueLemmas.{one_line, value_to_end, value_of_lines, first_line_stops, later_line_stops}
 use Rattle.ini_text.proofs.parser.value.read_value.Goals as goal
 
 pub returns-in_err-value : goal.returns-in_err-value

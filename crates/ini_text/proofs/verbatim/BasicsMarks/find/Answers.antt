@@ -1,10 +1,10 @@
 use Rattle.std.proofs.Common.{◌∙◌, ap, sym}
 use lib.Lanes.{mask_l}
-use Rattle.ini_text.specs.Policies.{is_basic}
-use Rattle.ini_text.specs.Verbatim.{begins_escaped}
+use Rattle.ini_text.specs.Escaping.Policies.{is_basic}
+use Rattle.ini_text.specs.Inside.Verbatim.{begins_escaped}
 use Rattle.ini_text.specs.declared.policy.EscapePolicy.TheVariants.{Basics}
-use Rattle.ini_text.proofs.LaneLemmas.{below, bits, either, equal, map_same}
-use Rattle.ini_text.proofs.VerbatimRuns.{begins-basic}
+use Rattle.ini_text.proofs.StringLemmas.LaneLemmas.{below, bits, either, equal, map_same}
+use Rattle.ini_text.proofs.WriteLemmas.VerbatimRunLemmas.{begins-basic}
 use Rattle.ini_text.proofs.verbatim.BasicsMarks.find.Goals as goal
 
 pub returns : goal.returns

@@ -1,0 +1,101 @@
+-- Texts that are written one after another.
+use Rattle.std.proofs.Common.{◌≡◌, ◌∙◌, sym, subst, ap, refl, ℕ, ◌+◌, ◌<◌, List, [], ◌∷◌, ◌++◌, flat_map, get_or, drop, drop-cons, add-one, length, Option, Some, Result, Ok, Err, append_assoc, encode_utf8_all}
+use Rattle.std.proofs.lemmas.Str.{encodes-append, encodes-chars}
+use Rattle.std.specs.Str.{chars}
+use Rattle.ini_text.specs.Grammar.CharacterKinds.{close_bracket, open_bracket}
+use Rattle.ini_text.specs.Escaping.EscapedTexts.{escaped}
+use Rattle.ini_text.specs.Options.WriteOptions.{IsDefaultWriteOption, line_end}
+use Rattle.ini_text.specs.Device.Watched.{IsClear}
+use Rattle.ini_text.proofs.WriteLemmas.SendLemmas.{Sends-cut, Sends-nil, Sends-then}
+use Rattle.ini_text.specs.declared.error.Error.{Error}
+use Rattle.ini_text.specs.declared.policy.EscapePolicy.{EscapePolicy}
+use Rattle.ini_text.specs.declared.write_option.LineSeparator.{LineSeparator}
+use Rattle.ini_text.specs.declared.write_option.LineSeparator.TheVariants.{SystemDefault, CR, CRLF}
+use Rattle.ini_text.specs.declared.watched.Watched.{Watched}
+use Rattle.ini.specs.Texts.{Text}
+use Rattle.ini.specs.Inside.SentTexts.{SendsText}
+use Rattle.ini.specs.Documents.{Document}
+use Rattle.ini.specs.Written.{written, written_name, written_pair}
+use Rattle.ini_text.specs.declared.write_option.WriteOption.{WriteOption}
+
+module _ {W : Type 0} {contents : W → Option (List ℕ)} where
+  -- the second text behind the first
+  pub SendsText-then : {a b d : Watched W} {h i j : List ℕ} {r : Result (Unit {0}) Error} {xs ys : Text} → SendsText contents a b h i (Ok (tt {0})) xs → SendsText contents b d i j r ys
+      → SendsText contents a d h j r (xs ++ ys)
+  SendsText-then first second = record { sends = rw encodes-append (Sends-then first.sends second.sends) }
+
+  -- a text that was cut short, and what should have followed
+  pub SendsText-cut : {a b : Watched W} {h i : List ℕ} {e : Error} {xs : Text} (ys : Text) → SendsText contents a b h i (Err e) xs → SendsText contents a b h i (Err e) (xs ++ ys)
+  SendsText-cut ys cut = record { sends = rw encodes-append (Sends-cut (encode_utf8_all ys) cut.sends) }
+
+-- a part of a whole text is written, and the rest is left
+pub record Writing {W : Type 0} (contents : W → Option (List ℕ)) (a b : Watched W) (before held : List ℕ) (whole rest : Text) : Type 0 where
+  pub so_far : Text
+  pub joined : so_far ++ rest ≡ whole
+  pub done : SendsText contents a b before held (Ok (tt {0})) so_far
+
+module _ {W : Type 0} {contents : W → Option (List ℕ)} where
+  pub Writing-starts : (a : Watched W) (h : List ℕ) {whole : Text} → IsClear a → Writing contents a a h h whole whole
+  Writing-starts a h clear = record { so_far = []; joined = refl; done = record { sends = Sends-nil h clear } }
+
+  -- a call that was to write the front xs of the rest
+  module _ {a b d : Watched W} {h i j : List ℕ} {whole rest xs : Text} (more : Text) (front : rest ≡ xs ++ more) (left : Writing contents a b h i whole rest) where
+    pub Writing-goes_on : SendsText contents b d i j (Ok (tt {0})) xs → Writing contents a d h j whole more
+    Writing-goes_on step = record {
+      so_far = left.so_far ++ xs;
+      joined = append_assoc left.so_far xs more ∙ ap (λ l. left.so_far ++ l) (sym front) ∙ left.joined;
+      done = SendsText-then left.done step;
+    }
+
+    pub Writing-stops : {e : Error} → SendsText contents b d i j (Err e) xs → SendsText contents a d h j (Err e) whole
+    Writing-stops {e} cut =
+        subst (SendsText contents a d h j (Err e)) (ap (λ l. left.so_far ++ l) (sym front) ∙ left.joined)
+        (SendsText-then left.done (SendsText-cut more cut))
+
+-- the texts of a list's elements, from one of them on
+pub flat_map-drop : {X : Type 0} (f : X → Text) (xs : List X) (i : ℕ) (d : X) → i < length xs → flat_map f (drop i xs) ≡ f (get_or xs i d) ++ flat_map f (drop (i + 1) xs)
+flat_map-drop f xs i d below = rw (add-one, drop-cons xs i d) refl
+
+-- the parts of a line, whose bytes are their characters
+pub chars-open_bracket : chars (open_bracket ∷ []) ≡ open_bracket ∷ []
+unfolding chars
+chars-open_bracket = refl
+
+pub chars-close_bracket : chars (close_bracket ∷ []) ≡ close_bracket ∷ []
+unfolding chars
+chars-close_bracket = refl
+
+pub chars-line_end : (s : LineSeparator) → chars (line_end s) ≡ line_end s
+unfolding chars
+chars-line_end SystemDefault = refl
+chars-line_end CR = refl
+chars-line_end CRLF = refl
+
+-- a pair's line and a header by their parts
+pub pair_parts : (w : WriteOption) (key value : Text) → (escaped w.escape_policy key ++ chars w.kv_separator.now) ++ (escaped w.escape_policy value ++ chars (line_end w.line_separator)) ≡ written_pair w (key, value)
+pair_parts w key value =
+    let front = escaped w.escape_policy key ++ chars w.kv_separator.now in
+    ap (λ l. front ++ (escaped w.escape_policy value ++ l)) (chars-line_end w.line_separator)
+    ∙ sym (append_assoc front (escaped w.escape_policy value) (line_end w.line_separator))
+
+pub header_parts : (w : WriteOption) (name : Text) → (chars (open_bracket ∷ []) ++ (escaped w.escape_policy name ++ chars (close_bracket ∷ []))) ++ chars (line_end w.line_separator) ≡ written_name w (Some name)
+header_parts w name =
+    rw (chars-open_bracket, chars-close_bracket, chars-line_end w.line_separator)
+    (ap (λ l. open_bracket ∷ l) (append_assoc (escaped w.escape_policy name) (close_bracket ∷ []) (line_end w.line_separator)))
+
+-- what is written by options that say the same
+written_alike : (d : Document) (v w : WriteOption) → v.escape_policy ≡ w.escape_policy → v.line_separator ≡ w.line_separator → v.kv_separator.now ≡ w.kv_separator.now → written d v ≡ written d w
+written_alike d v w policy line separator =
+    λ i. written d (record { escape_policy = policy i; line_separator = line i; kv_separator = record v.kv_separator { now = separator i } })
+
+-- by two default options
+pub same_written : (d : Document) (v w : WriteOption) → IsDefaultWriteOption v → IsDefaultWriteOption w → written d v ≡ written d w
+same_written d v w a b =
+    written_alike d v w (a.escape_policy ∙ sym b.escape_policy) (a.line_separator ∙ sym b.line_separator) (a.kv_separator ∙ sym b.kv_separator)
+
+-- by two default options with one policy
+pub same_written_by : (policy : EscapePolicy) (d : Document) (v w : WriteOption) → IsDefaultWriteOption v → IsDefaultWriteOption w → written d (record v { escape_policy = policy }) ≡ written d (record w { escape_policy = policy })
+same_written_by policy d v w a b =
+    written_alike d (record v { escape_policy = policy }) (record w { escape_policy = policy }) refl (a.line_separator ∙ sym b.line_separator) (a.kv_separator ∙ sym b.kv_separator)
+
+pub ruleset steps = (encodes-chars, chars-line_end, chars-open_bracket, chars-close_bracket)

@@ -1,0 +1,4 @@
+-- What serves private functions alone: no public contract and no law rests on it.
+pub mod InnerLends
+pub mod SentTexts
+pub mod PlainSections

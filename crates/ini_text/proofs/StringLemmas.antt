@@ -1,0 +1,11 @@
+-- Strings and their bytes, seen as characters.
+pub mod FrontLemmas
+pub mod TrimLemmas
+pub mod ScanLemmas
+pub mod LaneLemmas
+pub mod RunLemmas
+pub mod PushLemmas
+pub mod LineFeedLemmas
+pub mod PositionLemmas
+pub mod SameTextLemmas
+pub mod VisibleEndLemmas

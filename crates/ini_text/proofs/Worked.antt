@@ -1,0 +1,7 @@
+-- Texts that are worked out over the definitions alone.
+pub mod DerivationLemmas
+pub mod WorkedTexts
+pub mod WorkedRefusals
+pub mod WorkedBrackets
+pub mod EscapedSamples
+pub mod PlainSamples

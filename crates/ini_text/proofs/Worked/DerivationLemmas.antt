@@ -1,0 +1,245 @@
+-- Derivations of written-out texts, put together from the front to the end. What the grammar asks of a plain part of a
+-- text, one without backslashes and quotes, is one test here, which computes.
+use Rattle.std.proofs.Common.{◌≡◌, ◌≢◌, inl, inr, ℕ, Bool, true, false, not, ◌&&◌, List, [], ◌∷◌, ◌++◌, refl, sym, ◌∙◌, append_assoc, subst}
+use Rattle.std.specs.Prelude.{if◌then◌else◌, ◌==◌, Option, Some, map}
+use Rattle.std.specs.Char.{is_whitespace}
+use Rattle.std.specs.List.{list_all}
+use Rattle.std.proofs.lemmas.List.{append-nil}
+use Rattle.std.proofs.lemmas.Bool.{and_parts, and_cases, eqb-false, not-true, false≢true, both_ways}
+use Rattle.ini_text.specs.Grammar.CharacterKinds.{backslash, equals, double_quote, open_bracket, close_bracket, is_blank, is_mark, is_inline_white, BeginsWith, BeginsWithNo}
+use Rattle.ini_text.specs.Grammar.Positions.{starts_line}
+use Rattle.ini_text.specs.Grammar.WhiteSpace.{Lead, trimmed, end_trimmed}
+use Rattle.ini_text.specs.Grammar.EscapeSequences.{Units}
+use Rattle.ini_text.specs.Grammar.Strings.{Ends, is_endpoint, Row, Str, Closes, name_ends, bracketed_name_ends, key_ends, quote_ends, plain_ends}
+use Rattle.ini_text.specs.Grammar.Lines.{Quoted, Line, BeginsPlain, plain_value}
+use Rattle.ini_text.specs.Grammar.Values.{Value, ValueStops}
+use Rattle.ini_text.specs.Grammar.Keys.{Indentation, begins_key, begins_indented_key, KeyFront}
+use Rattle.ini_text.specs.Grammar.Elements.{Given, Element, ElementStops, Gap}
+use Rattle.ini_text.specs.Grammar.Elements.Given.{Header, Pair}
+use Rattle.ini_text.specs.Grammar.Texts.{Reads, Derives, Stops}
+use Rattle.ini_text.specs.declared.option.ParseOption.{ParseOption}
+use Rattle.ini_text.specs.declared.error.ParseKind.{ParseKind}
+use Rattle.ini_text.proofs.GrammarLemmas.ItemLemmas.{reads-append}
+
+-- behind the front b, the rest t of a text gives the items
+pub data RestGives (o : ParseOption) : List ℕ → List ℕ → List Given → Type 0 where
+  whole : {b : List ℕ} → RestGives o b [] []
+  skip : {b s r : List ℕ} {items : List Given} → Element o b s r [] → RestGives o (b ++ s) r items → RestGives o b (s ++ r) items
+  give : {b s r : List ℕ} {item : Given} {items : List Given} → Element o b s r (item ∷ []) → RestGives o (b ++ s) r items → RestGives o b (s ++ r) (item ∷ items)
+
+-- behind the front b, reading the rest t of a text stops at the end of the front f
+pub data RestStops (o : ParseOption) : List ℕ → List ℕ → ParseKind → List ℕ → Type 0 where
+  stop : {b s r : List ℕ} {kind : ParseKind} → ElementStops o b s r kind → RestStops o b (s ++ r) kind (b ++ s)
+  past : {b s r f : List ℕ} {kind : ParseKind} {gives : List Given} → Element o b s r gives → RestStops o (b ++ s) r kind f → RestStops o b (s ++ r) kind f
+
+rest_reads : {o : ParseOption} {T b t : List ℕ} {items : List Given} → T ≡ b ++ t → RestGives o b t items → Reads o T b items T
+rest_reads {o} {T} {b} e RestGives.whole = subst (λ c. Reads o T b [] c) (sym (e ∙ append-nil b)) (Reads.stay [] e)
+rest_reads {b = b} e (RestGives.skip {s = s} {r = r} x rest) = Reads.step e x (rest_reads (e ∙ sym (append_assoc b s r)) rest)
+rest_reads {b = b} e (RestGives.give {s = s} {r = r} x rest) = Reads.step e x (rest_reads (e ∙ sym (append_assoc b s r)) rest)
+
+pub derives : {o : ParseOption} {T : List ℕ} {items : List Given} → RestGives o [] T items → Derives o T items
+derives rest = rest_reads refl rest
+
+rest_stops : {o : ParseOption} {T b t f : List ℕ} {items : List Given} {kind : ParseKind} → Reads o T [] items b → T ≡ b ++ t → RestStops o b t kind f → Stops o T kind f
+rest_stops before e (RestStops.stop x) = Stops.stops before e x
+rest_stops {b = b} before e (RestStops.past {s = s} {r = r} x rest) =
+    let more = e ∙ sym (append_assoc b s r) in
+    rest_stops (reads-append before (Reads.step e x (Reads.stay r more))) more rest
+
+pub stops : {o : ParseOption} {T f : List ℕ} {kind : ParseKind} → RestStops o [] T kind f → Stops o T kind f
+stops {T = T} rest = rest_stops (Reads.stay T refl) refl rest
+
+-- two characters that differ
+pub differs : {c d : ℕ} → (c == d) ≡ false → c ≢ d
+differs {c} {d} h = eqb-false c d h
+
+-- `BeginsWith`, `BeginsWithNo` and `Closes` as tests
+abbrev pub begins : (ℕ → Bool) → List ℕ → Bool
+begins test [] = false
+begins test (c ∷ cs) = test c
+
+abbrev pub begins_no : (ℕ → Bool) → List ℕ → Bool
+begins_no test [] = true
+begins_no test (c ∷ cs) = not (test c)
+
+abbrev pub closes : Ends → List ℕ → Bool
+closes ends [] = ends.text
+closes ends (c ∷ cs) = is_endpoint ends c
+
+begins_with : (test : ℕ → Bool) (cs : List ℕ) → begins test cs ≡ true → BeginsWith test cs
+begins_with test [] h = absurd (false≢true h)
+begins_with test (c ∷ cs) h = h
+
+begins_with_no : (test : ℕ → Bool) (cs : List ℕ) → begins_no test cs ≡ true → BeginsWithNo test cs
+begins_with_no test [] h = tt
+begins_with_no test (c ∷ cs) h = not-true (test c) h
+
+closed_by : (ends : Ends) (r : List ℕ) → closes ends r ≡ true → Closes ends r
+closed_by ends [] h = h
+closed_by ends (c ∷ cs) h = h
+
+-- a character that stands for itself
+abbrev pub is_raw : Ends → ℕ → Bool
+is_raw ends c = not (c == backslash) && not (is_endpoint ends c)
+
+-- raw characters before a row
+pub raws_before : {escapes : Bool} {ends : Ends} {t v : List ℕ} (s : List ℕ) → list_all (is_raw ends) s ≡ true → Row escapes ends t v → Row escapes ends (s ++ t) (s ++ v)
+raws_before [] h row = row
+raws_before {ends = ends} (c ∷ s) h row =
+    let parts = and_parts (is_raw ends c) (list_all (is_raw ends) s) h in
+    let raw = and_parts (not (c == backslash)) (not (is_endpoint ends c)) parts.0 in
+    Row.raw (eqb-false c backslash (not-true (c == backslash) raw.0)) (not-true (is_endpoint ends c) raw.1) (raws_before s parts.1 row)
+
+pub raws : {escapes : Bool} {ends : Ends} (s : List ℕ) → list_all (is_raw ends) s ≡ true → Row escapes ends s s
+raws {escapes} {ends} s h = let row : Row escapes ends (s ++ []) (s ++ []) = raws_before s h Row.none in rw append-nil at row
+
+-- a string of raw characters
+abbrev pub is_raw_string : Ends → List ℕ → List ℕ → Bool
+is_raw_string ends s r = list_all (is_raw ends) s && closes ends r
+
+pub raw_string : {escapes : Bool} {ends : Ends} {r : List ℕ} (s : List ℕ) → is_raw_string ends s r ≡ true → Str escapes ends s r s
+raw_string {ends = ends} {r = r} s h = let parts = and_parts (list_all (is_raw ends) s) (closes ends r) h in Str.closed (raws s parts.0) (closed_by ends r parts.1)
+
+-- units of one character each, before others
+pub units_before : {t : List ℕ} {us : List (Option ℕ)} (u : List ℕ) → list_all (λ c. not (c == backslash)) u ≡ true → Units t us → Units (u ++ t) (map Some u ++ us)
+units_before [] h rest = rest
+units_before (c ∷ u) h rest =
+    let parts = and_parts (not (c == backslash)) (list_all (λ e. not (e == backslash)) u) h in
+    Units.character (eqb-false c backslash (not-true (c == backslash) parts.0)) (units_before u parts.1 rest)
+
+-- the white space before a line
+abbrev pub is_lead : List ℕ → List ℕ → Bool
+is_lead w r = list_all is_inline_white w && begins_no is_inline_white r
+
+pub lead : (w r : List ℕ) → is_lead w r ≡ true → Lead w r
+lead w r h =
+    let parts = and_parts (list_all is_inline_white w) (begins_no is_inline_white r) h in
+    record { white = parts.0; ends = begins_with_no is_inline_white r parts.1 }
+
+-- the blanks before a key, a header or a line end
+abbrev pub is_indentation : List ℕ → List ℕ → Bool
+is_indentation b w = starts_line b && (begins is_blank w && list_all is_blank w)
+
+pub indentation : (b w : List ℕ) → is_indentation b w ≡ true → Indentation b w
+indentation b w h =
+    let start = and_parts (starts_line b) (begins is_blank w && list_all is_blank w) h in
+    let blanks = and_parts (begins is_blank w) (list_all is_blank w) start.1 in
+    record { at_line_start = start.0; some = begins_with is_blank w blanks.0; blank = blanks.1 }
+
+-- a part in double quotes, before other parts
+pub quoted : {o : ParseOption} {q w : List ℕ} {some : Bool} (s : List ℕ) → o.enabled_quote ≡ true → is_raw_string (quote_ends double_quote) s (double_quote ∷ []) ≡ true
+    → Quoted o q w some → Quoted o (double_quote ∷ (s ++ double_quote ∷ q)) (s ++ w) true
+quoted s on h rest = Quoted.part on refl (raw_string s h) rest
+
+begins_plain : (o : ParseOption) (cs : List ℕ) → begins_no is_mark cs ≡ true → BeginsPlain o cs
+begins_plain o cs h _ = begins_with_no is_mark cs h
+
+-- a line without quotes
+pub unquoted_line : {o : ParseOption} {first : Bool} {s r v : List ℕ} → begins_no is_mark (s ++ r) ≡ true → Row o.enabled_escape plain_ends s v
+    → closes plain_ends r ≡ true → Line o first s r (plain_value first false v)
+unquoted_line {o} {s = s} {r = r} mark row close = Line.line Quoted.none (begins_plain o (s ++ r) mark) (Str.closed row (closed_by plain_ends r close))
+
+-- a line without quotes and backslashes
+abbrev pub is_plain_line : List ℕ → List ℕ → Bool
+is_plain_line s r = begins_no is_mark (s ++ r) && is_raw_string plain_ends s r
+
+pub plain_line : {o : ParseOption} {first : Bool} {r : List ℕ} (s : List ℕ) → is_plain_line s r ≡ true → Line o first s r (plain_value first false s)
+plain_line {o} {r = r} s h =
+    let parts = and_parts (begins_no is_mark (s ++ r)) (is_raw_string plain_ends s r) h in
+    Line.line Quoted.none (begins_plain o (s ++ r) parts.0) (raw_string s parts.1)
+
+-- a value of one line, with nothing before it
+pub one_line : {o : ParseOption} {s r v : List ℕ} → o.enabled_indented_mutiline_value ≡ false → is_lead [] (s ++ r) ≡ true → Line o true s r v → Value o s r v
+one_line {s = s} {r = r} m h content = Value.one_line {w = []} m (lead [] (s ++ r) h) content
+
+-- what a key of the string k behind the blanks w is, without backslashes
+abbrev pub key_of : ParseOption → List ℕ → List ℕ → List ℕ
+key_of o w k = if o.enabled_preserve_key_leading_whitespace then end_trimmed (w ++ k) else trimmed k
+
+abbrev pub is_any : ℕ → Bool
+is_any c = true
+
+pub not_empty : {key : List ℕ} → begins is_any key ≡ true → key ≢ []
+not_empty {key} h e = let P : List ℕ → Type 0 = λ k. begins is_any k ≡ true in absurd (false≢true (subst P e h))
+
+-- a key before r that isn't indented
+abbrev pub is_plain_key : List ℕ → List ℕ → Bool
+is_plain_key k r = begins begins_key (k ++ r) && is_raw_string key_ends k r
+
+pub plain_key : {o : ParseOption} {b r : List ℕ} (k : List ℕ) → is_plain_key k r ≡ true → KeyFront o b k r (key_of o [] k)
+plain_key {r = r} k h =
+    let parts = and_parts (begins begins_key (k ++ r)) (is_raw_string key_ends k r) h in
+    KeyFront.unindented (begins_with begins_key (k ++ r) parts.0) (raw_string k parts.1)
+
+-- a key before r behind the blanks w
+abbrev pub is_indented_key : List ℕ → List ℕ → List ℕ → List ℕ → Bool
+is_indented_key b w k r = is_indentation b w && (begins begins_indented_key (k ++ r) && is_raw_string key_ends k r)
+
+pub key_behind_blanks : {o : ParseOption} {b r : List ℕ} (w k : List ℕ) → is_indented_key b w k r ≡ true → KeyFront o b (w ++ k) r (key_of o w k)
+key_behind_blanks {b = b} {r = r} w k h =
+    let blanks = and_parts (is_indentation b w) (begins begins_indented_key (k ++ r) && is_raw_string key_ends k r) h in
+    let parts = and_parts (begins begins_indented_key (k ++ r)) (is_raw_string key_ends k r) blanks.1 in
+    KeyFront.indented (indentation b w blanks.0) (begins_with begins_indented_key (k ++ r) parts.0) (raw_string k parts.1)
+
+-- a pair whose key has no backslashes, not indented and indented
+pub pair_of : {o : ParseOption} {b s r v : List ℕ} (k : List ℕ) → is_plain_key k (equals ∷ (s ++ r)) ≡ true → begins is_any (key_of o [] k) ≡ true
+    → Value o s r v → Element o b (k ++ equals ∷ s) r (Pair (key_of o [] k) v ∷ [])
+pair_of k key some value = Element.pair (plain_key k key) (not_empty some) refl value
+
+pub pair_behind_blanks : {o : ParseOption} {b s r v : List ℕ} (w k : List ℕ) → is_indented_key b w k (equals ∷ (s ++ r)) ≡ true → begins is_any (key_of o w k) ≡ true
+    → Value o s r v → Element o b ((w ++ k) ++ equals ∷ s) r (Pair (key_of o w k) v ∷ [])
+pair_behind_blanks w k key some value = Element.pair (key_behind_blanks w k key) (not_empty some) refl value
+
+-- such a pair in whose value reading stops
+pub stops_in_value_of : {o : ParseOption} {b s r : List ℕ} {kind : ParseKind} (k : List ℕ) → is_plain_key k (equals ∷ (s ++ r)) ≡ true → begins is_any (key_of o [] k) ≡ true
+    → ValueStops o s r kind → ElementStops o b (k ++ equals ∷ s) r kind
+stops_in_value_of k key some value = ElementStops.in_value (plain_key k key) (not_empty some) refl value
+
+-- a pair on one line, without quotes and backslashes
+abbrev pub is_plain_pair : ParseOption → List ℕ → List ℕ → List ℕ → Bool
+is_plain_pair o k s r = not o.enabled_indented_mutiline_value && (begins is_any (key_of o [] k) && (is_plain_key k (equals ∷ (s ++ r)) && (is_lead [] (s ++ r) && is_plain_line s r)))
+
+pub plain_pair : {o : ParseOption} {b r : List ℕ} (k s : List ℕ) → is_plain_pair o k s r ≡ true → Element o b (k ++ equals ∷ s) r (Pair (key_of o [] k) (trimmed s) ∷ [])
+plain_pair {o} {r = r} k s h =
+    let key = is_plain_key k (equals ∷ (s ++ r)) in
+    let value = is_lead [] (s ++ r) && is_plain_line s r in
+    let one = and_parts (not o.enabled_indented_mutiline_value) (begins is_any (key_of o [] k) && (key && value)) h in
+    let some = and_parts (begins is_any (key_of o [] k)) (key && value) one.1 in
+    let both = and_parts key value some.1 in
+    let parts = and_parts (is_lead [] (s ++ r)) (is_plain_line s r) both.1 in
+    pair_of k both.0 some.0 (one_line (not-true o.enabled_indented_mutiline_value one.0) parts.0 (plain_line s parts.1))
+
+-- a header without backslashes
+abbrev pub is_plain_header : ParseOption → List ℕ → List ℕ → Bool
+is_plain_header o n r = not o.enabled_brackets_in_section_names && is_raw_string name_ends n (close_bracket ∷ r)
+
+pub plain_header : {o : ParseOption} {b r : List ℕ} (n : List ℕ) → is_plain_header o n r ≡ true
+    → Element o b (open_bracket ∷ (n ++ close_bracket ∷ [])) r (Header (trimmed n) ∷ [])
+plain_header {o} {r = r} n h =
+    let parts = and_parts (not o.enabled_brackets_in_section_names) (is_raw_string name_ends n (close_bracket ∷ r)) h in
+    Element.header (not-true o.enabled_brackets_in_section_names parts.0) (raw_string n parts.1)
+
+-- such a header with brackets in names, and the blanks w behind its last bracket
+abbrev pub is_bracketed_header : ParseOption → List ℕ → List ℕ → List ℕ → Bool
+is_bracketed_header o n w r =
+    o.enabled_brackets_in_section_names && (list_all is_blank w && is_raw_string bracketed_name_ends (n ++ close_bracket ∷ w) r)
+
+pub plain_bracketed_header : {o : ParseOption} {b r : List ℕ} (n w : List ℕ) → is_bracketed_header o n w r ≡ true
+    → Element o b (open_bracket ∷ (n ++ close_bracket ∷ w)) r (Header (trimmed n) ∷ [])
+plain_bracketed_header {o} {r = r} n w h =
+    let line = n ++ close_bracket ∷ w in
+    let on = and_parts o.enabled_brackets_in_section_names (list_all is_blank w && is_raw_string bracketed_name_ends line r) h in
+    let parts = and_parts (list_all is_blank w) (is_raw_string bracketed_name_ends line r) on.1 in
+    Element.bracketed_header on.0 (raw_string line parts.1) (record { blanks = w; blank = parts.0; whole = refl })
+
+-- one white character as a gap
+abbrev pub is_white_gap : List ℕ → ℕ → Bool
+is_white_gap b c = is_whitespace c && not (is_blank c && starts_line b)
+
+pub white : {o : ParseOption} {b r : List ℕ} {c : ℕ} → is_white_gap b c ≡ true → Element o b (c ∷ []) r []
+white {b = b} {c = c} h =
+    let parts = and_parts (is_whitespace c) (not (is_blank c && starts_line b)) h in
+    Element.gap (Gap.white parts.0 (λ e. elim (and_cases (is_blank c) (starts_line b) (not-true (is_blank c && starts_line b) parts.1)) [
+      | inl n ↦ absurd (both_ways (is_blank c) n e)
+      | inr n ↦ n
+    ]))

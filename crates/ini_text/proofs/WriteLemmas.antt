@@ -1,0 +1,5 @@
+-- Bytes on their way to a device.
+pub mod EscapeByteLemmas
+pub mod ProgressLemmas
+pub mod SendLemmas
+pub mod VerbatimRunLemmas

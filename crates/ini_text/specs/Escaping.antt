@@ -1,0 +1,3 @@
+-- What is written for a text.
+pub mod Policies
+pub mod EscapedTexts

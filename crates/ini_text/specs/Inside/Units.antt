@@ -1,0 +1,23 @@
+-- How escapes and their units are read.
+use Rattle.std.specs.Prelude.{ℕ, ◌<◌, ◌==◌, Bool, if◌then◌else◌, List, [], ◌∷◌, ◌++◌, length, chars, Option, Result, MatchResult, unwrap_or}
+use Rattle.std.specs.Borrow.{Bor}
+use Rattle.ini_text.specs.Grammar.CharacterKinds.{backslash, letter_x, line_feed}
+use Rattle.ini_text.specs.Grammar.EscapeSequences.{Units, EscapeStops, control}
+use Rattle.ini_text.specs.Inside.Readers.{Begins, StoppedBy}
+use Rattle.ini_text.specs.declared.error.ParseKind.{ParseKind}
+use Rattle.ini_text.specs.declared.parser.fault.Stop.{Stop}
+
+-- behind fewer than four units, reading an escape stops at the end of s
+abbrev pub UnitStops : List ℕ → List ℕ → ParseKind → Type 0
+UnitStops s r kind = (u : List ℕ) (us : List (Option ℕ)) → Units u us → length us < 4 → EscapeStops (backslash ∷ letter_x ∷ (u ++ s)) r kind
+
+-- one unit was read
+abbrev pub ReadsUnit : List ℕ → Result (Option ℕ × Bor (List ℕ)) Stop → Type 0
+ReadsUnit t r = MatchResult r (λ p. Begins t (chars p.1.now) (λ s. Units s (p.0 ∷ []))) (StoppedBy UnitStops t)
+
+-- what a backslash and the character behind it stand for, where that is not the x of a code
+abbrev pub value_behind_backslash : Bool → ℕ → List ℕ
+value_behind_backslash escapes c =
+    if c == line_feed then []
+    else if escapes then unwrap_or (control c) c ∷ []
+    else backslash ∷ c ∷ []

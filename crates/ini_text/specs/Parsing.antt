@@ -1,0 +1,4 @@
+-- What a call of a parser does.
+pub mod Fronts
+pub mod Items
+pub mod Parser
