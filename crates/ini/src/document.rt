@@ -46,7 +46,8 @@ impl Model for Ini {
     ghost view = { λ d. sections_of d.sections };
 }
 
-// A name that is lent is UTF-8: nothing to do, a fact for the caller.
+// A name that is lent is UTF-8: nothing to do, a fact for the proofs of the callers, which have the name
+// by its type alone.
 fn name_is_text(name: Option<&str>)
     ensures { IsTextName name.entry }
 {

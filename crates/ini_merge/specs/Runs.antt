@@ -1,11 +1,8 @@
 -- What a run of the program is: what it writes, and its status.
-use Rattle.std.specs.Prelude.{◌≡◌, ℕ, List, length, Option, Result, Err, ⊤, encode_utf8_all}
-use Rattle.std.specs.Io.KnownBytes.{Appends}
-use Rattle.ini_text.specs.Device.Watched.{AppendsFront, device_now}
+use Rattle.std.specs.Prelude.{◌≡◌, ℕ, List, length, Result, Err, ⊤, encode_utf8_all}
 use Rattle.ini_text.specs.Options.WriteOptions.{IsDefaultWriteOption}
 use Rattle.ini_text.specs.declared.error.Error.{Error}
 use Rattle.ini_text.specs.declared.error.Error.TheVariants.{Io, Parse, Memory, NotUtf8, NoProgress}
-use Rattle.ini_text.specs.declared.watched.Watched.{Watched}
 use Rattle.ini_text.specs.declared.write_option.WriteOption.{WriteOption}
 use Rattle.ini.specs.Documents.{Document}
 use Rattle.ini.specs.Written.{written}
@@ -24,15 +21,6 @@ pub record IsOutput (count : ℕ) (output : List ℕ) : Type 0 where
   pub option : WriteOption
   pub is_default : IsDefaultWriteOption option
   pub is_written : output ≡ merged_bytes layers option
-
-module _ {W : Type 0} (contents : W → Option (List ℕ)) (old new : Watched W) where
-  -- the bytes were written, and nothing else
-  abbrev pub WritesAll : List ℕ → Type 0
-  WritesAll bytes = Appends (contents (device_now old)) (contents (device_now new)) bytes
-
-  -- a front of them was
-  abbrev pub WritesFront : List ℕ → Type 0
-  WritesFront bytes = AppendsFront (contents (device_now old)) (contents (device_now new)) bytes
 
 abbrev pub IsDone : Outcome → Type 0
 IsDone Done = ⊤

@@ -7,9 +7,10 @@
 
 ghost use Rattle.std.specs.Prelude.{◌≡◌, ◌+◌, ◌<◌, ◌↔◌, length, ℕ, List, IfErr, IfOk, OnOk};
 ghost use Rattle.ini_text.specs.Device.DeviceRefusals.{failures_in, stalls_in};
-ghost use Rattle.ini_text.specs.Device.Watched.{IsClear, SameDevice, device_now, failure_count, stall_count};
+ghost use Rattle.ini_text.specs.Device.Watched.{IsClear, SameDevice, WritesAll, WritesFront};
+ghost use Rattle.ini_text.specs.Device.Watched.{device_now, failure_count, stall_count};
 ghost use Rattle.ini_merge.specs.Runs.{IfNotLoaded, IfRefused, IsDone, IsOutput, IsUsage, IsWriteRefusal};
-ghost use Rattle.ini_merge.specs.Runs.{OnMemory, OnSilent, WritesAll, WritesFront};
+ghost use Rattle.ini_merge.specs.Runs.{OnMemory, OnSilent};
 ghost use Rattle.ini_merge.specs.Runs.{failures_of, merged_bytes, refusal_status, stalls_of, status_of};
 
 use ini::{Error, Ini, Watched, WriteOption};

@@ -85,7 +85,8 @@ fn begin_key(alloc: Global, blanks: &str, option: ParseOption) -> Result<String,
     Ok(String::new(alloc))
 }
 
-/// What is left of a text that ends within an indented key gives nothing; other stops stay.
+/// What is left of a text that ends within an indented key gives nothing; other stops stay. `front`,
+/// `text` and `start` are read by the clauses alone, which say what the answer is an element of.
 fn drop_tail<'a>(
     front: &str,
     text: &str,
@@ -106,7 +107,8 @@ fn drop_tail<'a>(
 }
 
 // separator value, behind a key
-/// What follows a key, from its separator on.
+/// What follows a key, from its separator on. `front` and `text` are read by the clauses alone, as in
+/// `drop_tail`.
 fn read_pair<'a>(
     alloc: Global,
     scratch: &mut String,

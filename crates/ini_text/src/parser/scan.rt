@@ -109,7 +109,7 @@ pub(crate) fn split_run(text: &str, ends: Endpoints) -> (&str, &str)
     text.split_at(run_len(text.as_bytes(), ends))
 }
 
-/// Appends a character.
+/// Appends a character: std's call, with a clause that speaks of characters where std's speaks of bytes.
 pub(crate) fn push(out: &mut String, c: char) -> Result<(), AllocError>
     ensures { OnOk result (string_text out.new ≡ string_text out.old ++ c ∷ []) }
 {
