@@ -2,23 +2,23 @@
 //! nothing of what an element is made of.
 //!
 //! The files below, from the least part to the greatest: characters and runs (`scan`), `string`, `trim`,
-//! `line`, `value`, `pair` and `header`, `element`. Beside them `fault` has why reading stops, `position`
-//! where, and `refusal` what a parser answers from then on.
+//! `line`, `value`, `pair` and `header`, `element`. Beside them `fault` has why reading stops, and `position`
+//! where.
 ghost use Rattle.std.specs.Prelude.{◌≡◌, chars, [], None, Some, Ok, IfSome, IsOkAnd, IsErrAnd, OnErr};
 ghost use Rattle.ini_text.specs.Parsing.Fronts.{IsRest};
-ghost use Rattle.ini_text.specs.Parsing.Parser.{AnswersItem, KeepsRefusal, Tells};
-ghost use Rattle.ini_text.specs.Inside.ItemSearch.{FindsItem, IsRefusalOfStop, StopIsWithin};
+ghost use Rattle.ini_text.specs.Parsing.Parser.{AnswersItem, KeepsRefusal, Tells, refusal_of};
+ghost use Rattle.ini_text.specs.Inside.ItemSearch.{FindsItem, StopIsWithin};
 
 use crate::characters::split_first;
-use crate::error::Error;
+use crate::error::{Error, ParseError};
 use crate::item::Item;
 use crate::option::ParseOption;
 use crate::parser::element::read_element;
 use crate::parser::fault::Stop;
 use crate::parser::position::position;
-use crate::parser::refusal::{KeptFault, Refusal, RefusalWith};
 use crate::parser::scan::front_before;
-use std::alloc::Global;
+use std::alloc::{AllocError, Global};
+use std::borrow::CowStr;
 use std::marker::Model;
 
 mod element;
@@ -27,7 +27,6 @@ mod header;
 mod line;
 mod pair;
 mod position;
-mod refusal;
 pub(crate) mod scan;
 mod string;
 mod trim;
@@ -44,14 +43,15 @@ pub struct Parser<'a> {
     text: &'a str,
     rest: &'a str,
     option: ParseOption,
-    refusal: Option<Refusal>,
+    refusal: Option<Stop<'a>>,
     scratch: String,
 }
 
 impl<'a> Model for Parser<'a> {
     ghost use Rattle.std.specs.Prelude.{chars};
     ghost use Rattle.std.specs.Option.{option_map};
-    ghost use Rattle.ini_text.specs.Parsing.Fronts.{front_of, IsRest};
+    ghost use Rattle.ini_text.specs.Inside.ItemSearch.{StandsIn};
+    ghost use Rattle.ini_text.specs.Parsing.Fronts.{front_of};
     ghost use Rattle.ini_text.specs.Parsing.Parser.{Place, refusal_of};
 
     ghost Value = { Place };
@@ -60,10 +60,10 @@ impl<'a> Model for Parser<'a> {
       option = p.option;
       text = chars p.text.now;
       front = front_of (chars p.text.now) (chars p.rest.now);
-      refusal = option_map refusal_of p.refusal;
+      refusal = option_map (refusal_of (chars p.text.now)) p.refusal;
     } };
 
-    ghost invariant = { λ p. IsRest (chars p.text.now) (chars p.rest.now) };
+    ghost invariant = { λ p. StandsIn (chars p.text.now) (chars p.rest.now) p.refusal };
 }
 
 impl<'a> Parser<'a> {
@@ -100,8 +100,8 @@ impl<'a> Parser<'a> {
         ensures refusal { KeepsRefusal self.old.refusal self.new.refusal result }
         ensures stays { OnErr result (self.new.front ≡ self.old.front) }
     {
-        if let Some(refusal) = self.refusal {
-            return Err(refusal.error());
+        if let Some(stop) = self.refusal {
+            return Err(told(self.text, stop));
         }
         match find_item(
             self.alloc,
@@ -114,9 +114,9 @@ impl<'a> Parser<'a> {
                 self.rest = rest;
                 Ok(item)
             }
-            Err(refusal) => {
-                self.refusal = Some(refusal);
-                Err(refusal.error())
+            Err(stop) => {
+                self.refusal = Some(stop);
+                Err(told(self.text, stop))
             }
         }
     }
@@ -129,25 +129,15 @@ fn find_item<'a>(
     text: &'a str,
     start: &'a str,
     option: ParseOption,
-) -> Result<(Option<Item>, &'a str), Refusal>
+) -> Result<(Option<Item>, &'a str), Stop<'a>>
     requires { IsRest (chars text.now) (chars start.now) }
     ensures item { FindsItem option (chars text.now) (chars start.now) result }
     ensures ended { chars start.now ≡ [] → IsOkAnd result (λ p. p.0 ≡ None) }
 {
     let mut rest = start;
     'elements: while let Some((c, after)) = split_first(rest) {
-        let (given, end) = match read_element(
-            alloc,
-            scratch,
-            front_before(text, rest),
-            rest,
-            c,
-            after,
-            option,
-        ) {
-            Ok(step) => step,
-            Err(stop) => return Err(refuse(text, stop)),
-        };
+        let front = front_before(text, rest);
+        let (given, end) = read_element(alloc, scratch, front, rest, c, after, option)?;
         if let Some(item) = given {
             return Ok((Some(item), end));
         }
@@ -156,20 +146,20 @@ fn find_item<'a>(
     Ok((None, rest))
 }
 
-/// The refusal of a text that stops before a rest of it.
-fn refuse(text: &str, stop: Stop<'_>) -> Refusal
+/// The error of a text that stops: its line and column are counted anew each time, without memory.
+fn told(text: &str, stop: Stop<'_>) -> Error
     requires { StopIsWithin (chars text.now) stop }
-    ensures { IsRefusalOfStop (chars text.now) stop.entry result }
+    ensures { Tells (refusal_of (chars text.now) stop.entry) result }
 {
     match stop {
-        Stop::Memory => RefusalWith::Memory,
-        Stop::Fault(fault, rest) => {
-            let (line, column) = position(front_before(text, rest));
-            RefusalWith::Parse(KeptFault {
-                kind: fault.kind(),
+        Stop::Memory => Error::Memory(AllocError),
+        Stop::Fault(fault) => {
+            let (line, col) = position(front_before(text, fault.rest));
+            Error::Parse(ParseError {
                 line,
-                column,
-                message: fault.message(),
+                col,
+                msg: CowStr::Borrowed(fault.message),
+                kind: fault.kind,
             })
         }
     }

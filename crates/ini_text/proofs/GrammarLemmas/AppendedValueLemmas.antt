@@ -1,8 +1,7 @@
 -- How what was read and appended is put together.
-use Rattle.std.proofs.Common.{◌≡◌, ℕ, List, [], ◌++◌, refl, sym, ap, ◌∙◌, append_assoc, append-nil, chars, subst}
+use Rattle.std.proofs.Common.{◌≡◌, ℕ, List, [], ◌++◌, refl, sym, ap, ◌∙◌, append_assoc, append-nil, chars, subst, subst₂}
 use Rattle.std.proofs.lemmas.Str.{chars-nil}
-use Rattle.ini_text.specs.Inside.Readers.{AppendedValue, StoppedBy}
-use Rattle.ini_text.specs.Inside.ParserFaults.{kind_of}
+use Rattle.ini_text.specs.Inside.Readers.{AppendedValue, Begins, StoppedBy, StopsBefore}
 use Rattle.ini_text.specs.declared.error.ParseKind.{ParseKind}
 use Rattle.ini_text.specs.declared.parser.fault.Stop.{Stop}
 use Rattle.ini_text.specs.declared.parser.fault.Stop.TheVariants as stops
@@ -27,11 +26,17 @@ module _ {old new t rest : List ℕ} {P : List ℕ → List ℕ → Type 0} (rea
   pub and_stops : {S : List ℕ → List ℕ → ParseKind → Type 0} (T : List ℕ → List ℕ → ParseKind → Type 0) (stop : Stop) → StoppedBy S rest stop
       → ((s v u r : List ℕ) (k : ParseKind) → P s v → S u r k → u ++ r ≡ rest → T (s ++ u) r k) → StoppedBy T t stop
   and_stops T stops.Memory s join = tt
-  and_stops T (stops.Fault fault r) s join = record {
+  and_stops T (stops.Fault fault) s join = record {
     source = read.source ++ s.source;
-    holds = join read.source read.value s.source (chars r.now) (kind_of fault) read.holds s.holds s.whole;
-    whole = append_assoc read.source s.source (chars r.now) ∙ ap (λ x. read.source ++ x) s.whole ∙ read.whole;
+    holds = join read.source read.value s.source (chars fault.rest.now) fault.kind read.holds s.holds s.whole;
+    whole = append_assoc read.source s.source (chars fault.rest.now) ∙ ap (λ x. read.source ++ x) s.whole ∙ read.whole;
   }
+
+-- reading stops where a fault was made
+pub stopped : {t rest : List ℕ} {kind : ParseKind} (S : List ℕ → List ℕ → ParseKind → Type 0) (stop : Stop) → StopsBefore rest kind stop → Begins t rest (λ s. S s rest kind)
+    → StoppedBy S t stop
+stopped S stops.Memory made s = absurd made
+stopped {t} S (stops.Fault fault) (rest_is, kind_is) s = subst₂ (λ r k. Begins t r (λ x. S x r k)) (sym rest_is) (sym kind_is) s
 
 -- nothing is read yet
 pub nothing_yet : {old t : List ℕ} {P : List ℕ → List ℕ → Type 0} → P [] [] → AppendedValue old old t t P

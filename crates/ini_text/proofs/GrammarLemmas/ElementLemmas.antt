@@ -150,12 +150,12 @@ module _ (o : ParseOption) (b t : List ℕ) where
   pub header_stops : o.enabled_brackets_in_section_names ≡ false → (stop : Stop) → StoppedBy (StrStops o.enabled_escape name_ends) t stop
       → StoppedBy (ElementStops o b) (open_bracket ∷ t) stop
   header_stops off stops.Memory s = tt
-  header_stops off (stops.Fault fault r) s = record { source = open_bracket ∷ s.source; holds = ElementStops.in_header off s.holds; whole = ap (λ x. open_bracket ∷ x) s.whole }
+  header_stops off (stops.Fault fault) s = record { source = open_bracket ∷ s.source; holds = ElementStops.in_header off s.holds; whole = ap (λ x. open_bracket ∷ x) s.whole }
 
   pub bracketed_header_stops : o.enabled_brackets_in_section_names ≡ true → (stop : Stop)
       → StoppedBy (StrStops o.enabled_escape bracketed_name_ends) t stop → StoppedBy (ElementStops o b) (open_bracket ∷ t) stop
   bracketed_header_stops on stops.Memory s = tt
-  bracketed_header_stops on (stops.Fault fault r) s = record {
+  bracketed_header_stops on (stops.Fault fault) s = record {
     source = open_bracket ∷ s.source;
     holds = ElementStops.in_bracketed_header on s.holds;
     whole = ap (λ x. open_bracket ∷ x) s.whole;
@@ -163,10 +163,10 @@ module _ (o : ParseOption) (b t : List ℕ) where
 
   pub value_stops : {key rest u : List ℕ} (stop : Stop) → IsKey o b t key rest → u ≡ drop 1 rest → key ≢ [] → StoppedBy (ValueStops o) u stop → StoppedBy (ElementStops o b) t stop
   value_stops stops.Memory k is some s = tt
-  value_stops {key = key} (stops.Fault fault r) k is some s =
+  value_stops {key = key} (stops.Fault fault) k is some s =
       let at = separator_at k is in
       record {
         source = k.source ++ k.separator ∷ s.source;
         holds = ElementStops.in_value (subst (λ x. KeyFront o b k.source (k.separator ∷ x) key) (sym s.whole) (subst (λ r. KeyFront o b k.source r key) at k.front)) some k.separates s.holds;
-        whole = append_assoc k.source (k.separator ∷ s.source) (chars r.now) ∙ ap (λ x. k.source ++ k.separator ∷ x) s.whole ∙ ap (λ r. k.source ++ r) (sym at) ∙ k.whole;
+        whole = append_assoc k.source (k.separator ∷ s.source) (chars fault.rest.now) ∙ ap (λ x. k.source ++ k.separator ∷ x) s.whole ∙ ap (λ r. k.source ++ r) (sym at) ∙ k.whole;
       }

@@ -53,7 +53,7 @@ with_units {t = t} on x read = record {
 pub units_stop : {e : Bool} {c : ℕ} (t : List ℕ) (stop : Stop) → e ≡ true → c ≡ letter_x → StoppedBy EscapeStops (backslash ∷ letter_x ∷ t) stop
     → StoppedBy (λ s r k. (e ≡ true) × EscapeStops s r k) (backslash ∷ c ∷ t) stop
 units_stop t stops.Memory on x read = tt
-units_stop t (stops.Fault fault rest) on x read = record {
+units_stop t (stops.Fault fault) on x read = record {
   source = read.source;
   holds = (on, read.holds);
   whole = read.whole ∙ ap (λ y. backslash ∷ y ∷ t) (sym x);

@@ -3,8 +3,8 @@ use Rattle.std.proofs.Common.{◌≡◌, ◌<◌, ◌≤◌, ℕ, List, [], ◌�
 use Rattle.ini_text.specs.Grammar.CharacterKinds.{is_blank}
 use Rattle.ini_text.specs.Grammar.Elements.{Given, Gap, Element, ElementStops}
 use Rattle.ini_text.specs.Parsing.Fronts.{front_of, IsRest}
-use Rattle.ini_text.specs.Parsing.Parser.{memory, parse, Refusal, Refuses, Tells, refusal_of, StopsBehind}
-use Rattle.ini_text.specs.Inside.ItemSearch.{StopIsWithin, IsRefusalOfStop}
+use Rattle.ini_text.specs.Parsing.Parser.{memory, parse, Refuses, Tells, refusal_of, StopsBehind}
+use Rattle.ini_text.specs.Inside.ItemSearch.{StopIsWithin}
 use Rattle.ini_text.specs.Errors.Messages.{HasMessage}
 use Rattle.ini_text.specs.declared.error.ParseKind.{ParseKind}
 use Rattle.ini_text.specs.Grammar.Positions.{line_of, column_of}
@@ -13,7 +13,6 @@ use Rattle.ini_text.specs.Grammar.Texts.{Reads}
 use Rattle.ini_text.specs.declared.error.Error.{Error}
 use Rattle.ini_text.specs.declared.error.Error.TheVariants as errors
 use Rattle.ini_text.specs.declared.option.ParseOption.{ParseOption}
-use Rattle.ini_text.specs.declared.parser.refusal.RefusalWith.TheVariants as refusals
 use Rattle.ini_text.specs.declared.parser.fault.Stop.{Stop}
 use Rattle.ini_text.specs.declared.parser.fault.Stop.TheVariants as stops
 use Rattle.ini_text.proofs.StringLemmas.FrontLemmas.{front_grows}
@@ -48,24 +47,21 @@ pub record Moved (o : ParseOption) (T b rest after : List ℕ) (gives : List Giv
   pub shorter : length after < length rest
   pub longer : length (front_of T rest) < length (front_of T after)
 
-pub moved : {o : ParseOption} {T b rest after : List ℕ} {gives : List Given} → IsRest T rest → Reads o T b [] (front_of T rest)
-    → Begins rest after (λ s. Element o (front_of T rest) s after gives) → Moved o T b rest after gives
-moved {o} {T} {b} {rest} {after} {gives} within reads element =
+pub moved : {o : ParseOption} {T b rest front after : List ℕ} {gives items : List Given} → IsRest T rest → Reads o T b [] (front_of T rest)
+    → front ≡ front_of T rest → gives ≡ items → Begins rest after (λ s. Element o front s after gives) → Moved o T b rest after items
+moved {o} {T} {b} {rest} {after = after} {items = items} within reads at same read =
+    let element = subst₂ (λ f g. Begins rest after (λ s. Element o f s after g)) at same read in
     let c = front_of T rest in let s = element.source in
     let grown = front_grows T rest s after within (sym element.whole) in
     let some : 1 ≤ length s = element-some element.holds in
     let whole : T ≡ c ++ (s ++ after) = sym (ap (λ x. c ++ x) element.whole ∙ within) in
-    let one : Reads o T c gives (c ++ s) = subst (λ x. Reads o T c x (c ++ s)) (append-nil gives) (Reads.step whole element.holds (Reads.stay after (whole ∙ sym (append_assoc c s after)))) in
+    let one : Reads o T c items (c ++ s) = subst (λ x. Reads o T c x (c ++ s)) (append-nil items) (Reads.step whole element.holds (Reads.stay after (whole ∙ sym (append_assoc c s after)))) in
     record {
-      reads = subst (Reads o T b gives) (sym grown.0) (reads-append reads one);
+      reads = subst (Reads o T b items) (sym grown.0) (reads-append reads one);
       within = grown.1;
       shorter = omega (arith, length-append s after, ap length element.whole);
       longer = omega (arith, length-append c s, ap length grown.0);
     }
-
-pub stop_within : (o : ParseOption) (T rest : List ℕ) (stop : Stop) → IsRest T rest → StoppedBy (ElementStops o (front_of T rest)) rest stop → StopIsWithin T stop
-stop_within o T rest stops.Memory within s = tt
-stop_within o T rest (stops.Fault fault r) within s = (front_grows T rest s.source (chars r.now) within (sym s.whole)).1
 
 -- what tells a refusal is right, where the refusal is
 module _ (o : ParseOption) (T b : List ℕ) where
@@ -95,24 +91,21 @@ module _ (o : ParseOption) (T b : List ℕ) where
   tells_parse message stop m errors.NotUtf8 t = absurd t
   tells_parse message stop m errors.NoProgress t = absurd t
 
-  pub refuses : (rest : List ℕ) (stop : Stop) (refusal : Refusal) → IsRest T rest → Reads o T b [] (front_of T rest) → StoppedBy (ElementStops o (front_of T rest)) rest stop
-      → IsRefusalOfStop T stop refusal → (e : Error) → Tells (refusal_of refusal) e → Refuses o T b e
-  refuses rest stops.Memory refusal within reads s is e t = tells_memory e (subst (λ r. Tells (refusal_of r) e) is t)
-  refuses rest (stops.Fault fault r) refusals.Memory within reads s told e t = absurd told
-  refuses rest (stops.Fault fault r) (refusals.Parse kept) within reads s (kind, line, column, told) (errors.Parse x) (kind_is, line_is, column_is, text) =
-      let c = front_of T rest in
-      let grown = front_grows T rest s.source (chars r.now) within (sym s.whole) in
-      tells_parse kept.message.now (record {
-        front = c;
-        source = s.source;
-        rest = chars r.now;
-        reads = reads;
-        whole = sym (ap (λ x. c ++ x) s.whole ∙ within);
-        stops = s.holds;
-        line_is = ap line_of grown.0;
-        column_is = ap column_of grown.0;
-      }) told (errors.Parse x) (kind_is ∙ kind, line_is ∙ line, column_is ∙ column, text)
-  refuses rest (stops.Fault fault r) (refusals.Parse kept) within reads s told (errors.Memory x) t = absurd t
-  refuses rest (stops.Fault fault r) (refusals.Parse kept) within reads s told (errors.Io x) t = absurd t
-  refuses rest (stops.Fault fault r) (refusals.Parse kept) within reads s told errors.NotUtf8 t = absurd t
-  refuses rest (stops.Fault fault r) (refusals.Parse kept) within reads s told errors.NoProgress t = absurd t
+  -- reading stops in an element
+  pub refuses : (rest : List ℕ) {front : List ℕ} (stop : Stop) → IsRest T rest → Reads o T b [] (front_of T rest) → front ≡ front_of T rest → StoppedBy (ElementStops o front) rest stop
+      → StopIsWithin T stop × ((e : Error) → Tells (refusal_of T stop) e → Refuses o T b e)
+  refuses rest stops.Memory within reads at s = (tt, tells_memory)
+  refuses rest (stops.Fault fault) within reads at s =
+      let grown = front_grows T rest s.source (chars fault.rest.now) within (sym s.whole) in (
+        grown.1,
+        tells_parse fault.message.now (record {
+          front = front_of T rest;
+          source = s.source;
+          rest = chars fault.rest.now;
+          reads = reads;
+          whole = sym (ap (λ x. front_of T rest ++ x) s.whole ∙ within);
+          stops = subst (λ f. ElementStops o f s.source (chars fault.rest.now) fault.kind) at s.holds;
+          line_is = ap line_of grown.0;
+          column_is = ap column_of grown.0;
+        }) fault.is_of_kind,
+      )

@@ -4,7 +4,6 @@ use Rattle.std.proofs.Math.Bool.{or-false}
 use Rattle.ini_text.specs.Grammar.CharacterKinds.{open_bracket, is_blank, is_line_end, BeginsWith, BeginsWithNo}
 use Rattle.ini_text.specs.Inside.ElementParts.{IsKey, TailStops, kept_blanks}
 use Rattle.ini_text.specs.Grammar.Elements.{Element, ElementStops}
-use Rattle.ini_text.specs.Inside.ParserFaults.{kind_of}
 use Rattle.ini_text.specs.Parsing.Fronts.{front_of, IsRest}
 use Rattle.ini_text.specs.Grammar.Keys.{Indentation, begins_key, begins_indented_key, KeyFront}
 use Rattle.ini_text.specs.Grammar.EscapeSequences.{EscapeStops}
@@ -16,9 +15,6 @@ use Rattle.ini_text.specs.Grammar.WhiteSpace.{trimmed, end_trimmed}
 use Rattle.ini_text.specs.declared.error.ParseKind.{ParseKind}
 use Rattle.ini_text.specs.declared.error.ParseKind.TheVariants.{EndOfText}
 use Rattle.ini_text.specs.declared.option.ParseOption.{ParseOption}
-use Rattle.ini_text.specs.declared.parser.fault.Endpoints.{Endpoints}
-use Rattle.ini_text.specs.declared.parser.fault.Fault.{Fault}
-use Rattle.ini_text.specs.declared.parser.fault.Fault.TheVariants as faults
 use Rattle.ini_text.specs.declared.parser.fault.Stop.{Stop}
 use Rattle.ini_text.specs.declared.parser.fault.Stop.TheVariants as stops
 use Rattle.ini_text.proofs.StringLemmas.FrontLemmas.{front_is}
@@ -56,7 +52,7 @@ unindented_key {o} {b} {rest = rest} begins read is =
 
 pub unindented_stops : (o : ParseOption) (b t : List ℕ) (stop : Stop) → BeginsWith begins_key t → StoppedBy (StrStops o.enabled_escape key_ends) t stop → StoppedBy (ElementStops o b) t stop
 unindented_stops o b t stops.Memory begins s = tt
-unindented_stops o b t (stops.Fault fault r) begins s =
+unindented_stops o b t (stops.Fault fault) begins s =
     record { source = s.source; holds = ElementStops.in_key (subst (BeginsWith begins_key) (sym s.whole) begins) s.holds; whole = s.whole }
 
 -- the blanks at the front of a line
@@ -130,15 +126,6 @@ tail_dropped {o} {b} {rest = rest} {blanks = w} indentation whole begins s =
           (subst (λ x. StrStops o.enabled_escape key_ends s.source x EndOfText) none s.holds));
       whole = append_assoc w s.source rest ∙ ap (λ x. w ++ x) s.whole ∙ whole;
     }
-
-pub not_at_end : (fault : Fault) → ((ends : Endpoints) → fault ≡ faults.EndOfText ends → ⊥) → kind_of fault ≢ EndOfText
-not_at_end (faults.EndOfText ends) other = λ e. other ends refl
-not_at_end faults.BrokenEscape other = λ e. cc
-not_at_end faults.UnknownCharacter other = λ e. cc
-not_at_end faults.InlineComment other = λ e. cc
-not_at_end faults.MissingKey other = λ e. cc
-not_at_end faults.CrAlone other = λ e. cc
-not_at_end faults.HeaderEnd other = λ e. cc
 
 -- other stops in an indented key stay
 pub tail_refused : {o : ParseOption} {b t start rest blanks : List ℕ} {k : ParseKind} → Indentation b blanks → blanks ++ start ≡ t → BeginsWith begins_indented_key start

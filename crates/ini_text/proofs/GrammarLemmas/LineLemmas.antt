@@ -2,7 +2,6 @@
 use Rattle.std.proofs.Common.{◌≡◌, ℕ, Bool, true, not, ◌&&◌, eqb, eqb-true, List, [], ◌∷◌, ◌++◌, drop, sym, ap, String, Result, Ok, Err, ◌∙◌, append_assoc, append-nil, chars, subst, subst₂}
 use Rattle.std.proofs.Math.Bool.{or-false}
 use Rattle.ini_text.specs.Grammar.CharacterKinds.{is_mark}
-use Rattle.ini_text.specs.Inside.ParserFaults.{kind_of}
 use Rattle.ini_text.specs.Grammar.Lines.{Quoted, BeginsPlain, Line, LineStops, plain_value}
 use Rattle.ini_text.specs.Inside.Quotes.{BeginsQuoted}
 use Rattle.ini_text.specs.Inside.Readers.{AppendedValue, StoppedBy}
@@ -51,10 +50,10 @@ module _ {o : ParseOption} where
   pub quotes_stop : {old new t rest after : List ℕ} {some : Bool} {ends : Ends} (stop : Stop) → AppendedValue old new t rest (λ s v. Quoted o s v some) → BeginsQuoted o rest ends after
       → StoppedBy (StrStops o.enabled_escape ends) after stop → StoppedBy (LineStops o) t stop
   quotes_stop stops.Memory read begins s = tt
-  quotes_stop (stops.Fault fault r) read begins s = record {
+  quotes_stop (stops.Fault fault) read begins s = record {
     source = read.source ++ begins.mark ∷ s.source;
-    holds = LineStops.in_quotes read.holds begins.quotes begins.marks (subst (λ x. StrStops o.enabled_escape x s.source (chars r.now) (kind_of fault)) begins.own_ends s.holds);
-    whole = append_assoc read.source (begins.mark ∷ s.source) (chars r.now) ∙ ap (λ x. read.source ++ begins.mark ∷ x) s.whole ∙ ap (λ x. read.source ++ x) begins.whole ∙ read.whole;
+    holds = LineStops.in_quotes read.holds begins.quotes begins.marks (subst (λ x. StrStops o.enabled_escape x s.source (chars fault.rest.now) fault.kind) begins.own_ends s.holds);
+    whole = append_assoc read.source (begins.mark ∷ s.source) (chars fault.rest.now) ∙ ap (λ x. read.source ++ begins.mark ∷ x) s.whole ∙ ap (λ x. read.source ++ x) begins.whole ∙ read.whole;
   }
 
   pub plain_stops : {old new t rest : List ℕ} {some : Bool} (stop : Stop) → AppendedValue old new t rest (λ s v. Quoted o s v some) → BeginsPlain o rest

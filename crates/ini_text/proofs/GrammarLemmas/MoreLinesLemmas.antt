@@ -1,7 +1,6 @@
 -- The lines with which a value goes on, as they are read: whatever the rest gives completes the whole.
 use Rattle.std.proofs.Common.{◌≡◌, ◌≢◌, ◌<◌, ℕ, true, false, List, [], ◌∷◌, ◌++◌, length, refl, sym, ap, ◌∙◌, append_assoc, append-nil, subst, chars, arith, length-append, ne_eqb}
 use Rattle.ini_text.specs.Grammar.CharacterKinds.{line_feed, carriage_return, is_blank, is_line_end, is_inline_white, BeginsWithNo}
-use Rattle.ini_text.specs.Inside.ParserFaults.{kind_of}
 use Rattle.ini_text.specs.Grammar.Lines.{Line, LineStops}
 use Rattle.ini_text.specs.Inside.Readers.{Begins, AppendedValue, StoppedBy}
 use Rattle.ini_text.specs.Inside.Scans.{skipped}
@@ -132,12 +131,12 @@ module _ (o : ParseOption) where
   pub line_stops : {rest after start : List ℕ} {c : ℕ} (stop : Stop) → rest ≡ c ∷ after → is_blank c ≡ true → start ≡ skipped is_inline_white rest
       → StoppedBy (LineStops o) start stop → StoppedBy (MoreLinesStop o) rest stop
   line_stops stops.Memory h b q s = tt
-  line_stops (stops.Fault fault r) h b q s =
+  line_stops (stops.Fault fault) h b q s =
       let w = blank_lead h b q in
       record {
         source = w.blanks ++ s.source;
         holds = MoreLinesStop.in_line w.begins (subst (Lead w.blanks) (sym s.whole) w.lead) s.holds;
-        whole = append_assoc w.blanks s.source (chars r.now) ∙ ap (λ y. w.blanks ++ y) s.whole ∙ w.whole;
+        whole = append_assoc w.blanks s.source (chars fault.rest.now) ∙ ap (λ y. w.blanks ++ y) s.whole ∙ w.whole;
       }
 
   pub cr_stops : {rest after : List ℕ} {c : ℕ} (stop : Stop) → rest ≡ c ∷ after → c ≡ carriage_return → StoppedBy (MoreLinesStop o) (carriage_return ∷ after) stop
@@ -146,4 +145,4 @@ module _ (o : ParseOption) where
 
   pub lines_stop : {old t new rest : List ℕ} (stop : Stop) → Continues o old t new rest → StoppedBy (MoreLinesStop o) rest stop → StoppedBy (MoreLinesStop o) t stop
   lines_stop stops.Memory c s = tt
-  lines_stop (stops.Fault fault r) c s = c.stop (chars r.now) (kind_of fault) s
+  lines_stop (stops.Fault fault) c s = c.stop (chars fault.rest.now) fault.kind s

@@ -62,10 +62,10 @@ no_unit t = record { source = []; holds = Units.none; whole = refl }
 pub units_stop : {t rest : List ℕ} {us : List (Option ℕ)} → Begins t rest (λ s. Units s us) → length us < 4 → (stop : Stop) → StoppedBy UnitStops rest stop
     → StoppedBy EscapeStops (backslash ∷ letter_x ∷ t) stop
 units_stop read few stops.Memory s = tt
-units_stop {us = us} read few (stops.Fault fault r) s = record {
+units_stop {us = us} read few (stops.Fault fault) s = record {
   source = backslash ∷ letter_x ∷ (read.source ++ s.source);
   holds = s.holds read.source us read.holds few;
-  whole = ap (λ x. backslash ∷ letter_x ∷ x) (append_assoc read.source s.source (chars r.now) ∙ ap (λ x. read.source ++ x) s.whole ∙ read.whole);
+  whole = ap (λ x. backslash ∷ letter_x ∷ x) (append_assoc read.source s.source (chars fault.rest.now) ∙ ap (λ x. read.source ++ x) s.whole ∙ read.whole);
 }
 
 -- four units spell no character

@@ -52,23 +52,23 @@ module _ {o : ParseOption} {t start end new : List ℕ} where
 module _ (o : ParseOption) (t : List ℕ) {start : List ℕ} where
   pub first_line_stops : (stop : Stop) → start ≡ skipped is_inline_white t → StoppedBy (LineStops o) start stop → StoppedBy (ValueStops o) t stop
   first_line_stops stops.Memory q s = tt
-  first_line_stops (stops.Fault fault r) q s =
+  first_line_stops (stops.Fault fault) q s =
       let w = lead {t = t} q in
       record {
         source = w.source ++ s.source;
         holds = ValueStops.first_line (subst (Lead w.source) (sym s.whole) w.holds) s.holds;
-        whole = append_assoc w.source s.source (chars r.now) ∙ ap (λ x. w.source ++ x) s.whole ∙ w.whole;
+        whole = append_assoc w.source s.source (chars fault.rest.now) ∙ ap (λ x. w.source ++ x) s.whole ∙ w.whole;
       }
 
   pub later_line_stops : {end new next : List ℕ} (stop : Stop) → o.enabled_indented_mutiline_value ≡ true → start ≡ skipped is_inline_white t → AppendedValue [] new start end (λ s v. Line o true s end v)
       → Begins end next (λ e. LineEnd e next) → StoppedBy (MoreLinesStop o) next stop → StoppedBy (ValueStops o) t stop
   later_line_stops stops.Memory on q read ends s = tt
-  later_line_stops {end = end} (stops.Fault fault r) on q read ends more =
+  later_line_stops {end = end} (stops.Fault fault) on q read ends more =
       let w = lead {t = t} q in let l = read.source in let e = ends.source in let s = more.source in
-      let end_is : end ≡ e ++ (s ++ chars r.now) = sym ends.whole ∙ ap (λ y. e ++ y) (sym more.whole) in
+      let end_is : end ≡ e ++ (s ++ chars fault.rest.now) = sym ends.whole ∙ ap (λ y. e ++ y) (sym more.whole) in
       record {
         source = w.source ++ (l ++ (e ++ s));
         holds = ValueStops.later_line on (subst (Lead w.source) (sym read.whole ∙ ap (λ y. l ++ y) end_is) w.holds) (subst (λ y. Line o true l y read.value) end_is read.holds)
             (subst (LineEnd e) (sym more.whole) ends.holds) more.holds;
-        whole = line-whole w.source l e s (chars r.now) more.whole ends.whole read.whole w.whole;
+        whole = line-whole w.source l e s (chars fault.rest.now) more.whole ends.whole read.whole w.whole;
       }

@@ -1,7 +1,6 @@
 -- What the readers of productions answer: what they took off the front of a text, or where they stop.
 use Rattle.std.specs.Prelude.{◌≡◌, ℕ, List, ◌++◌, ⊤, chars, Result, MatchResult}
 use Rattle.std.specs.Borrow.{Bor}
-use Rattle.ini_text.specs.Inside.ParserFaults.{kind_of}
 use Rattle.ini_text.specs.declared.error.ParseKind.{ParseKind}
 use Rattle.ini_text.specs.declared.parser.fault.Stop.{Stop}
 use Rattle.ini_text.specs.declared.parser.fault.Stop.TheVariants as stops
@@ -23,7 +22,12 @@ pub record AppendedValue (old new t rest : List ℕ) (P : List ℕ → List ℕ 
 -- reading the text t stops at the end of a source for which S holds
 abbrev pub StoppedBy : (List ℕ → List ℕ → ParseKind → Type 0) → List ℕ → Stop → Type 0
 StoppedBy S t stops.Memory = ⊤
-StoppedBy S t (stops.Fault fault rest) = Begins t (chars rest.now) (λ s. S s (chars rest.now) (kind_of fault))
+StoppedBy S t (stops.Fault fault) = Begins t (chars fault.rest.now) (λ s. S s (chars fault.rest.now) fault.kind)
+
+-- the stop is a fault of this kind before this rest
+abbrev pub StopsBefore : List ℕ → ParseKind → Stop → Type 0
+StopsBefore rest kind stops.Memory = ⊥
+StopsBefore rest kind (stops.Fault fault) = (chars fault.rest.now ≡ rest) × (fault.kind ≡ kind)
 
 -- P holds of a source, what follows it and the value that was appended; S holds of a stop
 abbrev pub AppendsValue : (List ℕ → List ℕ → List ℕ → Type 0) → (List ℕ → List ℕ → ParseKind → Type 0) → List ℕ → List ℕ → List ℕ → Result (Bor (List ℕ)) Stop → Type 0

@@ -1,5 +1,5 @@
 -- Where a parser stands, and what one call of it does.
-use Rattle.std.specs.Prelude.{◌≡◌, ℕ, ◌<◌, List, [], ◌∷◌, ◌++◌, length, ⊤, Option, Some, None, Result, Ok, Err, IsSomeAnd, MatchOption, MatchResult}
+use Rattle.std.specs.Prelude.{◌≡◌, ℕ, ◌<◌, List, [], ◌∷◌, ◌++◌, length, ⊤, chars, Option, Some, None, Result, Ok, Err, IsSomeAnd, MatchOption, MatchResult}
 use Rattle.std.specs.Cow.{cow_str_bytes}
 use Rattle.ini_text.specs.Grammar.Elements.{ElementStops}
 use Rattle.ini_text.specs.Parsing.Items.{item_of}
@@ -11,9 +11,9 @@ use Rattle.ini_text.specs.declared.error.Error.TheVariants as errors
 use Rattle.ini_text.specs.declared.error.ParseKind.{ParseKind}
 use Rattle.ini_text.specs.declared.item.Item.{Item}
 use Rattle.ini_text.specs.declared.option.ParseOption.{ParseOption}
-use Rattle.ini_text.specs.declared.parser.refusal.KeptFault.{KeptFault}
-use Rattle.ini_text.specs.declared.parser.refusal.RefusalWith as declared
-use Rattle.ini_text.specs.declared.parser.refusal.RefusalWith.TheVariants as refusals
+use Rattle.ini_text.specs.declared.parser.fault.Stop.{Stop}
+use Rattle.ini_text.specs.declared.parser.fault.Stop.TheVariants as stops
+use Rattle.ini_text.specs.Parsing.Fronts.{front_of}
 
 -- a refusal that was answered: for want of memory, or with kind, line, column and message
 pub data AnsweredRefusal : Type 0 where
@@ -62,9 +62,9 @@ KeepsRefusal (Some refusal) new r = new ≡ Some refusal
 KeepsRefusal None new (Ok item) = new ≡ None
 KeepsRefusal None new (Err e) = IsSomeAnd new (λ refusal. Tells refusal e)
 
-abbrev pub Refusal : Type 0
-Refusal = declared.RefusalWith KeptFault
-
-abbrev pub refusal_of : Refusal → AnsweredRefusal
-refusal_of refusals.Memory = memory
-refusal_of (refusals.Parse fault) = parse fault.kind fault.line fault.column fault.message.now
+-- the refusal of a text that stops
+abbrev pub refusal_of : List ℕ → Stop → AnsweredRefusal
+refusal_of T stops.Memory = memory
+refusal_of T (stops.Fault fault) =
+    let front = front_of T (chars fault.rest.now) in
+    parse fault.kind (line_of front) (column_of front) fault.message.now

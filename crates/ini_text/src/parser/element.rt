@@ -3,9 +3,10 @@
 ghost use Rattle.std.specs.Prelude.{◌≡◌, ◌∷◌, chars};
 ghost use Rattle.ini_text.specs.Inside.ElementParts.{IsElement};
 
+use crate::error::ParseKind;
 use crate::item::Item;
 use crate::option::ParseOption;
-use crate::parser::fault::{Fault, Stop};
+use crate::parser::fault::Stop;
 use crate::parser::header::read_header;
 use crate::parser::pair::{read_indented, read_unindented};
 use crate::parser::scan::{
@@ -39,7 +40,11 @@ pub(crate) fn read_element<'a>(
     }
     if is_comment_mark(c) {
         if !is_column_one(front) {
-            return Err(Stop::Fault(Fault::InlineComment, after));
+            return Err(Stop::new(
+                ParseKind::InlineComment,
+                "doesn't support inline comment",
+                after,
+            ));
         }
         return Ok((None, after_first(skip_line(after))));
     }

@@ -1,8 +1,7 @@
-//! Where strings end, and why reading stops, before its place is known as a line and a column. This file
-//! knows endpoints and messages, and no production.
-ghost use Rattle.std.specs.Prelude.{◌≡◌, ℕ, not};
+//! Where strings end, and why and before what reading stops. This file knows endpoints, and no production.
+ghost use Rattle.std.specs.Prelude.{◌≡◌, ℕ, not, chars};
 ghost use Rattle.ini_text.specs.Inside.Lanes.{is_one_of};
-ghost use Rattle.ini_text.specs.Inside.ParserFaults.{kind_of, ends_of};
+ghost use Rattle.ini_text.specs.Inside.ParserFaults.{ends_of, HasMessage-prop};
 ghost use Rattle.ini_text.specs.Errors.Messages.{HasMessage};
 ghost use Rattle.ini_text.specs.Inside.Scans.{is_plain};
 ghost use Rattle.ini_text.specs.Grammar.Strings.{is_endpoint};
@@ -58,7 +57,8 @@ impl Endpoints {
         matches!(self, Endpoints::Plain)
     }
 
-    fn expected(self) -> &'static str {
+    /// The message of a text that ends before one of the endpoints.
+    pub(crate) fn expected(self) -> &'static str {
         match self {
             Endpoints::Name => "expecting \"[Some(']')]\" but found EOF.",
             Endpoints::BracketedName => "expecting \"[Some('\\r'), Some('\\n')]\" but found EOF.",
@@ -70,54 +70,36 @@ impl Endpoints {
     }
 }
 
-/// What is wrong at a stop.
+/// What is wrong with a text, and what is left of it.
 #[derive(Clone, Copy)]
-pub(crate) enum Fault {
-    /// The text ends before one of the endpoints.
-    EndOfText(Endpoints),
-    BrokenEscape,
-    UnknownCharacter,
-    InlineComment,
-    MissingKey,
-    CrAlone,
-    HeaderEnd,
+pub(crate) struct Fault<'a> {
+    pub(crate) kind: ParseKind,
+    pub(crate) message: &'static str,
+    pub(crate) rest: &'a str,
+    ghost is_of_kind: { HasMessage kind message.now } by { HasMessage-prop kind message.now },
 }
 
-impl Fault {
-    pub(crate) fn kind(self) -> ParseKind
-        ensures { result ≡ kind_of self }
-    {
-        match self {
-            Fault::EndOfText(_) => ParseKind::EndOfText,
-            Fault::BrokenEscape => ParseKind::BrokenEscape,
-            Fault::UnknownCharacter => ParseKind::UnknownCharacter,
-            Fault::InlineComment => ParseKind::InlineComment,
-            Fault::MissingKey => ParseKind::MissingKey,
-            Fault::CrAlone => ParseKind::CrAlone,
-            Fault::HeaderEnd => ParseKind::HeaderEnd,
-        }
-    }
-
-    pub(crate) fn message(self) -> &'static str
-        ensures { HasMessage (kind_of self) result.now }
-    {
-        match self {
-            Fault::EndOfText(ends) => ends.expected(),
-            Fault::BrokenEscape => "expecting \"\\n\" after a backslash in \\xHH form",
-            Fault::UnknownCharacter => "unknown character in \\xHH form",
-            Fault::InlineComment => "doesn't support inline comment",
-            Fault::MissingKey => "missing key",
-            Fault::CrAlone => "\\r is not followed by \\n",
-            Fault::HeaderEnd => "section must be ended with ']'",
-        }
-    }
-}
-
-/// Why a reader stops: for want of memory, or by a fault before what is left of the text.
-#[derive(Drop)]
+/// Why reading stops: for want of memory, or by a fault.
+#[derive(Clone, Copy)]
 pub(crate) enum Stop<'a> {
     Memory,
-    Fault(Fault, &'a str),
+    Fault(Fault<'a>),
+}
+
+impl<'a> Stop<'a> {
+    ghost use Rattle.ini_text.specs.Inside.Readers.{StopsBefore};
+
+    /// A fault before what is left of a text.
+    pub(crate) fn new(kind: ParseKind, message: &'static str, rest: &'a str) -> Self
+        requires { HasMessage kind message.now }
+        ensures { StopsBefore (chars rest.now) kind result }
+    {
+        Stop::Fault(Fault {
+            kind,
+            message,
+            rest,
+        })
+    }
 }
 
 impl From<AllocError> for Stop<'_> {

@@ -4,9 +4,10 @@ ghost use Rattle.ini_text.specs.Grammar.CharacterKinds.{open_bracket};
 ghost use Rattle.ini_text.specs.Inside.ElementParts.{IsElement};
 ghost use Rattle.ini_text.specs.Grammar.Elements.{IsBracketed};
 
+use crate::error::ParseKind;
 use crate::item::Item;
 use crate::option::ParseOption;
-use crate::parser::fault::{Endpoints, Fault, Stop};
+use crate::parser::fault::{Endpoints, Stop};
 use crate::parser::scan::{Class, after_first, split_last};
 use crate::parser::string::read_string;
 use crate::parser::trim::trim;
@@ -57,7 +58,11 @@ fn read_bracketed_header<'a>(
         Endpoints::BracketedName,
     )?;
     let Some(before) = before_bracket(line.as_str()) else {
-        return Err(Stop::Fault(Fault::HeaderEnd, after_first(rest)));
+        return Err(Stop::new(
+            ParseKind::HeaderEnd,
+            "section must be ended with ']'",
+            after_first(rest),
+        ));
     };
     let name = trim(alloc, String::from_str(alloc, before)?, true)?;
     Ok((Some(Item::Header(name)), rest))

@@ -8,9 +8,10 @@ ghost use Rattle.ini_text.specs.Grammar.Positions.{starts_line};
 ghost use Rattle.ini_text.specs.Parsing.Items.{string_text};
 
 use crate::characters::split_first;
+use crate::error::ParseKind;
 use crate::item::Item;
 use crate::option::ParseOption;
-use crate::parser::fault::{Endpoints, Fault, Stop};
+use crate::parser::fault::{Endpoints, Stop};
 use crate::parser::scan::{Class, after_first, front_before, is_line_end, skip};
 use crate::parser::string::read_string;
 use crate::parser::trim::trim;
@@ -98,10 +99,10 @@ fn drop_tail<'a>(
     ensures { IsElement option (chars front.now) (chars text.now) result }
 {
     match stop {
-        Stop::Memory => Err(Stop::Memory),
-        Stop::Fault(fault, rest) => match fault {
-            Fault::EndOfText(_) => Ok((None, rest)),
-            _ => Err(Stop::Fault(fault, rest)),
+        Stop::Memory => Err(stop),
+        Stop::Fault(fault) => match fault.kind {
+            ParseKind::EndOfText => Ok((None, fault.rest)),
+            _ => Err(stop),
         },
     }
 }
@@ -123,7 +124,7 @@ fn read_pair<'a>(
 {
     let after = after_first(rest);
     if key.is_empty() {
-        return Err(Stop::Fault(Fault::MissingKey, after));
+        return Err(Stop::new(ParseKind::MissingKey, "missing key", after));
     }
     let (value, end) = read_value(alloc, scratch, after, option)?;
     Ok((Some(Item::Pair(key, value)), end))

@@ -10,7 +10,8 @@ ghost use Rattle.ini_text.specs.Inside.TrimmedStrings.{IsString};
 ghost use Rattle.ini_text.specs.Inside.Units.{ReadsUnit, value_behind_backslash};
 
 use crate::characters::split_first;
-use crate::parser::fault::{Endpoints, Fault, Stop};
+use crate::error::ParseKind;
+use crate::parser::fault::{Endpoints, Stop};
 use crate::parser::scan::{push, push_text, split_run};
 use std::alloc::AllocError;
 
@@ -53,14 +54,14 @@ pub(crate) fn read_string<'a>(
             if ends.contain_text_end() {
                 return Ok(stop);
             }
-            return Err(Stop::Fault(Fault::EndOfText(ends), stop));
+            return Err(Stop::new(ParseKind::EndOfText, ends.expected(), stop));
         };
         if c != '\\' {
             return Ok(stop);
         }
         let Some((d, behind)) = split_first(after) else {
             if !ends.contain_text_end() {
-                return Err(Stop::Fault(Fault::EndOfText(ends), after));
+                return Err(Stop::new(ParseKind::EndOfText, ends.expected(), after));
             }
             push(out, '\\')?;
             return Ok(after);
@@ -118,7 +119,11 @@ fn read_coded<'a>(out: &mut String, text: &'a str, ends: Endpoints) -> Result<&'
     let (c, rest) = read_unit(rest, ends)?;
     let (d, rest) = read_unit(rest, ends)?;
     let Some(value) = spelled_by(a, b, c, d) else {
-        return Err(Stop::Fault(Fault::UnknownCharacter, rest));
+        return Err(Stop::new(
+            ParseKind::UnknownCharacter,
+            "unknown character in \\xHH form",
+            rest,
+        ));
     };
     push(out, value)?;
     Ok(rest)
@@ -142,18 +147,22 @@ fn read_unit(text: &str, ends: Endpoints) -> Result<(Option<char>, &str), Stop<'
     ensures { ReadsUnit (chars text.now) result }
 {
     let Some((c, after)) = split_first(text) else {
-        return Err(Stop::Fault(Fault::EndOfText(ends), text));
+        return Err(Stop::new(ParseKind::EndOfText, ends.expected(), text));
     };
     if c != '\\' {
         return Ok((Some(c), after));
     }
     let Some((d, behind)) = split_first(after) else {
-        return Err(Stop::Fault(Fault::EndOfText(ends), after));
+        return Err(Stop::new(ParseKind::EndOfText, ends.expected(), after));
     };
     if d == '\n' {
         return Ok((None, behind));
     }
-    Err(Stop::Fault(Fault::BrokenEscape, behind))
+    Err(Stop::new(
+        ParseKind::BrokenEscape,
+        "expecting \"\\n\" after a backslash in \\xHH form",
+        behind,
+    ))
 }
 
 /// The character that four units spell.

@@ -8,8 +8,9 @@ ghost use Rattle.ini_text.specs.Grammar.Values.{MoreLines, MoreLinesStop};
 ghost use Rattle.ini_text.specs.Grammar.WhiteSpace.{without_outer_line_feeds};
 
 use crate::characters::split_first;
+use crate::error::ParseKind;
 use crate::option::ParseOption;
-use crate::parser::fault::{Fault, Stop};
+use crate::parser::fault::Stop;
 use crate::parser::line::{read_first_line, read_line};
 use crate::parser::scan::{Class, push, skip, split_last};
 use std::alloc::{AllocError, Global};
@@ -60,10 +61,11 @@ fn after_line_end(text: &str) -> Option<&str>
 fn after_cr(text: &str) -> Result<&str, Stop<'_>>
     ensures { AfterCr (chars text.now) result }
 {
+    let message = "\\r is not followed by \\n";
     match split_first(text) {
-        None => Err(Stop::Fault(Fault::CrAlone, text)),
+        None => Err(Stop::new(ParseKind::CrAlone, message, text)),
         Some(('\n', end)) => Ok(end),
-        Some((_, end)) => Err(Stop::Fault(Fault::CrAlone, end)),
+        Some((_, end)) => Err(Stop::new(ParseKind::CrAlone, message, end)),
     }
 }
 

@@ -1,8 +1,8 @@
 use Rattle.std.proofs.Common.{chars, sym, ap, ◌∙◌, subst}
 use Rattle.std.proofs.lemmas.Result.{err_from_is_err_and}
-use Rattle.ini_text.specs.Grammar.Elements.{IsBracketed}
+use Rattle.ini_text.specs.Grammar.Elements.{ElementStops, IsBracketed}
 use Rattle.ini_text.specs.Grammar.WhiteSpace.{trimmed}
-use Rattle.ini_text.proofs.GrammarLemmas.AppendedValueLemmas.{from_nothing}
+use Rattle.ini_text.proofs.GrammarLemmas.AppendedValueLemmas.{from_nothing, stopped}
 use Rattle.ini_text.proofs.GrammarLemmas.ElementLemmas.{bracketed_header_read, bracketed_header_stops, header_unended}
 use Rattle.ini_text.proofs.parser.header.read_bracketed_header.Goals as goal
 
@@ -13,8 +13,8 @@ returns-in_err-rest c =
 
 pub returns-in_default : goal.returns-in_default
 returns-in_default c =
-    header_unended c.requires (from_nothing c.new-line.ensures.bytes c.in_ok-rest.ensures)
-    (λ name i. c.in_default.ensures name (subst (λ x. IsBracketed (chars x) name) (sym c.as_str.ensures.value) i)) c.after_first.ensures
+    stopped (ElementStops c.args.option (chars c.args.front.now)) _ c.new.ensures (header_unended c.requires (from_nothing c.new-line.ensures.bytes c.in_ok-rest.ensures)
+    (λ name i. c.in_default.ensures name (subst (λ x. IsBracketed (chars x) name) (sym c.as_str.ensures.value) i)) c.after_first.ensures)
 
 pub returns : goal.returns
 returns c =

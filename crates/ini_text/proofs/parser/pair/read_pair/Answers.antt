@@ -1,14 +1,17 @@
 use Rattle.std.proofs.Common.{◌≢◌, [], chars, string_bytes, sym, ◌∙◌, eqb-true, eq-eqb, true≢false}
 use Rattle.std.proofs.lemmas.Result.{err_from_is_err_and}
 use Rattle.std.proofs.lemmas.Str.{IsUtf8-string_bytes}
+use Rattle.ini_text.specs.Grammar.Elements.{ElementStops}
 use Rattle.ini_text.specs.Parsing.Items.{string_text}
 use Rattle.ini_text.proofs.StringLemmas.PushLemmas.{no_characters, some_characters}
+use Rattle.ini_text.proofs.GrammarLemmas.AppendedValueLemmas.{stopped}
 use Rattle.ini_text.proofs.GrammarLemmas.ElementLemmas.{empty_key, pair_read, value_stops}
 use Rattle.ini_text.proofs.parser.pair.read_pair.Goals as goal
 
 pub returns-then-is_empty : goal.returns-then-is_empty
 returns-then-is_empty c =
-    empty_key c.requires c.after_first-after.ensures (no_characters (string_bytes c.args.key) (sym c.args.key.bytes.ok.0 ∙ eqb-true _ 0 (sym c.is_empty.ensures ∙ c.if-is_empty.true)))
+    stopped (ElementStops c.args.option (chars c.args.front.now)) _ c.new.ensures
+    (empty_key c.requires c.after_first-after.ensures (no_characters (string_bytes c.args.key) (sym c.args.key.bytes.ok.0 ∙ eqb-true _ 0 (sym c.is_empty.ensures ∙ c.if-is_empty.true))))
 
 pub returns-in_err-value : goal.returns-in_err-value
 returns-in_err-value c =

@@ -1,5 +1,7 @@
 use Rattle.std.proofs.Common.{◌∷◌, [], sym, refl, arith}
 use Rattle.std.proofs.lemmas.Result.{err_from_is_err_and}
+use Rattle.ini_text.specs.Grammar.EscapeSequences.{EscapeStops}
+use Rattle.ini_text.proofs.GrammarLemmas.AppendedValueLemmas.{stopped}
 use Rattle.ini_text.proofs.GrammarLemmas.UnitLemmas.{no_unit, one_more_unit, units_stop, four_unknown, four_spell}
 use Rattle.ini_text.proofs.parser.string.read_coded.Goals as goal
 
@@ -25,7 +27,8 @@ returns-in_err-d c =
 
 pub returns-in_default-spelled_by : goal.returns-in_default-spelled_by
 returns-in_default-spelled_by c =
-    four_unknown (one_more_unit (one_more_unit (one_more_unit c.in_ok-a.ensures c.in_ok-b.ensures) c.in_ok-c.ensures) c.in_ok-d.ensures) refl (sym c.in_default-spelled_by.ensures)
+    stopped EscapeStops _ c.new.ensures
+    (four_unknown (one_more_unit (one_more_unit (one_more_unit c.in_ok-a.ensures c.in_ok-b.ensures) c.in_ok-c.ensures) c.in_ok-d.ensures) refl (sym c.in_default-spelled_by.ensures))
 
 pub returns-in-Some : goal.returns-in-Some
 returns-in-Some c =

@@ -2,8 +2,9 @@ use Rattle.std.proofs.Common.{◌≡◌, ◌≢◌, ◌∙◌, sym, true, rules}
 use Rattle.std.proofs.lemmas.Bool.{false≢true}
 use Rattle.std.proofs.lemmas.Result.{err_from_is_err_and}
 use Rattle.ini_text.specs.Grammar.CharacterKinds.{letter_x}
-use Rattle.ini_text.specs.Grammar.Strings.{Row}
-use Rattle.ini_text.proofs.GrammarLemmas.AppendedValueLemmas.{nothing_yet}
+use Rattle.ini_text.specs.Grammar.Strings.{Row, StrStops}
+use Rattle.ini_text.specs.Inside.ParserFaults.{ends_of}
+use Rattle.ini_text.proofs.GrammarLemmas.AppendedValueLemmas.{nothing_yet, stopped}
 use Rattle.ini_text.proofs.GrammarLemmas.EscapeSequenceLemmas.{one_character, units_stop, with_units}
 use Rattle.ini_text.proofs.GrammarLemmas.StringProductionLemmas.{and_run, and_escape, escape_stops, string_at_end, string_at_endpoint, lone_backslash, ends_early, ends_behind_backslash, behind_backslash}
 use Rattle.ini_text.proofs.parser.string.read_string.Goals as goal
@@ -19,8 +20,9 @@ returns-then-contain_text_end c =
 
 pub returns-in_default : goal.returns-in_default
 returns-in_default c =
-    ends_early (and_run _ c.pieces.invariant.row c.in_ok-push_text.ensures c.split_run.ensures.parts c.split_run.ensures.run)
-    c.in_default.ensures.characters (sym c.contain_text_end.ensures ∙ c.if-contain_text_end.false)
+    stopped (StrStops c.args.escapes (ends_of c.args.ends)) _ c.new.ensures
+    (ends_early (and_run _ c.pieces.invariant.row c.in_ok-push_text.ensures c.split_run.ensures.parts c.split_run.ensures.run)
+    c.in_default.ensures.characters (sym c.contain_text_end.ensures ∙ c.if-contain_text_end.false))
 
 pub returns-then-c-ne92 : goal.returns-then-c-ne92
 returns-then-c-ne92 c =
@@ -29,8 +31,9 @@ returns-then-c-ne92 c =
 
 pub returns-then-not-contain_text_end : goal.returns-then-not-contain_text_end
 returns-then-not-contain_text_end c =
-    ends_behind_backslash (and_run _ c.pieces.invariant.row c.in_ok-push_text.ensures c.split_run.ensures.parts c.split_run.ensures.run)
-    c.in-Some.ensures.characters c.if-c-ne92.false c.in_default-split_first.ensures.characters (sym c.contain_text_end-in_default-split_first.ensures ∙ c.if-not-contain_text_end.true)
+    stopped (StrStops c.args.escapes (ends_of c.args.ends)) _ c.new-then-not-contain_text_end.ensures
+    (ends_behind_backslash (and_run _ c.pieces.invariant.row c.in_ok-push_text.ensures c.split_run.ensures.parts c.split_run.ensures.run)
+    c.in-Some.ensures.characters c.if-c-ne92.false c.in_default-split_first.ensures.characters (sym c.contain_text_end-in_default-split_first.ensures ∙ c.if-not-contain_text_end.true))
 
 pub returns-in_default-split_first : goal.returns-in_default-split_first
 returns-in_default-split_first c =
