@@ -1,5 +1,6 @@
 -- What serves private functions alone: no public contract and no law rests on it.
-pub mod ParserFaults
+pub mod Endpoints
+pub mod Faults
 pub mod Scans
 pub mod Readers
 pub mod Units

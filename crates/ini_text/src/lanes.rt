@@ -1,4 +1,5 @@
-//! Runs of bytes up to the first that is marked, sixteen bytes at a time. This file knows bytes, and no text.
+//! Runs of bytes up to the first that is marked, sixteen bytes at a time. This file knows bytes, and no
+//! text.
 ghost use Rattle.std.specs.Prelude.{◌≡◌, ◌++◌, ◌-◌, ◌<◌, ◌≤◌, ℕ, Bool, length, map};
 ghost use Rattle.std.specs.List.{position_or_len};
 ghost use Rattle.std.specs.Simd.Lanes.{chunk, mask_l};

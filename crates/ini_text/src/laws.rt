@@ -3,7 +3,8 @@
 ghost use Rattle.std.specs.Prelude.{◌≡◌, true, ◌++◌, chars};
 ghost use Rattle.ini_text.specs.Laws.Readings.{HasOneReading, IsAtCharacter};
 ghost use Rattle.ini_text.specs.Laws.Plain.{IsPlainName, IsPlainPair, IsPlainSeparator};
-ghost use Rattle.ini_text.specs.Laws.PlainLaws.{FollowsPair, GivesHeaderFirst, IsEmptyOrHeader, IsHeaderLine};
+ghost use Rattle.ini_text.specs.Laws.PlainLaws.{FollowsPair, GivesHeaderFirst, IsEmptyOrHeader};
+ghost use Rattle.ini_text.specs.Laws.PlainLaws.{IsHeaderLine};
 ghost use Rattle.ini_text.specs.Laws.PlainLaws.{IsPairLine, Moves};
 ghost use Rattle.ini_text.specs.Grammar.Positions.{is_column_one};
 ghost use Rattle.ini_text.specs.Grammar.Texts.{Stops};

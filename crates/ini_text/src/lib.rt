@@ -1,10 +1,7 @@
 //! The text of INI files: read one item at a time, and written, escaped, to devices that are watched.
 #![tactic(auto)]
 
-mod characters;
 mod error;
-mod escape;
-mod gather;
 mod item;
 mod lanes;
 pub mod laws;
@@ -12,18 +9,18 @@ mod option;
 mod parser;
 mod plain;
 mod policy;
-mod verbatim;
+mod text;
 mod watched;
 mod write;
 mod write_option;
 
 pub use error::{Error, ParseError, ParseKind};
-pub use gather::Gatherer;
 pub use item::Item;
 pub use option::ParseOption;
 pub use parser::Parser;
 pub use plain::{is_plain_name, is_plain_pair, is_plain_separator};
 pub use policy::EscapePolicy;
 pub use watched::Watched;
+pub use write::gather::Gatherer;
 pub use write::{write_escaped, write_raw};
 pub use write_option::{LineSeparator, WriteOption};

@@ -1,35 +1,32 @@
 //! The parser: the items of a text, one at a time. This file knows fronts, elements and refusals, and
 //! nothing of what an element is made of.
 //!
-//! The files below, from the least part to the greatest: characters and runs (`scan`), `string`, `trim`,
-//! `line`, `value`, `pair` and `header`, `element`. Beside them `fault` has why reading stops, and `position`
-//! where.
+//! The files below, from the least part to the greatest: `endpoints`, `string`, `trimmed`, `line`, `value`,
+//! `pair` and `header`, `element`. Beside them `fault` has why reading stops, and `position` where.
 ghost use Rattle.std.specs.Prelude.{◌≡◌, chars, [], None, Some, Ok, IfSome, IsOkAnd, IsErrAnd, OnErr};
 ghost use Rattle.ini_text.specs.Parsing.Fronts.{IsRest};
 ghost use Rattle.ini_text.specs.Parsing.Parser.{AnswersItem, KeepsRefusal, Tells, refusal_of};
 ghost use Rattle.ini_text.specs.Inside.ItemSearch.{FindsItem, StopIsWithin};
 
-use crate::characters::split_first;
 use crate::error::{Error, ParseError};
 use crate::item::Item;
 use crate::option::ParseOption;
 use crate::parser::element::read_element;
 use crate::parser::fault::Stop;
 use crate::parser::position::position;
-use crate::parser::scan::front_before;
+use crate::text::{front_before, split_first};
 use std::alloc::{AllocError, Global};
 use std::borrow::CowStr;
 use std::marker::Model;
 
 mod element;
+mod endpoints;
 mod fault;
 mod header;
 mod line;
 mod pair;
 mod position;
-pub(crate) mod scan;
 mod string;
-mod trim;
 mod trimmed;
 mod value;
 

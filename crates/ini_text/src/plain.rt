@@ -10,13 +10,12 @@ ghost use Rattle.ini_text.specs.Escaping.Policies.{is_escaped};
 ghost use Rattle.ini_text.specs.Inside.PlainTests.{begins, escapes_nothing, has_no_close_bracket};
 ghost use Rattle.ini_text.specs.Inside.PlainTests.{has_no_escapes, has_no_raw_separator, has_read_escapes};
 ghost use Rattle.ini_text.specs.Inside.PlainTests.{is_bare_key, is_end_trimmed, is_indented_by_escape};
-ghost use Rattle.ini_text.specs.Inside.PlainTests.{is_plain_key, is_plain_value, is_read_back, is_read_escaped};
-ghost use Rattle.ini_text.specs.Inside.PlainTests.{is_read_raw, is_trimmed, may_begin_key, may_indent};
+ghost use Rattle.ini_text.specs.Inside.PlainTests.{is_plain_key, is_plain_value, is_read_back};
+ghost use Rattle.ini_text.specs.Inside.PlainTests.{is_read_escaped, is_read_raw, is_trimmed, may_begin_key, may_indent};
 
-use crate::characters::split_first;
 use crate::option::ParseOption;
-use crate::parser::scan::{Class, is_comment_mark, is_line_end, skip};
 use crate::policy::EscapePolicy;
+use crate::text::{Class, is_comment_mark, is_line_end, skip, split_first};
 
 /// Whether the text, written between keys and their values, is read as that alone: one `=` or `:` with no
 /// more than spaces and tabs around it.

@@ -4,10 +4,14 @@ ghost use Rattle.ini_text.specs.Escaping.EscapedTexts.{escaped_bytes};
 ghost use Rattle.ini_text.specs.Device.Watched.{IsClear, WritesBytes};
 
 use crate::error::Error;
-use crate::gather::Gatherer;
 use crate::policy::EscapePolicy;
 use crate::watched::Watched;
+use crate::write::gather::Gatherer;
 use std::io::Write;
+
+mod escape;
+pub(crate) mod gather;
+mod verbatim;
 
 /// Writes a text as it is. Takes no memory, and an empty text makes no call of the device.
 ///

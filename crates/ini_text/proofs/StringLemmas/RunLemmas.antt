@@ -9,11 +9,11 @@ use Rattle.std.proofs.lemmas.Str.{IsCharBoundary-before_ascii, IsCharBoundary-en
 use Rattle.std.proofs.Math.Seq.{drop-cons}
 use Rattle.std.proofs.lemmas.List.{drop_all}
 use Rattle.ini_text.specs.Inside.Scans.{is_plain, skipped}
-use Rattle.ini_text.specs.Inside.ParserFaults.{ends_of}
+use Rattle.ini_text.specs.Inside.Endpoints.{ends_of}
 use Rattle.ini_text.specs.Grammar.CharacterKinds.{is_line_feed, BeginsWithNo}
 use Rattle.ini_text.proofs.ReaderLemmas.RunReaderLemmas.{run-finds}
-use Rattle.ini_text.specs.declared.parser.fault.Endpoints.{Endpoints}
-use Rattle.ini_text.specs.declared.parser.fault.Endpoints.TheVariants.{Name, BracketedName, Key, DoubleQuotes, SingleQuotes, Plain}
+use Rattle.ini_text.specs.declared.parser.endpoints.Endpoints.{Endpoints}
+use Rattle.ini_text.specs.declared.parser.endpoints.Endpoints.TheVariants.{Name, BracketedName, Key, DoubleQuotes, SingleQuotes, Plain}
 
 chars_pass : (p : ℕ → Bool) → ((c : ℕ) → 128 ≤ c → p c ≡ true) → (cs : List ℕ) → list_all p (encode_utf8_all cs) ≡ true → list_all p cs ≡ true
 chars_pass p wide [] h = refl

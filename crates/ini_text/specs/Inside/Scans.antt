@@ -4,8 +4,8 @@ use Rattle.std.specs.Char.{is_whitespace}
 use Rattle.ini_text.specs.Grammar.CharacterKinds.{backslash, space, is_blank, is_inline_white, is_line_feed}
 use Rattle.ini_text.specs.Grammar.WhiteSpace.{trimmed, end_trimmed}
 use Rattle.ini_text.specs.Grammar.Strings.{Ends, is_endpoint}
-use Rattle.ini_text.specs.declared.parser.scan.Class.{Class}
-use Rattle.ini_text.specs.declared.parser.scan.Class.TheVariants as classes
+use Rattle.ini_text.specs.declared.text.Class.{Class}
+use Rattle.ini_text.specs.declared.text.Class.TheVariants as classes
 
 abbrev pub is_in : Class → ℕ → Bool
 is_in classes.Space c = c == space

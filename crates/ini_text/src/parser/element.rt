@@ -9,9 +9,7 @@ use crate::option::ParseOption;
 use crate::parser::fault::Stop;
 use crate::parser::header::read_header;
 use crate::parser::pair::{read_indented, read_unindented};
-use crate::parser::scan::{
-    Class, after_first, is_column_one, is_comment_mark, skip_line, starts_line,
-};
+use crate::text::{Class, after_first, is_column_one, is_comment_mark, skip_line, starts_line};
 use std::alloc::Global;
 
 // element = gap / comment / header / pair / dropped-tail

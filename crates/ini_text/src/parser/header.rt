@@ -7,11 +7,11 @@ ghost use Rattle.ini_text.specs.Grammar.Elements.{IsBracketed};
 use crate::error::ParseKind;
 use crate::item::Item;
 use crate::option::ParseOption;
-use crate::parser::fault::{Endpoints, Stop};
-use crate::parser::scan::{Class, after_first, split_last};
+use crate::parser::endpoints::Endpoints;
+use crate::parser::fault::Stop;
 use crate::parser::string::read_string;
-use crate::parser::trim::trim;
 use crate::parser::trimmed::read_trimmed;
+use crate::text::{Class, after_first, split_last, trim};
 use std::alloc::Global;
 
 // header = "[" name "]" / bracketed-header

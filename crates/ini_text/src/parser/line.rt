@@ -1,20 +1,19 @@
 //! Lines of a value: quoted parts, and then one plain part to the line's end. This file knows strings,
 //! and no key.
 ghost use Rattle.std.specs.Prelude.{true, false, chars, MatchOption};
-ghost use Rattle.ini_text.specs.Inside.ParserFaults.{ends_of};
+ghost use Rattle.ini_text.specs.Inside.Endpoints.{ends_of};
 ghost use Rattle.ini_text.specs.Grammar.Lines.{BeginsPlain, Line, LineStops};
 ghost use Rattle.ini_text.specs.Inside.Quotes.{BeginsQuoted};
 ghost use Rattle.ini_text.specs.Inside.Readers.{AppendsValue};
 ghost use Rattle.ini_text.specs.Parsing.Items.{string_text};
 ghost use Rattle.ini_text.specs.Inside.ValueParts.{ReadsFirstLine};
 
-use crate::characters::split_first;
 use crate::option::ParseOption;
-use crate::parser::fault::{Endpoints, Stop};
-use crate::parser::scan::after_first;
+use crate::parser::endpoints::Endpoints;
+use crate::parser::fault::Stop;
 use crate::parser::string::read_string;
-use crate::parser::trim::trim_from;
 use crate::parser::trimmed::read_trimmed;
+use crate::text::{after_first, split_first, trim_from};
 use std::alloc::Global;
 
 /// Where the quoted part that begins here ends, and what follows its mark.

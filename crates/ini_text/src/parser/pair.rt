@@ -7,16 +7,15 @@ ghost use Rattle.ini_text.specs.Grammar.Keys.{begins_key};
 ghost use Rattle.ini_text.specs.Grammar.Positions.{starts_line};
 ghost use Rattle.ini_text.specs.Parsing.Items.{string_text};
 
-use crate::characters::split_first;
 use crate::error::ParseKind;
 use crate::item::Item;
 use crate::option::ParseOption;
-use crate::parser::fault::{Endpoints, Stop};
-use crate::parser::scan::{Class, after_first, front_before, is_line_end, skip};
+use crate::parser::endpoints::Endpoints;
+use crate::parser::fault::Stop;
 use crate::parser::string::read_string;
-use crate::parser::trim::trim;
 use crate::parser::trimmed::read_trimmed;
 use crate::parser::value::read_value;
+use crate::text::{Class, after_first, front_before, is_line_end, skip, split_first, trim};
 use std::alloc::{AllocError, Global};
 
 // pair = key separator value

@@ -2,7 +2,7 @@
 ghost use Rattle.std.specs.Prelude.{◌≡◌, chars};
 ghost use Rattle.ini_text.specs.Grammar.Positions.{line_of, column_of};
 
-use crate::characters::split_first;
+use crate::text::split_first;
 
 /// The line and the column at the end of a front.
 pub(crate) fn position(front: &str) -> (usize, usize)

@@ -1,23 +1,25 @@
 //! Strings: rows of pieces up to an endpoint. This file knows escapes, and nothing of lines, keys or names.
-ghost use Rattle.std.specs.Prelude.{◌≡◌, ◌∷◌, ◌++◌, [], chars, true, unwrap_or, Bool, IfSome, OnOk};
+ghost use Rattle.std.specs.Prelude.{◌≡◌, ◌∷◌, ◌++◌, [], chars, true, unwrap_or, OnOk};
 ghost use Rattle.ini_text.specs.Grammar.CharacterKinds.{backslash, letter_x};
-ghost use Rattle.ini_text.specs.Inside.ParserFaults.{ends_of};
-ghost use Rattle.ini_text.specs.Grammar.EscapeSequences.{control, spelled, spelled_by, EscapeSequence, EscapeStops};
-ghost use Rattle.ini_text.specs.Inside.Readers.{AppendsValue, Begins};
+ghost use Rattle.ini_text.specs.Inside.Endpoints.{ends_of};
+ghost use Rattle.ini_text.specs.Grammar.EscapeSequences.{control, spelled, spelled_by};
+ghost use Rattle.ini_text.specs.Grammar.EscapeSequences.{EscapeSequence, EscapeStops};
+ghost use Rattle.ini_text.specs.Inside.Readers.{AppendsValue};
 ghost use Rattle.ini_text.specs.Parsing.Items.{string_text};
 ghost use Rattle.ini_text.specs.Grammar.Strings.{Str, StrStops};
-ghost use Rattle.ini_text.specs.Inside.TrimmedStrings.{IsString};
-ghost use Rattle.ini_text.specs.Inside.Units.{ReadsUnit, value_behind_backslash};
+ghost use Rattle.ini_text.specs.Inside.TrimmedStrings.{SplitsPlain};
+ghost use Rattle.ini_text.specs.Inside.Units.{ReadsUnit, SplitsCoded, value_behind_backslash};
 
-use crate::characters::split_first;
 use crate::error::ParseKind;
-use crate::parser::fault::{Endpoints, Stop};
-use crate::parser::scan::{push, push_text, split_run};
+use crate::parser::endpoints::{Endpoints, split_run};
+use crate::parser::fault::Stop;
+use crate::text::{push, push_text, split_first};
 use std::alloc::AllocError;
 
-/// A string of one run, and what follows it, from its endpoint on. `None` where it has a backslash, or isn't ended.
+/// A string of one run, and what follows it, from its endpoint on. `None` where it has a backslash, or
+/// isn't ended.
 pub(crate) fn split_plain(text: &str, ends: Endpoints) -> Option<(&str, &str)>
-    ensures { IfSome result (λ p. (escapes : Bool) → IsString escapes (ends_of ends) (chars text.now) (chars p.0.now) (chars p.1.now)) }
+    ensures { SplitsPlain (ends_of ends) (chars text.now) result }
 {
     let (run, rest) = split_run(text, ends);
     match split_first(rest) {
@@ -131,8 +133,7 @@ fn read_coded<'a>(out: &mut String, text: &'a str, ends: Endpoints) -> Result<&'
 
 /// The character that the four characters behind `\x` spell, and what follows them.
 fn split_coded(text: &str) -> Option<(char, &str)>
-    ensures { IfSome result (λ p.
-        Begins (backslash ∷ letter_x ∷ chars text.now) (chars p.1.now) (λ s. EscapeSequence true s (p.0 ∷ []))) }
+    ensures { SplitsCoded (chars text.now) result }
 {
     let (a, rest) = split_first(text)?;
     let (b, rest) = split_first(rest)?;

@@ -1,15 +1,17 @@
-//! Strings that are trimmed: names, keys, and values without quotes. This file knows strings and trims, and no line.
+//! Strings that are trimmed: names, keys, and values without quotes. This file knows strings and trims, and
+//! no line.
 ghost use Rattle.std.specs.Prelude.{chars};
-ghost use Rattle.ini_text.specs.Inside.ParserFaults.{ends_of};
+ghost use Rattle.ini_text.specs.Inside.Endpoints.{ends_of};
 ghost use Rattle.ini_text.specs.Inside.TrimmedStrings.{ReadsTrimmed};
 
-use crate::parser::fault::{Endpoints, Stop};
+use crate::parser::endpoints::Endpoints;
+use crate::parser::fault::Stop;
 use crate::parser::string::{read_string, split_plain};
-use crate::parser::trim::trimmed;
+use crate::text::trimmed;
 use std::alloc::Global;
 
-/// A string up to an endpoint, trimmed at its end or at both ends, and what follows it, from its endpoint on. What
-/// `scratch` holds is lost.
+/// A string up to an endpoint, trimmed at its end or at both ends, and what follows it, from its endpoint
+/// on. What `scratch` holds is lost.
 pub(crate) fn read_trimmed<'a>(
     alloc: Global,
     scratch: &mut String,

@@ -7,12 +7,11 @@ ghost use Rattle.ini_text.specs.Inside.ValueParts.{AfterLineEnd, AfterCr, MakesV
 ghost use Rattle.ini_text.specs.Grammar.Values.{MoreLines, MoreLinesStop};
 ghost use Rattle.ini_text.specs.Grammar.WhiteSpace.{without_outer_line_feeds};
 
-use crate::characters::split_first;
 use crate::error::ParseKind;
 use crate::option::ParseOption;
 use crate::parser::fault::Stop;
 use crate::parser::line::{read_first_line, read_line};
-use crate::parser::scan::{Class, push, skip, split_last};
+use crate::text::{Class, push, skip, split_first, split_last};
 use std::alloc::{AllocError, Global};
 
 // value = *inline-white line [line-end more-lines]

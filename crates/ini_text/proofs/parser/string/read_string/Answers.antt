@@ -3,7 +3,7 @@ use Rattle.std.proofs.lemmas.Bool.{false≢true}
 use Rattle.std.proofs.lemmas.Result.{err_from_is_err_and}
 use Rattle.ini_text.specs.Grammar.CharacterKinds.{letter_x}
 use Rattle.ini_text.specs.Grammar.Strings.{Row, StrStops}
-use Rattle.ini_text.specs.Inside.ParserFaults.{ends_of}
+use Rattle.ini_text.specs.Inside.Endpoints.{ends_of}
 use Rattle.ini_text.proofs.GrammarLemmas.AppendedValueLemmas.{nothing_yet, stopped}
 use Rattle.ini_text.proofs.GrammarLemmas.EscapeSequenceLemmas.{one_character, units_stop, with_units}
 use Rattle.ini_text.proofs.GrammarLemmas.StringProductionLemmas.{and_run, and_escape, escape_stops, string_at_end, string_at_endpoint, lone_backslash, ends_early, ends_behind_backslash, behind_backslash}

@@ -1,7 +1,7 @@
 use Rattle.std.proofs.Common.{length, chars}
 use denote.Text.{Utf8}
 use denote.Shadow.{shadow}
-use Rattle.ini_text.specs.Inside.ParserFaults.{ends_of}
+use Rattle.ini_text.specs.Inside.Endpoints.{ends_of}
 use Rattle.ini_text.specs.Inside.Readers.{AppendedValue}
 use Rattle.ini_text.specs.Parsing.Items.{string_text}
 use Rattle.ini_text.specs.Grammar.Strings.{Row}

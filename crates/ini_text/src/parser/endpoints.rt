@@ -1,0 +1,87 @@
+//! Where strings end, and the runs up to there. This file knows endpoints, and no production.
+ghost use Rattle.std.specs.Prelude.{◌≡◌, ◌++◌, ◌≤◌, ℕ, true, not, chars, length};
+ghost use Rattle.std.specs.List.{list_all, prefix_len};
+ghost use Rattle.ini_text.specs.Grammar.CharacterKinds.{BeginsWithNo};
+ghost use Rattle.ini_text.specs.Grammar.Strings.{is_endpoint};
+ghost use Rattle.ini_text.specs.Inside.Endpoints.{ends_of};
+ghost use Rattle.ini_text.specs.Inside.Lanes.{is_one_of};
+ghost use Rattle.ini_text.specs.Inside.Scans.{is_plain};
+
+use crate::lanes::{Three, run_before};
+
+/// Where a string ends.
+#[derive(Clone, Copy)]
+pub(crate) enum Endpoints {
+    Name,
+    /// A name in which brackets may stand.
+    BracketedName,
+    Key,
+    DoubleQuotes,
+    SingleQuotes,
+    Plain,
+}
+
+impl Endpoints {
+    pub(crate) fn contain(self, c: char) -> bool
+        ensures { result ≡ is_endpoint (ends_of self) c }
+    {
+        match self {
+            Endpoints::Name => c == ']',
+            Endpoints::BracketedName => c == '\n' || c == '\r',
+            Endpoints::Key => c == '=' || c == ':',
+            Endpoints::DoubleQuotes => c == '"',
+            Endpoints::SingleQuotes => c == '\'',
+            Endpoints::Plain => c == '\n' || c == '\r',
+        }
+    }
+
+    /// The bytes at which a string stops: a backslash, and the characters at which it ends.
+    #[tactic(auto, using(crate::proofs::StringLemmas::LaneLemmas::no_marks))]
+    pub(crate) fn marks(self) -> Three
+        ensures { (c : ℕ) → is_plain (ends_of self) c ≡ not (is_one_of result.0 result.1 result.2 c) }
+    {
+        match self {
+            Endpoints::Name => Three(b'\\', b']', b']'),
+            Endpoints::BracketedName => Three(b'\\', b'\n', b'\r'),
+            Endpoints::Key => Three(b'\\', b'=', b':'),
+            Endpoints::DoubleQuotes => Three(b'\\', b'"', b'"'),
+            Endpoints::SingleQuotes => Three(b'\\', b'\'', b'\''),
+            Endpoints::Plain => Three(b'\\', b'\n', b'\r'),
+        }
+    }
+
+    pub(crate) fn contain_text_end(self) -> bool
+        ensures { result ≡ (ends_of self).text }
+    {
+        matches!(self, Endpoints::Plain)
+    }
+
+    /// The message of a text that ends before one of the endpoints.
+    pub(crate) fn expected(self) -> &'static str {
+        match self {
+            Endpoints::Name => "expecting \"[Some(']')]\" but found EOF.",
+            Endpoints::BracketedName => "expecting \"[Some('\\r'), Some('\\n')]\" but found EOF.",
+            Endpoints::Key => "expecting \"[Some('='), Some(':')]\" but found EOF.",
+            Endpoints::DoubleQuotes => "expecting \"[Some('\"')]\" but found EOF.",
+            Endpoints::SingleQuotes => "expecting \"[Some('\\'')]\" but found EOF.",
+            Endpoints::Plain => "expecting \"[Some('\\n'), Some('\\r'), None]\" but found EOF.",
+        }
+    }
+}
+
+fn run_len(bytes: &[u8], ends: Endpoints) -> usize
+    ensures len { result ≡ prefix_len (is_plain (ends_of ends)) bytes.now }
+    ensures within { result ≤ length bytes.now }
+{
+    run_before(bytes, &ends.marks())
+}
+
+/// The characters at the front of a text that are neither a backslash nor an endpoint, and what follows
+/// them.
+pub(crate) fn split_run(text: &str, ends: Endpoints) -> (&str, &str)
+    ensures parts { chars text.now ≡ chars result.0.now ++ chars result.1.now }
+    ensures run { list_all (is_plain (ends_of ends)) (chars result.0.now) ≡ true }
+    ensures stops { BeginsWithNo (is_plain (ends_of ends)) (chars result.1.now) }
+{
+    text.split_at(run_len(text.as_bytes(), ends))
+}

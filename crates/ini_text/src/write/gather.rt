@@ -1,0 +1,220 @@
+//! Texts on their way to a device, gathered so that many of them reach it together. This file knows
+//! bytes and escapes, and no section, key or value.
+ghost use Rattle.std.specs.Prelude.{◌≡◌, ◌+◌, ◌++◌, ◌≤◌, [], length, OnOk, if◌then◌else◌};
+ghost use Rattle.ini_text.specs.Escaping.EscapedTexts.{escape, escaped_bytes};
+ghost use Rattle.ini_text.specs.Device.Gathering.{Sends};
+ghost use Rattle.ini_text.specs.Device.Watched.{IsClear};
+ghost use Rattle.ini_text.specs.declared.write.gather.TheConstants.{ROOM};
+
+use crate::error::Error;
+use crate::policy::EscapePolicy;
+use crate::text::split_first;
+use crate::watched::Watched;
+use crate::write::escape::{hex_digit, letter_of};
+use crate::write::verbatim::split_verbatim;
+use crate::write::write_bytes;
+use std::io::Write;
+
+// How many bytes are held back at most.
+const ROOM: usize = 4096;
+
+// How long an escape is at most: a backslash, `x` and six digits.
+const LONGEST: usize = 8;
+
+/// Holds bytes back on their way to a device, so that many short texts reach it in one call.
+///
+/// What is held back goes out by `flush`, or where there is no room left; a gatherer that is dropped
+/// before takes it along. It takes no memory. A refused call leaves unsaid what is held back, and the
+/// device is asked nothing more.
+#[derive(Drop)]
+pub struct Gatherer {
+    bytes: [u8; ROOM],
+    len: usize,
+    ghost within: { len ≤ ROOM },
+}
+
+impl Gatherer {
+    ghost use Rattle.ini_text.specs.Device.HeldBack.{held};
+
+    /// Nothing is held back.
+    pub fn new() -> Gatherer
+        ensures { held result ≡ [] }
+    {
+        Gatherer {
+            bytes: [0; ROOM],
+            len: 0,
+        }
+    }
+
+    /// Sends a text as it is.
+    ///
+    /// # Errors
+    ///
+    /// `Io` where the device answers a fault, `NoProgress` where it takes no bytes.
+    pub fn put<W: Write>(&mut self, text: &str, out: &mut Watched<'_, W>) -> Result<(), Error>
+        requires { IsClear out.old }
+        ensures { Sends W.contents out.old out.new (held self.old) (held self.new) result text.now }
+    {
+        self.put_bytes(text.as_bytes(), out)
+    }
+
+    /// Sends a text escaped. The errors are those of `put`.
+    pub fn put_escaped<W: Write>(
+        &mut self,
+        text: &str,
+        policy: EscapePolicy,
+        out: &mut Watched<'_, W>,
+    ) -> Result<(), Error>
+        requires { IsClear out.old }
+        ensures { Sends W.contents out.old out.new (held self.old) (held self.new) result
+            (escaped_bytes policy text.now) }
+    {
+        if self.hold_verbatim(text, policy) {
+            return Ok(());
+        }
+        self.put_runs(text, policy, out)
+    }
+
+    // Holds a text back if no character of it is escaped and there is room.
+    fn hold_verbatim(&mut self, text: &str, policy: EscapePolicy) -> bool
+        ensures { held self.new ≡ held self.old ++ (if result then escaped_bytes policy text.now else []) }
+    {
+        let (run, rest) = split_verbatim(text, policy);
+        if !rest.is_empty() {
+            return false;
+        }
+        if run.len() > ROOM - self.len {
+            return false;
+        }
+        self.append(run.as_bytes());
+        true
+    }
+
+    // Sends a text escaped, run by run.
+    #[inline(never)]
+    fn put_runs<W: Write>(
+        &mut self,
+        text: &str,
+        policy: EscapePolicy,
+        out: &mut Watched<'_, W>,
+    ) -> Result<(), Error>
+        requires { IsClear out.old }
+        ensures { Sends W.contents out.old out.new (held self.old) (held self.new) result
+            (escaped_bytes policy text.now) }
+    {
+        let mut rest = text;
+        'runs: loop {
+            let (run, after) = split_verbatim(rest, policy);
+            let Some((c, following)) = split_first(after) else {
+                return self.put(run, out);
+            };
+            if self.hold_escaped(run, c) {
+                rest = following;
+                continue 'runs;
+            }
+            self.put(run, out)?;
+            self.put_escape(c, out)?;
+            rest = following;
+        }
+    }
+
+    // Holds back a run and the escape of the character behind it, if there is room.
+    #[inline(always)]
+    fn hold_escaped(&mut self, run: &str, c: char) -> bool
+        ensures { held self.new ≡ held self.old ++ (if result then run.now ++ escape c else []) }
+    {
+        if run.len() > ROOM - LONGEST || self.len > ROOM - LONGEST - run.len() {
+            return false;
+        }
+        self.append(run.as_bytes());
+        self.append_escape(c);
+        true
+    }
+
+    /// Sends all that is held back. The errors are those of `put`.
+    pub fn flush<W: Write>(&mut self, out: &mut Watched<'_, W>) -> Result<(), Error>
+        requires { IsClear out.old }
+        ensures sends { Sends W.contents out.old out.new (held self.old) (held self.new) result [] }
+        ensures empty { OnOk result (held self.new ≡ []) }
+    {
+        write_bytes(&self.bytes[..self.len], out)?;
+        self.len = 0;
+        Ok(())
+    }
+
+    // Sends bytes: they are held back if they have room, else they go out in a call of their own.
+    fn put_bytes<W: Write>(&mut self, bytes: &[u8], out: &mut Watched<'_, W>) -> Result<(), Error>
+        requires { IsClear out.old }
+        ensures { Sends W.contents out.old out.new (held self.old) (held self.new) result bytes.now }
+    {
+        if bytes.len() <= ROOM - self.len {
+            self.append(bytes);
+            return Ok(());
+        }
+        self.put_through(bytes, out)
+    }
+
+    // Sends bytes in a call of their own, behind what is held back.
+    #[inline(never)]
+    fn put_through<W: Write>(&mut self, bytes: &[u8], out: &mut Watched<'_, W>) -> Result<(), Error>
+        requires { IsClear out.old }
+        ensures { Sends W.contents out.old out.new (held self.old) (held self.new) result bytes.now }
+    {
+        self.flush(out)?;
+        write_bytes(bytes, out)
+    }
+
+    // Sends the escape of a character.
+    fn put_escape<W: Write>(&mut self, c: char, out: &mut Watched<'_, W>) -> Result<(), Error>
+        requires { IsClear out.old }
+        ensures { Sends W.contents out.old out.new (held self.old) (held self.new) result (escape c) }
+    {
+        if self.len <= ROOM - LONGEST {
+            self.append_escape(c);
+            return Ok(());
+        }
+        self.flush(out)?;
+        self.append_escape(c);
+        Ok(())
+    }
+
+    // Holds back the escape of a character.
+    #[tactic(auto, unfolding(crate::specs::Escaping::EscapedTexts::escape))]
+    fn append_escape(&mut self, c: char)
+        requires { length (held self.old) + LONGEST ≤ ROOM }
+        ensures { held self.new ≡ held self.old ++ escape c }
+    {
+        if let Some(letter) = letter_of(c) {
+            return self.append(&[b'\\', letter]);
+        }
+        let code = u32::from(c);
+        self.append(b"\\x");
+        if code >= 0x10_0000 {
+            self.append(&[hex_digit(code, 0x10_0000)]);
+        }
+        if code >= 0x1_0000 {
+            self.append(&[hex_digit(code, 0x1_0000)]);
+        }
+        self.append(&[
+            hex_digit(code, 0x1000),
+            hex_digit(code, 0x100),
+            hex_digit(code, 0x10),
+            hex_digit(code, 1),
+        ]);
+    }
+
+    // Holds back a few bytes.
+    fn append(&mut self, bytes: &[u8])
+        requires { self.old.len + length bytes.now ≤ ROOM }
+        ensures held { held self.new ≡ held self.old ++ bytes.now }
+        ensures len { self.new.len ≡ self.old.len + length bytes.now }
+    {
+        let end = self.len + bytes.len();
+        if let [byte] = bytes {
+            self.bytes[self.len] = *byte;
+        } else {
+            self.bytes[self.len..end].copy_from_slice(bytes);
+        }
+        self.len = end;
+    }
+}
