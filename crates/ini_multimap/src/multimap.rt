@@ -44,6 +44,9 @@ pub struct Multimap<K: MapKey, V> {
     index: Option<Box<Chains>>,
     // How many holes there are.
     holes: usize,
+    // Whether each key is known to have its value. What a walk for writing leaves isn't followed, so it
+    // forgets that, until holes are closed.
+    is_paired: bool,
 }
 
 impl<K: MapKey, V> Model for Multimap<K, V> {
@@ -59,7 +62,7 @@ impl<K: MapKey, V> Model for Multimap<K, V> {
 
     ghost view = { λ m. pairs_in m.keys.items m.values.items };
 
-    ghost invariant = { λ m. AreFilled K.key_code m.keys.items m.values.items m.index m.holes };
+    ghost invariant = { λ m. AreFilled K.key_code m.keys.items m.values.items m.index m.holes m.is_paired };
 }
 
 impl<K: MapKey, V> Multimap<K, V> {
@@ -72,6 +75,7 @@ impl<K: MapKey, V> Multimap<K, V> {
             values: Vec::new(alloc),
             index: None,
             holes: 0,
+            is_paired: true,
         }
     }
 
@@ -79,7 +83,11 @@ impl<K: MapKey, V> Multimap<K, V> {
     pub fn len_pairs(&self) -> usize
         ensures { result ≡ length self.now }
     {
-        self.iter().len_pairs()
+        if self.is_paired {
+            self.keys.len() - self.holes
+        } else {
+            self.iter().len_pairs()
+        }
     }
 
     /// The number of distinct keys.
@@ -196,10 +204,7 @@ impl<K: MapKey, V> Multimap<K, V> {
         ensures values { values_mut_rest Q.fits result ≡ values_at (Q.fits q) self.old }
         ensures countable { length (values_mut_rest Q.fits result) < 2 ^ 64 }
     {
-        ValuesMut::new(
-            IterMut::new(self.keys.as_slice(), self.values.as_mut_slice()),
-            q,
-        )
+        ValuesMut::new(self.iter_mut(), q)
     }
 
     /// The value of the key's pair number `n` in list order, from 0, for writing. The rest stays.
@@ -270,6 +275,7 @@ impl<K: MapKey, V> Multimap<K, V> {
         self.values.clear();
         self.index = None;
         self.holes = 0;
+        self.is_paired = true;
     }
 
     /// Every pair in order.
@@ -283,6 +289,7 @@ impl<K: MapKey, V> Multimap<K, V> {
     pub fn iter_mut(&mut self) -> IterMut<'_, K, V>
         ensures { iter_mut_rest result ≡ self.old }
     {
+        self.is_paired = false;
         IterMut::new(self.keys.as_slice(), self.values.as_mut_slice())
     }
 
@@ -291,7 +298,12 @@ impl<K: MapKey, V> Multimap<K, V> {
         ensures keys { result ≡ distinct_keys K.eq self.now }
         ensures countable { length result < 2 ^ 64 }
     {
-        Keys::new(self.keys.as_slice(), self.values.as_slice(), &self.index)
+        Keys::new(
+            self.keys.as_slice(),
+            self.values.as_slice(),
+            &self.index,
+            self.is_paired,
+        )
     }
 }
 
@@ -303,6 +315,7 @@ impl<K: MapKey + Drop, V: Drop> Drop for Multimap<K, V> {
             values,
             index,
             holes: _,
+            is_paired: _,
         } = self;
         drop(keys);
         drop(values);
@@ -347,6 +360,7 @@ impl<K: MapKey + Drop, V: Drop> IntoIterator for Multimap<K, V> {
             values,
             index: _,
             holes: _,
+            is_paired: _,
         } = self;
         IntoIter::new(keys, values)
     }
@@ -418,6 +432,8 @@ impl<K: MapKey, V> Multimap<K, V> {
         if is_sparse(self.keys.as_slice(), self.holes) {
             close_holes(&mut self.keys, &mut self.values, &mut self.index);
             self.holes = count_holes(self.keys.as_slice());
+            let pairs = Iter::new(self.keys.as_slice(), self.values.as_slice()).len_pairs();
+            self.is_paired = pairs == self.keys.len() - self.holes;
         }
     }
 

@@ -1,21 +1,24 @@
 -- What holds of the fields of a multimap. Its invariant says it.
 use Rattle.std.specs.Prelude.{◌≡◌, ℕ, suc, ◌≤◌, Bool, List, [], length, take, drop, Option, Some, None, IfSome}
+use Rattle.std.specs.Bool.{OnTrue}
 use Rattle.std.specs.Global.{Box}
 use Rattle.ini_multimap.specs.Slots.{pairs_in}
-use Rattle.ini_multimap.specs.Inside.Fits.{holes_in, fits_before}
+use Rattle.ini_multimap.specs.Inside.Fits.{ArePaired, holes_in, fits_before}
 use Rattle.ini_multimap.specs.Pairs.{values_at}
 use Rattle.ini_multimap.specs.Inside.Chains.{IsCandidate, IsIndexed}
 use Rattle.ini_multimap.specs.declared.slots.chains.Chains.{Chains}
 
-pub record AreFilled {K V : Type 0} (code : K → ℕ) (ks : List (Option K)) (vs : List (Option V)) (index : Option (Box Chains)) (holes : ℕ) : Type 0 where
+pub record AreFilled {K V : Type 0} (code : K → ℕ) (ks : List (Option K)) (vs : List (Option V)) (index : Option (Box Chains)) (holes : ℕ) (is_paired : Bool) : Type 0 where
   pub long : length vs ≡ length ks
   pub indexed : IsIndexed code ks index
   pub counted : holes ≡ holes_in ks
+  pub paired : OnTrue is_paired (ArePaired ks vs)
 
 -- a walk over the keys has the slots from `passed` up to `end` left
-pub record AreLeft {K V : Type 0} (code : K → ℕ) (ks : List (Option K)) (vs : List (Option V)) (index : Option (Box Chains)) (passed end : ℕ) : Type 0 where
+pub record AreLeft {K V : Type 0} (code : K → ℕ) (ks : List (Option K)) (vs : List (Option V)) (index : Option (Box Chains)) (is_paired : Bool) (passed end : ℕ) : Type 0 where
   pub long : length vs ≡ length ks
   pub indexed : IsIndexed code ks index
+  pub paired : OnTrue is_paired (ArePaired ks vs)
   pub passed_within : passed ≤ end
   pub end_within : end ≤ length ks
 

@@ -1,5 +1,5 @@
 -- Which slots hold pairs, and pairs that fit. Private functions say it.
-use Rattle.std.specs.Prelude.{◌≡◌, ℕ, zero, suc, ◌-◌, ◌≤◌, Bool, true, false, cond, List, [], ◌∷◌, length, take, drop, Option, Some, None, MatchOption}
+use Rattle.std.specs.Prelude.{◌≡◌, ℕ, zero, suc, ◌+◌, ◌-◌, ◌≤◌, Bool, true, false, cond, List, [], ◌∷◌, length, take, drop, Option, Some, None, MatchOption}
 use Rattle.std.specs.Option.{option_map}
 use Rattle.ini_multimap.specs.Pairs.{without, fresh}
 use Rattle.ini_multimap.specs.Slots.{with_cell, pairs_in}
@@ -26,6 +26,15 @@ abbrev pub code_at : {K : Type 0} → (K → ℕ) → List (Option K) → ℕ �
 code_at code ks k = option_map code (value_in ks k)
 
 module _ {K V : Type 0} where
+  -- the key of a slot that holds a pair
+  abbrev pub pair_key : Option K → Option V → Option K
+  pair_key k None = None
+  pair_key k (Some v) = k
+
+  -- each key has its value: as many slots hold pairs as are no holes
+  abbrev pub ArePaired : List (Option K) → List (Option V) → Type 0
+  ArePaired ks vs = length (pairs_in ks vs) + holes_in ks ≡ length ks
+
   module _ (test : K → Bool) where
     abbrev pub fit : Option K → Option V → Bool
     fit None v = false

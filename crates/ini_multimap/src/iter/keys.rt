@@ -2,10 +2,11 @@
 ghost use Rattle.std.specs.Prelude.{◌≡◌, ◌<◌, Some, take, length, IfSome};
 ghost use Rattle.std.specs.Option.{option_copied, option_to_list};
 ghost use Rattle.std.specs.Iterator.{item_count, YieldsFirstRef, YieldsLastRef};
+ghost use Rattle.std.specs.Bool.{OnTrue};
 ghost use Rattle.std.specs.List.{list_any};
 ghost use Rattle.ini_multimap.specs.Pairs.{distinct_keys};
 ghost use Rattle.ini_multimap.specs.Slots.{pairs_in};
-ghost use Rattle.ini_multimap.specs.Inside.Fits.{fresh_at, fits_at, code_at};
+ghost use Rattle.ini_multimap.specs.Inside.Fits.{ArePaired, code_at, fits_at, fresh_at, pair_key, value_in};
 ghost use Rattle.ini_multimap.specs.Inside.Chains.{IsIndexed};
 
 use crate::key::MapKey;
@@ -19,6 +20,8 @@ pub struct Keys<'a, K: MapKey, V> {
     keys: &'a [Option<K>],
     values: &'a [Option<V>],
     index: &'a Option<Box<Chains>>,
+    // Whether each key is known to have its value.
+    is_paired: bool,
     // The slots from `passed` up to `end` are left.
     passed: usize,
     end: usize,
@@ -37,10 +40,11 @@ impl<'a, K: MapKey, V> Model for Keys<'a, K, V> {
 
     ghost view = { λ it. fresh_after K.eq it.passed (take it.end it.keys.now) (take it.end it.values.now) };
 
-    ghost invariant = { λ it. AreLeft K.key_code it.keys.now it.values.now it.index.now it.passed it.end };
+    ghost invariant = { λ it. AreLeft K.key_code it.keys.now it.values.now it.index.now it.is_paired
+        it.passed it.end };
 }
 
-// Whether a pair before slot `at` has the key. Where there are chains, only the pairs of its code are asked about.
+// Whether a pair before slot `at` has the key. Where there are chains, only pairs of its code are asked about.
 fn has_key<K: MapKey, V>(
     keys: &[Option<K>],
     values: &[Option<V>],
@@ -75,20 +79,40 @@ fn is_key<K: MapKey, V>(keys: &[Option<K>], values: &[Option<V>], s: usize, key:
     }
 }
 
+// The key in a slot that holds a pair. Where each key has its value, the values aren't read.
+fn paired_key<'a, K, V>(
+    keys: &'a [Option<K>],
+    values: &'a [Option<V>],
+    is_paired: bool,
+    at: usize,
+) -> Option<&'a K>
+    requires long { length values.now ≡ length keys.now }
+    requires within { at < length keys.now }
+    requires paired { OnTrue is_paired (ArePaired keys.now values.now) }
+    ensures { option_copied result ≡ pair_key (value_in keys.now at) (value_in values.now at) }
+{
+    match &keys[at] {
+        Some(key) if is_paired || values[at].is_some() => Some(key),
+        _ => None,
+    }
+}
+
 // The key in a slot, where it holds a pair and no pair before it has the key.
 fn new_key<'a, K: MapKey, V>(
     keys: &'a [Option<K>],
     values: &'a [Option<V>],
     index: &'a Option<Box<Chains>>,
+    is_paired: bool,
     at: usize,
 ) -> Option<&'a K>
     requires long { length values.now ≡ length keys.now }
     requires within { at < length keys.now }
     requires indexed { IsIndexed K.key_code keys.now index.now }
+    requires paired { OnTrue is_paired (ArePaired keys.now values.now) }
     ensures { option_to_list (option_copied result) ≡ fresh_at K.eq at keys.now values.now }
 {
-    match (&keys[at], &values[at]) {
-        (Some(key), Some(_)) if !has_key(keys, values, index, at, key) => Some(key),
+    match paired_key(keys, values, is_paired, at) {
+        Some(key) if !has_key(keys, values, index, at, key) => Some(key),
         _ => None,
     }
 }
@@ -98,15 +122,18 @@ impl<'a, K: MapKey, V> Keys<'a, K, V> {
         keys: &'a [Option<K>],
         values: &'a [Option<V>],
         index: &'a Option<Box<Chains>>,
+        is_paired: bool,
     ) -> Self
         requires long { length values.now ≡ length keys.now }
         requires indexed { IsIndexed K.key_code keys.now index.now }
+        requires paired { OnTrue is_paired (ArePaired keys.now values.now) }
         ensures { result ≡ distinct_keys K.eq (pairs_in keys.now values.now) }
     {
         Keys {
             keys,
             values,
             index,
+            is_paired,
             passed: 0,
             end: keys.len(),
         }
@@ -124,7 +151,7 @@ impl<'a, K: MapKey, V> Iterator for Keys<'a, K, V> {
         while self.passed < self.end {
             let at = self.passed;
             self.passed += 1;
-            match new_key(self.keys, self.values, self.index, at) {
+            match new_key(self.keys, self.values, self.index, self.is_paired, at) {
                 Some(key) => return Some(key),
                 None => {}
             }
@@ -144,7 +171,7 @@ impl<'a, K: MapKey, V> DoubleEndedIterator for Keys<'a, K, V> {
     fn next_back(&mut self) -> Option<&'a K> {
         while self.passed < self.end {
             self.end -= 1;
-            match new_key(self.keys, self.values, self.index, self.end) {
+            match new_key(self.keys, self.values, self.index, self.is_paired, self.end) {
                 Some(key) => return Some(key),
                 None => {}
             }

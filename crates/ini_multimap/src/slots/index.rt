@@ -1,9 +1,10 @@
-//! Which slots are to be looked at for a code, the candidates: those of its chain where there are chains, and else each of
-//! the few. Whoever asks doesn't know of it.
+//! Which slots are to be looked at for a code, the candidates: those of its chain where there are chains,
+//! and else each of the few. Whoever asks doesn't know of it.
 ghost use Rattle.std.specs.Prelude.{◌≡◌, ◌<◌, ◌≤◌, ◌^◌, ◌∷◌, ◌++◌, [], Some, None, suc, length, slice_set};
 ghost use Rattle.std.specs.Prelude.{IfSome, OnOk, vec_len, vec_capacity};
 ghost use Rattle.ini_multimap.specs.Inside.Fits.{code_at};
-ghost use Rattle.ini_multimap.specs.Inside.Chains.{HasRoom, IsIndexed, after_in, before_in, first_in, last_in};
+ghost use Rattle.ini_multimap.specs.Inside.Chains.{HasRoom, IsIndexed};
+ghost use Rattle.ini_multimap.specs.Inside.Chains.{after_in, before_in, first_in, last_in};
 
 use super::Chains;
 use crate::key::{MapKey, Probe};

@@ -25,6 +25,6 @@ loop-self-preserved g c =
     let inv = c.loop-self.invariant in
     let rest = fresh_after g.K.PartialEq.eq it.passed (take (it.end - 1) it.keys.now) (take (it.end - 1) it.values.now) in
     record {
-      slots = record { long = inv.slots.long; indexed = inv.slots.indexed; passed_within = omega (arith, c.loop-self-test.true); end_within = omega (arith, inv.slots.end_within) };
+      slots = record { long = inv.slots.long; indexed = inv.slots.indexed; paired = inv.slots.paired; passed_within = omega (arith, c.loop-self-test.true); end_within = omega (arith, inv.slots.end_within) };
       left = sym (back_passed g.K.PartialEq.eq it.keys.now it.values.now it.end inv.slots.long inv.slots.end_within it.passed (it.end - 1) (omega (arith, c.loop-self-test.true)) (omega (arith, c.loop-self-test.true)) ∙ ap (λ l. rest ++ l) (sym c.in-None.ensures) ∙ append-nil rest) ∙ inv.left;
     }

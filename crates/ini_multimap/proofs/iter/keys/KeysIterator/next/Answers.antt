@@ -24,6 +24,6 @@ loop-self-preserved g c =
     let inv = c.loop-self.invariant in
     let rest = fresh_after g.K.PartialEq.eq (it.passed + 1) (take it.end it.keys.now) (take it.end it.values.now) in
     record {
-      slots = record { long = inv.slots.long; indexed = inv.slots.indexed; passed_within = omega (arith, c.loop-self-test.true); end_within = inv.slots.end_within };
+      slots = record { long = inv.slots.long; indexed = inv.slots.indexed; paired = inv.slots.paired; passed_within = omega (arith, c.loop-self-test.true); end_within = inv.slots.end_within };
       left = ap (λ l. l ++ rest) c.in-None.ensures ∙ sym (front_passed g.K.PartialEq.eq it.keys.now it.values.now it.end inv.slots.long inv.slots.end_within it.passed c.loop-self-test.true) ∙ inv.left;
     }
