@@ -2,7 +2,7 @@
 //! A removal leaves a hole, and the holes are closed where they outnumber the pairs.
 //!
 //! A growing call makes its room before anything changes, so a refused one changes nothing.
-ghost use Rattle.std.specs.Prelude.{◌-◌, ◌^◌, ◌≡◌, ◌+◌, ◌<◌, ◌≤◌, ◌==◌, [], ◌∷◌, ◌++◌, length, filter};
+ghost use Rattle.std.specs.Prelude.{◌-◌, ◌^◌, ◌≡◌, ◌+◌, ◌<◌, ◌≤◌, ◌==◌, [], ◌∷◌, ◌++◌, length};
 ghost use Rattle.std.specs.Prelude.{IsSome, IfOk, IfErr, OnOk, OnErr, IfNone, slice_get, Some, None};
 ghost use Rattle.std.specs.Option.{option_copied, option_copied_mut};
 ghost use Rattle.std.specs.Borrow.{sem};
@@ -16,8 +16,7 @@ ghost use Rattle.ini_multimap.specs.Inside.Fits.{without_nth};
 use crate::iter::{IntoIter, Iter, IterMut, Keys, Removed, Values, ValuesMut};
 use crate::key::{MapKey, Probe};
 use crate::slots::{
-    Chains, close_holes, count_fits, count_holes, is_sparse, last_slot, link_last, make_room,
-    nth_slot, unlink,
+    Chains, close_holes, count_holes, is_sparse, last_slot, link_last, make_room, nth_slot, unlink,
 };
 use std::alloc::{AllocError, Global};
 use std::marker::Model;
@@ -439,8 +438,13 @@ impl<K: MapKey, V> Multimap<K, V> {
 
     // How many pairs fit.
     fn count<Q: Probe<K> + Copy>(&self, q: Q) -> usize
-        ensures { result ≡ length (filter (λ p. Q.fits q p.0) self.now) }
+        ensures { result ≡ length (values_at (Q.fits q) self.now) }
     {
-        count_fits(self.keys.as_slice(), self.values.as_slice(), &self.index, q)
+        let mut fits = 0;
+        let mut rest = self.get_all(q);
+        while let Some(_) = rest.next() {
+            fits += 1;
+        }
+        fits
     }
 }

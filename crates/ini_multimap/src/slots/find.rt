@@ -1,6 +1,6 @@
 //! The walks over the slots of one code, and over all.
 ghost use Rattle.std.specs.Prelude.{◌≡◌, ◌<◌, ◌^◌, true, length, is_some, IfSome, Some};
-ghost use Rattle.ini_multimap.specs.Inside.Fits.{IsNthFit, IsLastFull, fits_at, fits_before, value_in};
+ghost use Rattle.ini_multimap.specs.Inside.Fits.{IsNthFit, IsLastFull, fits_at, value_in};
 ghost use Rattle.ini_multimap.specs.Inside.Chains.{IsIndexed};
 
 use super::Chains;
@@ -85,29 +85,6 @@ pub(crate) fn nth_slot<K: MapKey, V, Q: Probe<K> + Copy>(
         at = candidate_after(index, keys.len(), s);
     }
     None
-}
-
-// How many pairs fit.
-pub(crate) fn count_fits<K: MapKey, V, Q: Probe<K> + Copy>(
-    keys: &[Option<K>],
-    values: &[Option<V>],
-    index: &Option<Box<Chains>>,
-    q: Q,
-) -> usize
-    requires long { length values.now ≡ length keys.now }
-    requires indexed { IsIndexed K.key_code keys.now index.now }
-    requires countable { length keys.now < 2 ^ 64 }
-    ensures { result ≡ fits_before (Q.fits q) keys.now values.now (length keys.now) }
-{
-    let mut fits = 0;
-    let mut at = first_candidate(keys, index, q);
-    while let Some(s) = at {
-        if fits_at(keys, values, index, s, q) {
-            fits += 1;
-        }
-        at = candidate_after(index, keys.len(), s);
-    }
-    fits
 }
 
 // The slot of the last pair.
