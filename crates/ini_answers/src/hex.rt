@@ -1,4 +1,5 @@
-//! Bytes and texts in hexadecimal: two lower-case digits for each byte, of a text for each byte of its UTF-8.
+//! Bytes and texts in hexadecimal: two lower-case digits for each byte, of a text for each byte of its
+//! UTF-8.
 ghost use Rattle.std.specs.Prelude.{◌<◌};
 
 use std::alloc::{AllocError, Global};

@@ -72,7 +72,8 @@ pub fn add_to(document: &mut Ini, name: &str, key: &str, value: &str) -> Result<
     Ok(())
 }
 
-/// Takes out the last pair of a key of a section. The key is gone, and the sections of another name stay, all of them.
+/// Takes out the last pair of a key of a section. The key is gone, and the sections of another name stay,
+/// all of them.
 pub fn delete_last(document: &mut Ini, name: &str, key: &str, other: &str)
     requires last { length (values_in (Some (chars name.now)) (chars key.now) document.old) ≤ 1 }
     requires other { is_name (Some (chars other.now)) (Some (chars name.now)) ≡ false }

@@ -67,7 +67,8 @@ impl Names {
         Ok(0)
     }
 
-    /// Makes one call at a number that is there, or at one that is new, and answers the length of what it gives.
+    /// Makes one call at a number that is there, or at one that is new, and answers the length of what it
+    /// gives.
     pub fn call(
         &self,
         document: &mut Ini,

@@ -1,10 +1,12 @@
 //! Many calls of one kind on one document, for a measurement beside another program.
 //!
-//! A line of standard input is `CALL SHAPE N TIMES`. The document has N keys in one section where SHAPE is `keys`, and N
-//! sections of one key where it is `sections`. The call is made so many times, each time with the next key or section, and
-//! the answer is a line: the number of pairs that are left, and a sum over the lengths of what the calls answered.
+//! A line of standard input is `CALL SHAPE N TIMES`. The document has N keys in one section where SHAPE is
+//! `keys`, and N sections of one key where it is `sections`. The call is made so many times, each time with
+//! the next key or section, and the answer is a line: the number of pairs that are left, and a sum over the
+//! lengths of what the calls answered.
 //!
-//! CALL is `none`, `get_from`, `set_there`, `set_new`, `append`, `delete_from`, `section`, `len`, `sections` or `setter`.
+//! CALL is `none`, `get_from`, `set_there`, `set_new`, `append`, `delete_from`, `section`, `len`, `sections`
+//! or `setter`.
 #![tactic(auto)]
 
 mod calls;

@@ -1,5 +1,5 @@
-//! Examples of the library, run one after another. Each is a file of its own, to be read and copied; this file knows what
-//! they print and no more.
+//! Examples of the library, run one after another. Each is a file of its own, to be read and copied; this
+//! file knows what they print and no more.
 #![tactic(auto)]
 
 mod faults;

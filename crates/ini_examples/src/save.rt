@@ -6,8 +6,8 @@ use std::fs;
 use std::path::Path;
 use std::rt::Files;
 
-/// Sets the port in the file `settings.ini`, by way of a file beside it. Answers whether what was saved loads again as it
-/// is; where it doesn't, nothing is written.
+/// Sets the port in the file `settings.ini`, by way of a file beside it. Answers whether what was saved
+/// loads again as it is; where it doesn't, nothing is written.
 pub fn set_port<R: Files>(rt: &R, alloc: Global, port: &str) -> Result<bool, Error> {
     let mut document = Ini::load_from_file(rt, alloc, Path::new("settings.ini"))?;
     document.with_general_section().set("port", port)?;
