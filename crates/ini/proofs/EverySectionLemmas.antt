@@ -3,7 +3,8 @@ use Rattle.std.proofs.Common.{◌≡◌, ℕ, zero, suc, ◌≤◌, Bool, cond, 
 use Rattle.std.specs.Borrow.{Bor}
 use Rattle.ini_multimap.specs.Keys.{name_fits}
 use Rattle.ini_multimap.specs.Pairs.{set_nth_value, values_at}
-use Rattle.ini.specs.Texts.{IsTextName, Text, str_name}
+use Rattle.ini.specs.Texts.{Text, str_name}
+use Rattle.ini.specs.Inside.LentNames.{IsTextName}
 use Rattle.ini.specs.Properties.{Pairs, removed}
 use Rattle.ini.specs.Documents.{sections_of}
 use Rattle.ini.specs.Edits.{delete_in_all}

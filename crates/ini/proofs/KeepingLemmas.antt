@@ -19,7 +19,7 @@ texts_equal : (s t : Text) → is_text s t ≡ true → s ≡ t
 texts_equal s t h = (bytes_decides s t).0 h
 
 -- names that fit are equal
-names_equal : (m n : Option Text) → is_name m n ≡ true → m ≡ n
+pub names_equal : (m n : Option Text) → is_name m n ≡ true → m ≡ n
 names_equal None None h = refl
 names_equal None (Some t) h = absurd cc
 names_equal (Some s) None h = absurd cc

@@ -10,7 +10,8 @@ use Rattle.std.specs.Str.{chars}
 use Rattle.std.specs.String.{string_bytes, string_eq}
 use Rattle.ini_multimap.specs.Keys.{name_fits}
 use Rattle.ini_multimap.specs.Pairs.{distinct_keys, values_at}
-use Rattle.ini.specs.Texts.{IsTextName, is_name, name_of, str_name}
+use Rattle.ini.specs.Texts.{is_name, name_of, str_name}
+use Rattle.ini.specs.Inside.LentNames.{IsTextName}
 use Rattle.ini.specs.Properties.{Pairs}
 use Rattle.ini.specs.Documents.{first_section, names, names_of, section_removed, sections_named, sections_of}
 use Rattle.ini.proofs.ListLemmas.{lookup-both, remove_entry-both, set_value-both, distinct_keys-both, values_at-both}

@@ -7,7 +7,8 @@ use Rattle.std.specs.Str.{IsUtf8, chars, bytes_eq}
 use Rattle.std.specs.String.{string_bytes, string_eq}
 use Rattle.ini_multimap.specs.Keys.{name_fits}
 use Rattle.ini_text.proofs.StringLemmas.SameTextLemmas.{same_text}
-use Rattle.ini.specs.Texts.{IsTextName, is_text, is_name, name_of, str_name, text_of}
+use Rattle.ini.specs.Texts.{is_text, is_name, name_of, str_name, text_of}
+use Rattle.ini.specs.Inside.LentNames.{IsTextName}
 
 module _ {Z : Type 0} where
   -- a key by a `&str`, and by a `String`

@@ -1,10 +1,12 @@
 -- Texts that are written one after another.
-use Rattle.std.proofs.Common.{◌≡◌, ◌∙◌, sym, subst, ap, refl, ℕ, ◌+◌, ◌<◌, List, [], ◌∷◌, ◌++◌, flat_map, get_or, drop, drop-cons, add-one, length, Option, Some, Result, Ok, Err, append_assoc, encode_utf8_all}
-use Rattle.std.proofs.lemmas.Str.{encodes-append, encodes-chars}
-use Rattle.std.specs.Str.{chars}
+use Rattle.std.proofs.Common.{◌≡◌, ◌∙◌, sym, subst, ap, refl, ℕ, ◌+◌, ◌<◌, List, [], ◌∷◌, ◌++◌, flat_map, get_or, drop, drop-cons, add-one, length, Option, Some, Result, Ok, Err, append_assoc, append-nil, encode_utf8_all}
+use lib.Utf8.{encode}
+use Rattle.std.proofs.lemmas.Str.{encode_ascii, encodes-append, encodes-chars}
+use Rattle.std.specs.Str.{IsUtf8, chars}
 use Rattle.ini_text.specs.Grammar.CharacterKinds.{close_bracket, open_bracket}
 use Rattle.ini_text.specs.Escaping.EscapedTexts.{escaped}
 use Rattle.ini_text.specs.Options.WriteOptions.{IsDefaultWriteOption, line_end}
+use Rattle.ini_text.specs.Device.Gathering.{Sends}
 use Rattle.ini_text.specs.Device.Watched.{IsClear}
 use Rattle.ini_text.proofs.WriteLemmas.SendLemmas.{Sends-cut, Sends-nil, Sends-then}
 use Rattle.ini_text.specs.declared.error.Error.{Error}
@@ -19,6 +21,14 @@ use Rattle.ini.specs.Written.{written, written_name, written_pair}
 use Rattle.ini_text.specs.declared.write_option.WriteOption.{WriteOption}
 
 module _ {W : Type 0} {contents : W → Option (List ℕ)} where
+  -- a text as it is, seen as its characters
+  pub SendsText-put : {a b : Watched W} {h i bytes : List ℕ} {r : Result (Unit {0}) Error} → IsUtf8 bytes → Sends contents a b h i r bytes → SendsText contents a b h i r (chars bytes)
+  SendsText-put {bytes = bytes} utf8 sent = record { sends = rw (encodes-chars bytes utf8) sent }
+
+  -- a text of one ASCII character
+  pub SendsText-one : {a b : Watched W} {h i : List ℕ} {r : Result (Unit {0}) Error} (c : ℕ) → c < 128 → Sends contents a b h i r (c ∷ []) → SendsText contents a b h i r (c ∷ [])
+  SendsText-one {a} {b} {h} {i} {r} c below sent = record { sends = subst (Sends contents a b h i r) (sym (append-nil (encode c) ∙ encode_ascii c below)) sent }
+
   -- the second text behind the first
   pub SendsText-then : {a b d : Watched W} {h i j : List ℕ} {r : Result (Unit {0}) Error} {xs ys : Text} → SendsText contents a b h i (Ok (tt {0})) xs → SendsText contents b d i j r ys
       → SendsText contents a d h j r (xs ++ ys)
@@ -78,9 +88,9 @@ pair_parts w key value =
     ap (λ l. front ++ (escaped w.escape_policy value ++ l)) (chars-line_end w.line_separator)
     ∙ sym (append_assoc front (escaped w.escape_policy value) (line_end w.line_separator))
 
-pub header_parts : (w : WriteOption) (name : Text) → (chars (open_bracket ∷ []) ++ (escaped w.escape_policy name ++ chars (close_bracket ∷ []))) ++ chars (line_end w.line_separator) ≡ written_name w (Some name)
+pub header_parts : (w : WriteOption) (name : Text) → ((open_bracket ∷ []) ++ (escaped w.escape_policy name ++ chars (close_bracket ∷ []))) ++ chars (line_end w.line_separator) ≡ written_name w (Some name)
 header_parts w name =
-    rw (chars-open_bracket, chars-close_bracket, chars-line_end w.line_separator)
+    rw (chars-close_bracket, chars-line_end w.line_separator)
     (ap (λ l. open_bracket ∷ l) (append_assoc (escaped w.escape_policy name) (close_bracket ∷ []) (line_end w.line_separator)))
 
 -- what is written by options that say the same

@@ -1,8 +1,9 @@
 -- What loading a text or bytes answers.
-use Rattle.std.specs.Prelude.{◌≡◌, ℕ, Bool, if◌then◌else◌, nat_eq, List, [], ◌∷◌, drop, length, Option, IfSome, Result, Err, ⊤}
+use Rattle.std.specs.Prelude.{◌≡◌, ℕ, Bool, if◌then◌else◌, nat_eq, List, [], ◌∷◌, drop, length, Option, IfSome, Result, Err, IfErr, IfOk, ⊤}
 use Rattle.std.specs.List.{starts_with}
 use Rattle.std.specs.Str.{IsUtf8, chars}
 use Rattle.std.specs.Cow.{cow_str_bytes}
+use Rattle.std.specs.Io.KnownBytes.{IsAtEnd}
 use Rattle.ini_text.specs.Grammar.Elements.{Given}
 use Rattle.ini_text.specs.Errors.Messages.{HasMessage}
 use Rattle.ini_text.specs.Grammar.Positions.{column_of, line_of}
@@ -12,7 +13,7 @@ use Rattle.ini_text.specs.declared.error.Error.TheVariants.{Io, Memory, NoProgre
 use Rattle.ini_text.specs.declared.error.ParseError.{ParseError}
 use Rattle.ini_text.specs.declared.option.ParseOption.{ParseOption}
 use Rattle.ini.specs.Texts.{Text}
-use Rattle.ini.specs.Documents.{Document, document_of}
+use Rattle.ini.specs.Documents.{Document, HasGeneral, document_of}
 
 -- it is the document of the items that the text derives
 pub record IsDocumentOf (o : ParseOption) (T : Text) (d : Document) : Type 0 where
@@ -77,13 +78,20 @@ OnReadThrough (Err (Io _)) P = ⊤
 OnReadThrough (Err (Memory _)) P = ⊤
 OnReadThrough _ P = P
 
--- the device failed, or memory was refused
-abbrev pub IsIoOrMemory : Error → Type 0
-IsIoOrMemory (Io _) = ⊤
-IsIoOrMemory (Memory _) = ⊤
-IsIoOrMemory _ = ⊥
-
 -- every refusal but that of a writer
 abbrev pub IsReadRefusal : Error → Type 0
 IsReadRefusal NoProgress = ⊥
 IsReadRefusal _ = ⊤
+
+-- what a call did that was to read a document from a reader's bytes by these options
+pub record ReadsDocument {R : Type 0} (remaining : R → Option (List ℕ)) (old new : R)
+    (o : ParseOption) (drop_mark : Bool) (result : Result Document Error) : Type 0 where
+  -- it answers the document of their text, which has a general section
+  pub document : IfOk result (IsDocumentOfBytes o drop_mark (remaining old))
+  pub general : IfOk result HasGeneral
+  -- or where reading their text stops, or that they are no text
+  pub fault : IfParse result (IsStopOfBytes o drop_mark (remaining old))
+  pub not_utf8 : IsNotUtf8 result → AreNoText drop_mark (remaining old)
+  -- they were read to the end, unless the device failed or memory was refused
+  pub end : OnReadThrough result (IsAtEnd (remaining new))
+  pub only : IfErr result IsReadRefusal

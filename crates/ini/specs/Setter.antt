@@ -3,7 +3,7 @@ use Rattle.std.specs.Prelude.{◌≡◌, if◌then◌else◌, Option, Some, None
 use Rattle.std.specs.Borrow.{Fml, MutBor, follows_if, name_if_ok}
 use Rattle.ini.specs.Texts.{Text}
 use Rattle.ini.specs.Documents.{Document}
-use Rattle.ini.specs.declared.setter.LentName.{LentName}
+use Rattle.ini.specs.declared.name.LentName.{LentName}
 use Rattle.ini.specs.declared.setter.SectionSetter.{SectionSetter}
 use Rattle.ini.specs.contracts.document.Ini.{the_row}
 

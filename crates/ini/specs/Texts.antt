@@ -1,7 +1,7 @@
 -- Texts and names as contracts see them.
-use Rattle.std.specs.Prelude.{ℕ, Bool, List, Option, String, IfSome}
+use Rattle.std.specs.Prelude.{ℕ, Bool, List, Option, String}
 use Rattle.std.specs.String.{string_bytes}
-use Rattle.std.specs.Str.{chars, bytes_eq, IsUtf8}
+use Rattle.std.specs.Str.{chars, bytes_eq}
 use Rattle.std.specs.Option.{option_map, option_eq}
 use Rattle.std.specs.Borrow.{Bor}
 
@@ -24,10 +24,6 @@ str_text s = chars s.now
 -- the name that an `Option<&str>` stands for
 abbrev pub str_name : Option (Bor (List ℕ)) → Option Text
 str_name n = option_map str_text n
-
--- a name that is lent is UTF-8
-pub record IsTextName (name : Option (Bor (List ℕ))) : Type 0 where
-  pub utf8 : IfSome name (λ s. IsUtf8 s.now)
 
 module _ {Z : Type 0} where
   -- the text of a `String`

@@ -7,7 +7,7 @@ ghost use Rattle.std.specs.Borrow.{sem};
 ghost use Rattle.std.specs.Map.{values_of};
 ghost use Rattle.std.specs.Option.{option_map, option_copied, option_copied_mut};
 ghost use Rattle.std.specs.Str.{chars};
-ghost use Rattle.ini.specs.Texts.{IsTextName, Text, name_of, str_name, str_text, text_of};
+ghost use Rattle.ini.specs.Texts.{Text, name_of, str_name, str_text, text_of};
 ghost use Rattle.ini.specs.Properties.{Pairs};
 ghost use Rattle.ini.specs.Documents.{first_section, names, section_removed, sections_named};
 ghost use Rattle.ini.specs.Documents.{value_in, with_pair};
@@ -19,16 +19,14 @@ ghost use Rattle.ini.specs.Walks.{section_all_mut_rest, section_iter_mut_rest};
 
 use crate::entry::NoRoom;
 use crate::iter::{
-    SectionAll, SectionAllMut, SectionIntoIter, SectionIter, SectionIterMut, SectionNames, lent,
+    SectionAll, SectionAllMut, SectionIntoIter, SectionIter, SectionIterMut, SectionNames,
 };
+use crate::name::{SectionKey, lent, name_is_text, owned_name};
 use crate::properties::Properties;
 use ini_multimap::Multimap;
 use ini_text::Error;
 use std::alloc::{AllocError, Global};
 use std::marker::Model;
-
-/// The name of a section; `None` is the general section's.
-pub type SectionKey = Option<String>;
 
 /// A document: sections in order, of which several may have one name.
 #[derive(Debug, Drop)]
@@ -44,24 +42,6 @@ impl Model for Ini {
     ghost Value = { Document };
 
     ghost view = { λ d. sections_of d.sections };
-}
-
-// A name that is lent is UTF-8: nothing to do, a fact for the proofs of the callers, which have the name
-// by its type alone.
-fn name_is_text(name: Option<&str>)
-    ensures { IsTextName name.entry }
-{
-    let _ = name;
-}
-
-// The name, copied.
-fn owned_name(alloc: Global, name: Option<&str>) -> Result<SectionKey, AllocError>
-    ensures { IfOk result (λ copy. name_of copy ≡ str_name name.entry) }
-{
-    match name {
-        Some(text) => Ok(Some(String::from_str(alloc, text)?)),
-        None => Ok(None),
-    }
 }
 
 #[tactic(auto, using(crate::proofs::SectionLemmas::sections))]

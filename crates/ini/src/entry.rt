@@ -6,8 +6,8 @@ ghost use Rattle.std.specs.Borrow.{sem};
 ghost use Rattle.ini.specs.Texts.{name_of};
 ghost use Rattle.ini.specs.Documents.{first_section};
 
-use crate::document::{Ini, SectionKey};
-use crate::iter::lent;
+use crate::document::Ini;
+use crate::name::{SectionKey, lent};
 use crate::properties::Properties;
 use ini_text::Error;
 use std::alloc::AllocError;

@@ -9,5 +9,4 @@ pub use names::{SectionAll, SectionAllMut, SectionNames};
 pub use properties::{
     PropertiesIntoIter, PropertyIter, PropertyIterMut, PropertyValues, RemovedValues,
 };
-pub(crate) use sections::lent;
 pub use sections::{SectionIntoIter, SectionIter, SectionIterMut};

@@ -13,12 +13,13 @@ mod index;
 mod iter;
 pub mod laws;
 mod load;
+mod name;
 mod plain;
 mod properties;
 mod setter;
 mod write;
 
-pub use document::{Ini, SectionKey};
+pub use document::Ini;
 pub use entry::{NoRoom, SectionEntry, SectionOccupiedEntry, SectionVacantEntry};
 pub use ini_text::{
     Error, EscapePolicy, Gatherer, LineSeparator, ParseError, ParseKind, ParseOption, Watched,
@@ -28,5 +29,6 @@ pub use iter::{
     PropertiesIntoIter, PropertyIter, PropertyIterMut, PropertyValues, RemovedValues, SectionAll,
     SectionAllMut, SectionIntoIter, SectionIter, SectionIterMut, SectionNames,
 };
+pub use name::{LentName, SectionKey, SectionName};
 pub use properties::{Properties, PropertyKey};
-pub use setter::{LentName, SectionName, SectionSetter};
+pub use setter::SectionSetter;

@@ -8,9 +8,9 @@ ghost use Rattle.ini_text.specs.Parsing.Items.{item_of};
 ghost use Rattle.ini_text.specs.Options.ReadOptions.{default_parse_option, without_escapes};
 ghost use Rattle.ini_text.specs.Device.Watched.{IsClear, SameDevice, device_now, failure_count, stall_count};
 ghost use Rattle.ini.specs.Documents.{HasGeneral, with_item};
-ghost use Rattle.ini.specs.Loading.{AreNoText, IfParse, IsDocumentOf, IsDocumentOfBytes, IsIoOrMemory};
-ghost use Rattle.ini.specs.Loading.{IsNotUtf8, IsParseOrMemory, IsReadRefusal, IsStopOf, IsStopOfBytes};
-ghost use Rattle.ini.specs.Loading.{OnReadThrough, without_mark};
+ghost use Rattle.ini.specs.Loading.{IfParse, IsDocumentOf, IsParseOrMemory, IsStopOf, ReadsDocument};
+ghost use Rattle.ini.specs.Loading.{without_mark};
+ghost use Rattle.ini.specs.Inside.ReadBytes.{IsIoOrMemory};
 
 use crate::document::Ini;
 use crate::properties::Properties;
@@ -62,13 +62,7 @@ impl Ini {
     /// The document of a reader's bytes, by the default options. A mark at their front is text. The rest
     /// is as `read_watched` has it.
     pub fn read_from<R: Read>(alloc: Global, reader: &mut R) -> Result<Ini, Error>
-        ensures document { IfOk result
-            (IsDocumentOfBytes default_parse_option false (R.remaining reader.old)) }
-        ensures general { IfOk result HasGeneral }
-        ensures fault { IfParse result (IsStopOfBytes default_parse_option false (R.remaining reader.old)) }
-        ensures not_utf8 { IsNotUtf8 result → AreNoText false (R.remaining reader.old) }
-        ensures end { OnReadThrough result (IsAtEnd (R.remaining reader.new)) }
-        ensures only { IfErr result IsReadRefusal }
+        ensures { ReadsDocument R.remaining reader.old reader.new default_parse_option false result }
     {
         Ini::read_from_opt(alloc, reader, ParseOption::default())
     }
@@ -76,12 +70,7 @@ impl Ini {
     /// The document of a reader's bytes, by the default options but without escapes. A mark at their
     /// front is text. The rest is as `read_watched` has it.
     pub fn read_from_noescape<R: Read>(alloc: Global, reader: &mut R) -> Result<Ini, Error>
-        ensures document { IfOk result (IsDocumentOfBytes without_escapes false (R.remaining reader.old)) }
-        ensures general { IfOk result HasGeneral }
-        ensures fault { IfParse result (IsStopOfBytes without_escapes false (R.remaining reader.old)) }
-        ensures not_utf8 { IsNotUtf8 result → AreNoText false (R.remaining reader.old) }
-        ensures end { OnReadThrough result (IsAtEnd (R.remaining reader.new)) }
-        ensures only { IfErr result IsReadRefusal }
+        ensures { ReadsDocument R.remaining reader.old reader.new without_escapes false result }
     {
         Ini::read_from_opt(alloc, reader, without_escapes())
     }
@@ -93,12 +82,7 @@ impl Ini {
         reader: &mut R,
         opt: ParseOption,
     ) -> Result<Ini, Error>
-        ensures document { IfOk result (IsDocumentOfBytes opt false (R.remaining reader.old)) }
-        ensures general { IfOk result HasGeneral }
-        ensures fault { IfParse result (IsStopOfBytes opt false (R.remaining reader.old)) }
-        ensures not_utf8 { IsNotUtf8 result → AreNoText false (R.remaining reader.old) }
-        ensures end { OnReadThrough result (IsAtEnd (R.remaining reader.new)) }
-        ensures only { IfErr result IsReadRefusal }
+        ensures { ReadsDocument R.remaining reader.old reader.new opt false result }
     {
         Ini::read_watched(alloc, &mut Watched::new(reader), opt, false)
     }
@@ -110,12 +94,7 @@ impl Ini {
         reader: &mut R,
         opt: ParseOption,
     ) -> Result<Ini, Error>
-        ensures document { IfOk result (IsDocumentOfBytes opt true (R.remaining reader.old)) }
-        ensures general { IfOk result HasGeneral }
-        ensures fault { IfParse result (IsStopOfBytes opt true (R.remaining reader.old)) }
-        ensures not_utf8 { IsNotUtf8 result → AreNoText true (R.remaining reader.old) }
-        ensures end { OnReadThrough result (IsAtEnd (R.remaining reader.new)) }
-        ensures only { IfErr result IsReadRefusal }
+        ensures { ReadsDocument R.remaining reader.old reader.new opt true result }
     {
         Ini::read_watched(alloc, &mut Watched::new(reader), opt, true)
     }
@@ -137,16 +116,11 @@ impl Ini {
     ) -> Result<Ini, Error>
         requires { IsClear reader.old }
         ensures same_device { SameDevice reader.old reader.new }
-        ensures document { IfOk result
-            (IsDocumentOfBytes opt drop_mark (R.remaining (device_now reader.old))) }
-        ensures general { IfOk result HasGeneral }
-        ensures fault { IfParse result (IsStopOfBytes opt drop_mark (R.remaining (device_now reader.old))) }
-        ensures not_utf8 { IsNotUtf8 result → AreNoText drop_mark (R.remaining (device_now reader.old)) }
-        ensures end { OnReadThrough result (IsAtEnd (R.remaining (device_now reader.new))) }
+        ensures reads { ReadsDocument R.remaining (device_now reader.old) (device_now reader.new)
+            opt drop_mark result }
         ensures failures { failure_count reader.new ≡ failures_in result }
         ensures stalls { stall_count reader.new ≡ 0 }
         ensures io { IsIo result ↔ (failure_count reader.old < failure_count reader.new) }
-        ensures only { IfErr result IsReadRefusal }
     {
         let bytes = read_to_end(alloc, reader)?;
         let Ok(text) = String::from_utf8(bytes) else {

@@ -1,56 +1,18 @@
-//! Edits of the sections of one name, one after another. This file knows the edits of a document, and
-//! how a name is lent.
-ghost use Rattle.std.specs.Prelude.{◌≡◌, IfOk, IsOkUnless, Option, None, alloc_error};
+//! Edits of the sections of one name, one after another. This file knows the edits of a document, and of a
+//! name only what stands for it.
+ghost use Rattle.std.specs.Prelude.{◌≡◌, IfOk, IsOkUnless, None, alloc_error};
 ghost use Rattle.std.specs.Borrow.{sem};
 ghost use Rattle.std.specs.Option.{option_map};
 ghost use Rattle.std.specs.Str.{chars};
-ghost use Rattle.ini.specs.Texts.{Text, str_name, str_text};
+ghost use Rattle.ini.specs.Texts.{str_name, str_text};
 ghost use Rattle.ini.specs.Documents.{value_in};
 ghost use Rattle.ini.specs.Edits.{add_in, delete_in_all, set_in};
 ghost use Rattle.ini.specs.Setter.{EditsSameDocument, lent_name, rests_if_refused};
 ghost use Rattle.ini.specs.Setter.{setter_document, setter_name, setter_now};
 
 use crate::document::Ini;
+use crate::name::{LentName, SectionName};
 use ini_text::Error;
-
-/// What stands for the name of a section.
-pub trait SectionName: Copy + Drop {
-    // The name that it stands for.
-    ghost section_name: { Self → Option Text };
-
-    /// The name; `None` is the general section's.
-    fn name(&self) -> Option<&str>
-        ensures { str_name result ≡ section_name self.now };
-}
-
-/// A name that is lent.
-#[derive(Clone, Copy)]
-pub struct LentName<'n> {
-    named: bool,
-    text: &'n str,
-}
-
-impl<'n> LentName<'n> {
-    fn new(name: Option<&'n str>) -> LentName<'n>
-        ensures { lent_name result ≡ str_name name.entry }
-    {
-        match name {
-            Some(text) => LentName { named: true, text },
-            None => LentName {
-                named: false,
-                text: "",
-            },
-        }
-    }
-}
-
-impl<'n> SectionName for LentName<'n> {
-    ghost section_name = { lent_name };
-
-    fn name(&self) -> Option<&str> {
-        if self.named { Some(self.text) } else { None }
-    }
-}
 
 /// Edits the sections of one name of a document.
 ///

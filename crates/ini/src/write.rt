@@ -18,19 +18,6 @@ use crate::properties::Properties;
 use ini_text::{Error, EscapePolicy, Gatherer, Watched, WriteOption};
 use std::io::Write;
 
-// A text as it is, seen as its characters.
-#[tactic(auto, using(crate::proofs::WritingLemmas::steps))]
-fn put_text<W: Write>(
-    lines: &mut Gatherer,
-    text: &str,
-    out: &mut Watched<'_, W>,
-) -> Result<(), Error>
-    requires { IsClear out.old }
-    ensures { SendsText W.contents out.old out.new (held lines.old) (held lines.new) result (chars text.now) }
-{
-    lines.put(text, out)
-}
-
 // A text escaped, and another as it is behind it.
 fn put_part<W: Write>(
     lines: &mut Gatherer,
@@ -44,7 +31,7 @@ fn put_part<W: Write>(
         (escaped policy (chars text.now) ++ chars behind.now) }
 {
     lines.put_escaped(text, policy, out)?;
-    put_text(lines, behind, out)
+    lines.put(behind, out)
 }
 
 // The key, the separator and the value, on a line of their own.
@@ -92,9 +79,9 @@ fn write_header<W: Write>(
     ensures { SendsText W.contents out.old out.new (held lines.old) (held lines.new) result
         (written_name option.now (Some (chars name.now))) }
 {
-    put_text(lines, "[", out)?;
+    lines.put("[", out)?;
     put_part(lines, name, "]", option.escape_policy, out)?;
-    put_text(lines, option.line_separator.as_str(), out)
+    lines.put(option.line_separator.as_str(), out)
 }
 
 // The header of a section; the general section has none.
@@ -128,7 +115,7 @@ fn write_gap<W: Write>(
         (written_gap option.now earlier pairs.now) }
 {
     if earlier && !pairs.is_empty() {
-        put_text(lines, option.line_separator.as_str(), out)
+        lines.put(option.line_separator.as_str(), out)
     } else {
         Ok(())
     }

@@ -9,7 +9,7 @@ ghost use Rattle.ini.specs.Texts.{str_name};
 ghost use Rattle.ini.specs.Documents.{names_of};
 ghost use Rattle.ini.specs.Walks.{section_all_mut_rest};
 
-use crate::iter::sections::lent;
+use crate::name::lent;
 use crate::properties::Properties;
 use ini_multimap::{Keys, Values, ValuesMut};
 use std::marker::Model;

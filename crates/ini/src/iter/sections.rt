@@ -1,25 +1,16 @@
-//! The walks over sections, and how a name is lent. This file knows the multimap's walks over pairs.
+//! The walks over sections. This file knows the multimap's walks over pairs.
 ghost use Rattle.std.specs.Prelude.{◌≡◌, length, IfSome, Some};
 ghost use Rattle.std.specs.Iterator.{YieldsFirstBy, YieldsLastBy, item_count, at_most, UpTo};
 ghost use Rattle.std.specs.Iterator.SizeHint.{IsWithinCount};
 ghost use Rattle.ini_multimap.specs.Iter.{iter_mut_rest};
-ghost use Rattle.ini.specs.Texts.{name_of, str_name};
+ghost use Rattle.ini.specs.Texts.{str_name};
 ghost use Rattle.ini.specs.Documents.{sections_of};
 ghost use Rattle.ini.specs.Walks.{str_section, str_section_mut, string_section, section_iter_mut_rest};
 
+use crate::name::lent;
 use crate::properties::Properties;
 use ini_multimap::{IntoIter, Iter, IterMut};
 use std::marker::Model;
-
-// The name, lent.
-pub(crate) fn lent(name: &Option<String>) -> Option<&str>
-    ensures { str_name result ≡ name_of name.now }
-{
-    match name {
-        Some(text) => Some(text.as_str()),
-        None => None,
-    }
-}
 
 /// Every section in order, lent. Seen as the list of the sections that are left.
 #[derive(Drop)]

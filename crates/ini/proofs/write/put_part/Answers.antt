@@ -1,5 +1,5 @@
 use Rattle.std.proofs.lemmas.Result.{err_from_is_err_and}
-use Rattle.ini.proofs.WritingLemmas.{SendsText-cut, SendsText-then}
+use Rattle.ini.proofs.WritingLemmas.{SendsText-cut, SendsText-put, SendsText-then}
 use Rattle.ini.proofs.write.put_part.Goals as goal
 
 pub returns-in_err-put_escaped : goal.returns-in_err-put_escaped
@@ -8,4 +8,4 @@ returns-in_err-put_escaped g c =
     rw (p.1, p.2) (SendsText-cut _ (record { sends = c.in_err-put_escaped.ensures }))
 
 pub returns : goal.returns
-returns g c = SendsText-then (record { sends = c.in_ok-put_escaped.ensures }) c.put_text.ensures
+returns g c = SendsText-then (record { sends = c.in_ok-put_escaped.ensures }) (SendsText-put c.utf8.behind c.put.ensures)
