@@ -1,3 +1,2 @@
 pub mod LookupLemmas
-pub mod SetLemmas
 pub mod MergeLemmas

@@ -9,11 +9,12 @@ use Rattle.std.specs.Option.{option_or}
 use Rattle.ini_multimap.specs.Pairs.{fresh}
 use Rattle.ini.specs.Texts.{Text, is_name, is_text}
 use Rattle.ini.specs.Properties.{Pairs, first_value}
-use Rattle.ini.specs.Documents.{Document, first_section, names, value_in}
+use Rattle.ini.specs.Documents.{Document, HasGeneral, first_section, names, value_in}
+use Rattle.ini.proofs.EditLawLemmas.{set-keys, set-names, set-there_still}
+use Rattle.ini.proofs.KeepingLemmas.{names_equal, set-there}
 use Rattle.ini_layers.specs.Layers.{HasLayeredValues}
 use Rattle.ini_layers.specs.Merging.{merged, with_key, with_keys, with_layer, with_name}
 use Rattle.ini_layers.proofs.LookupLemmas.{last_or-cons}
-use Rattle.ini_layers.proofs.SetLemmas.{set-keeps, set-other_key, set-other_name, set-there}
 
 -- what each step of a fold keeps, the fold keeps
 module _ {A B : Type 0} (P : B → Type 0) (f : B → A → B) (keeps : (b : B) (x : A) → P b → P (f b x)) where
@@ -36,7 +37,7 @@ module _ (name : Option Text) (section : Pairs) where
         | inl same ↦ let none : Some p.1 ≡ None = rw same at absent in absurd cc
         | inr apart ↦
             keys-absent key (with_key name section d p) ps (rw apart at absent)
-            ∙ set-other_key name p.0 (first_of p) key apart d
+            ∙ set-keys name p.0 (first_of p) key d apart
       ]
 
   -- a key that the section has gets its first value there
@@ -57,7 +58,7 @@ module _ (name : Option Text) (section : Pairs) where
     stays_set d p here =
         elim (cases_Bool (is_text key p.0)) [
           | inl same ↦ key_is_set d p same
-          | inr apart ↦ set-other_key name p.0 (first_of p) key apart d ∙ here
+          | inr apart ↦ set-keys name p.0 (first_of p) key d apart ∙ here
         ]
 
     keys-there : (d : Document) (ps : Pairs)
@@ -87,21 +88,14 @@ module _ (name : Option Text) (section : Pairs) where
       → first_section other (with_keys name section d) ≡ first_section other d
   with_keys-elsewhere other apart d =
       fold-keeps (λ e. first_section other e ≡ first_section other d) (with_key name section)
-      (λ e p same. set-other_name name p.0 (first_of p) other apart e ∙ same) d section refl
+      (λ e p same. set-names name p.0 (first_of p) other e apart ∙ same) d section refl
 
   -- a section that is there stays there
   with_keys-keeps : (other : Option Text) (d : Document)
       → IsSome (first_section other d) → IsSome (first_section other (with_keys name section d))
   with_keys-keeps other d =
       fold-keeps (λ e. IsSome (first_section other e)) (with_key name section)
-      (λ e p. set-keeps name p.0 (first_of p) other e) d section
-
--- equal names are one name
-one_name : (m n : Option Text) → is_name m n ≡ true → m ≡ n
-one_name None None same = refl
-one_name None (Some n) same = absurd cc
-one_name (Some m) None same = absurd cc
-one_name (Some m) (Some n) same = ap Some ((bytes_decides m n).0 same)
+      (λ e p. set-there_still name p.0 (first_of p) other e) d section
 
 -- a value that is put over another one, twice or once
 over_twice : (v x : Option Text) → option_or v (option_or v x) ≡ option_or v x
@@ -133,7 +127,7 @@ module _ (name : Option Text) (key : Text) (layer : Document) where
   one_name-value d n =
       elim (cases_Bool (is_name name n)) [
         | inl same ↦ rw same (
-            ap (λ m. value_in name key (with_name layer d m)) (sym (one_name name n same))
+            ap (λ m. value_in name key (with_name layer d m)) (sym (names_equal name n same))
             ∙ with_keys-here name (unwrap_or (first_section name layer) []) key d
             ∙ ap (λ v. option_or v (value_in name key d)) (first_value-in key (first_section name layer)))
         | inr apart ↦ rw apart (
@@ -160,7 +154,7 @@ listed name seen (s ∷ d) unseen there =
     elim (cases_Bool (is_name name s.0)) [
       | inl same ↦
           let new : list_any (λ t. is_name t.0 s.0) seen ≡ false =
-          ap (λ n. list_any (λ t. is_name t.0 n) seen) (sym (one_name name s.0 same)) ∙ unseen in
+          ap (λ n. list_any (λ t. is_name t.0 n) seen) (sym (names_equal name s.0 same)) ∙ unseen in
           rw (new, same) refl
       | inr apart ↦
           let unlike : is_name s.0 name ≡ false = (options_equiv nat_list_eq_equiv).symm s.0 name ∙ apart in
@@ -210,13 +204,10 @@ merged-values layers = record {
 }
 
 -- the general section stays
-abbrev HasGeneral : Document → Type 0
-HasGeneral d = IsSome (first_section None d)
-
 layer-general : (d layer : Document) → HasGeneral d → HasGeneral (with_layer d layer)
 layer-general d layer =
     fold-keeps HasGeneral (with_name layer)
     (λ e name. with_keys-keeps name (unwrap_or (first_section name layer) []) None e) d (names layer)
 
-pub merged-general : (layers : List Document) → IsSome (first_section None (merged layers))
+pub merged-general : (layers : List Document) → HasGeneral (merged layers)
 merged-general layers = fold-keeps HasGeneral with_layer layer-general ((None, []) ∷ []) layers refl
