@@ -1,6 +1,5 @@
 -- What a request asks to be written of a document.
-use Rattle.std.specs.Prelude.{◌≡◌, ℕ, List, [], ◌∷◌, ◌++◌, flat_map, codes, chars, Option, None, Some}
-use Rattle.std.specs.Borrow.{Bor}
+use Rattle.std.specs.Prelude.{◌≡◌, [], ◌∷◌, ◌++◌, flat_map, codes, Option, None, Some}
 use Rattle.std.specs.Option.{option_map}
 use Rattle.ini_text.specs.Grammar.CharacterKinds.{close_bracket, line_feed, open_bracket, tab}
 use Rattle.ini_text.specs.Escaping.EscapedTexts.{escaped}
@@ -44,7 +43,3 @@ pub record IsWriteOption (o : Options) (w : WriteOption) : Type 0 where
   pub escape_policy : w.escape_policy ≡ o.escape_policy
   pub line_separator : w.line_separator ≡ o.line_separator
   pub kv_separator : w.kv_separator.now ≡ codes "="
-
--- what a part of a line of `list` writes
-abbrev pub part_text : Bor (List ℕ) × Bor (List ℕ) → Text
-part_text p = chars p.0.now ++ escaped Basics (chars p.1.now)

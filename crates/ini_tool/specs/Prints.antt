@@ -1,10 +1,13 @@
--- What a command did to its writer.
-use Rattle.std.specs.Prelude.{◌≡◌, ℕ, Bool, false, List, [], encode_utf8_all, ⊤}
+-- What serves private functions: what a command did to its writer, and what is put into a line of `list`.
+use Rattle.std.specs.Prelude.{◌≡◌, ◌++◌, ℕ, Bool, false, List, [], chars, encode_utf8_all, ⊤}
 use Rattle.std.specs.Prelude.{Option, IsSome, is_some, unwrap_or, Result, Ok, Err, IfOk, IfErr, OnOk, OnErr}
+use Rattle.std.specs.Borrow.{Bor}
+use Rattle.ini_text.specs.Escaping.EscapedTexts.{escaped}
 use Rattle.ini_text.specs.Device.DeviceRefusals.{failures_in, stalls_in}
 use Rattle.ini_text.specs.Device.Watched.{SameDevice, WritesAll, WritesFront, device_now, failure_count, stall_count}
 use Rattle.ini_text.specs.declared.error.Error.{Error}
 use Rattle.ini_text.specs.declared.error.Error.TheVariants.{Io, Memory, NoProgress}
+use Rattle.ini_text.specs.declared.policy.EscapePolicy.TheVariants.{Basics}
 use Rattle.ini_text.specs.declared.watched.Watched.{Watched}
 use Rattle.ini.specs.Texts.{Text}
 
@@ -38,3 +41,7 @@ pub record Prints {W : Type 0} (contents : W → Option (List ℕ)) (old new : W
   pub failures : failure_count new ≡ failures_in result
   pub stalls : stall_count new ≡ stalls_in result
   pub only : IfErr result IsCommandRefusal
+
+-- what a part of a line of `list` writes
+abbrev pub part_text : Bor (List ℕ) × Bor (List ℕ) → Text
+part_text p = chars p.0.now ++ escaped Basics (chars p.1.now)

@@ -8,8 +8,8 @@ ghost use Rattle.ini_text.specs.declared.policy.EscapePolicy.TheVariants.{Basics
 ghost use Rattle.ini.specs.Texts.{str_name};
 ghost use Rattle.ini.specs.Inside.SentTexts.{SendsText};
 ghost use Rattle.ini_tool.specs.Requests.{Del, Fmt, Set, request_of};
-ghost use Rattle.ini_tool.specs.Outputs.{IsWriteOption, listed, listed_pair, output, part_text, value_line};
-ghost use Rattle.ini_tool.specs.Prints.{Prints};
+ghost use Rattle.ini_tool.specs.Outputs.{IsWriteOption, listed, listed_pair, output, value_line};
+ghost use Rattle.ini_tool.specs.Prints.{Prints, part_text};
 
 use crate::words::{Command, Options};
 use ini::{Error, EscapePolicy, Gatherer, Ini, Properties, Watched, WriteOption};
@@ -233,7 +233,7 @@ fn put_part<W: Write>(
     ensures { SendsText W.contents out.old out.new (held lines.old) (held lines.new) result
         (chars before.now ++ escaped Basics (chars text.now)) }
 {
-    put_text(lines, before, out)?;
+    lines.put(before, out)?;
     lines.put_escaped(text, EscapePolicy::Basics, out)
 }
 
@@ -258,19 +258,6 @@ fn put_line<W: Write>(
     ensures { SendsText W.contents out.old out.new (held lines.old) (held lines.new) result
         (chars text.now ++ line_feed ∷ []) }
 {
-    put_text(lines, text, out)?;
-    put_text(lines, "\n", out)
-}
-
-// A text as it is, seen as its characters.
-#[tactic(auto, using(ini::proofs::WritingLemmas::steps))]
-fn put_text<W: Write>(
-    lines: &mut Gatherer,
-    text: &str,
-    out: &mut Watched<'_, W>,
-) -> Result<(), Error>
-    requires { IsClear out.old }
-    ensures { SendsText W.contents out.old out.new (held lines.old) (held lines.new) result (chars text.now) }
-{
-    lines.put(text, out)
+    lines.put(text, out)?;
+    lines.put("\n", out)
 }

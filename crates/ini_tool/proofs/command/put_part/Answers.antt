@@ -1,11 +1,11 @@
 use Rattle.std.proofs.lemmas.Result.{err_from_is_err_and}
-use Rattle.ini.proofs.WritingLemmas.{SendsText-cut, SendsText-then}
+use Rattle.ini.proofs.WritingLemmas.{SendsText-cut, SendsText-put, SendsText-then}
 use Rattle.ini_tool.proofs.command.put_part.Goals as goal
 
-pub returns-in_err-put_text : goal.returns-in_err-put_text
-returns-in_err-put_text g c =
+pub returns-in_err-put : goal.returns-in_err-put
+returns-in_err-put g c =
     let p = err_from_is_err_and c.from_residual.result c.from_residual.ensures.1 in
-    rw (p.1, p.2) (SendsText-cut _ c.in_err-put_text.ensures)
+    rw (p.1, p.2) (SendsText-cut _ (SendsText-put c.utf8.before c.in_err-put.ensures))
 
 pub returns : goal.returns
-returns g c = SendsText-then c.in_ok-put_text.ensures (record { sends = c.put_escaped.ensures })
+returns g c = SendsText-then (SendsText-put c.utf8.before c.in_ok-put.ensures) (record { sends = c.put_escaped.ensures })

@@ -1,6 +1,6 @@
 use Rattle.std.proofs.lemmas.Result.{err_from_is_err_and}
 use Rattle.ini.proofs.WritingLemmas.{Writing-goes_on, Writing-stops, flat_map-drop}
-use Rattle.ini_tool.specs.Outputs.{part_text}
+use Rattle.ini_tool.specs.Prints.{part_text}
 use Rattle.ini_tool.proofs.command.put_parts.Goals as goal
 
 pub loop-before-preserved : goal.loop-before-preserved

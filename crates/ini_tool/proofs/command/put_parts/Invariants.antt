@@ -1,7 +1,7 @@
 use Rattle.std.proofs.Common.{drop, flat_map}
 use Rattle.ini_text.specs.Device.HeldBack.{held}
 use Rattle.ini.proofs.WritingLemmas.{Writing}
-use Rattle.ini_tool.specs.Outputs.{part_text}
+use Rattle.ini_tool.specs.Prints.{part_text}
 use Rattle.ini_tool.proofs.command.put_parts.Given as goal
 
 abbrev pub invariant-loop-before : goal.invariant-loop-before
