@@ -1,23 +1,7 @@
-//! Tests over the public calls of the other crates, a subject a file. `show` has what they look at and the calls that make it.
-mod brackets;
-mod bytes;
-mod comments;
-mod documents;
+//! Tests over the public calls of the other crates that take code: chains of calls, devices, files, edits
+//! as values. What a row can ask stands in the case files of `ini_cases`.
+mod calls;
+mod devices;
 mod edits;
-mod entries;
-mod escapes;
 mod files;
-mod indentation;
-mod inversion;
-mod lines;
-mod multiline;
-mod not_plain;
-mod order;
-mod plain;
-mod properties;
-mod setters;
-mod show;
-mod strings;
-mod text;
-mod walks;
-mod writing;
+mod refusals;

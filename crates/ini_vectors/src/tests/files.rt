@@ -1,8 +1,5 @@
 //! Real files: what they hold before and after, and those that can't be opened, read or written.
-use crate::tests::bytes::read_from_bom;
-use crate::tests::show::{document, loaded, noescape};
-use crate::tests::writing::{SETTINGS, SETTINGS_ESCAPED};
-use ini::{Error, EscapePolicy, Ini, WriteOption};
+use ini::{Error, EscapePolicy, Ini, ParseOption, WriteOption};
 use std::fs::Permissions;
 use std::io::ErrorKind;
 use std::os::unix::fs::PermissionsExt;
@@ -15,13 +12,6 @@ use std::{fs, io};
 /// The file that a test writes, in the folder of its own that it runs in.
 const NAME: &'static str = "settings.ini";
 
-/// What loading a file of the bytes shows.
-fn load_file(rt: &(impl Abort + Files + AllocGlobal), bytes: &[u8]) -> Result<String, Fail> {
-    fs::write(rt, NAME, bytes)?;
-    let answer = Ini::load_from_file(rt, rt.alloc(), Path::new(NAME));
-    Ok(loaded(rt.alloc(), answer)?)
-}
-
 /// Asks that a call told a fault of this kind.
 fn expect_fault<T: Drop>(rt: &impl Abort, answer: Result<T, Error>, kind: ErrorKind) {
     match answer {
@@ -29,71 +19,6 @@ fn expect_fault<T: Drop>(rt: &impl Abort, answer: Result<T, Error>, kind: ErrorK
         Err(_) => panic!(rt; "another refusal"),
         Ok(_) => panic!(rt; "no refusal"),
     }
-}
-
-/// Asks that bytes load as shown, from a file and from memory.
-fn expect_file(
-    rt: &(impl Abort + Files + AllocGlobal),
-    bytes: &[u8],
-    want: &str,
-) -> Result<(), Fail> {
-    assert_eq!(rt;
-        load_file(rt, bytes)?.as_str(),
-        want,
-        "from a file of {bytes:?}"
-    );
-    assert_eq!(rt;
-        read_from_bom(rt.alloc(), bytes)?.as_str(),
-        want,
-        "at {bytes:?}"
-    );
-    Ok(())
-}
-
-#[test]
-fn load_from_file_with_bom(rt: HostRuntime) -> Result<(), Fail> {
-    expect_file(
-        &rt,
-        b"\xEF\xBB\xBF[Test]Key=Value\n",
-        "general: [Test]: <Key|Value> ",
-    )
-}
-
-#[test]
-fn load_from_file_without_bom(rt: HostRuntime) -> Result<(), Fail> {
-    expect_file(&rt, b"[Test]Key=Value\n", "general: [Test]: <Key|Value> ")
-}
-
-#[test]
-fn files_and_what_they_load_as(rt: HostRuntime) -> Result<(), Fail> {
-    let rows: [(&'static [u8], &'static str); 7] = [
-        (b"", "general: "),
-        (b"\xEF\xBB\xBF", "general: "),
-        (b"\xEF\xBB\xBF\xEF\xBB\xBFk=v", "general: <\u{FEFF}k|v> "),
-        (b"\xEF\xBB\xBF=v", "MissingKey at 1:2"),
-        (b"k", "EndOfText at 1:2"),
-        (b"\xEF\xBB", "the input is not UTF-8"),
-        (b"k=\xC3", "the input is not UTF-8"),
-    ];
-    for (bytes, want) in rows {
-        expect_file(&rt, bytes, want)?;
-    }
-    Ok(())
-}
-
-#[test]
-fn files_are_read_without_escapes(rt: HostRuntime) -> Result<(), Fail> {
-    let alloc = rt.alloc();
-    let text = r"path=C:\Windows\Some\Folder\";
-    let path = Path::new(NAME);
-    let kept = r"general: <path|C:\Windows\Some\Folder\> ";
-    let undone = load_file(&rt, text.as_bytes())?;
-    assert_eq!(rt; undone.as_str(), r"general: <path|C:WindowsSomeFolder\> ");
-    let by_form = loaded(alloc, Ini::load_from_file_noescape(&rt, alloc, path))?;
-    assert_eq!(rt; by_form.as_str(), kept);
-    let by_option = loaded(alloc, Ini::load_from_file_opt(&rt, alloc, path, noescape()))?;
-    assert_eq!(rt; by_option.as_str(), kept);
-    Ok(())
 }
 
 #[test]
@@ -104,43 +29,15 @@ fn long_files_are_read_and_written_whole(rt: HostRuntime) -> Result<(), Fail> {
         text.push_str("key=value\n")?;
     }
     fs::write(&rt, NAME, text.as_bytes())?;
+    let by_bytes = Ini::read_from(rt.alloc(), &mut text.as_bytes())?;
     let document = Ini::load_from_file(&rt, rt.alloc(), path)?;
-    let section = document.section(None).ok_or("no section")?;
-    assert_eq!(rt; section.iter().size_hint(), (20_000, Some(20_000)));
+    for loaded in [&by_bytes, &document] {
+        let section = loaded.section(None).ok_or("no section")?;
+        assert_eq!(rt; section.iter().size_hint(), (20_000, Some(20_000)));
+    }
     fs::remove_file(&rt, NAME)?;
     document.write_to_file(&rt, path)?;
     assert!(rt; fs::read(&rt, NAME)?.as_slice() == text.as_bytes());
-    Ok(())
-}
-
-#[test]
-fn each_form_of_saving_over_the_last(rt: HostRuntime) -> Result<(), Fail> {
-    let path = Path::new(NAME);
-    let document = document(rt.alloc(), SETTINGS)?;
-    document.write_to_file(&rt, path)?;
-    assert_eq!(rt; fs::read(&rt, NAME)?.as_slice(), SETTINGS.as_bytes());
-    document.write_to_file_policy(&rt, path, EscapePolicy::BasicsUnicode)?;
-    assert_eq!(rt;
-        fs::read(&rt, NAME)?.as_slice(),
-        SETTINGS_ESCAPED.as_bytes()
-    );
-    document.write_to_file_opt(&rt, path, WriteOption::default())?;
-    assert_eq!(rt; fs::read(&rt, NAME)?.as_slice(), SETTINGS.as_bytes());
-    Ok(())
-}
-
-#[test]
-fn a_longer_file_is_cut(rt: HostRuntime) -> Result<(), Fail> {
-    for (text, want) in [("[b]\nk = v", "[b]\nk=v\n"), ("", "")] {
-        fs::write(&rt, NAME, SETTINGS)?;
-        let document = document(rt.alloc(), text)?;
-        document.write_to_file(&rt, Path::new(NAME))?;
-        assert_eq!(rt;
-            fs::read(&rt, NAME)?.as_slice(),
-            want.as_bytes(),
-            "at {text:?}"
-        );
-    }
     Ok(())
 }
 
@@ -169,10 +66,10 @@ fn expect_faults(
     expect_fault(rt, Ini::load_from_file_noescape(rt, alloc, path), reading);
     expect_fault(
         rt,
-        Ini::load_from_file_opt(rt, alloc, path, noescape()),
+        Ini::load_from_file_opt(rt, alloc, path, ParseOption::default()),
         reading,
     );
-    let document = document(alloc, "k=v")?;
+    let document = Ini::load_from_str(alloc, "k=v")?;
     expect_fault(rt, document.write_to_file(rt, path), writing);
     expect_fault(
         rt,
@@ -218,7 +115,7 @@ fn a_name_that_is_not_there_is_made_by_writing_alone(rt: HostRuntime) -> Result<
         ErrorKind::NotFound,
     );
     assert!(rt; !fs::exists(&rt, name)?);
-    document(rt.alloc(), "k=v")?.write_to_file(&rt, path)?;
+    Ini::load_from_str(rt.alloc(), "k=v")?.write_to_file(&rt, path)?;
     assert_eq!(rt; fs::read(&rt, name)?.as_slice(), b"k=v\n".as_slice());
     fs::remove_file(&rt, name)?;
     Ok(())
@@ -233,7 +130,7 @@ fn set_mode(rt: &impl Files, mode: u32) -> io::Result<()> {
 #[test]
 fn files_without_the_right_to_them(rt: HostRuntime) -> Result<(), Fail> {
     let (alloc, path, denied) = (rt.alloc(), Path::new(NAME), ErrorKind::PermissionDenied);
-    let document = document(alloc, "k=2")?;
+    let document = Ini::load_from_str(alloc, "k=2")?;
     fs::write(&rt, NAME, "k=1\n")?;
     set_mode(&rt, 0)?;
     if fs::open(&rt, NAME).is_ok() {
@@ -242,8 +139,8 @@ fn files_without_the_right_to_them(rt: HostRuntime) -> Result<(), Fail> {
     expect_faults(&rt, NAME, denied, denied)?;
     set_mode(&rt, 0o400)?;
     expect_fault(&rt, document.write_to_file(&rt, path), denied);
-    let kept = loaded(alloc, Ini::load_from_file(&rt, alloc, path))?;
-    assert_eq!(rt; kept.as_str(), "general: <k|1> ");
+    let kept = Ini::load_from_file(&rt, alloc, path)?;
+    assert_eq!(rt; kept.get_from(None, "k"), Some("1"));
     set_mode(&rt, 0o200)?;
     expect_fault(&rt, Ini::load_from_file(&rt, alloc, path), denied);
     document.write_to_file(&rt, path)?;
@@ -259,7 +156,7 @@ fn a_full_device_is_told(rt: HostRuntime) -> Result<(), Fail> {
     if !fs::exists(&rt, path)? {
         return Ok(());
     }
-    let full = document(rt.alloc(), SETTINGS)?;
+    let full = Ini::load_from_str(rt.alloc(), "k=v")?;
     let no_room = ErrorKind::StorageFull;
     expect_fault(&rt, full.write_to_file(&rt, path), no_room);
     expect_fault(

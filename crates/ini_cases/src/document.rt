@@ -1,0 +1,354 @@
+//! A document that rows load, change and ask, by the public calls of `ini`.
+//!
+//! A row is a call and its operands: a name (`general`, or a text), a key, a value.
+use crate::option::Options;
+use crate::plain::count_plain;
+use crate::show::{flag, load, pairs, sections, value, written};
+use crate::token::{Token, text_of, unreadable};
+use crate::walk;
+use ini::{
+    Error, Ini, NoRoom, Properties, SectionEntry, is_plain_name, is_plain_pair, is_plain_separator,
+};
+use std::alloc::Global;
+use std::mem;
+
+/// A document, another one beside it, and the options that both are read and written by.
+#[derive(Drop)]
+pub struct Desk {
+    alloc: Global,
+    options: Options,
+    document: Ini,
+    other: Ini,
+}
+
+fn name_of(token: &Token) -> Result<Option<&str>, Error> {
+    match token {
+        Token::Word(word) if word.as_str() == "general" => Ok(None),
+        token => Ok(Some(text_of(token)?)),
+    }
+}
+
+impl Desk {
+    /// A new document, and the options.
+    pub fn new(alloc: Global, options: Options) -> Result<Desk, Error> {
+        Ok(Desk {
+            alloc,
+            options,
+            document: Ini::new(alloc)?,
+            other: Ini::new(alloc)?,
+        })
+    }
+
+    /// Makes the call of a row, and answers what it gives; nothing where it gives nothing.
+    pub fn answer(&mut self, row: &[Token]) -> Result<String, Error> {
+        match row {
+            [Token::Word(call), words @ ..] if call.as_str() == "by" => self.choose(words),
+            [Token::Word(call)] => self.of_document(call.as_str()),
+            [Token::Word(call), name] => self.of_section(call.as_str(), name_of(name)?),
+            [Token::Word(call), name, key] => {
+                self.of_key(call.as_str(), name_of(name)?, text_of(key)?)
+            }
+            [Token::Word(call), name, key, value] => {
+                let (name, key, value) = (name_of(name)?, text_of(key)?, text_of(value)?);
+                self.put(call.as_str(), name, key, value)
+            }
+            _ => Err(unreadable("no such call")),
+        }
+    }
+
+    // The default options, but for those that the words name.
+    fn choose(&mut self, words: &[Token]) -> Result<String, Error> {
+        self.options = Options::new(self.alloc);
+        for word in words {
+            self.options.set(word)?;
+        }
+        Ok(String::new(self.alloc))
+    }
+
+    // The document, written and loaded again.
+    fn reloaded(&self, behind: &str) -> Result<String, Error> {
+        let mut text = written(self.alloc, &self.document, self.options.writing())?;
+        text.push_str(behind)?;
+        load(self.alloc, text.as_str(), self.options.reading)
+    }
+
+    fn is_plain(&self) -> bool {
+        self.document
+            .is_plain(&self.options.writing(), self.options.reading)
+    }
+
+    fn is_plain_name(&self, name: &str) -> bool {
+        is_plain_name(
+            name,
+            self.options.writing().escape_policy,
+            self.options.reading,
+        )
+    }
+
+    fn is_plain_pair(&self, key: &str, value: &str) -> bool {
+        let policy = self.options.writing().escape_policy;
+        is_plain_pair(key, value, policy, self.options.reading)
+    }
+
+    // The number of names, whether there is no section, and the sections.
+    fn state(&self) -> Result<String, Error> {
+        let (names, empty) = (self.document.len(), self.document.is_empty());
+        let sections = sections(self.alloc, &self.document)?;
+        Ok(format!(in self.alloc; "{names} {empty} {sections}")?)
+    }
+
+    fn of_document(&mut self, call: &str) -> Result<String, Error> {
+        match call {
+            "sections" => return sections(self.alloc, &self.document),
+            "state" => return self.state(),
+            "text" => return written(self.alloc, &self.document, self.options.writing()),
+            "reload" => return self.reloaded(""),
+            "is_plain" => return flag(self.alloc, self.is_plain()),
+            "is_plain_separator" => {
+                let plain = is_plain_separator(self.options.writing().kv_separator);
+                return flag(self.alloc, plain);
+            }
+            "count_plain" => {
+                let plain = count_plain(self.alloc, &self.document, &self.options.writing())?;
+                return Ok(format!(in self.alloc; "{plain}")?);
+            }
+            "general_section" => return general_section(self.alloc, &self.document),
+            "name_all" => walk::name_all(&mut self.document)?,
+            "clear" => self.document.clear(),
+            "clone" => self.other = self.document.clone()?,
+            "clone_by_trait" => self.other = Clone::clone(&self.document)?,
+            "swap" => mem::swap(&mut self.document, &mut self.other),
+            _ => return Err(unreadable("no such call")),
+        }
+        Ok(String::new(self.alloc))
+    }
+
+    // A section's pairs, or `none`.
+    fn shown(&self, section: Option<&Properties>) -> Result<String, Error> {
+        match section {
+            Some(section) => pairs(self.alloc, section),
+            None => value(self.alloc, None),
+        }
+    }
+
+    fn of_section(&mut self, call: &str, name: Option<&str>) -> Result<String, Error> {
+        match call {
+            "load" => {
+                let text = name.unwrap_or("");
+                self.document = Ini::load_from_str_opt(self.alloc, text, self.options.reading)?;
+            }
+            "reload" => return self.reloaded(name.unwrap_or("")),
+            "section" => return self.shown(self.document.section(name)),
+            "delete" => {
+                let deleted = self.document.delete(name);
+                return self.shown(deleted.as_ref());
+            }
+            "iter" => return walk::iter(self.alloc, &self.document, name.unwrap_or("")),
+            "into_iter" => return walk::into_iter(self.alloc, &self.document, name.unwrap_or("")),
+            "iter_mut" => return walk::iter_mut(self.alloc, &mut self.document, name.unwrap_or("")),
+            "names" => return walk::names(self.alloc, &self.document, name.unwrap_or("")),
+            "counts" => return walk::counts(self.alloc, &mut self.document, name),
+            "is_plain_name" => return flag(self.alloc, self.is_plain_name(name.unwrap_or(""))),
+            "entry" | "or_insert" | "or_insert_with" | "append" => {
+                return self.enter(call, name, None);
+            }
+            _ => return Err(unreadable("no such call of a section")),
+        }
+        Ok(String::new(self.alloc))
+    }
+
+    fn key_of(&self, name: Option<&str>) -> Result<Option<String>, Error> {
+        match name {
+            Some(name) => Ok(Some(String::from_str(self.alloc, name)?)),
+            None => Ok(None),
+        }
+    }
+
+    // What an entry gives: whether it is occupied, or the pairs of the section that it lends, once the pair
+    // is appended there.
+    fn enter(
+        &mut self,
+        call: &str,
+        name: Option<&str>,
+        pair: Option<(&str, &str)>,
+    ) -> Result<String, Error> {
+        let alloc = self.alloc;
+        let mut given = Properties::new(alloc);
+        given.append("given", "1")?;
+        let empty = Properties::new(alloc);
+        let name = self.key_of(name)?;
+        let lent = match (call, self.document.entry(name)) {
+            ("or_insert", entry) => room(entry.or_insert(given))?,
+            ("or_insert_with", entry) => room(entry.or_insert_with(|| Properties::new(alloc)))?,
+            ("append", SectionEntry::Occupied(mut entry)) => {
+                room(entry.append(empty))?;
+                entry.into_mut()
+            }
+            ("append", SectionEntry::Vacant(entry)) => room(entry.insert(empty))?,
+            (_, SectionEntry::Occupied(_)) => return flag(alloc, true),
+            (_, SectionEntry::Vacant(_)) => return flag(alloc, false),
+        };
+        if let Some((key, value)) = pair {
+            lent.append(key, value)?;
+        }
+        pairs(alloc, lent)
+    }
+
+    fn of_key(&mut self, call: &str, name: Option<&str>, key: &str) -> Result<String, Error> {
+        let alloc = self.alloc;
+        match call {
+            "get_from" => value(alloc, self.document.get_from(name, key)),
+            "get_from_or" => value(alloc, Some(self.document.get_from_or(name, key, "d"))),
+            "get" => value(alloc, self.document.with_section(name).get(key)),
+            "index" => value(alloc, indexed(&self.document, name, key)),
+            "index_by_text" => {
+                value(
+                    alloc,
+                    indexed_by_text(&self.document, name.unwrap_or(""), key),
+                )
+            }
+            "section_all" => walk::section_all(alloc, &self.document, name, key),
+            "section_all_mut" => walk::section_all_mut(alloc, &mut self.document, name, key),
+            "is_plain_pair" => flag(alloc, self.is_plain_pair(name.unwrap_or(""), key)),
+            "delete_from" => value(alloc, self.document.delete_from(name, key).as_deref()),
+            "remove" => match self.document.section_mut(name) {
+                Some(section) => value(alloc, section.remove(key).as_deref()),
+                None => value(alloc, None),
+            },
+            "delete" => {
+                self.document.with_section(name).delete(key);
+                Ok(String::new(alloc))
+            }
+            _ => Err(unreadable("no such call of a key")),
+        }
+    }
+
+    fn put(
+        &mut self,
+        call: &str,
+        name: Option<&str>,
+        key: &str,
+        value: &str,
+    ) -> Result<String, Error> {
+        let alloc = self.alloc;
+        match call {
+            "set_to" => {
+                let key = String::from_str(alloc, key)?;
+                let value = String::from_str(alloc, value)?;
+                self.document.set_to(name, key, value)?;
+            }
+            "set" => {
+                self.document.with_section(name).set(key, value)?;
+            }
+            "add" => {
+                self.document.with_section(name).add(key, value)?;
+            }
+            "pair" => return self.only_pair(name, key, value),
+            "or_insert" | "or_insert_with" | "append" => {
+                return self.enter(call, name, Some((key, value)));
+            }
+            _ => return self.put_in_section(call, name, key, value),
+        }
+        Ok(String::new(alloc))
+    }
+
+    // A document of this pair alone: whether it is plain, and what its text loads as.
+    fn only_pair(&mut self, name: Option<&str>, key: &str, value: &str) -> Result<String, Error> {
+        self.document = Ini::new(self.alloc)?;
+        self.document.with_section(name).add(key, value)?;
+        let plain = if self.is_plain() {
+            "plain"
+        } else {
+            "not plain"
+        };
+        let shown = self.reloaded("")?;
+        Ok(format!(in self.alloc; "{plain}, {shown}")?)
+    }
+
+    // The same by a reference to the section, or to the value; `none` where it isn't lent.
+    fn put_in_section(
+        &mut self,
+        call: &str,
+        name: Option<&str>,
+        key: &str,
+        text: &str,
+    ) -> Result<String, Error> {
+        if call == "push_str" {
+            let Some(lent) = self.document.get_from_mut(name, key) else {
+                return value(self.alloc, None);
+            };
+            lent.push_str(text)?;
+            return Ok(String::new(self.alloc));
+        }
+        let Some(section) = self.document.section_mut(name) else {
+            return value(self.alloc, None);
+        };
+        match call {
+            "insert_in" => section.insert(key, text)?,
+            "append_to" => section.append(key, text)?,
+            "insert_by_index" => put_by_index(&mut self.document, name, key, text)?,
+            "insert_by_text" => put_by_text(&mut self.document, name.unwrap_or(""), key, text)?,
+            "insert_in_general" => put_in_general(&mut self.document, key, text)?,
+            _ => return Err(unreadable("no such call of a pair")),
+        }
+        Ok(String::new(self.alloc))
+    }
+}
+
+fn room<T>(answer: Result<T, NoRoom>) -> Result<T, Error> {
+    Ok(answer?)
+}
+
+// The value of the key in the section that an index by an optional name gives.
+fn indexed<'a>(document: &'a Ini, name: Option<&str>, key: &str) -> Option<&'a str> {
+    if document.section(name).is_some() {
+        document[name].get(key)
+    } else {
+        None
+    }
+}
+
+// The same by an index of a text.
+fn indexed_by_text<'a>(document: &'a Ini, name: &str, key: &str) -> Option<&'a str> {
+    if document.section(Some(name)).is_some() {
+        document[name].get(key)
+    } else {
+        None
+    }
+}
+
+fn put_by_index(
+    document: &mut Ini,
+    name: Option<&str>,
+    key: &str,
+    value: &str,
+) -> Result<(), Error> {
+    if document.section(name).is_some() {
+        document[name].insert(key, value)?;
+    }
+    Ok(())
+}
+
+fn put_by_text(document: &mut Ini, name: &str, key: &str, value: &str) -> Result<(), Error> {
+    if document.section(Some(name)).is_some() {
+        document[name].insert(key, value)?;
+    }
+    Ok(())
+}
+
+fn put_in_general(document: &mut Ini, key: &str, value: &str) -> Result<(), Error> {
+    if document.section(None).is_some() {
+        document.general_section_mut().insert(key, value)?;
+    }
+    Ok(())
+}
+
+// The number of pairs of the general section; `none` where there is no such section.
+fn general_section(alloc: Global, document: &Ini) -> Result<String, Error> {
+    if document.section(None).is_some() {
+        let count = document.general_section().len();
+        Ok(format!(in alloc; "{count}")?)
+    } else {
+        value(alloc, None)
+    }
+}
