@@ -11,7 +11,8 @@ ghost use Rattle.ini_text.specs.Inside.PlainTests.{begins, escapes_nothing, has_
 ghost use Rattle.ini_text.specs.Inside.PlainTests.{has_no_escapes, has_no_raw_separator, has_read_escapes};
 ghost use Rattle.ini_text.specs.Inside.PlainTests.{is_bare_key, is_end_trimmed, is_indented_by_escape};
 ghost use Rattle.ini_text.specs.Inside.PlainTests.{is_plain_key, is_plain_value, is_read_back};
-ghost use Rattle.ini_text.specs.Inside.PlainTests.{is_read_escaped, is_read_raw, is_trimmed, may_begin_key, may_indent};
+ghost use Rattle.ini_text.specs.Inside.PlainTests.{is_read_escaped, is_read_raw, is_trimmed};
+ghost use Rattle.ini_text.specs.Inside.PlainTests.{may_begin_key, may_indent};
 
 use crate::option::ParseOption;
 use crate::policy::EscapePolicy;
