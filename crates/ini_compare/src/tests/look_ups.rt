@@ -1,5 +1,6 @@
-//! What a look-up asks: the probe is asked at most once for a key that is there, and never for a code that no key had, where
-//! the keys have codes of their own.
+//! What a look-up asks, among few pairs, whose codes it goes over, and among many, which have an index: the
+//! probe is asked at most once for a key that is there, and never for a code that no key had, where the keys
+//! have codes of their own.
 ghost use Rattle.std.proofs.Common.{sym};
 ghost use Rattle.std.specs.Str.{bytes_eq};
 ghost use Rattle.std.specs.Prelude.{string_bytes};
@@ -8,10 +9,9 @@ ghost use Rattle.ini_multimap.specs.Keys.{text_code};
 ghost use Rattle.ini_multimap.specs.KeyLaws.{text_code-eq};
 
 use ini_multimap::{MapKey, Multimap, Probe};
-use std::alloc::{AllocError, Global};
 use std::cell::Cell;
+use std::panic::Expect;
 use std::process::Abort;
-use std::test::Fail;
 
 /// A text that counts how often it is asked.
 #[derive(Clone, Copy)]
@@ -40,24 +40,29 @@ impl Probe<String> for Counting<'_> {
     }
 }
 
-// The numbers from `first` on as texts of four digits, which have codes of their own.
-fn texts(alloc: Global, first: u32) -> Result<Vec<String>, AllocError> {
-    let mut texts = Vec::new(alloc);
-    for number in 0..1000 {
-        texts.push(format!(in alloc; "{}", first.wrapping_add(number))?)?;
+// So many numbers from `first` on as texts of four digits, which have codes of their own.
+fn texts(rt: &(impl Abort + AllocGlobal), first: u32, count: u32) -> Vec<String> {
+    let mut texts = Vec::new(rt.alloc());
+    for number in 0..count {
+        let text = format!(in rt.alloc(); "{}", first.wrapping_add(number)).expect(rt, "memory");
+        texts.push(text).expect(rt, "memory");
     }
-    Ok(texts)
+    texts
 }
 
-// The answer to a text, and how often the probe was asked for it.
-fn get(map: &Multimap<String, u32>, text: &str) -> (Option<u32>, u32) {
+// Asks for the text, which has that value or none, where the probe may be asked so often.
+fn look_up(rt: &impl Abort, map: &Multimap<String, u32>, text: &str, want: Option<u32>, most: u32) {
     let asked = Cell::new(0);
     let probe = Counting {
         text,
         asked: &asked,
     };
     let value = map.get(probe).copied();
-    (value, asked.get())
+    let times = asked.get();
+    assert!(rt;
+        value == want && times <= most,
+        "{text}: asked {times} times"
+    );
 }
 
 // Asks for each text, of which those that are there have their number for a value.
@@ -68,36 +73,44 @@ fn look_up_all(
     without_each_third: bool,
 ) {
     for (number, text) in (0..).zip(texts) {
-        let (value, asked) = get(map, text.as_str());
-        if without_each_third && number % 3 == 0 {
-            assert_eq!(rt; value, None, "{text}");
-        } else {
-            assert_eq!(rt; value, Some(number), "{text}");
-        }
-        assert!(rt; asked <= 1, "{text}: asked {asked} times");
+        let is_there = !(without_each_third && number % 3 == 0);
+        let want = if is_there { Some(number) } else { None };
+        look_up(rt, map, text.as_str(), want, 1);
     }
 }
 
 // Asks for texts whose codes no key had.
 fn look_up_none(rt: &impl Abort, map: &Multimap<String, u32>, texts: &[String]) {
     for text in texts {
-        assert_eq!(rt; get(map, text.as_str()), (None, 0), "{text}");
+        look_up(rt, map, text.as_str(), None, 0);
     }
 }
 
-#[test]
-fn a_look_up_asks_at_most_once(rt: HostRuntime) -> Result<(), Fail> {
-    let (texts, others) = (texts(rt.alloc(), 1000)?, texts(rt.alloc(), 2000)?);
+// So many keys are appended and asked for; each third is taken out, and they are asked for again.
+fn expect_few_questions(rt: &(impl Abort + AllocGlobal), count: u32) {
+    let (texts, others) = (texts(rt, 1000, count), texts(rt, 2000, count));
     let mut map: Multimap<String, u32> = Multimap::new(rt.alloc());
     for (number, text) in (0..).zip(&texts) {
-        assert!(rt; map.append(text.clone()?, number).is_ok());
+        assert!(rt;
+            map.append(text.clone().expect(rt, "memory"), number)
+                .is_ok()
+        );
     }
-    look_up_all(&rt, &map, texts.as_slice(), false);
-    look_up_none(&rt, &map, others.as_slice());
+    look_up_all(rt, &map, texts.as_slice(), false);
+    look_up_none(rt, &map, others.as_slice());
     for (number, text) in (0..).zip(&texts).step_by(3) {
-        assert_eq!(rt; map.remove(text.as_str()), Some(number));
+        assert!(rt; map.remove(text.as_str()) == Some(number));
     }
-    look_up_all(&rt, &map, texts.as_slice(), true);
-    look_up_none(&rt, &map, others.as_slice());
-    Ok(())
+    look_up_all(rt, &map, texts.as_slice(), true);
+    look_up_none(rt, &map, others.as_slice());
+}
+
+#[test]
+fn a_look_up_among_many_asks_at_most_once(rt: HostRuntime) {
+    expect_few_questions(&rt, 1000);
+}
+
+#[test]
+fn a_look_up_among_few_asks_at_most_once(rt: HostRuntime) {
+    expect_few_questions(&rt, 16);
 }

@@ -37,6 +37,11 @@ impl Order {
     }
 }
 
+// Asks that this held at the item of the reading.
+fn expect(rt: &impl Abort, held: bool, order: Order, turn: usize) {
+    assert!(rt; held, "{order:?} at {turn}");
+}
+
 /// The pairs, lent.
 pub fn same_pairs<K: TextKey>(
     rt: &impl Abort,
@@ -51,21 +56,14 @@ pub fn same_pairs<K: TextKey>(
         } else {
             got.next()
         };
-        match (item, want.get(order.index(turn, want.len()))) {
-            (Some((key, value)), Some(want)) => {
-                assert_eq!(rt;
-                    (key.text(), *value),
-                    (want.0.text(), want.1),
-                    "{order:?} at {turn}"
-                );
-            }
-            _ => panic!(rt; "{order:?} ends at {turn}"),
-        }
+        let same = match (item, want.get(order.index(turn, want.len()))) {
+            (Some((key, value)), Some(want)) => key.text() == want.0.text() && *value == want.1,
+            _ => false,
+        };
+        expect(rt, same, order, turn);
     }
-    assert!(rt;
-        got.next().is_none() && got.next_back().is_none(),
-        "{order:?} goes on"
-    );
+    let ends = got.next().is_none() && got.next_back().is_none();
+    expect(rt, ends, order, want.len());
 }
 
 /// The pairs, lent for writing.
@@ -82,21 +80,14 @@ pub fn same_pairs_mut<K: TextKey>(
         } else {
             got.next()
         };
-        match (item, want.get(order.index(turn, want.len()))) {
-            (Some((key, value)), Some(want)) => {
-                assert_eq!(rt;
-                    (key.text(), *value),
-                    (want.0.text(), want.1),
-                    "{order:?} at {turn}"
-                );
-            }
-            _ => panic!(rt; "{order:?} ends at {turn}"),
-        }
+        let same = match (item, want.get(order.index(turn, want.len()))) {
+            (Some((key, value)), Some(want)) => key.text() == want.0.text() && *value == want.1,
+            _ => false,
+        };
+        expect(rt, same, order, turn);
     }
-    assert!(rt;
-        got.next().is_none() && got.next_back().is_none(),
-        "{order:?} goes on"
-    );
+    let ends = got.next().is_none() && got.next_back().is_none();
+    expect(rt, ends, order, want.len());
 }
 
 /// The distinct keys.
@@ -108,19 +99,14 @@ pub fn same_keys<K: TextKey>(rt: &impl Abort, order: Order, map: &Multimap<K, u3
         } else {
             got.next()
         };
-        match (item, want.get(order.index(turn, want.len()))) {
-            (Some(key), Some(want)) => assert_eq!(rt;
-                key.text(),
-                want.text(),
-                "{order:?} at {turn}"
-            ),
-            _ => panic!(rt; "{order:?} ends at {turn}"),
-        }
+        let same = match (item, want.get(order.index(turn, want.len()))) {
+            (Some(key), Some(want)) => key.text() == want.text(),
+            _ => false,
+        };
+        expect(rt, same, order, turn);
     }
-    assert!(rt;
-        got.next().is_none() && got.next_back().is_none(),
-        "{order:?} goes on"
-    );
+    let ends = got.next().is_none() && got.next_back().is_none();
+    expect(rt, ends, order, want.len());
 }
 
 /// The values of one key.
@@ -138,15 +124,14 @@ pub fn same_values<K: TextKey, Q: Probe<K> + Copy>(
         } else {
             got.next()
         };
-        match (item, want.get(order.index(turn, want.len()))) {
-            (Some(value), Some(want)) => assert_eq!(rt; *value, *want, "{order:?} at {turn}"),
-            _ => panic!(rt; "{order:?} ends at {turn}"),
-        }
+        let same = match (item, want.get(order.index(turn, want.len()))) {
+            (Some(value), Some(want)) => *value == *want,
+            _ => false,
+        };
+        expect(rt, same, order, turn);
     }
-    assert!(rt;
-        got.next().is_none() && got.next_back().is_none(),
-        "{order:?} goes on"
-    );
+    let ends = got.next().is_none() && got.next_back().is_none();
+    expect(rt, ends, order, want.len());
 }
 
 /// The pairs, by value.
@@ -163,19 +148,12 @@ pub fn same_items<K: TextKey>(
         } else {
             got.next()
         };
-        match (item, want.get(order.index(turn, want.len()))) {
-            (Some((key, value)), Some(want)) => {
-                assert_eq!(rt;
-                    (key.text(), value),
-                    (want.0.text(), want.1),
-                    "{order:?} at {turn}"
-                );
-            }
-            _ => panic!(rt; "{order:?} ends at {turn}"),
-        }
+        let same = match (item, want.get(order.index(turn, want.len()))) {
+            (Some((key, value)), Some(want)) => key.text() == want.0.text() && value == want.1,
+            _ => false,
+        };
+        expect(rt, same, order, turn);
     }
-    assert!(rt;
-        got.next().is_none() && got.next_back().is_none(),
-        "{order:?} goes on"
-    );
+    let ends = got.next().is_none() && got.next_back().is_none();
+    expect(rt, ends, order, want.len());
 }

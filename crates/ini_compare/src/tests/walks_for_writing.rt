@@ -1,36 +1,31 @@
 //! A walk for writing changes what it lends: keys, order, number and all other values stay.
-use super::calls::{add, shown};
+use super::calls::{add, expect_pairs};
 use ini_multimap::Multimap;
-use std::alloc::{AllocError, Global};
-use std::test::Fail;
+use std::panic::Expect;
+use std::process::Abort;
 
-// Two pairs a, with pairs of two other keys before, between and behind them; with holes there are some that were removed too.
-fn sample(alloc: Global, with_holes: bool) -> Result<Multimap<String, u32>, AllocError> {
-    let mut m = Multimap::new(alloc);
-    for (key, value) in [
-        ("hole", 0),
-        ("y", 1),
-        ("z", 2),
-        ("a", 3),
-        ("y", 4),
-        ("hole", 0),
-        ("z", 5),
-        ("a", 6),
-        ("z", 7),
-        ("y", 8),
-        ("hole", 0),
-    ] {
-        if with_holes || key != "hole" {
-            add(&mut m, alloc, key, value)?;
+// The keys of two pairs a, with pairs of two other keys before, between and behind them; and the same with
+// pairs that are taken out again.
+const KEYS: [&'static str; 2] = ["y z a y z a z y", "- y z a y - z a z y -"];
+
+// Pairs of the keys, numbered from 1 on; where dashes stand there are holes.
+fn sample(rt: &(impl Abort + AllocGlobal), keys: &str) -> Multimap<String, u32> {
+    let mut m = Multimap::new(rt.alloc());
+    let mut number: u32 = 0;
+    for key in keys.split(' ') {
+        if key != "-" {
+            number = number.saturating_add(1);
         }
+        add(rt, &mut m, key, number);
     }
     for _ in 0..3 {
-        let _ = m.remove("hole");
+        let _ = m.remove("-");
     }
-    Ok(m)
+    m
 }
 
-// Adds 100 to what the walk over one key lends; each letter of `ends` is a step from the front or from the back.
+// Adds 100 to what the walk over one key lends; each letter of `ends` is a step from the front or from the
+// back.
 fn write_values(m: &mut Multimap<String, u32>, key: &str, ends: &str) {
     let mut walk = m.get_all_mut(key);
     for end in ends.chars() {
@@ -60,48 +55,46 @@ fn write_pairs(m: &mut Multimap<String, u32>, ends: &str) {
     }
 }
 
-#[test]
-fn a_walk_over_one_key_changes_what_it_lends(rt: HostRuntime) -> Result<(), Fail> {
-    let alloc = rt.alloc();
-    for with_holes in [false, true] {
-        for (key, ends, first, last) in [
-            ("a", "", 3, 6),
-            ("a", "f", 103, 6),
-            ("a", "b", 3, 106),
-            ("a", "fb", 103, 106),
-            ("a", "bf", 103, 106),
-            ("a", "fff", 103, 106),
-            ("a", "bbb", 103, 106),
-            ("none", "", 3, 6),
-            ("none", "fb", 3, 6),
-        ] {
-            let mut m = sample(alloc, with_holes)?;
-            write_values(&mut m, key, ends);
-            let want = format!(in alloc; "y 1;z 2;a {first};y 4;z 5;a {last};z 7;y 8;")?;
-            assert_eq!(rt; shown(alloc, &m)?.as_str(), want.as_str(), "{key} {ends}");
-        }
+// Writes by the walk over the key, where the values of the pairs a become these two.
+fn expect_values(rt: &(impl Abort + AllocGlobal), key: &str, ends: &str, first: u32, last: u32) {
+    let want = format!(in rt.alloc(); "y 1;z 2;a {first};y 4;z 5;a {last};z 7;y 8;");
+    let want = want.expect(rt, "memory");
+    for keys in KEYS {
+        let mut m = sample(rt, keys);
+        write_values(&mut m, key, ends);
+        expect_pairs(rt, &m, &want);
     }
-    Ok(())
 }
 
 #[test]
-fn a_walk_over_all_pairs_changes_what_it_lends(rt: HostRuntime) -> Result<(), Fail> {
-    let alloc = rt.alloc();
-    let all = "y 101;z 102;a 103;y 104;z 105;a 106;z 107;y 108;";
-    for with_holes in [false, true] {
-        for (ends, want) in [
-            ("", "y 1;z 2;a 3;y 4;z 5;a 6;z 7;y 8;"),
-            ("ff", "y 101;z 102;a 3;y 4;z 5;a 6;z 7;y 8;"),
-            ("bb", "y 1;z 2;a 3;y 4;z 5;a 6;z 107;y 108;"),
-            ("fbf", "y 101;z 102;a 3;y 4;z 5;a 6;z 7;y 108;"),
-            ("fffffffff", all),
-            ("bbbbbbbbb", all),
-            ("fbfbfbfbfb", all),
-        ] {
-            let mut m = sample(alloc, with_holes)?;
-            write_pairs(&mut m, ends);
-            assert_eq!(rt; shown(alloc, &m)?.as_str(), want, "{ends}");
-        }
+fn a_walk_over_one_key_changes_what_it_lends(rt: HostRuntime) {
+    expect_values(&rt, "a", "", 3, 6);
+    expect_values(&rt, "a", "f", 103, 6);
+    expect_values(&rt, "a", "b", 3, 106);
+    for ends in ["fb", "bf", "fff", "bbb"] {
+        expect_values(&rt, "a", ends, 103, 106);
     }
-    Ok(())
+    expect_values(&rt, "none", "", 3, 6);
+    expect_values(&rt, "none", "fb", 3, 6);
+}
+
+// Writes by the walk over all pairs, where they become these.
+fn expect_written(rt: &(impl Abort + AllocGlobal), ends: &str, want: &str) {
+    for keys in KEYS {
+        let mut m = sample(rt, keys);
+        write_pairs(&mut m, ends);
+        expect_pairs(rt, &m, want);
+    }
+}
+
+#[test]
+fn a_walk_over_all_pairs_changes_what_it_lends(rt: HostRuntime) {
+    expect_written(&rt, "", "y 1;z 2;a 3;y 4;z 5;a 6;z 7;y 8;");
+    expect_written(&rt, "ff", "y 101;z 102;a 3;y 4;z 5;a 6;z 7;y 8;");
+    expect_written(&rt, "bb", "y 1;z 2;a 3;y 4;z 5;a 6;z 107;y 108;");
+    expect_written(&rt, "fbf", "y 101;z 102;a 3;y 4;z 5;a 6;z 7;y 108;");
+    let all = "y 101;z 102;a 103;y 104;z 105;a 106;z 107;y 108;";
+    for ends in ["fffffffff", "bbbbbbbbb", "fbfbfbfbfb"] {
+        expect_written(&rt, ends, all);
+    }
 }
