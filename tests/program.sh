@@ -99,10 +99,58 @@ set port 9090|port = 8080\n|0|port=9090\n|
 --crlf set k 1 s||0|[s]\r\nk=1\r\n|
 set --crlf fmt||0|--crlf=fmt\n|
 del k p|[p]\nk=1\n[p]\nk=2\n|0|[p]\n[p]\nk=2\n|
+fmt|[a]\n[b]\nk=v\n[c]\n[d]\nx=y|0|[a]\n[b]\nk=v\n[c]\n\n[d]\nx=y\n|
+fmt|  k=v|0|k=v\n|
+fmt|k=v\n  w=x|0|k=v\nw=x\n|
+list|[a]\n[b]\n|0||
+list|k=1\nk=2\n[a]\nk=\n|0|\tk\t1\n\tk\t2\n[a]\tk\t\n|
+list|[a\\tb\\\\]\nk\\nj=\\0|0|[a\\tb\\\\]\tk\\nj\t\\0\n|
+list|k=\0303\0251;=|0|\tk\t\0303\0251;=\n|
+--multiline list|k=v\n  w|0|\tk\tv\\nw\n|
+--noescape list|k=\\t|0|\tk\t\\\\t\n|
+--crlf --policy Everything list|k=\0303\0251;|0|\tk\t\0303\0251;\n|
+--noquote get k|k="a"|0|"a"\n|
+get k|k=a\\tb\\n\\\\|0|a\tb\n\\\n|
+--crlf get k|k=1|0|1\n|
+get k a|k=1\n[a]\nk=2\n[a]\nk=3\n|0|2\n|
+get --crlf|--crlf=1|0|1\n|
+set k 1||0|k=1\n|
+set k 9|k=1\na=2\nk=3\n|0|k=9\na=2\n|
+set b 9|a=1\n[s]\nx=y\n|0|a=1\nb=9\n\n[s]\nx=y\n|
+set k 9 s|[s]\na=1\n[s]\nk=2\n|0|[s]\na=1\nk=9\n\n[s]\nk=2\n|
+set k 9 t|[s]\na=1\n|0|[s]\na=1\n\n[t]\nk=9\n|
+set --policy list fmt||0|[fmt]\n--policy=list\n|
+set k \||0|k=\\\\\n|
+del k|k=1\na=2\nk=3\n|0|a=2\nk=3\n|
+del k|k=1\n[p]\nk=2\n|0|[p]\nk=2\n|
+--crlf del k|k=1\na=2\n|0|a=2\r\n|
+--policy Reserved fmt|k=;\0303\0251\0360\0220\0200\0200\\\\|0|k=\\;\0303\0251\0360\0220\0200\0200\\\\\n|
+--policy Nothing fmt|k=;\0303\0251\0360\0220\0200\0200\\\\|0|k=;\0303\0251\0360\0220\0200\0200\\\n|
+--policy Basics fmt|k=;\0303\0251\0360\0220\0200\0200\\\\|0|k=;\0303\0251\0360\0220\0200\0200\\\\\n|
+--policy BasicsUnicode fmt|k=;\0303\0251\0360\0220\0200\0200\\\\|0|k=;\\x00e9\0360\0220\0200\0200\\\\\n|
+--policy BasicsUnicodeExtended fmt|k=;\0303\0251\0360\0220\0200\0200\\\\|0|k=;\\x00e9\\x10000\\\\\n|
+--policy ReservedUnicode fmt|k=;\0303\0251\0360\0220\0200\0200\\\\|0|k=\\;\\x00e9\0360\0220\0200\0200\\\\\n|
+--policy ReservedUnicodeExtended fmt|k=;\0303\0251\0360\0220\0200\0200\\\\|0|k=\\;\\x00e9\\x10000\\\\\n|
+--policy Everything fmt|k=;\0303\0251\0360\0220\0200\0200\\\\|0|k=\\;\\x00e9\\x10000\\\\\n|
+--policy Everything --policy Nothing fmt|k=;\0303\0251\0360\0220\0200\0200\\\\|0|k=;\0303\0251\0360\0220\0200\0200\\\n|
+--policy Nothing --crlf --policy Reserved fmt|k=;\0303\0251\0360\0220\0200\0200\\\\|0|k=\\;\0303\0251\0360\0220\0200\0200\\\\\r\n|
+--crlf --crlf --policy Nothing --crlf fmt|k=;\0303\0251\0360\0220\0200\0200\\\\|0|k=;\0303\0251\0360\0220\0200\0200\\\r\n|
+--noescape --noquote --multiline --indent --crlf fmt|  k='a\\'\n  w\n|0|  k='a\\\\'\\nw\r\n|
+--crlf --indent --multiline --noquote --noescape fmt|  k='a\\'\n  w\n|0|  k='a\\\\'\\nw\r\n|
+--multiline --crlf --noescape --indent --noquote fmt|  k='a\\'\n  w\n|0|  k='a\\\\'\\nw\r\n|
+--noquote --noquote --noescape --policy Basics --indent --crlf --multiline --noescape fmt|  k='a\\'\n  w\n|0|  k='a\\\\'\\nw\r\n|
 # not found
 get key3 sec1|[sec1]\nkey1=val1|1||
 get k a|k=1\n|1||
 del z|k=1|1||
+get key1|[sec1]\nkey1=val1\nkey2=377\n[sec2]foo=bar\n|1||
+get key1 sec3|[sec1]\nkey1=val1\nkey2=377\n[sec2]foo=bar\n|1||
+get key1 SEC1|[sec1]\nkey1=val1\nkey2=377\n[sec2]foo=bar\n|1||
+get k p|[p]\na=1\n[p]\nk=2\n|1||
+get k||1||
+del k p|k=1\n[p]\n[p]\nk=2\n|1||
+del K|k=1|1||
+--crlf --policy Nothing del z|k=1|1||
 # usage
 none|k=v|2||USAGE
 frob|k=v|2||USAGE
@@ -112,6 +160,22 @@ set k|k=v|2||USAGE
 --crlf|k=v|2||USAGE
 --policy|k=v|2||USAGE
 --policy basics fmt|k=v|2||USAGE
+Fmt|k=v\n|2||USAGE
+fmt --crlf|k=v\n|2||USAGE
+list x|k=v\n|2||USAGE
+get k s x|k=v\n|2||USAGE
+set|k=v\n|2||USAGE
+set k v s x|k=v\n|2||USAGE
+del|k=v\n|2||USAGE
+del k s x|k=v\n|2||USAGE
+--policy Basics|k=v\n|2||USAGE
+--policy fmt|k=v\n|2||USAGE
+--policy --crlf fmt|k=v\n|2||USAGE
+--crlf --policy Nothing|k=v\n|2||USAGE
+--brackets-in fmt|k=v\n|2||USAGE
+-- fmt|k=v\n|2||USAGE
+--CRLF fmt|k=v\n|2||USAGE
+--policy Basics frob|k=v\n|2||USAGE
 # refused texts
 --brackets fmt|[a]x\n|3||ini_tool: 2:1 section must be ended with ']'
 fmt|k|3||ini_tool: 1:2 expecting "[Some('='), Some(':')]" but found EOF.
@@ -119,6 +183,22 @@ list|[a]\n=v|3||ini_tool: 2:2 missing key
 get k|k=1\n[a] ; c|3||ini_tool: 2:6 doesn't support inline comment
 fmt|k=\0303|3||ini_tool: the input is not UTF-8
 set k v|\0377\0376k=v|3||ini_tool: the input is not UTF-8
+fmt|\0357\0273\0277k|3||ini_tool: 1:2 expecting "[Some('='), Some(':')]" but found EOF.
+list|k|3||ini_tool: 1:2 expecting "[Some('='), Some(':')]" but found EOF.
+list|\0357\0273\0277k|3||ini_tool: 1:2 expecting "[Some('='), Some(':')]" but found EOF.
+list|k=\0303|3||ini_tool: the input is not UTF-8
+get k|k|3||ini_tool: 1:2 expecting "[Some('='), Some(':')]" but found EOF.
+get k|\0357\0273\0277k|3||ini_tool: 1:2 expecting "[Some('='), Some(':')]" but found EOF.
+get k|k=\0303|3||ini_tool: the input is not UTF-8
+set k v|k|3||ini_tool: 1:2 expecting "[Some('='), Some(':')]" but found EOF.
+set k v|\0357\0273\0277k|3||ini_tool: 1:2 expecting "[Some('='), Some(':')]" but found EOF.
+set k v|k=\0303|3||ini_tool: the input is not UTF-8
+del k|k|3||ini_tool: 1:2 expecting "[Some('='), Some(':')]" but found EOF.
+del k|\0357\0273\0277k|3||ini_tool: 1:2 expecting "[Some('='), Some(':')]" but found EOF.
+del k|k=\0303|3||ini_tool: the input is not UTF-8
+--crlf --policy Nothing fmt|k|3||ini_tool: 1:2 expecting "[Some('='), Some(':')]" but found EOF.
+--crlf --policy Nothing fmt|\0357\0273\0277k|3||ini_tool: 1:2 expecting "[Some('='), Some(':')]" but found EOF.
+--crlf --policy Nothing fmt|k=\0303|3||ini_tool: the input is not UTF-8
 ROWS
 
 # Streams that are closed, full or no file.

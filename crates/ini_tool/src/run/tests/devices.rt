@@ -2,7 +2,6 @@
 use super::*;
 use std::io;
 use std::io::ErrorKind;
-use std::process::Abort;
 
 /// A document, and for each command what it writes of it.
 pub(super) const INPUT: &str = "k=v\n[a]\nx=y;\n";
@@ -92,124 +91,134 @@ impl Write for LimitedWriter {
 /// Asks that a reader's fault after so many calls is told, that no call follows it, and that the writer
 /// isn't called.
 fn expect_read_fault(
-    rt: &impl Abort,
-    alloc: Global,
+    rt: &(impl Abort + AllocGlobal),
     line: &str,
     good_calls: usize,
     fault: ErrorKind,
-) -> Result<(), Fail> {
-    let words = words_of(alloc, line)?;
+) {
     let mut input = FailingReader {
         rest: INPUT.as_bytes(),
         good_calls,
         fault,
         calls: 0,
     };
-    let mut output = LimitedWriter::new(alloc, usize::MAX, usize::MAX, None);
+    let mut output = LimitedWriter::new(rt.alloc(), usize::MAX, usize::MAX, None);
     let mut reader = Watched::new(&mut input);
     let mut writer = Watched::new(&mut output);
-    let outcome = run(alloc, words.as_slice(), &mut reader, &mut writer);
-    match &outcome {
-        Outcome::Refused(Error::Io(told)) => assert!(rt; told.kind() == fault, "{line}"),
-        _ => panic!(rt; "{line}: no fault after {good_calls}"),
-    }
-    assert_eq!(rt; status(&outcome), 4);
-    assert_eq!(rt; (reader.failures(), reader.stalls()), (1, 0));
-    assert_eq!(rt; (writer.failures(), writer.stalls()), (0, 0));
-    assert_eq!(rt; input.calls, good_calls.saturating_add(1));
-    assert_eq!(rt; output.calls, 0);
-    Ok(())
+    let words = words_of(rt, line);
+    let outcome = run(rt.alloc(), words.as_slice(), &mut reader, &mut writer);
+    let told = match &outcome {
+        Outcome::Refused(Error::Io(told)) => told.kind() == fault,
+        _ => false,
+    };
+    let counts = (
+        reader.failures(),
+        reader.stalls(),
+        writer.failures(),
+        writer.stalls(),
+    );
+    let held = told
+        && status(&outcome) == 4
+        && matches!(counts, (1, 0, 0, 0))
+        && input.calls == good_calls.saturating_add(1)
+        && output.calls == 0;
+    assert!(rt; held, "{line}, after {good_calls} calls");
 }
 
 #[test]
-fn readers_fail_at_each_call(rt: HostRuntime) -> Result<(), Fail> {
+fn readers_fail_at_each_call(rt: HostRuntime) {
     for (line, _) in COMMANDS {
         for good_calls in 0..=INPUT.len() {
             for fault in [ErrorKind::Other, ErrorKind::Interrupted] {
-                expect_read_fault(&rt, rt.alloc(), line, good_calls, fault)?;
+                expect_read_fault(&rt, line, good_calls, fault);
             }
         }
     }
-    Ok(())
+}
+
+/// Whether the outcome tells what stopped the writer.
+fn is_told(outcome: &Outcome, fault: Option<ErrorKind>) -> bool {
+    match outcome {
+        Outcome::Refused(Error::Io(told)) => fault == Some(told.kind()),
+        Outcome::Refused(Error::NoProgress) => fault.is_none(),
+        _ => false,
+    }
 }
 
 /// Asks that as much of the output goes out as there is room for, that what stopped it is told and counted,
 /// and that no call follows.
 fn expect_front(
-    rt: &impl Abort,
-    alloc: Global,
+    rt: &(impl Abort + AllocGlobal),
     line: &str,
     output: &str,
     mut device: LimitedWriter,
-) -> Result<(), Fail> {
-    let words = words_of(alloc, line)?;
+) {
     let (room, step, fault) = (device.room, device.step, device.fault);
     let mut input = INPUT.as_bytes();
     let mut reader = Watched::new(&mut input);
     let mut writer = Watched::new(&mut device);
-    let outcome = run(alloc, words.as_slice(), &mut reader, &mut writer);
-    match &outcome {
-        Outcome::Refused(Error::Io(told)) => assert!(rt; fault == Some(told.kind()), "{line}"),
-        Outcome::Refused(Error::NoProgress) => assert!(rt; fault.is_none(), "{line}"),
-        _ => panic!(rt; "{line}: it was taken, room {room}"),
-    }
-    assert_eq!(rt; status(&outcome), 4);
-    assert_eq!(rt; (reader.failures(), reader.stalls()), (0, 0));
-    assert_eq!(rt; writer.failures(), u64::from(fault.is_some()));
-    assert_eq!(rt; writer.stalls(), u64::from(fault.is_none()));
-    assert_eq!(rt; device.taken.len(), room);
-    assert!(rt;
-        output.as_bytes().starts_with(device.taken.as_slice()),
-        "{line}: room {room}"
-    );
-    if step == 1 {
-        assert_eq!(rt; device.calls, room.saturating_add(1));
-    }
-    Ok(())
+    let words = words_of(rt, line);
+    let outcome = run(rt.alloc(), words.as_slice(), &mut reader, &mut writer);
+    let (failures, stalls) = if fault.is_some() { (1, 0) } else { (0, 1) };
+    let counted = reader.failures() == 0
+        && reader.stalls() == 0
+        && writer.failures() == failures
+        && writer.stalls() == stalls;
+    let held = counted
+        && is_told(&outcome, fault)
+        && status(&outcome) == 4
+        && device.taken.len() == room
+        && output.as_bytes().starts_with(device.taken.as_slice())
+        && (step > 1 || device.calls == room.saturating_add(1));
+    assert!(rt; held, "{line}, room {room}");
 }
 
 /// The faults of writers; `None` is a writer that takes no bytes.
 const FAULTS: [Option<ErrorKind>; 3] = [Some(ErrorKind::Other), Some(ErrorKind::Interrupted), None];
 
-#[test]
-fn writers_fail_at_each_byte(rt: HostRuntime) -> Result<(), Fail> {
-    for (line, output) in COMMANDS {
-        for room in 0..output.len() {
-            for fault in FAULTS {
-                for step in [1, usize::MAX] {
-                    let device = LimitedWriter::new(rt.alloc(), room, step, fault);
-                    expect_front(&rt, rt.alloc(), line, output, device)?;
-                }
+/// Asks the same of each room for the output, and of each fault.
+fn expect_fronts(rt: &(impl Abort + AllocGlobal), line: &str, output: &str) {
+    for room in 0..output.len() {
+        for fault in FAULTS {
+            for step in [1, usize::MAX] {
+                let device = LimitedWriter::new(rt.alloc(), room, step, fault);
+                expect_front(rt, line, output, device);
             }
         }
     }
-    Ok(())
 }
 
 #[test]
-fn writers_with_just_enough_room_take_all(rt: HostRuntime) -> Result<(), Fail> {
+fn writers_fail_at_each_byte(rt: HostRuntime) {
     for (line, output) in COMMANDS {
-        for step in [1, usize::MAX] {
-            let words = words_of(rt.alloc(), line)?;
-            let mut input = INPUT.as_bytes();
-            let mut device = LimitedWriter::new(rt.alloc(), output.len(), step, None);
-            let outcome = run(
-                rt.alloc(),
-                words.as_slice(),
-                &mut Watched::new(&mut input),
-                &mut Watched::new(&mut device),
-            );
-            assert_eq!(rt; status(&outcome), 0, "{line}");
-            assert_eq!(rt; device.taken.as_slice(), output.as_bytes(), "{line}");
-        }
+        expect_fronts(&rt, line, output);
     }
-    Ok(())
+}
+
+/// Asks that a device takes the whole output where its room is just enough.
+fn expect_output(rt: &(impl Abort + AllocGlobal), line: &str, output: &str, step: usize) {
+    let mut input = INPUT.as_bytes();
+    let mut device = LimitedWriter::new(rt.alloc(), output.len(), step, None);
+    let mut reader = Watched::new(&mut input);
+    let mut writer = Watched::new(&mut device);
+    let words = words_of(rt, line);
+    let outcome = run(rt.alloc(), words.as_slice(), &mut reader, &mut writer);
+    let held = status(&outcome) == 0 && device.taken.as_slice() == output.as_bytes();
+    assert!(rt; held, "{line}");
+}
+
+#[test]
+fn writers_with_just_enough_room_take_all(rt: HostRuntime) {
+    for (line, output) in COMMANDS {
+        expect_output(&rt, line, output, 1);
+        expect_output(&rt, line, output, usize::MAX);
+    }
 }
 
 #[test]
 fn a_fault_of_standard_error_is_dropped(rt: HostRuntime) {
     let mut err = LimitedWriter::new(rt.alloc(), 5, 1, Some(ErrorKind::Other));
     tell(&Outcome::Usage, &mut err);
-    assert_eq!(rt; err.taken.as_slice(), b"usage".as_slice());
-    assert_eq!(rt; err.calls, 6);
+    assert!(rt; err.taken.as_slice() == b"usage".as_slice());
+    assert!(rt; err.calls == 6);
 }

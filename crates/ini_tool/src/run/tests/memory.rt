@@ -3,7 +3,6 @@
 //! not run out.
 use super::devices::{COMMANDS, INPUT, LimitedWriter};
 use super::*;
-use std::process::Abort;
 
 // A block that is given back, so that a part of it is what a call has.
 const RESERVE: usize = 0x1_0000;
@@ -23,17 +22,19 @@ struct Famine {
 }
 
 impl Famine {
-    fn new(alloc: Global) -> Result<Famine, Fail> {
-        let taken = Vec::with_capacity(alloc, 400_000)?;
-        let mut reserves = Vec::with_capacity(alloc, CALLS)?;
+    fn new(rt: &(impl Abort + AllocGlobal)) -> Famine {
+        let alloc = rt.alloc();
+        let taken = Vec::with_capacity(alloc, 400_000).expect(rt, "memory");
+        let mut reserves = Vec::with_capacity(alloc, CALLS).expect(rt, "memory");
         for _ in 0..CALLS {
-            reserves.push(Vec::with_capacity(alloc, RESERVE)?)?;
+            let reserve = Vec::with_capacity(alloc, RESERVE).expect(rt, "memory");
+            reserves.push(reserve).expect(rt, "memory");
         }
-        Ok(Famine {
+        Famine {
             alloc,
             taken,
             reserves,
-        })
+        }
     }
 
     // Takes blocks of the size until one is refused.
@@ -59,58 +60,56 @@ impl Famine {
     }
 
     // Leaves that many bytes until the block that it answers is dropped.
-    fn leave(&mut self, room: usize) -> Result<Vec<u8>, Fail> {
+    fn leave(&mut self, rt: &impl Abort, room: usize) -> Vec<u8> {
         self.take_all();
-        drop(self.reserves.pop().ok_or("no reserve is left")?);
-        Ok(Vec::with_capacity(self.alloc, RESERVE.saturating_sub(room))?)
+        drop(self.reserves.pop().expect(rt, "a reserve"));
+        Vec::with_capacity(self.alloc, RESERVE.saturating_sub(room)).expect(rt, "the reserve")
     }
 }
 
 /// Runs with more and more room, asks that a run that is refused has written nothing, and answers how many
 /// were.
-fn expect_refusals(
+fn refusals(
     rt: &impl Abort,
     famine: &mut Famine,
     words: &[String],
     output: &str,
     device: &mut LimitedWriter,
-) -> Result<u32, Fail> {
-    let mut refused: u32 = 0;
+) -> usize {
     for steps in 0..CALLS {
         let mut input = INPUT.as_bytes();
         let mut reader = Watched::new(&mut input);
         let mut writer = Watched::new(device);
-        let rest = famine.leave(steps * STEP)?;
+        let rest = famine.leave(rt, steps * STEP);
         let outcome = run(famine.alloc, words, &mut reader, &mut writer);
         drop(rest);
-        assert_eq!(rt;
-            (reader.failures(), writer.failures(), writer.stalls()),
-            (0, 0, 0)
-        );
-        match &outcome {
-            Outcome::Done => {
-                assert_eq!(rt; device.taken.as_slice(), output.as_bytes());
-                return Ok(refused);
-            }
-            Outcome::Refused(Error::Memory(_)) => assert_eq!(rt; device.calls, 0),
-            _ => panic!(rt; "another refusal"),
+        let counts = (reader.failures(), writer.failures(), writer.stalls());
+        assert!(rt; matches!(counts, (0, 0, 0)));
+        if matches!(outcome, Outcome::Done) {
+            assert!(rt; device.taken.as_slice() == output.as_bytes());
+            return steps;
         }
-        assert_eq!(rt; status(&outcome), 4);
-        refused = refused.saturating_add(1);
+        assert!(rt; matches!(outcome, Outcome::Refused(Error::Memory(_))));
+        assert!(rt; device.calls == 0);
+        assert!(rt; status(&outcome) == 4);
     }
-    Err("never done".into())
+    panic!(rt; "never done")
+}
+
+/// Asks that the command is refused while memory is, and writes its output once it isn't.
+fn expect_refusals(rt: &(impl Abort + AllocGlobal), line: &str, output: &str) {
+    let words = words_of(rt, line);
+    let mut device = LimitedWriter::new(rt.alloc(), usize::MAX, usize::MAX, None);
+    device.taken.reserve(output.len()).expect(rt, "memory");
+    let mut famine = Famine::new(rt);
+    let refused = refusals(rt, &mut famine, words.as_slice(), output, &mut device);
+    drop(famine);
+    assert!(rt; refused > 0, "{line}");
 }
 
 #[test]
-fn each_request_of_a_run_is_refused(rt: HostRuntime) -> Result<(), Fail> {
+fn each_request_of_a_run_is_refused(rt: HostRuntime) {
     for (line, output) in COMMANDS {
-        let words = words_of(rt.alloc(), line)?;
-        let mut device = LimitedWriter::new(rt.alloc(), usize::MAX, usize::MAX, None);
-        device.taken.reserve(output.len())?;
-        let mut famine = Famine::new(rt.alloc())?;
-        let refused = expect_refusals(&rt, &mut famine, words.as_slice(), output, &mut device)?;
-        drop(famine);
-        assert!(rt; refused > 0, "{line}");
+        expect_refusals(&rt, line, output);
     }
-    Ok(())
 }
