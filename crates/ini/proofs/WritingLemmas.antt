@@ -4,7 +4,7 @@ use lib.Utf8.{encode}
 use Rattle.std.proofs.lemmas.Str.{encode_ascii, encodes-append, encodes-chars}
 use Rattle.std.specs.Str.{IsUtf8, chars}
 use Rattle.ini_text.specs.Grammar.CharacterKinds.{close_bracket, open_bracket}
-use Rattle.ini_text.specs.Escaping.EscapedTexts.{escaped}
+use Rattle.ini_text.specs.Escaping.EscapedTexts.{escaped, escaped_bytes}
 use Rattle.ini_text.specs.Options.WriteOptions.{IsDefaultWriteOption, line_end}
 use Rattle.ini_text.specs.Device.Gathering.{Sends}
 use Rattle.ini_text.specs.Device.Watched.{IsClear}
@@ -80,6 +80,12 @@ unfolding chars
 chars-line_end SystemDefault = refl
 chars-line_end CR = refl
 chars-line_end CRLF = refl
+
+-- a line's bytes by its characters
+pub line_bytes : (policy : EscapePolicy) (first between second end : List ℕ) → IsUtf8 between → IsUtf8 end
+    → encode_utf8_all ((escaped policy (chars first) ++ chars between) ++ (escaped policy (chars second) ++ chars end))
+    ≡ (escaped_bytes policy first ++ between) ++ (escaped_bytes policy second ++ end)
+line_bytes policy first between second end text more = rw (encodes-append, encodes-append, encodes-append, encodes-chars between text, encodes-chars end more) refl
 
 -- a pair's line and a header by their parts
 pub pair_parts : (w : WriteOption) (key value : Text) → (escaped w.escape_policy key ++ chars w.kv_separator.now) ++ (escaped w.escape_policy value ++ chars (line_end w.line_separator)) ≡ written_pair w (key, value)

@@ -34,6 +34,24 @@ fn put_part<W: Write>(
     lines.put(behind, out)
 }
 
+// Two texts escaped, and behind each another as it is, seen as their characters.
+fn put_line<W: Write>(
+    lines: &mut Gatherer,
+    first: &str,
+    between: &str,
+    second: &str,
+    end: &str,
+    policy: EscapePolicy,
+    out: &mut Watched<'_, W>,
+) -> Result<(), Error>
+    requires { IsClear out.old }
+    ensures { SendsText W.contents out.old out.new (held lines.old) (held lines.new) result
+        ((escaped policy (chars first.now) ++ chars between.now)
+        ++ (escaped policy (chars second.now) ++ chars end.now)) }
+{
+    lines.put_line(first, between, second, end, policy, out)
+}
+
 // The key, the separator and the value, on a line of their own.
 fn write_pair<W: Write>(
     lines: &mut Gatherer,
@@ -46,9 +64,16 @@ fn write_pair<W: Write>(
     ensures { SendsText W.contents out.old out.new (held lines.old) (held lines.new) result
         (written_pair option.now (chars key.now, chars value.now)) }
 {
-    let policy = option.escape_policy;
-    put_part(lines, key, option.kv_separator, policy, out)?;
-    put_part(lines, value, option.line_separator.as_str(), policy, out)
+    let end = option.line_separator.as_str();
+    put_line(
+        lines,
+        key,
+        option.kv_separator,
+        value,
+        end,
+        option.escape_policy,
+        out,
+    )
 }
 
 // Each pair on a line of its own.

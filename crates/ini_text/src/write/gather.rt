@@ -11,7 +11,7 @@ use crate::policy::EscapePolicy;
 use crate::text::split_first;
 use crate::watched::Watched;
 use crate::write::escape::{hex_digit, letter_of};
-use crate::write::verbatim::split_verbatim;
+use crate::write::verbatim::{is_verbatim, split_verbatim};
 use crate::write::write_bytes;
 use std::io::Write;
 
@@ -73,6 +73,78 @@ impl Gatherer {
             return Ok(());
         }
         self.put_runs(text, policy, out)
+    }
+
+    /// Sends a line: two texts escaped, and behind each another as it is. The errors are those of `put`.
+    #[inline(always)]
+    pub fn put_line<W: Write>(
+        &mut self,
+        first: &str,
+        between: &str,
+        second: &str,
+        end: &str,
+        policy: EscapePolicy,
+        out: &mut Watched<'_, W>,
+    ) -> Result<(), Error>
+        requires { IsClear out.old }
+        ensures { Sends W.contents out.old out.new (held self.old) (held self.new) result
+            ((escaped_bytes policy first.now ++ between.now)
+            ++ (escaped_bytes policy second.now ++ end.now)) }
+    {
+        if self.hold_line(first, between, second, end, policy) {
+            return Ok(());
+        }
+        self.put_part(first, between, policy, out)?;
+        self.put_part(second, end, policy, out)
+    }
+
+    // Sends a text escaped, and another as it is behind it.
+    #[inline(never)]
+    fn put_part<W: Write>(
+        &mut self,
+        text: &str,
+        behind: &str,
+        policy: EscapePolicy,
+        out: &mut Watched<'_, W>,
+    ) -> Result<(), Error>
+        requires { IsClear out.old }
+        ensures { Sends W.contents out.old out.new (held self.old) (held self.new) result
+            (escaped_bytes policy text.now ++ behind.now) }
+    {
+        self.put_escaped(text, policy, out)?;
+        self.put(behind, out)
+    }
+
+    // Holds a line back if no character of it is escaped and there is room.
+    fn hold_line(
+        &mut self,
+        first: &str,
+        between: &str,
+        second: &str,
+        end: &str,
+        policy: EscapePolicy,
+    ) -> bool
+        ensures { held self.new ≡ held self.old ++ (if result
+            then (escaped_bytes policy first.now ++ between.now)
+            ++ (escaped_bytes policy second.now ++ end.now)
+            else []) }
+    {
+        if !is_verbatim(first, policy) || !is_verbatim(second, policy) {
+            return false;
+        }
+        let room = ROOM - self.len;
+        if first.len() > room || between.len() > room - first.len() {
+            return false;
+        }
+        let room = room - first.len() - between.len();
+        if second.len() > room || end.len() > room - second.len() {
+            return false;
+        }
+        self.append(first.as_bytes());
+        self.append(between.as_bytes());
+        self.append(second.as_bytes());
+        self.append(end.as_bytes());
+        true
     }
 
     // Holds a text back if no character of it is escaped and there is room.

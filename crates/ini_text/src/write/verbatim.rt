@@ -1,6 +1,6 @@
 //! Runs of characters that a policy leaves as they are, found by their bytes. This file knows no device
 //! and no escape's text.
-ghost use Rattle.std.specs.Prelude.{◌≡◌, ◌++◌, ◌+◌, not, length, chars};
+ghost use Rattle.std.specs.Prelude.{◌≡◌, ◌++◌, ◌+◌, not, true, length, chars};
 ghost use Rattle.std.specs.List.{position_or_len};
 ghost use Rattle.ini_text.specs.Grammar.CharacterKinds.{BeginsWithNo};
 ghost use Rattle.ini_text.specs.Escaping.EscapedTexts.{escaped_bytes};
@@ -21,6 +21,13 @@ pub(crate) fn split_verbatim(text: &str, policy: EscapePolicy) -> (&str, &str)
     ensures lengths { length result.0.now + length result.1.now ≡ length text.now }
 {
     text.split_at(run_len(text.as_bytes(), policy))
+}
+
+/// Whether the whole text goes out as it is.
+pub(crate) fn is_verbatim(text: &str, policy: EscapePolicy) -> bool
+    ensures { result ≡ true → escaped_bytes policy text.now ≡ text.now }
+{
+    run_len(text.as_bytes(), policy) == text.len()
 }
 
 // How many bytes stand before the first character that is escaped.
