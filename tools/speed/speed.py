@@ -1,14 +1,19 @@
 #!/usr/bin/env python3
-"""Measures the time and memory of `ini_tool fmt` beside other programs that do the same.
+"""Measures the time, memory and instructions of `ini_tool fmt` beside other programs that do the same.
 
     speed.py inputs FOLDER MEGABYTES
     speed.py compare FOLDER PROGRAM PROGRAM ..
+    speed.py time FOLDER PROGRAM PROGRAM ..
+    speed.py count FOLDER PROGRAM PROGRAM ..
 
 `inputs` writes seven settings files of about that size into FOLDER; they are the same each time.
 
 `compare` runs each PROGRAM (a command of one or more words that reads a settings file and writes it formatted) seven times
 on each file of FOLDER, in turn, and prints for each program the shortest user and system time, the peak of memory, and the
-ratio of the time to the last program's. It stops where two programs write different bytes.
+ratios of both to the last program's. It stops where two programs write different bytes.
+
+`time` does the same for programs that need not write the same, as those that parse alone. `count` prints the millions of
+instructions of one run instead, as valgrind counts them, and the ratio: they stay the same beside other work.
 """
 import argparse
 import hashlib
@@ -16,6 +21,7 @@ import itertools
 import os
 import pathlib
 import random
+import re
 import shlex
 import subprocess
 import sys
@@ -110,16 +116,36 @@ def digest(program, path):
 
 
 def compare(folder, programs):
-    """Prints a line for each input."""
+    """Stops where two programs write different bytes for an input."""
     for path in sorted(folder.glob("*.ini")):
         if len({digest(program, path) for program in programs}) != 1:
             sys.exit(f"the programs write different bytes for {path}")
+
+
+def time(folder, programs):
+    """Prints a line for each input: times and memory, and their ratios."""
+    for path in sorted(folder.glob("*.ini")):
         best = {program: (float("inf"), 0) for program in programs}
         for _, program in itertools.product(range(RUNS), programs):
             best[program] = min(best[program], run(program, path))
-        last = best[programs[-1]][0]
-        shown = [f"{seconds:.3f} s {peak:4.0f} MB x{seconds / last:.2f}" for seconds, peak in best.values()]
-        print(f"{path.stem:12}", " | ".join(shown))
+        last, most = best[programs[-1]]
+        shown = [f"{t:.3f} s {peak:4.0f} MB x{t / last:.2f} x{peak / most:.2f}" for t, peak in best.values()]
+        print(f"{path.stem:12}", " | ".join(shown), flush=True)
+
+
+def instructions(program, path):
+    """Millions of instructions of one run."""
+    counting = ["valgrind", "--tool=callgrind", "--callgrind-out-file=/dev/null", *shlex.split(program)]
+    with open(path, "rb") as source:
+        told = subprocess.run(counting, stdin=source, stdout=subprocess.DEVNULL, stderr=subprocess.PIPE, text=True)
+    return int(re.search(r"Collected : (\d+)", told.stderr)[1]) / 1e6
+
+
+def count(folder, programs):
+    """Prints a line for each input: instructions, and their ratios."""
+    for path in sorted(folder.glob("*.ini")):
+        counts = [instructions(program, path) for program in programs]
+        print(f"{path.stem:12}", " | ".join(f"{n:8.1f} M x{n / counts[-1]:.2f}" for n in counts), flush=True)
 
 
 def main():
@@ -129,14 +155,20 @@ def main():
     inputs = commands.add_parser("inputs")
     inputs.add_argument("folder", type=pathlib.Path)
     inputs.add_argument("megabytes", type=float)
-    beside = commands.add_parser("compare")
-    beside.add_argument("folder", type=pathlib.Path)
-    beside.add_argument("programs", nargs="+")
+    for name in ("compare", "time", "count"):
+        beside = commands.add_parser(name)
+        beside.add_argument("folder", type=pathlib.Path)
+        beside.add_argument("programs", nargs="+")
     words = parser.parse_args()
     if words.command == "inputs":
         write_inputs(words.folder, words.megabytes)
-    else:
+        return
+    if words.command == "compare":
         compare(words.folder, words.programs)
+    if words.command == "count":
+        count(words.folder, words.programs)
+    else:
+        time(words.folder, words.programs)
 
 
 if __name__ == "__main__":
