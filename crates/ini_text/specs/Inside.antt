@@ -2,12 +2,11 @@
 pub mod Endpoints
 pub mod Faults
 pub mod Scans
-pub mod Readers
-pub mod Units
-pub mod Quotes
-pub mod TrimmedStrings
-pub mod ValueParts
-pub mod ElementParts
+pub mod Reading
+pub mod StringReader
+pub mod LineReader
+pub mod ValueReader
+pub mod ElementReader
 pub mod ItemSearch
 pub mod Lanes
 pub mod Verbatim

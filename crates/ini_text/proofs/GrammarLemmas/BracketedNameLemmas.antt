@@ -6,15 +6,7 @@ use Rattle.std.proofs.lemmas.Bool.{cases_Bool, cond-true, cond-false, and_parts,
 use Rattle.std.proofs.lemmas.List.Folds.{list_all-append}
 use Rattle.ini_text.specs.Grammar.CharacterKinds.{close_bracket, is_blank}
 use Rattle.ini_text.specs.Grammar.Elements.{IsBracketed}
-
--- the name that begins with c, by the name in what follows c
-abbrev name_from : ℕ → List ℕ → Option (List ℕ) → Option (List ℕ)
-name_from c cs (Some name) = Some (c ∷ name)
-name_from c cs None = if c == close_bracket && list_all is_blank cs then Some [] else None
-
-abbrev pub name_in : List ℕ → Option (List ℕ)
-name_in [] = None
-name_in (c ∷ cs) = name_from c cs (name_in cs)
+use Rattle.ini_text.specs.Inside.ElementReader.{name_from, name_in}
 
 blank-apart : (c : ℕ) → is_blank c ≡ true → (c == close_bracket) ≡ false
 blank-apart c h = elim (or_cases (c == 0x20) (c == 0x09) h) [

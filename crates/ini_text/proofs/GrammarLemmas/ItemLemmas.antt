@@ -8,7 +8,8 @@ use Rattle.ini_text.specs.Inside.ItemSearch.{StopIsWithin}
 use Rattle.ini_text.specs.Errors.Messages.{HasMessage}
 use Rattle.ini_text.specs.declared.error.ParseKind.{ParseKind}
 use Rattle.ini_text.specs.Grammar.Positions.{line_of, column_of}
-use Rattle.ini_text.specs.Inside.Readers.{Begins, StoppedBy}
+use Rattle.ini_text.specs.Inside.ElementReader.{element}
+use Rattle.ini_text.specs.Inside.Reading.{found, stopped, StopsBy}
 use Rattle.ini_text.specs.Grammar.Texts.{Reads}
 use Rattle.ini_text.specs.declared.error.Error.{Error}
 use Rattle.ini_text.specs.declared.error.Error.TheVariants as errors
@@ -16,6 +17,7 @@ use Rattle.ini_text.specs.declared.option.ParseOption.{ParseOption}
 use Rattle.ini_text.specs.declared.parser.fault.Stop.{Stop}
 use Rattle.ini_text.specs.declared.parser.fault.Stop.TheVariants as stops
 use Rattle.ini_text.proofs.StringLemmas.FrontLemmas.{front_grows}
+use Rattle.ini_text.proofs.ReaderLemmas.ElementReaderLemmas.{element-says}
 use Rattle.ini_text.proofs.ReaderLemmas.RunReaderLemmas.{BeginsWith-some}
 
 -- two rows of elements joined
@@ -47,19 +49,18 @@ pub record Moved (o : ParseOption) (T b rest after : List ℕ) (gives : List Giv
   pub shorter : length after < length rest
   pub longer : length (front_of T rest) < length (front_of T after)
 
-pub moved : {o : ParseOption} {T b rest front after : List ℕ} {gives items : List Given} → IsRest T rest → Reads o T b [] (front_of T rest)
-    → front ≡ front_of T rest → gives ≡ items → Begins rest after (λ s. Element o front s after gives) → Moved o T b rest after items
-moved {o} {T} {b} {rest} {after = after} {items = items} within reads at same read =
-    let element = subst₂ (λ f g. Begins rest after (λ s. Element o f s after g)) at same read in
-    let c = front_of T rest in let s = element.source in
-    let grown = front_grows T rest s after within (sym element.whole) in
-    let some : 1 ≤ length s = element-some element.holds in
-    let whole : T ≡ c ++ (s ++ after) = sym (ap (λ x. c ++ x) element.whole ∙ within) in
-    let one : Reads o T c items (c ++ s) = subst (λ x. Reads o T c x (c ++ s)) (append-nil items) (Reads.step whole element.holds (Reads.stay after (whole ∙ sym (append_assoc c s after)))) in
+pub moved : {o : ParseOption} {T b rest front after cs : List ℕ} {c : ℕ} {gives items : List Given} → IsRest T rest → Reads o T b [] (front_of T rest) → rest ≡ c ∷ cs
+    → front ≡ front_of T rest → gives ≡ items → element o front rest ≡ found gives after → Moved o T b rest after items
+moved {o} {T} {b} {rest} {after = after} {items = items} within reads is at same read =
+    let c = front_of T rest in let (s, holds, whole) = element-says o c is (subst₂ (λ f g. element o f rest ≡ found g after) at same read) in
+    let grown = front_grows T rest s after within (sym whole) in
+    let some : 1 ≤ length s = element-some holds in
+    let all : T ≡ c ++ (s ++ after) = sym (ap (λ x. c ++ x) whole ∙ within) in
+    let one : Reads o T c items (c ++ s) = subst (λ x. Reads o T c x (c ++ s)) (append-nil items) (Reads.step all holds (Reads.stay after (all ∙ sym (append_assoc c s after)))) in
     record {
       reads = subst (Reads o T b items) (sym grown.0) (reads-append reads one);
       within = grown.1;
-      shorter = omega (arith, length-append s after, ap length element.whole);
+      shorter = omega (arith, length-append s after, ap length whole);
       longer = omega (arith, length-append c s, ap length grown.0);
     }
 
@@ -92,19 +93,21 @@ module _ (o : ParseOption) (T b : List ℕ) where
   tells_parse message stop m errors.NoProgress t = absurd t
 
   -- reading stops in an element
-  pub refuses : (rest : List ℕ) {front : List ℕ} (stop : Stop) → IsRest T rest → Reads o T b [] (front_of T rest) → front ≡ front_of T rest → StoppedBy (ElementStops o front) rest stop
-      → StopIsWithin T stop × ((e : Error) → Tells (refusal_of T stop) e → Refuses o T b e)
-  refuses rest stops.Memory within reads at s = (tt, tells_memory)
-  refuses rest (stops.Fault fault) within reads at s =
-      let grown = front_grows T rest s.source (chars fault.rest.now) within (sym s.whole) in (
+  pub refuses : (rest : List ℕ) {front cs : List ℕ} {c : ℕ} (stop : Stop) → IsRest T rest → Reads o T b [] (front_of T rest) → rest ≡ c ∷ cs → front ≡ front_of T rest
+      → StopsBy (element o front rest) stop → StopIsWithin T stop × ((e : Error) → Tells (refusal_of T stop) e → Refuses o T b e)
+  refuses rest stops.Memory within reads is at read = (tt, tells_memory)
+  refuses rest (stops.Fault fault) within reads is at read =
+      let c = front_of T rest in
+      let (s, holds, whole) = element-says o c is (subst (λ f. element o f rest ≡ stopped (chars fault.rest.now) fault.kind) at read) in
+      let grown = front_grows T rest s (chars fault.rest.now) within (sym whole) in (
         grown.1,
         tells_parse fault.message.now (record {
-          front = front_of T rest;
-          source = s.source;
+          front = c;
+          source = s;
           rest = chars fault.rest.now;
           reads = reads;
-          whole = sym (ap (λ x. front_of T rest ++ x) s.whole ∙ within);
-          stops = subst (λ f. ElementStops o f s.source (chars fault.rest.now) fault.kind) at s.holds;
+          whole = sym (ap (λ x. c ++ x) whole ∙ within);
+          stops = holds;
           line_is = ap line_of grown.0;
           column_is = ap column_of grown.0;
         }) fault.is_of_kind,

@@ -10,8 +10,7 @@ use Rattle.ini_text.specs.Grammar.Values.{LineEnd, MoreLines, Value}
 use Rattle.ini_text.specs.Grammar.Keys.{begins_key, begins_indented_key, KeyFront}
 use Rattle.ini_text.specs.Grammar.Elements.{Given, Gap, Element}
 use Rattle.ini_text.specs.Grammar.Texts.{Reads}
-use Rattle.ini_text.proofs.ReaderLemmas.ValueReaderLemmas.{EndedLine}
-use Rattle.ini_text.proofs.GrammarLemmas.LineEndLemmas.{line_end-some}
+use Rattle.ini_text.proofs.ReaderLemmas.ValueReaderLemmas.{EndedLine, line_end-some}
 
 -- both texts begin with the same character
 pub data Alike : List ℕ → List ℕ → Type 0 where

@@ -6,9 +6,11 @@ use Rattle.ini_text.specs.declared.error.ParseKind.{ParseKind}
 use Rattle.ini_text.specs.Grammar.Elements.{Given, Element, ElementStops}
 use Rattle.ini_text.specs.Grammar.Texts.{Reads, Derives, Stops}
 use Rattle.ini_text.specs.Laws.Readings.{DerivesJust, StopsJust, HasOneReading}
-use Rattle.ini_text.proofs.ReaderLemmas.ReaderLemmas.{Answer, found, stopped, prepend, prepend-nil, prepend-prepend, Says}
+use Rattle.ini_text.specs.Inside.ElementReader.{element}
+use Rattle.ini_text.specs.Inside.Reading.{Answer, found, stopped, prepend}
+use Rattle.ini_text.proofs.ReaderLemmas.ReaderLemmas.{prepend-nil, prepend-prepend, Says}
 use Rattle.ini_text.proofs.GrammarLemmas.ItemLemmas.{element-some}
-use Rattle.ini_text.proofs.ReaderLemmas.ElementReaderLemmas.{element, element-end, element-sound, element-finds, element-stops}
+use Rattle.ini_text.proofs.ReaderLemmas.ElementReaderLemmas.{element-end, element-sound, element-finds, element-stops}
 
 module _ (o : ParseOption) (T : List ℕ) where
   -- what comes of the text behind the front b

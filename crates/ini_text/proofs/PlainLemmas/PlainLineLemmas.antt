@@ -17,7 +17,7 @@ use Rattle.ini_text.specs.Grammar.Texts.{Reads}
 use Rattle.ini_text.specs.Laws.Plain.{IsPlainName}
 use Rattle.ini_text.specs.Laws.PlainLaws.{AreGaps, IsElementThenGaps, IsHeaderLine, header_source, line_ends}
 use Rattle.ini_text.specs.Options.WriteOptions.{line_end}
-use Rattle.ini_text.proofs.GrammarLemmas.ElementLemmas.{line_end_no_blank}
+use Rattle.ini_text.proofs.GrammarLemmas.KindLemmas.{line_end_no_blank}
 use Rattle.ini_text.proofs.PlainLemmas.EscapedTextLemmas.{AllRead, NoRawEnd, all_read, row_escaped}
 use Rattle.ini_text.proofs.LawLemmas.MovedLemmas.{last_or-behind}
 use Rattle.ini_text.proofs.PlainLemmas.PlainTrimLemmas.{line_end_is_white}

@@ -18,7 +18,7 @@ use Rattle.ini_text.specs.declared.policy.EscapePolicy.{EscapePolicy}
 use Rattle.ini_text.specs.declared.policy.EscapePolicy.TheVariants.{Nothing, Basics, BasicsUnicode, BasicsUnicodeExtended, Reserved, ReservedUnicode, ReservedUnicodeExtended, Everything}
 use Rattle.ini_text.proofs.PlainLemmas.PlainPairLemmas.{space_raw}
 use Rattle.ini_text.proofs.PlainLemmas.PlainTrimLemmas.{trimmed_begins}
-use Rattle.ini_text.proofs.StringLemmas.ScanLemmas.{run-all, run-skipped}
+use Rattle.ini_text.proofs.ReaderLemmas.RunReaderLemmas.{run-sound}
 
 itself : (b : Bool) → Decides b (b ≡ true)
 itself b = (λ e. e, λ e. e)
@@ -79,9 +79,9 @@ separator_found text (c ∷ cs) e h =
       before = run_of is_blank text;
       mark = c;
       after = cs;
-      whole = sym (run-skipped is_blank text) ∙ ap (λ l. run_of is_blank text ++ l) e;
+      whole = sym (run-sound is_blank text).whole ∙ ap (λ l. run_of is_blank text ++ l) e;
       separates = parts.0;
-      blank_before = run-all is_blank text;
+      blank_before = (run-sound is_blank text).all;
       blank_after = parts.1;
     }
 
@@ -187,8 +187,8 @@ module _ (o : ParseOption) (policy : EscapePolicy) where
       at : (b : Bool) → may_indent o ≡ b → is_bare_key o policy (cond b (skipped (λ c. eqb c space) key) key) ≡ true → IsPlainKey o policy key
       at true b h =
           let on = and_parts o.enabled_preserve_key_leading_whitespace (not o.enabled_indented_mutiline_value) b in
-          subst (IsPlainKey o policy) (run-skipped (λ c. eqb c space) key)
-          (IsPlainKey.behind_spaces (run_of (λ c. eqb c space) key) on.0 (not-true o.enabled_indented_mutiline_value on.1) (run-all (λ c. eqb c space) key) ((bare_decides _).0 h))
+          subst (IsPlainKey o policy) (run-sound (λ c. eqb c space) key).whole
+          (IsPlainKey.behind_spaces (run_of (λ c. eqb c space) key) on.0 (not-true o.enabled_indented_mutiline_value on.1) ((run-sound (λ c. eqb c space) key).all) ((bare_decides _).0 h))
       at false b h = IsPlainKey.bare ((bare_decides key).0 h)
 
   bare_stays : (key : List ℕ) → IsBareKey o policy key → is_bare_key o policy (skipped (λ c. eqb c space) key) ≡ true

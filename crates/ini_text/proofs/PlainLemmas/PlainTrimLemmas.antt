@@ -6,7 +6,7 @@ use Rattle.std.specs.List.{list_all}
 use Rattle.std.specs.Str.{skip_leading_whitespace, drop_trailing_whitespace}
 use Rattle.ini_text.specs.Grammar.CharacterKinds.{is_blank, is_line_feed, is_line_end, BeginsWithNo}
 use Rattle.ini_text.specs.Grammar.WhiteSpace.{trimmed, end_trimmed, drop_line_feeds, skip_line_feeds, without_outer_line_feeds}
-use Rattle.ini_text.proofs.GrammarLemmas.ElementLemmas.{blank_is_white}
+use Rattle.ini_text.proofs.GrammarLemmas.KindLemmas.{blank_is_white}
 
 pub line_end_is_white : (c : ℕ) → is_line_end c ≡ true → is_whitespace c ≡ true
 line_end_is_white c h = elim (or_cases (eqb c 10) (eqb c 13) h) [

@@ -1,14 +1,25 @@
--- Reading a line by steps that each take a quoted part, and then the plain part: the reader serves the proofs alone.
-use Rattle.std.proofs.Common.{◌≡◌, ℕ, Bool, true, false, ◌&&◌, if◌then◌else◌, List, [], ◌∷◌, ◌++◌, drop, inl, inr, refl, sym, ap, ◌∙◌, subst, subst₂, append_assoc, append-nil, length-append, arith, ne_eqb}
+-- Reading a line by its quoted parts and its plain part: the reader finds what the grammar says, and the code gives it.
+use Rattle.std.proofs.Common.{◌≡◌, ℕ, Bool, true, ◌&&◌, ◌||◌, not, List, [], ◌∷◌, ◌++◌, ◌<◌, length, drop, Some, None, inl, inr, refl, sym, ap, ◌∙◌, subst, append_assoc, append-nil, length-append, arith, ne_eqb, eqb-true}
+use Rattle.std.proofs.Math.Bool.{or-false}
 use Rattle.std.proofs.lemmas.Bool.{cases_Bool, and_parts}
 use Rattle.ini_text.specs.declared.option.ParseOption.{ParseOption}
 use Rattle.ini_text.specs.declared.error.ParseKind.{ParseKind}
 use Rattle.ini_text.specs.Grammar.CharacterKinds.{is_mark}
-use Rattle.ini_text.specs.Grammar.Strings.{quote_ends, plain_ends, Str, StrStops}
+use Rattle.ini_text.specs.Grammar.Strings.{Ends, quote_ends, plain_ends, Str, StrStops}
 use Rattle.ini_text.specs.Grammar.Lines.{Quoted, BeginsPlain, plain_value, Line, LineStops}
-use Rattle.ini_text.proofs.GrammarLemmas.LineLemmas.{closed_by_mark}
-use Rattle.ini_text.proofs.ReaderLemmas.ReaderLemmas.{Answer, found, stopped, prepend, prepend-nil, prepend-prepend, Says, IsReader, Step, more, ends, Steps, StepSays, read_by, reads_by}
-use Rattle.ini_text.proofs.ReaderLemmas.StringReaderLemmas.{StringSays, string, string-reads}
+use Rattle.ini_text.specs.Inside.LineReader.{quote_at, opens_quote, behind_mark, part, parts, plain_part, line}
+use Rattle.ini_text.specs.Inside.Reading.{Answer, found, stopped, prepend, altered, and_then, Step, more, go_on}
+use Rattle.ini_text.specs.Inside.Scans.{trimmed_at}
+use Rattle.ini_text.specs.Inside.StringReader.{string}
+use Rattle.ini_text.proofs.ReaderLemmas.ReaderLemmas.{and_found, and_stopped, prepend-nil, prepend-prepend, then_found, then_stopped, stopped_behind, read_behind, Says, IsReader, StepSays, turn, shortens, reads}
+use Rattle.ini_text.proofs.ReaderLemmas.StringReaderLemmas.{StringSays, string-reads}
+
+-- what follows a string in quotes begins with their mark, and the string ends so before any text
+closed_by_mark : {e : Bool} {m : ℕ} {s r v : List ℕ} → Str e (quote_ends m) s r v → (t : List ℕ) × (r ≡ m ∷ t) × Str e (quote_ends m) s (m ∷ []) v
+closed_by_mark {r = []} (Str.closed row h) = cc
+closed_by_mark {e} {m = m} {s = s} {r = d ∷ r} {v = v} (Str.closed row h) =
+    let same : d ≡ m = eqb-true d m (rw or-false at h) in (r, ap (λ x. x ∷ r) same, subst (λ x. Str e (quote_ends m) s (x ∷ []) v) same (Str.closed row h))
+closed_by_mark (Str.lone row h) = cc
 
 -- a string before its mark
 Str-before : {e : Bool} {m : ℕ} {s v r : List ℕ} (t : List ℕ) → Str e (quote_ends m) s (m ∷ r) v → Str e (quote_ends m) s (m ∷ t) v
@@ -25,33 +36,17 @@ module _ (o : ParseOption) where
   plain-reads : IsReader (Str o.enabled_escape plain_ends) (StrStops o.enabled_escape plain_ends) (string o.enabled_escape plain_ends)
   plain-reads = string-reads o.enabled_escape plain_ends refl
 
-  abbrev opens_quote : List ℕ → Bool
-  opens_quote [] = false
-  opens_quote (c ∷ cs) = o.enabled_quote && is_mark c
-
-  opens_none : (t : List ℕ) → BeginsPlain o t → opens_quote t ≡ false
+  opens_none : (t : List ℕ) → BeginsPlain o t → quote_at o t ≡ None
   opens_none [] h = refl
   opens_none (c ∷ cs) h = elim (cases_Bool o.enabled_quote) [ inl on ↦ rw (on, h on) refl | inr off ↦ rw off refl ]
 
-  plain_from : (t : List ℕ) → opens_quote t ≡ false → BeginsPlain o t
-  plain_from [] h on = tt
-  plain_from (c ∷ cs) h on = rw on at h
-
   -- the quoted parts before the plain part, and a stop among them
   abbrev Parts : List ℕ → List ℕ → List ℕ → Type 0
-  Parts s r w = Quoted o s w (opens_quote (s ++ r)) × BeginsPlain o r
+  Parts s r w = Quoted o s w (opens_quote o (s ++ r)) × BeginsPlain o r
 
   data PartsStop : List ℕ → List ℕ → ParseKind → Type 0 where
     stop : {q w s r : List ℕ} {quoted : Bool} {m : ℕ} {kind : ParseKind} → Quoted o q w quoted → o.enabled_quote ≡ true → is_mark m ≡ true
         → StrStops o.enabled_escape (quote_ends m) s r kind → PartsStop (q ++ m ∷ s) r kind
-
-  abbrev behind_mark : Answer ℕ → Step ℕ
-  behind_mark (found v r) = more v (drop 1 r)
-  behind_mark (stopped r k) = ends (stopped r k)
-
-  abbrev part : List ℕ → Step ℕ
-  part [] = ends (found [] [])
-  part (c ∷ cs) = if o.enabled_quote && is_mark c then behind_mark (string o.enabled_escape (quote_ends c) cs) else ends (found [] (c ∷ cs))
 
   abbrev PartSays : List ℕ → Step ℕ → Type 0
   PartSays t x = StepSays Parts PartsStop t x
@@ -60,7 +55,7 @@ module _ (o : ParseOption) where
   behind : {m : ℕ} {s v : List ℕ} → o.enabled_quote ≡ true → is_mark m ≡ true → Str o.enabled_escape (quote_ends m) s (m ∷ []) v
       → (r : List ℕ) (a : Answer ℕ) → Says Parts PartsStop r a → Says Parts PartsStop (m ∷ (s ++ m ∷ r)) (prepend v a)
   behind {m} {s} {v} on mark str r (found w x) (q, (quoted, plain), h) =
-      let opens : (o.enabled_quote && is_mark m) ≡ true = rw (on, mark) refl in
+      let opens : opens_quote o ((m ∷ (s ++ m ∷ q)) ++ x) ≡ true = rw (on, mark) refl in
       (m ∷ (s ++ m ∷ q), (subst (Quoted o (m ∷ (s ++ m ∷ q)) (v ++ w)) (sym opens) (Quoted.part on mark str quoted), plain), simp (append_assoc, h))
   behind {m} {s} {v} on mark str r (stopped x k) (_, PartsStop.stop {q} {w} {s = p} {m = n} quoted on' mark' stops, h) =
       let whole : q ++ n ∷ (p ++ x) ≡ r = simp append_assoc at h in
@@ -74,88 +69,113 @@ module _ (o : ParseOption) where
       let whole : s ++ m ∷ x.0 ≡ t = ap (λ y. s ++ y) (sym x.1) ∙ h in
       rw (x.1, ← whole) (omega (arith, length-append s (m ∷ x.0)), behind on mark x.2 x.0)
 
-  part-sound : (t : List ℕ) → PartSays t (part t)
+  part-sound : (t : List ℕ) → PartSays t (part o t)
   part-sound [] = ([], (Quoted.none, λ on. tt), refl)
   part-sound (c ∷ cs) = elim (cases_Bool (o.enabled_quote && is_mark c)) [
     | inl h ↦
         let test = and_parts o.enabled_quote (is_mark c) h in
         rw h (behind-sound c cs test.0 test.1 (string o.enabled_escape (quote_ends c) cs) ((quote-reads c test.1).sound cs))
-    | inr h ↦ rw h ([], (subst (Quoted o [] []) (sym h) Quoted.none, plain_from (c ∷ cs) h), refl)
+    | inr h ↦ rw h ([], (rw h Quoted.none, λ on. rw on at h), refl)
   ]
 
-  Quoted-steps : {q w : List ℕ} {quoted : Bool} → Quoted o q w quoted → {r : List ℕ} {a : Answer ℕ} → Steps part r a → Steps part (q ++ r) (prepend w a)
-  Quoted-steps Quoted.none {r} {a} rest = subst (Steps part r) (sym (prepend-nil a)) rest
-  Quoted-steps (Quoted.part {m} {s} {v} {q} {w} on mark str k) {r} {a} rest =
-      let takes : part (m ∷ (s ++ m ∷ (q ++ r))) ≡ more v (q ++ r) = rw (on, mark, (quote-reads m mark).finds (Str-before (q ++ r) str)) in
-      subst₂ (Steps part) (ap (λ y. m ∷ y) (sym (append_assoc s (m ∷ q) r))) (prepend-prepend v w a) (Steps.then takes (Quoted-steps k rest))
-
-  parts-end : (r : List ℕ) → BeginsPlain o r → part r ≡ ends (found [] r)
-  parts-end [] plain = refl
-  parts-end (c ∷ r) plain = rw (opens_none (c ∷ r) plain)
-
-  parts-stop : {m : ℕ} {s r : List ℕ} {k : ParseKind} → o.enabled_quote ≡ true → is_mark m ≡ true → StrStops o.enabled_escape (quote_ends m) s r k
-      → part (m ∷ (s ++ r)) ≡ ends (stopped r k)
-  parts-stop {m} on mark stops = rw (on, mark, (quote-reads m mark).stops stops)
-
-  parts : List ℕ → Answer ℕ
-  parts t = read_by Parts PartsStop part part-sound t
-
-  parts-reads : IsReader Parts PartsStop parts
+  parts-sound : (t : List ℕ) → Says Parts PartsStop t (parts o t)
   unfolding parts
-  parts-reads = reads_by Parts PartsStop part part-sound finds stops
-    where
-      finds : (s r v : List ℕ) → Parts s r v → Steps part (s ++ r) (found v r)
-      finds s r v (quoted, plain) = subst (λ y. Steps part (s ++ r) (found y r)) (append-nil v) (Quoted-steps quoted (Steps.last (parts-end r plain)))
+  parts-sound t = reads Parts PartsStop (part o) part-sound t
 
-      stops : (s r : List ℕ) (k : ParseKind) → PartsStop s r k → Steps part (s ++ r) (stopped r k)
-      stops _ r k (PartsStop.stop {q} {s} {m} quoted on mark str) = rw (append_assoc q) (Quoted-steps quoted (Steps.last (parts-stop on mark str)))
+  -- a line, part by part
+  parts-turn : (t : List ℕ) → parts o t ≡ go_on (parts o) (part o t)
+  unfolding parts
+  parts-turn t = turn Parts PartsStop (part o) part-sound t
 
-  Quoted-opens : {q w : List ℕ} {quoted : Bool} → Quoted o q w quoted → (r : List ℕ) → BeginsPlain o r → opens_quote (q ++ r) ≡ quoted
-  Quoted-opens Quoted.none r plain = opens_none r plain
+  pub parts_end : (t : List ℕ) → quote_at o t ≡ None → parts o t ≡ found [] t
+  parts_end t none = parts-turn t ∙ rw none
+
+  behind-mark : (a : Answer ℕ) → go_on (parts o) (behind_mark a) ≡ and_then (λ r. parts o (drop 1 r)) a
+  behind-mark (found v r) = refl
+  behind-mark (stopped r k) = refl
+
+  module _ {after : List ℕ} {to : Ends} (t w : List ℕ) (opens : quote_at o t ≡ Some (to, after)) where
+    part-turn : parts o t ≡ and_then (λ r. parts o (drop 1 r)) (string o.enabled_escape to after)
+    part-turn = parts-turn t ∙ rw opens (behind-mark (string o.enabled_escape to after))
+
+    pub one_part : {v r : List ℕ} → prepend w (string o.enabled_escape to after) ≡ found v r → prepend w (parts o t) ≡ prepend v (parts o (drop 1 r))
+    one_part h = ap (prepend w) part-turn ∙ then_found _ w _ h
+
+    pub part_stops : {r : List ℕ} {k : ParseKind} → prepend w (string o.enabled_escape to after) ≡ stopped r k → prepend w (parts o t) ≡ stopped r k
+    part_stops h = ap (prepend w) part-turn ∙ then_stopped _ w _ h
+
+    pub part_shortens : {v r : List ℕ} → prepend w (string o.enabled_escape to after) ≡ found v r → length (drop 1 r) < length t
+    part_shortens {r = r} h =
+        let (u, read, grown) = read_behind w (string o.enabled_escape to after) h in
+        let step : part o t ≡ more u (drop 1 r) = rw opens (ap behind_mark read) in
+        shortens Parts PartsStop (part o) part-sound step
+
+  pub line_plain : (t : List ℕ) → quote_at o t ≡ None → line o true t ≡ altered (trimmed_at true) (string o.enabled_escape plain_ends t)
+  unfolding line
+  line_plain t none = rw (parts_end t none, none) (prepend-nil _)
+
+  Quoted-read : {q w : List ℕ} {quoted : Bool} → Quoted o q w quoted → (r : List ℕ) → parts o (q ++ r) ≡ prepend w (parts o r)
+  Quoted-read Quoted.none r = sym (prepend-nil (parts o r))
+  Quoted-read (Quoted.part {m} {s} {v} {q} {w} on mark str k) r =
+      let whole : (m ∷ (s ++ m ∷ q)) ++ r ≡ m ∷ (s ++ m ∷ (q ++ r)) = ap (λ y. m ∷ y) (append_assoc s (m ∷ q) r) in
+      let opens : quote_at o (m ∷ (s ++ m ∷ (q ++ r))) ≡ Some (quote_ends m, s ++ m ∷ (q ++ r)) = rw (on, mark) refl in
+      let read = (quote-reads m mark).finds (Str-before (q ++ r) str) in
+      ap (parts o) whole ∙ part-turn _ w opens ∙ ap (and_then (λ x. parts o (drop 1 x))) read ∙ ap (prepend v) (Quoted-read k r) ∙ prepend-prepend v w (parts o r)
+
+  Quoted-opens : {q w : List ℕ} {quoted : Bool} → Quoted o q w quoted → (r : List ℕ) → BeginsPlain o r → opens_quote o (q ++ r) ≡ quoted
+  Quoted-opens Quoted.none r plain = rw (opens_none r plain)
   Quoted-opens (Quoted.part on mark str k) r plain = rw (on, mark) refl
 
   module _ (first : Bool) where
-    abbrev plained : Bool → Answer ℕ → Answer ℕ
-    plained quoted (found v r) = found (plain_value first quoted v) r
-    plained quoted (stopped r k) = stopped r k
-
-    abbrev behind_parts : Bool → Answer ℕ → Answer ℕ
-    behind_parts quoted (found w r) = prepend w (plained quoted (string o.enabled_escape plain_ends r))
-    behind_parts quoted (stopped r k) = stopped r k
-
-    pub line : List ℕ → Answer ℕ
-    line t = behind_parts (opens_quote t) (parts t)
-
     plained-sound : {q w : List ℕ} {quoted : Bool} → Quoted o q w quoted → (r : List ℕ) → BeginsPlain o r → (a : Answer ℕ)
         → StringSays o.enabled_escape plain_ends r a
-        → LineSays o first (q ++ r) (prepend w (plained quoted a))
+        → LineSays o first (q ++ r) (prepend w (altered (plain_value first quoted) a))
     plained-sound {q} quoted r plain (found v x) (p, str, h) =
         (q ++ p, Line.line quoted (subst (BeginsPlain o) (sym h) plain) str, append_assoc q p x ∙ ap (λ y. q ++ y) h)
     plained-sound {q} quoted r plain (stopped x k) (p, stops, h) =
         (q ++ p, LineStops.in_plain quoted (subst (BeginsPlain o) (sym h) plain) stops, append_assoc q p x ∙ ap (λ y. q ++ y) h)
 
-    line-by : (t : List ℕ) (a : Answer ℕ) → Says Parts PartsStop t a → LineSays o first t (behind_parts (opens_quote t) a)
+    line-by : (t : List ℕ) (a : Answer ℕ) → Says Parts PartsStop t a → LineSays o first t (and_then (plain_part o first (opens_quote o t)) a)
     line-by t (found w r) (q, (quoted, plain), h) =
-        subst (λ y. LineSays o first y (behind_parts (opens_quote y) (found w r))) h
+        subst (λ y. LineSays o first y (and_then (plain_part o first (opens_quote o y)) (found w r))) h
         (plained-sound quoted r plain (string o.enabled_escape plain_ends r) (plain-reads.sound r))
     line-by t (stopped r k) (_, PartsStop.stop {q} {s} {m} quoted on mark stops, h) = (q ++ m ∷ s, LineStops.in_quotes quoted on mark stops, h)
 
-    pub line-reads : IsReader (Line o first) (LineStops o) line
+    pub line-reads : IsReader (Line o first) (LineStops o) (line o first)
     unfolding line
     line-reads = record {
-      sound = λ t. line-by t (parts t) (parts-reads.sound t);
+      sound = λ t. line-by t (parts o t) (parts-sound t);
       finds = finds;
       stops = stops;
     }
       where
-        part_found : {q w : List ℕ} {quoted : Bool} → Quoted o q w quoted → (t : List ℕ) → BeginsPlain o t → parts (q ++ t) ≡ found w t
-        part_found k t plain = parts-reads.finds (subst (Quoted o _ _) (sym (Quoted-opens k t plain)) k, plain)
+        part_found : {q w : List ℕ} {quoted : Bool} → Quoted o q w quoted → (t : List ℕ) → BeginsPlain o t → parts o (q ++ t) ≡ found w t
+        part_found {w = w} k t plain = and_found w (Quoted-read k t) (parts_end t (opens_none t plain)) (sym (append-nil w))
 
-        finds : {s r v : List ℕ} → Line o first s r v → line (s ++ r) ≡ found v r
+        finds : {s r v : List ℕ} → Line o first s r v → line o first (s ++ r) ≡ found v r
         finds {r = r} (Line.line {q} {w} {p} {v} {quoted} k plain str) =
             rw (append_assoc q, part_found k (p ++ r) plain, Quoted-opens k (p ++ r) plain, plain-reads.finds str)
 
-        stops : {s r : List ℕ} {kind : ParseKind} → LineStops o s r kind → line (s ++ r) ≡ stopped r kind
-        stops (LineStops.in_quotes {q} {s} {r} {m} k on mark str) = rw (parts-reads.stops (PartsStop.stop k on mark str))
+        stops : {s r : List ℕ} {kind : ParseKind} → LineStops o s r kind → line o first (s ++ r) ≡ stopped r kind
+        stops (LineStops.in_quotes {q} {w} {s} {r} {m = m} k on mark str) =
+            let opens : quote_at o (m ∷ (s ++ r)) ≡ Some (quote_ends m, s ++ r) = rw (on, mark) refl in
+            let stop = part-turn (m ∷ (s ++ r)) w opens ∙ ap (and_then (λ x. parts o (drop 1 x))) ((quote-reads m mark).stops str) in
+            rw (append_assoc q, and_stopped w (Quoted-read k (m ∷ (s ++ r))) stop)
         stops (LineStops.in_plain {q} {s} {r} k plain str) =
             rw (append_assoc q, part_found k (s ++ r) plain, plain-reads.stops str)
+
+  -- the plain part behind the quoted parts
+  module _ (first : Bool) (t rest old out : List ℕ) (read : prepend old (parts o t) ≡ prepend out (parts o rest)) (none : quote_at o rest ≡ None) where
+    line-parts : (quoted : Bool) → prepend old (and_then (plain_part o first quoted) (parts o t)) ≡ prepend out (plain_part o first quoted rest)
+    line-parts quoted = then_found _ old _ (read ∙ ap (prepend out) (parts_end rest none)) ∙ rw (append-nil out)
+
+    pub line_stops : {r : List ℕ} {k : ParseKind} → prepend out (string o.enabled_escape plain_ends rest) ≡ stopped r k → prepend old (line o first t) ≡ stopped r k
+    unfolding line
+    line_stops h = line-parts (opens_quote o t) ∙ rw (stopped_behind out (string o.enabled_escape plain_ends rest) h)
+
+    pub line_read : {new end v : List ℕ} (quoted : Bool) → opens_quote o t ≡ (quoted || opens_quote o rest) → string o.enabled_escape plain_ends rest ≡ found v end
+        → new ≡ out ++ trimmed_at (first && not quoted) v → prepend old (line o first t) ≡ found new end
+    unfolding line
+    line_read {end = end} quoted opens h grown =
+        let is : opens_quote o t ≡ quoted = opens ∙ rw (none, or-false) in
+        line-parts (opens_quote o t) ∙ rw (is, h) (ap (λ x. found x end) (sym grown))

@@ -1,13 +1,9 @@
 -- The run of characters that pass a test, at a text's front: the functions serve the proofs alone.
-use Rattle.std.proofs.Common.{◌≤◌, ◌≡◌, ℕ, Bool, true, false, ◌||◌, length, arith, List, [], ◌∷◌, ◌++◌, refl, ap, inl, inr}
+use Rattle.std.proofs.Common.{◌≤◌, ◌≡◌, ℕ, Bool, true, length, arith, List, [], ◌∷◌, ◌++◌, refl, ap, inl, inr}
 use Rattle.std.proofs.lemmas.Bool.{cases_Bool, and_parts}
 use Rattle.std.specs.List.{list_all}
 use Rattle.ini_text.specs.Grammar.CharacterKinds.{BeginsWith, BeginsWithNo}
 use Rattle.ini_text.specs.Inside.Scans.{run_of, skipped}
-
-pub either_true : (a b : Bool) (P : Type 0) → (a || b) ≡ true → (a ≡ true → P) → (b ≡ true → P) → P
-either_true true b P h left right = left refl
-either_true false b P h left right = right h
 
 pub BeginsWith-some : (test : ℕ → Bool) (t : List ℕ) → BeginsWith test t → 1 ≤ length t
 BeginsWith-some test [] h = cc

@@ -1,39 +1,19 @@
--- Reading a string by steps that each take a piece: the reader serves the proofs alone.
-use Rattle.std.proofs.Common.{◌≡◌, ◌≢◌, ℕ, zero, suc, ◌+◌, ◌-◌, ◌<◌, Bool, true, false, ◌||◌, ◌==◌, if◌then◌else◌, List, [], ◌∷◌, ◌++◌, length, Option, Some, None, inl, inr, unwrap_or, refl, sym, ap, ◌∙◌, subst, subst₂, append_assoc, append-nil, length-append, arith, ne_eqb, eqb-true, true≢false}
-use Rattle.std.proofs.lemmas.Bool.{cases_Bool, cond_both, eqb-false, and_parts}
+-- Reading a string by steps that each take a piece: the reader finds what the grammar says, and the code gives it.
+use Rattle.std.proofs.Common.{◌≡◌, ◌≢◌, ℕ, zero, suc, ◌+◌, ◌-◌, ◌<◌, Bool, true, false, not, ◌&&◌, ◌||◌, ◌==◌, if◌then◌else◌, List, [], ◌∷◌, ◌++◌, length, Option, Some, None, inl, inr, unwrap_or, refl, sym, ap, ◌∙◌, subst, subst₂, append_assoc, append-nil, length-append, arith, ne_eqb, eq-eqb, eqb-true, true≢false}
+use Rattle.std.proofs.lemmas.Bool.{cases_Bool, cond_both, eqb-false, and_parts, not-true, not-false}
+use Rattle.std.proofs.Math.Bool.{and-false}
 use Rattle.std.proofs.lemmas.Option.{cond_some}
 use Rattle.std.specs.Char.{is_digit}
-use Rattle.ini_text.proofs.GrammarLemmas.StringProductionLemmas.{row-append}
-use Rattle.ini_text.proofs.GrammarLemmas.UnitLemmas.{units-append}
+use Rattle.std.specs.List.{list_all}
 use Rattle.ini_text.specs.declared.error.ParseKind.{ParseKind}
-use Rattle.ini_text.specs.declared.error.ParseKind.TheVariants.{EndOfText, BrokenEscape, UnknownCharacter}
-use Rattle.ini_text.specs.Grammar.CharacterKinds.{backslash, line_feed, plus, letter_x}
+use Rattle.ini_text.specs.declared.error.ParseKind.TheVariants.{EndOfText}
+use Rattle.ini_text.specs.Grammar.CharacterKinds.{backslash, line_feed, plus, letter_x, BeginsWithNo}
 use Rattle.ini_text.specs.Grammar.EscapeSequences.{control, spelled, EscapeSequence, Units, spelled_by, EscapeStops}
 use Rattle.ini_text.specs.Grammar.Strings.{Ends, is_endpoint, Row, Closes, Str, StrStops}
-use Rattle.ini_text.proofs.ReaderLemmas.ReaderLemmas.{Answer, found, stopped, prepend, prepend-nil, prepend-prepend, Says, IsReader, Step, more, ends, Steps, StepSays, prefixed, read_by, reads_by}
-
--- behind a backslash among the units: a unit where LF follows
-abbrev folded_unit : (List ℕ → Answer (Option ℕ)) → List ℕ → Answer (Option ℕ)
-folded_unit rest [] = stopped [] EndOfText
-folded_unit rest (c ∷ cs) = if c == line_feed then prepend (None ∷ []) (rest cs) else stopped cs BrokenEscape
-
-abbrev unit : (List ℕ → Answer (Option ℕ)) → List ℕ → Answer (Option ℕ)
-unit rest [] = stopped [] EndOfText
-unit rest (c ∷ cs) = if c == backslash then folded_unit rest cs else prepend (Some c ∷ []) (rest cs)
-
--- so many units
-abbrev units : ℕ → List ℕ → Answer (Option ℕ)
-units zero t = found [] t
-units (suc k) t = unit (units k) t
-
-abbrev character : Option ℕ → List ℕ → Step ℕ
-character (Some v) r = more (v ∷ []) r
-character None r = ends (stopped r UnknownCharacter)
-
--- the character that the units spell
-abbrev spelt : Answer (Option ℕ) → Step ℕ
-spelt (found us r) = character (spelled_by us) r
-spelt (stopped r k) = ends (stopped r k)
+use Rattle.ini_text.specs.Inside.Reading.{Answer, found, stopped, prepend, and_then, Step, more, ends, go_on}
+use Rattle.ini_text.specs.Inside.Scans.{is_plain}
+use Rattle.ini_text.specs.Inside.StringReader.{folded_unit, units, character, spelt, coded, value_behind_backslash, as_step, escape, piece, string}
+use Rattle.ini_text.proofs.ReaderLemmas.ReaderLemmas.{prepend-nil, prepend-prepend, Says, IsReader, StepSays, prefixed, and_found, and_stopped, read_behind, turn, shortens, reads}
 
 digit-apart : (c : ℕ) → is_digit c 16 ≡ true → c ≢ backslash
 digit-apart c h q = let z = subst (λ x. is_digit x 16 ≡ true) q h in cc
@@ -50,6 +30,11 @@ spelled-Units a b c d v h =
     let all_b = and_parts _ _ all_c.0 in
     Units.character (first_digit-apart a all_b.0) (Units.character (digit-apart b all_b.1)
     (Units.character (digit-apart c all_c.1) (Units.character (digit-apart d all_d.1) Units.none)))
+
+units-append : {s t : List ℕ} {us vs : List (Option ℕ)} → Units s us → Units t vs → Units (s ++ t) (us ++ vs)
+units-append Units.none other = other
+units-append (Units.character n rest) other = Units.character n (units-append rest other)
+units-append (Units.folded rest) other = Units.folded (units-append rest other)
 
 units-found : {u : List ℕ} {us : List (Option ℕ)} → Units u us → (k j : ℕ) (r : List ℕ) → k ≡ length us + j → units k (u ++ r) ≡ prepend us (units j r)
 units-found Units.none k j r h = let same : k ≡ j = omega arith in rw same (sym (prepend-nil (units j r)))
@@ -79,7 +64,7 @@ mutual
   ]
 
   folded-sound : (k : ℕ) {u : List ℕ} {us : List (Option ℕ)} → Units u us → length us + suc k ≡ 4 → (t : List ℕ)
-      → UnitsSay (u ++ backslash ∷ t) (prepend us (folded_unit (units k) t))
+      → UnitsSay (u ++ backslash ∷ t) (prepend us (and_then (units k) (folded_unit t)))
   folded-sound k {u} {us} x four [] = (u ++ backslash ∷ [], EscapeStops.cut_in_unit x (omega arith), append-nil (u ++ backslash ∷ []))
   folded-sound k {u} {us} x four (c ∷ cs) = elim (cases_Bool (c == line_feed)) [
     | inl q ↦
@@ -89,59 +74,64 @@ mutual
     | inr n ↦ rw n (u ++ backslash ∷ c ∷ [], EscapeStops.broken x (omega arith) (eqb-false c 10 n), append_assoc u (backslash ∷ c ∷ []) cs)
   ]
 
-spelled-EscapeSequence : {e : Bool} {u : List ℕ} {us : List (Option ℕ)} → Units u us → (v : ℕ) → e ≡ true → spelled_by us ≡ Some v
-    → EscapeSequence e (backslash ∷ letter_x ∷ u) (v ∷ [])
-spelled-EscapeSequence (Units.character a (Units.character b (Units.character c (Units.character d Units.none)))) v on h = EscapeSequence.coded on h
-spelled-EscapeSequence _ v on h = cc
+spelled-EscapeSequence : {u : List ℕ} {us : List (Option ℕ)} → Units u us → (v : ℕ) → spelled_by us ≡ Some v → EscapeSequence true (backslash ∷ letter_x ∷ u) (v ∷ [])
+spelled-EscapeSequence (Units.character a (Units.character b (Units.character c (Units.character d Units.none)))) v h = EscapeSequence.coded refl h
+spelled-EscapeSequence _ v h = cc
+
+pub coded_digits : {t x y z rest : List ℕ} {a b c d v : ℕ} → t ≡ a ∷ x → x ≡ b ∷ y → y ≡ c ∷ z → z ≡ d ∷ rest → spelled a b c d ≡ Some v → coded t ≡ found (v ∷ []) rest
+unfolding coded
+coded_digits {rest = rest} {a} {b} {c} {d} {v} p q r s h = rw (p, q, r, s) (rw (units-found (spelled-Units a b c d v h) 4 0 rest (omega arith), h))
+
+-- a named escape, or the character itself
+value_of : (c : ℕ) (named : Option ℕ) → control c ≡ named → c ≢ line_feed → c ≢ letter_x → EscapeSequence true (backslash ∷ c ∷ []) (unwrap_or named c ∷ [])
+value_of c (Some v) h a b = EscapeSequence.named refl h
+value_of c None h a b = EscapeSequence.itself refl a b h
+
+-- a backslash and one character
+escape_of : (e : Bool) (c : ℕ) → (c == letter_x && e) ≡ false → EscapeSequence e (backslash ∷ c ∷ []) (value_behind_backslash e c)
+escape_of e c other = elim (cases_Bool (c == line_feed)) [
+  | inl q ↦ rw (eqb-true c 10 q) EscapeSequence.folded
+  | inr n ↦ rw n (by e (eqb-false c 10 n) other)
+]
+  where
+    by : (e : Bool) → c ≢ line_feed → (c == letter_x && e) ≡ false → EscapeSequence e (backslash ∷ c ∷ []) (if e then unwrap_or (control c) c ∷ [] else backslash ∷ c ∷ [])
+    by true n other = value_of c (control c) refl n (λ same. let z : true ≡ false = rw (eq-eqb c 120 same) at other in cc)
+    by false n other = EscapeSequence.kept refl n
 
 abbrev pub StringSays : Bool → Ends → List ℕ → Answer ℕ → Type 0
 StringSays e to t a = Says (Str e to) (StrStops e to) t a
 
+plain_parts : (to : Ends) (c : ℕ) → is_plain to c ≡ true → (c ≢ backslash) × (is_endpoint to c ≡ false)
+plain_parts to c h = let two = and_parts (not (c == backslash)) (not (is_endpoint to c)) h in (eqb-false c 92 (not-true (c == backslash) two.0), not-true (is_endpoint to c) two.1)
+
 module _ (e : Bool) (to : Ends) where
-  -- where the text ends, behind the characters w
-  abbrev at_end : List ℕ → Step ℕ
-  at_end w = ends (if to.text then found w [] else stopped [] EndOfText)
-
-  abbrev escape : List ℕ → Step ℕ
-  escape [] = at_end (backslash ∷ [])
-  escape (c ∷ cs) =
-      if c == line_feed then more [] cs
-      else if e then (if c == letter_x then spelt (units 4 cs) else more (unwrap_or (control c) c ∷ []) cs)
-      else more (backslash ∷ c ∷ []) cs
-
-  abbrev piece : List ℕ → Step ℕ
-  piece [] = at_end []
-  piece (c ∷ cs) =
-      if c == backslash then escape cs
-      else if is_endpoint to c then ends (found [] (c ∷ cs))
-      else more (c ∷ []) cs
-
   no_control : (c x v : ℕ) → control x ≡ None → control c ≡ Some v → c ≢ x
   no_control c x v n h q = let z = subst (λ y. control y ≡ Some v) q h in cc
 
-  piece-escape : {p w : List ℕ} → EscapeSequence e p w → (t : List ℕ) → piece (p ++ t) ≡ more w t
+  piece-escape : {p w : List ℕ} → EscapeSequence e p w → (t : List ℕ) → piece e to (p ++ t) ≡ more w t
+  unfolding coded
   piece-escape EscapeSequence.folded t = refl
-  piece-escape (EscapeSequence.named {c} {v} on h) t = rw (ne_eqb c 10 (no_control c 10 v refl h), on, ne_eqb c 120 (no_control c 120 v refl h), h)
+  piece-escape (EscapeSequence.named {c} {v} on h) t = rw (ne_eqb c 120 (no_control c 120 v refl h), ne_eqb c 10 (no_control c 10 v refl h), on, h)
   piece-escape (EscapeSequence.coded {a} {b} {c} {d} {v} on h) t = rw (on, units-found (spelled-Units a b c d v h) 4 0 t (omega arith), h)
-  piece-escape (EscapeSequence.itself {c} on n m h) t = rw (ne_eqb c 10 n, on, ne_eqb c 120 m, h)
-  piece-escape (EscapeSequence.kept {c} off n) t = rw (ne_eqb c 10 n, off)
+  piece-escape (EscapeSequence.itself {c} on n m h) t = rw (ne_eqb c 120 m, ne_eqb c 10 n, on, h)
+  piece-escape (EscapeSequence.kept {c} off n) t = rw (ne_eqb c 10 n, off, and-false)
 
-  piece-stops : {p r : List ℕ} {k : ParseKind} → e ≡ true → EscapeStops p r k → piece (p ++ r) ≡ ends (stopped r k)
+  piece-stops : {p r : List ℕ} {k : ParseKind} → e ≡ true → EscapeStops p r k → piece e to (p ++ r) ≡ ends (stopped r k)
+  unfolding coded
   piece-stops on (EscapeStops.cut_short {us = us} x l) = rw (on, units-found x 4 (suc (3 - length us)) [] (omega arith))
   piece-stops on (EscapeStops.cut_in_unit {u} {us} x l) = rw (append_assoc u, on, units-found x 4 (suc (3 - length us)) (backslash ∷ []) (omega arith))
   piece-stops on (EscapeStops.broken {u} {r} {us} {c} x l n) =
       rw (append_assoc u, on, units-found x 4 (suc (3 - length us)) (backslash ∷ c ∷ r) (omega arith), ne_eqb c 10 n)
   piece-stops on (EscapeStops.unknown {u} {r} {us} x four h) = rw (on, units-found x 4 0 r (omega arith), append-nil us, h)
 
-  Row-steps : {s v : List ℕ} → Row e to s v → {r : List ℕ} {a : Answer ℕ} → Steps piece r a → Steps piece (s ++ r) (prepend v a)
-  Row-steps Row.none {r} {a} rest = subst (Steps piece r) (sym (prepend-nil a)) rest
-  Row-steps (Row.raw {c} {s} {v} n h x) {r} {a} rest =
-      subst (Steps piece (c ∷ (s ++ r))) (prepend-prepend (c ∷ []) v a) (Steps.then {w = c ∷ []} (rw (ne_eqb c 92 n, h)) (Row-steps x rest))
-  Row-steps (Row.escape {p} {w} {s} {v} k x) {r} {a} rest =
-      subst₂ (Steps piece) (sym (append_assoc p s r)) (prepend-prepend w v a) (Steps.then (piece-escape k (s ++ r)) (Row-steps x rest))
-
   abbrev PieceSays : List ℕ → Step ℕ → Type 0
   PieceSays t x = StepSays (Str e to) (StrStops e to) t x
+
+  row-append : {s v t w : List ℕ} → Row e to s v → Row e to t w → Row e to (s ++ t) (v ++ w)
+  row-append Row.none other = other
+  row-append (Row.raw n inside rest) other = Row.raw n inside (row-append rest other)
+  row-append {t = t} {w = w} (Row.escape {p = p} {w = q} {s = s} {v = v} k rest) other =
+      subst₂ (Row e to) (sym (append_assoc p s t)) (sym (append_assoc q v w)) (Row.escape k (row-append rest other))
 
   Str-append : {p w s r v : List ℕ} → Row e to p w → Str e to s r v → Str e to (p ++ s) r (w ++ v)
   Str-append k (Str.closed x h) = Str.closed (row-append k x) h
@@ -161,41 +151,31 @@ module _ (e : Bool) (to : Ends) where
   escaped : {p w : List ℕ} (r : List ℕ) → EscapeSequence e p w → length r < length (p ++ r) → PieceSays (p ++ r) (more w r)
   escaped {p} {w} r k l = (l, behind (subst₂ (Row e to) (append-nil p) (append-nil w) (Row.escape k Row.none)) r)
 
-  named_or_itself : (c : ℕ) (r : List ℕ) → e ≡ true → c ≢ line_feed → c ≢ letter_x → (o : Option ℕ) → control c ≡ o
-      → PieceSays (backslash ∷ c ∷ r) (more (unwrap_or o c ∷ []) r)
-  named_or_itself c r on n m (Some v) h = escaped r (EscapeSequence.named on h) (omega arith)
-  named_or_itself c r on n m None h = escaped r (EscapeSequence.itself on n m h) (omega arith)
-
   character-sound : {u : List ℕ} {us : List (Option ℕ)} (r : List ℕ) → e ≡ true → Units u us → length us ≡ 4 → (o : Option ℕ) → spelled_by us ≡ o
-      → PieceSays (backslash ∷ letter_x ∷ (u ++ r)) (character o r)
-  character-sound {u} r on x four (Some v) q = escaped r (spelled-EscapeSequence x v on q) (omega (arith, length-append u r))
+      → PieceSays (backslash ∷ letter_x ∷ (u ++ r)) (as_step (character o r))
+  character-sound {u} r on x four (Some v) q =
+      escaped r (subst (λ b. EscapeSequence b (backslash ∷ letter_x ∷ u) (v ∷ [])) (sym on) (spelled-EscapeSequence x v q)) (omega (arith, length-append u r))
   character-sound {u} r on x four None q = (backslash ∷ letter_x ∷ u, StrStops.in_escape Row.none on (EscapeStops.unknown x four q), refl)
 
-  spelt-sound : e ≡ true → (t : List ℕ) (a : Answer (Option ℕ)) → UnitsSay t a → PieceSays (backslash ∷ letter_x ∷ t) (spelt a)
+  spelt-sound : e ≡ true → (t : List ℕ) (a : Answer (Option ℕ)) → UnitsSay t a → PieceSays (backslash ∷ letter_x ∷ t) (as_step (spelt a))
   spelt-sound on t (found us r) (u, x, four, h) =
-      subst (λ y. PieceSays (backslash ∷ letter_x ∷ y) (spelt (found us r))) h (character-sound r on x four (spelled_by us) refl)
+      subst (λ y. PieceSays (backslash ∷ letter_x ∷ y) (as_step (spelt (found us r)))) h (character-sound r on x four (spelled_by us) refl)
   spelt-sound on t (stopped r k) (u, x, h) = (backslash ∷ letter_x ∷ u, StrStops.in_escape Row.none on x, ap (λ y. backslash ∷ letter_x ∷ y) h)
 
-  escape_on-sound : (c : ℕ) (cs : List ℕ) → c ≢ line_feed → e ≡ true
-      → PieceSays (backslash ∷ c ∷ cs) (if c == letter_x then spelt (units 4 cs) else more (unwrap_or (control c) c ∷ []) cs)
-  escape_on-sound c cs n on = elim (cases_Bool (c == letter_x)) [
-    | inl q ↦ rw (eqb-true c 120 q) (spelt-sound on cs (units 4 cs) (subst (UnitsSay cs) (prepend-nil (units 4 cs)) (units-sound 4 Units.none refl cs)))
-    | inr m ↦ rw m (named_or_itself c cs on n (eqb-false c 120 m) (control c) refl)
-  ]
-
-  escape-sound : (t : List ℕ) → PieceSays (backslash ∷ t) (escape t)
+  escape-sound : (t : List ℕ) → PieceSays (backslash ∷ t) (escape e to t)
+  unfolding coded
   escape-sound [] = cond_both to.text _ _ (λ a. PieceSays t (ends a)) (λ h. (t, Str.lone Row.none h, refl)) (λ h. (t, StrStops.after_backslash Row.none h, refl))
     where
       t : List ℕ
       t = backslash ∷ []
-  escape-sound (c ∷ cs) = elim (cases_Bool (c == line_feed)) [
-    | inl q ↦ rw (eqb-true c 10 q) (escaped cs EscapeSequence.folded (omega arith))
-    | inr n ↦
-        let other = eqb-false c 10 n in
-        rw n (cond_both e _ _ (PieceSays (backslash ∷ c ∷ cs)) (escape_on-sound c cs other) (λ off. escaped cs (EscapeSequence.kept off other) (omega arith)))
+  escape-sound (c ∷ cs) = elim (cases_Bool (c == letter_x && e)) [
+    | inl q ↦
+        let two = and_parts (c == letter_x) e q in
+        rw (q, eqb-true c 120 two.0) (spelt-sound two.1 cs (units 4 cs) (subst (UnitsSay cs) (prepend-nil (units 4 cs)) (units-sound 4 Units.none refl cs)))
+    | inr n ↦ rw n (escaped cs (escape_of e c n) (omega arith))
   ]
 
-  piece-sound : (t : List ℕ) → PieceSays t (piece t)
+  piece-sound : (t : List ℕ) → PieceSays t (piece e to t)
   piece-sound [] = cond_both to.text _ _ (λ a. PieceSays [] (ends a)) (λ h. ([], Str.closed Row.none h, refl)) (λ h. ([], StrStops.at_end Row.none h, refl))
   piece-sound (c ∷ cs) = elim (cases_Bool (c == backslash)) [
     | inl q ↦ rw (eqb-true c 92 q) (escape-sound cs)
@@ -205,25 +185,76 @@ module _ (e : Bool) (to : Ends) where
     ]
   ]
 
-  pub string : List ℕ → Answer ℕ
-  string t = read_by (Str e to) (StrStops e to) piece piece-sound t
+  -- a string's first piece
+  string-turn : (t : List ℕ) → string e to t ≡ go_on (string e to) (piece e to t)
+  unfolding string
+  string-turn t = turn (Str e to) (StrStops e to) (piece e to) piece-sound t
+
+  Row-read : {s v : List ℕ} → Row e to s v → (r : List ℕ) → string e to (s ++ r) ≡ prepend v (string e to r)
+  Row-read Row.none r = sym (prepend-nil (string e to r))
+  Row-read (Row.raw {c} {s} {v} n h x) r =
+      string-turn (c ∷ (s ++ r)) ∙ rw (ne_eqb c 92 n, h) (ap (prepend (c ∷ [])) (Row-read x r) ∙ prepend-prepend (c ∷ []) v (string e to r))
+  Row-read (Row.escape {p} {w} {s} {v} k x) r =
+      ap (string e to) (append_assoc p s r) ∙ string-turn (p ++ (s ++ r)) ∙ ap (go_on (string e to)) (piece-escape k (s ++ r))
+      ∙ ap (prepend w) (Row-read x r) ∙ prepend-prepend w v (string e to r)
+
+  run_row : (run : List ℕ) → list_all (is_plain to) run ≡ true → Row e to run run
+  run_row [] h = Row.none
+  run_row (c ∷ run) h =
+      let two = and_parts (is_plain to c) (list_all (is_plain to) run) h in let plain = plain_parts to c two.0 in Row.raw plain.0 plain.1 (run_row run two.1)
+
+  -- characters that stand for themselves
+  pub string_run : {t : List ℕ} (run rest : List ℕ) → t ≡ run ++ rest → list_all (is_plain to) run ≡ true → string e to t ≡ prepend run (string e to rest)
+  string_run run rest whole h = ap (string e to) whole ∙ Row-read (run_row run h) rest
+
+  pub string_at_end : {t : List ℕ} {text : Bool} → t ≡ [] → text ≡ to.text → string e to t ≡ (if text then found [] t else stopped t EndOfText)
+  string_at_end none is = rw (none, is) (string-turn [])
+
+  pub string_at_endpoint : {t cs : List ℕ} {c : ℕ} → t ≡ c ∷ cs → c ≢ backslash → BeginsWithNo (is_plain to) t → string e to t ≡ found [] t
+  string_at_endpoint {cs = cs} {c} is n closes =
+      let other : is_endpoint to c ≡ true = not-false (is_endpoint to c) (rw (is, ne_eqb c 92 n) at closes) in
+      rw is (string-turn (c ∷ cs) ∙ rw (ne_eqb c 92 n, other))
+
+  pub string_at_backslash : {t cs : List ℕ} {c : ℕ} {text : Bool} → t ≡ c ∷ cs → c ≡ backslash → cs ≡ [] → text ≡ to.text
+      → string e to t ≡ (if text then found (backslash ∷ []) cs else stopped cs EndOfText)
+  string_at_backslash first b none is = rw (first, b, none, is) (string-turn (backslash ∷ []))
+
+  -- a backslash and the character behind it
+  pub string_pair : {t cs ds : List ℕ} {c d : ℕ} → t ≡ c ∷ cs → c ≡ backslash → cs ≡ d ∷ ds → (d == letter_x && e) ≡ false
+      → string e to t ≡ prepend (value_behind_backslash e d) (string e to ds)
+  string_pair {ds = ds} {d = d} first b next other = rw (first, b, next) (string-turn (backslash ∷ d ∷ ds) ∙ rw other)
+
+  pub string_coded : {t cs ds : List ℕ} {c d : ℕ} → t ≡ c ∷ cs → c ≡ backslash → cs ≡ d ∷ ds → e ≡ true → d ≡ letter_x
+      → string e to t ≡ and_then (string e to) (coded ds)
+  string_coded {ds = ds} first b next on x = rw (first, b, next, x) (string-turn (backslash ∷ letter_x ∷ ds) ∙ rw on (goes_on (coded ds)))
+    where
+      goes_on : (a : Answer ℕ) → go_on (string true to) (as_step a) ≡ and_then (string true to) a
+      goes_on (found v r) = refl
+      goes_on (stopped r k) = refl
+
+  pub coded_shortens : {t cs ds v r : List ℕ} {c d : ℕ} (w : List ℕ) → t ≡ c ∷ cs → c ≡ backslash → cs ≡ d ∷ ds → e ≡ true → d ≡ letter_x
+      → prepend w (coded ds) ≡ found v r → length r < length t
+  coded_shortens {t} {ds = ds} {r = r} w first b next on x h =
+      let (u, read, grown) = read_behind w (coded ds) h in
+      let step : piece e to t ≡ more u r = rw (first, b, next, x, on) (ap as_step read) in
+      shortens (Str e to) (StrStops e to) (piece e to) piece-sound step
 
   module _ (apart : is_endpoint to backslash ≡ false) where
-    closes : (r : List ℕ) → Closes to r → piece r ≡ ends (found [] r)
-    closes [] h = rw h
-    closes (c ∷ r) h = rw (ne_eqb c 92 (λ q. let z = subst (λ y. is_endpoint to y ≡ true) q h in true≢false (sym z ∙ apart)), h)
+    closed : (r : List ℕ) → Closes to r → string e to r ≡ found [] r
+    closed [] h = string_at_end refl (sym h)
+    closed (c ∷ r) h =
+        string-turn (c ∷ r) ∙ rw (ne_eqb c 92 (λ q. let z = subst (λ y. is_endpoint to y ≡ true) q h in true≢false (sym z ∙ apart)), h)
 
-    Str-steps : (s r v : List ℕ) → Str e to s r v → Steps piece (s ++ r) (found v r)
-    Str-steps s r v (Str.closed x h) = subst (λ y. Steps piece (s ++ r) (found y r)) (append-nil v) (Row-steps x (Steps.last (closes r h)))
-    Str-steps _ _ _ (Str.lone {s} x h) =
-        let at_backslash : piece (backslash ∷ []) ≡ ends (found (backslash ∷ []) []) = rw h in rw (append_assoc s) (Row-steps x (Steps.last at_backslash))
-
-    StrStops-steps : (s r : List ℕ) (k : ParseKind) → StrStops e to s r k → Steps piece (s ++ r) (stopped r k)
-    StrStops-steps s r k (StrStops.at_end x h) = let at_text_end : piece [] ≡ ends (stopped [] EndOfText) = rw h in Row-steps x (Steps.last at_text_end)
-    StrStops-steps _ _ _ (StrStops.after_backslash {s} x h) =
-        let at_backslash : piece (backslash ∷ []) ≡ ends (stopped [] EndOfText) = rw h in rw (append_assoc s) (Row-steps x (Steps.last at_backslash))
-    StrStops-steps _ _ _ (StrStops.in_escape {s} {p = q} {r} {kind} x on h) = rw (append_assoc s) (Row-steps x (Steps.last (piece-stops on h)))
-
-    pub string-reads : IsReader (Str e to) (StrStops e to) string
+    pub string-reads : IsReader (Str e to) (StrStops e to) (string e to)
     unfolding string
-    string-reads = reads_by (Str e to) (StrStops e to) piece piece-sound Str-steps StrStops-steps
+    string-reads = record { sound = reads (Str e to) (StrStops e to) (piece e to) piece-sound; finds = finds; stops = stops }
+      where
+        finds : {s r v : List ℕ} → Str e to s r v → string e to (s ++ r) ≡ found v r
+        finds {r = r} (Str.closed {v = v} x h) = and_found v (Row-read x r) (closed r h) (sym (append-nil v))
+        finds (Str.lone {s} {v} x h) = rw (append_assoc s) (and_found v (Row-read x (backslash ∷ [])) (string_at_backslash refl refl refl (sym h)) refl)
+
+        stops : {s r : List ℕ} {k : ParseKind} → StrStops e to s r k → string e to (s ++ r) ≡ stopped r k
+        stops (StrStops.at_end {v = v} x h) = and_stopped v (Row-read x []) (string_at_end refl (sym h))
+        stops (StrStops.after_backslash {s} {v} x h) = rw (append_assoc s) (and_stopped v (Row-read x (backslash ∷ [])) (string_at_backslash refl refl refl (sym h)))
+        stops (StrStops.in_escape {s} {v} {p} {r} x on h) =
+            rw (append_assoc s) (and_stopped v (Row-read x (p ++ r)) (string-turn (p ++ r) ∙ ap (go_on (string e to)) (piece-stops on h)))

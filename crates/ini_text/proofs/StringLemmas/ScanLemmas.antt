@@ -1,35 +1,11 @@
 -- Runs at the front of a text, and the front before a rest.
-use Rattle.std.proofs.Common.{◌≡◌, ◌≤◌, ℕ, ◌-◌, Bool, true, false, ◌&&◌, cond, List, [], ◌∷◌, ◌++◌, length, take, refl, sym, ap, ◌∙◌, append-nil, arith, length-append, subst, chars, IsUtf8, IsCharBoundary, encode_utf8, encode_utf8_all}
-use Rattle.std.proofs.lemmas.Bool.{cond-true, cond_both}
+use Rattle.std.proofs.Common.{◌≡◌, ◌≤◌, ℕ, ◌-◌, Bool, true, false, ◌&&◌, List, [], ◌∷◌, ◌++◌, length, take, refl, sym, ap, ◌∙◌, append-nil, arith, length-append, subst, chars, IsUtf8, IsCharBoundary, encode_utf8, encode_utf8_all}
 use Rattle.std.proofs.lemmas.Str.{chars-append, chars-encodes, encodes-append, encodes-chars, scalars-chars, IsCharBoundary-at_seam, length-le-encodes, cons_from_encodes}
 use Rattle.std.proofs.Math.Seq.{take-append_seam}
 use Rattle.std.specs.Str.{all_scalars}
-use Rattle.std.specs.List.{list_all}
 use lib.Utf8.{scalar}
-use Rattle.ini_text.specs.Grammar.CharacterKinds.{BeginsWith, BeginsWithNo}
 use Rattle.ini_text.specs.Grammar.Positions.{last_or}
 use Rattle.ini_text.specs.Parsing.Fronts.{front_of, IsRest}
-use Rattle.ini_text.specs.Inside.Scans.{run_of, skipped}
-
-joins : (b : Bool) (c : ℕ) (r s cs : List ℕ) → r ++ s ≡ cs → cond b (c ∷ r) [] ++ cond b s (c ∷ cs) ≡ c ∷ cs
-joins true c r s cs h = ap (λ l. c ∷ l) h
-joins false c r s cs h = refl
-
-pub run-skipped : (p : ℕ → Bool) (t : List ℕ) → run_of p t ++ skipped p t ≡ t
-run-skipped p [] = refl
-run-skipped p (c ∷ cs) = joins (p c) c (run_of p cs) (skipped p cs) cs (run-skipped p cs)
-
-pub run-all : (p : ℕ → Bool) (t : List ℕ) → list_all p (run_of p t) ≡ true
-run-all p [] = refl
-run-all p (c ∷ cs) = cond_both (p c) (c ∷ run_of p cs) [] (λ l. list_all p l ≡ true) (λ h. rw (h, run-all p cs) refl) (λ h. refl)
-
-pub skipped-no : (p : ℕ → Bool) (t : List ℕ) → BeginsWithNo p (skipped p t)
-skipped-no p [] = tt
-skipped-no p (c ∷ cs) = cond_both (p c) (skipped p cs) (c ∷ cs) (BeginsWithNo p) (λ h. skipped-no p cs) (λ h. h)
-
-pub run-some : (p : ℕ → Bool) (t : List ℕ) → BeginsWith p t → BeginsWith p (run_of p t)
-run-some p [] h = h
-run-some p (c ∷ cs) h = subst (BeginsWith p) (sym (cond-true (p c) (c ∷ run_of p cs) [] h)) h
 
 -- the front before a rest
 scalars-front : (a b : List ℕ) → all_scalars (a ++ b) ≡ true → all_scalars a ≡ true

@@ -1,7 +1,8 @@
 //! Elements: white space, comments, and where a header or a pair begins. This file knows headers and
 //! pairs, and no string.
 ghost use Rattle.std.specs.Prelude.{◌≡◌, ◌∷◌, chars};
-ghost use Rattle.ini_text.specs.Inside.ElementParts.{IsElement};
+ghost use Rattle.ini_text.specs.Inside.ElementReader.{element, given};
+ghost use Rattle.ini_text.specs.Inside.Reading.{Gives};
 
 use crate::error::ParseKind;
 use crate::item::Item;
@@ -15,6 +16,7 @@ use std::alloc::Global;
 // element = gap / comment / header / pair / dropped-tail
 /// The element with which a text that begins with `c` goes on behind a front, if it gives an item, and
 /// what follows it.
+#[tactic(auto, unfolding(crate::specs::Inside::ElementReader::element))]
 pub(crate) fn read_element<'a>(
     alloc: Global,
     scratch: &mut String,
@@ -25,11 +27,11 @@ pub(crate) fn read_element<'a>(
     option: ParseOption,
 ) -> Result<(Option<Item>, &'a str), Stop<'a>>
     requires { chars text.now ≡ c ∷ chars after.now }
-    ensures { IsElement option (chars front.now) (chars text.now) result }
+    ensures { Gives given result (element option (chars front.now) (chars text.now)) }
 {
     if Class::Blank.contain(c) {
         if starts_line(front) {
-            return read_indented(alloc, scratch, front, text, option);
+            return read_indented(alloc, scratch, text, option);
         }
         return Ok((None, after));
     }
@@ -47,7 +49,7 @@ pub(crate) fn read_element<'a>(
         return Ok((None, after_first(skip_line(after))));
     }
     if c == '[' {
-        return read_header(alloc, scratch, front, after, option);
+        return read_header(alloc, scratch, after, option);
     }
-    read_unindented(alloc, scratch, front, text, option)
+    read_unindented(alloc, scratch, text, option)
 }

@@ -23,12 +23,13 @@ pub(crate) enum Stop<'a> {
 }
 
 impl<'a> Stop<'a> {
-    ghost use Rattle.ini_text.specs.Inside.Readers.{StopsBefore};
+    ghost use Rattle.std.specs.Prelude.{Some};
+    ghost use Rattle.ini_text.specs.Inside.Reading.{fault_of};
 
     /// A fault before what is left of a text.
     pub(crate) fn new(kind: ParseKind, message: &'static str, rest: &'a str) -> Self
         requires { HasMessage kind message.now }
-        ensures { StopsBefore (chars rest.now) kind result }
+        ensures { fault_of result ≡ Some (chars rest.now, kind) }
     {
         Stop::Fault(Fault {
             kind,

@@ -1,8 +1,9 @@
 //! Headers, with and without brackets in names. This file knows strings, and no element.
-ghost use Rattle.std.specs.Prelude.{◌≡◌, ◌∷◌, true, chars, List, ℕ, MatchOption};
-ghost use Rattle.ini_text.specs.Grammar.CharacterKinds.{open_bracket};
-ghost use Rattle.ini_text.specs.Inside.ElementParts.{IsElement};
-ghost use Rattle.ini_text.specs.Grammar.Elements.{IsBracketed};
+ghost use Rattle.std.specs.Prelude.{◌≡◌, chars, option_map};
+ghost use Rattle.ini_text.specs.Grammar.Strings.{bracketed_name_ends};
+ghost use Rattle.ini_text.specs.Inside.ElementReader.{behind_bracket, bracketed_header, given, name_in};
+ghost use Rattle.ini_text.specs.Inside.Reading.{Gives};
+ghost use Rattle.ini_text.specs.Inside.StringReader.{string};
 
 use crate::error::ParseKind;
 use crate::item::Item;
@@ -19,14 +20,13 @@ use std::alloc::Global;
 pub(crate) fn read_header<'a>(
     alloc: Global,
     scratch: &mut String,
-    front: &str,
     text: &'a str,
     option: ParseOption,
 ) -> Result<(Option<Item>, &'a str), Stop<'a>>
-    ensures { IsElement option (chars front.now) (open_bracket ∷ chars text.now) result }
+    ensures { Gives given result (behind_bracket option (chars text.now)) }
 {
     if option.enabled_brackets_in_section_names {
-        return read_bracketed_header(alloc, front, text, option);
+        return read_bracketed_header(alloc, text, option);
     }
     let (name, rest) = read_trimmed(
         alloc,
@@ -43,12 +43,10 @@ pub(crate) fn read_header<'a>(
 /// A header behind its bracket that goes up to its line's end.
 fn read_bracketed_header<'a>(
     alloc: Global,
-    front: &str,
     text: &'a str,
     option: ParseOption,
 ) -> Result<(Option<Item>, &'a str), Stop<'a>>
-    requires { option.enabled_brackets_in_section_names ≡ true }
-    ensures { IsElement option (chars front.now) (open_bracket ∷ chars text.now) result }
+    ensures { Gives given result (bracketed_header (string option.enabled_escape bracketed_name_ends (chars text.now))) }
 {
     let mut line = String::new(alloc);
     let rest = read_string(
@@ -70,8 +68,7 @@ fn read_bracketed_header<'a>(
 
 /// What stands before the last closing bracket of a text, if blanks alone stand behind that.
 fn before_bracket(text: &str) -> Option<&str>
-    ensures { MatchOption result ((name : List ℕ) → ¬ IsBracketed (chars text.now) name)
-        (λ name. IsBracketed (chars text.now) (chars name.now)) }
+    ensures { name_in (chars text.now) ≡ option_map (λ name. chars name.now) result }
 {
     let mut rest = text;
     'blanks: while let Some((before, c)) = split_last(rest) {

@@ -1,12 +1,10 @@
 //! Lines of a value: quoted parts, and then one plain part to the line's end. This file knows strings,
 //! and no key.
-ghost use Rattle.std.specs.Prelude.{true, false, chars, MatchOption};
+ghost use Rattle.std.specs.Prelude.{◌≡◌, true, chars, option_map};
+ghost use Rattle.ini_text.specs.Inside.LineReader.{line, quote_at};
 ghost use Rattle.ini_text.specs.Inside.Endpoints.{ends_of};
-ghost use Rattle.ini_text.specs.Grammar.Lines.{BeginsPlain, Line, LineStops};
-ghost use Rattle.ini_text.specs.Inside.Quotes.{BeginsQuoted};
-ghost use Rattle.ini_text.specs.Inside.Readers.{AppendsValue};
+ghost use Rattle.ini_text.specs.Inside.Reading.{prepend, Appends, Gives};
 ghost use Rattle.ini_text.specs.Parsing.Items.{string_text};
-ghost use Rattle.ini_text.specs.Inside.ValueParts.{ReadsFirstLine};
 
 use crate::option::ParseOption;
 use crate::parser::endpoints::Endpoints;
@@ -18,8 +16,7 @@ use std::alloc::Global;
 
 /// Where the quoted part that begins here ends, and what follows its mark.
 fn split_mark(text: &str, option: ParseOption) -> Option<(Endpoints, &str)>
-    ensures { MatchOption result (BeginsPlain option (chars text.now))
-        (λ p. BeginsQuoted option (chars text.now) (ends_of p.0) (chars p.1.now)) }
+    ensures { quote_at option (chars text.now) ≡ option_map (λ p. (ends_of p.0, chars p.1.now)) result }
 {
     let (c, after) = split_first(text)?;
     if !option.enabled_quote {
@@ -39,7 +36,7 @@ pub(crate) fn read_first_line<'a>(
     text: &'a str,
     option: ParseOption,
 ) -> Result<(String, &'a str), Stop<'a>>
-    ensures { ReadsFirstLine option (chars text.now) result }
+    ensures { Gives string_text result (line option true (chars text.now)) }
 {
     match split_mark(text, option) {
         None => read_trimmed(
@@ -67,8 +64,8 @@ pub(crate) fn read_line<'a>(
     option: ParseOption,
     is_first: bool,
 ) -> Result<&'a str, Stop<'a>>
-    ensures { AppendsValue (Line option is_first) (LineStops option)
-        (string_text out.old) (string_text out.new) (chars text.now) result }
+    ensures { Appends (string_text out.new) result
+        (prepend (string_text out.old) (line option is_first (chars text.now))) }
 {
     let mut rest = text;
     let mut is_quoted = false;

@@ -1,11 +1,12 @@
 //! Pairs: keys, indented or not, and what follows them; and what else a line may give that begins with
 //! blanks. This file knows strings and values.
-ghost use Rattle.std.specs.Prelude.{◌≡◌, chars, true, IfOk};
-ghost use Rattle.ini_text.specs.Grammar.CharacterKinds.{BeginsWith, is_blank};
-ghost use Rattle.ini_text.specs.Inside.ElementParts.{IsElement, IsKey, TailStops, kept_blanks};
-ghost use Rattle.ini_text.specs.Grammar.Keys.{begins_key};
-ghost use Rattle.ini_text.specs.Grammar.Positions.{starts_line};
+ghost use Rattle.std.specs.Prelude.{◌≡◌, ℕ, chars, drop, IfOk};
+ghost use Rattle.ini_text.specs.Grammar.CharacterKinds.{is_blank};
+ghost use Rattle.ini_text.specs.Inside.ElementReader.{behind_blanks, behind_separator, given, indented_keyed, kept_blanks, unindented};
+ghost use Rattle.ini_text.specs.Inside.Reading.{Answer, Gives, StopsBy};
+ghost use Rattle.ini_text.specs.Inside.Scans.{run_of, skipped};
 ghost use Rattle.ini_text.specs.Parsing.Items.{string_text};
+ghost use Rattle.ini_text.specs.declared.option.ParseOption.{ParseOption};
 
 use crate::error::ParseKind;
 use crate::item::Item;
@@ -23,12 +24,10 @@ use std::alloc::{AllocError, Global};
 pub(crate) fn read_unindented<'a>(
     alloc: Global,
     scratch: &mut String,
-    front: &str,
     text: &'a str,
     option: ParseOption,
 ) -> Result<(Option<Item>, &'a str), Stop<'a>>
-    requires { BeginsWith begins_key (chars text.now) }
-    ensures { IsElement option (chars front.now) (chars text.now) result }
+    ensures { Gives given result (unindented option (chars text.now)) }
 {
     let both = !option.enabled_preserve_key_leading_whitespace;
     let (key, rest) = read_trimmed(
@@ -39,7 +38,7 @@ pub(crate) fn read_unindented<'a>(
         Endpoints::Key,
         both,
     )?;
-    read_pair(alloc, scratch, front, text, key, rest, option)
+    read_pair(alloc, scratch, key, rest, option)
 }
 
 // gap / 1*blank key separator value / dropped-tail, where blanks begin a line
@@ -47,13 +46,11 @@ pub(crate) fn read_unindented<'a>(
 pub(crate) fn read_indented<'a>(
     alloc: Global,
     scratch: &mut String,
-    front: &str,
     text: &'a str,
     option: ParseOption,
 ) -> Result<(Option<Item>, &'a str), Stop<'a>>
-    requires begins { BeginsWith is_blank (chars text.now) }
-    requires line { starts_line (chars front.now) ≡ true }
-    ensures { IsElement option (chars front.now) (chars text.now) result }
+    ensures { Gives given result
+        (behind_blanks option (run_of is_blank (chars text.now)) (skipped is_blank (chars text.now))) }
 {
     let start = skip(text, Class::Blank);
     let Some((c, after)) = split_first(start) else {
@@ -69,9 +66,9 @@ pub(crate) fn read_indented<'a>(
     match read_string(&mut key, start, option.enabled_escape, Endpoints::Key) {
         Ok(rest) => {
             let key = trim(alloc, key, !option.enabled_preserve_key_leading_whitespace)?;
-            read_pair(alloc, scratch, front, text, key, rest, option)
+            read_pair(alloc, scratch, key, rest, option)
         }
-        Err(stop) => drop_tail(front, text, start, option, stop),
+        Err(stop) => drop_tail(stop),
     }
 }
 
@@ -85,17 +82,9 @@ fn begin_key(alloc: Global, blanks: &str, option: ParseOption) -> Result<String,
     Ok(String::new(alloc))
 }
 
-/// What is left of a text that ends within an indented key gives nothing; other stops stay. `front`,
-/// `text` and `start` are read by the clauses alone, which say what the answer is an element of.
-fn drop_tail<'a>(
-    front: &str,
-    text: &str,
-    start: &str,
-    option: ParseOption,
-    stop: Stop<'a>,
-) -> Result<(Option<Item>, &'a str), Stop<'a>>
-    requires { TailStops option (chars front.now) (chars text.now) (chars start.now) stop }
-    ensures { IsElement option (chars front.now) (chars text.now) result }
+/// What is left of a text that ends within an indented key gives nothing; other stops stay.
+fn drop_tail(stop: Stop<'_>) -> Result<(Option<Item>, &str), Stop<'_>>
+    ensures { (o : ParseOption) (a : Answer ℕ) → StopsBy a stop.entry → Gives given result (indented_keyed o a) }
 {
     match stop {
         Stop::Memory => Err(stop),
@@ -107,19 +96,15 @@ fn drop_tail<'a>(
 }
 
 // separator value, behind a key
-/// What follows a key, from its separator on. `front` and `text` are read by the clauses alone, as in
-/// `drop_tail`.
+/// What follows a key, from its separator on.
 fn read_pair<'a>(
     alloc: Global,
     scratch: &mut String,
-    front: &str,
-    text: &str,
     key: String,
     rest: &'a str,
     option: ParseOption,
 ) -> Result<(Option<Item>, &'a str), Stop<'a>>
-    requires { IsKey option (chars front.now) (chars text.now) (string_text key) (chars rest.now) }
-    ensures { IsElement option (chars front.now) (chars text.now) result }
+    ensures { Gives given result (behind_separator option (string_text key) (drop 1 (chars rest.now))) }
 {
     let after = after_first(rest);
     if key.is_empty() {

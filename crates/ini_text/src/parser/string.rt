@@ -1,14 +1,10 @@
 //! Strings: rows of pieces up to an endpoint. This file knows escapes, and nothing of lines, keys or names.
-ghost use Rattle.std.specs.Prelude.{◌≡◌, ◌∷◌, ◌++◌, [], chars, true, unwrap_or, OnOk};
-ghost use Rattle.ini_text.specs.Grammar.CharacterKinds.{backslash, letter_x};
+ghost use Rattle.std.specs.Prelude.{◌≡◌, ◌∷◌, ◌++◌, [], chars, unwrap_or, Bool, IfSome, OnOk};
 ghost use Rattle.ini_text.specs.Inside.Endpoints.{ends_of};
 ghost use Rattle.ini_text.specs.Grammar.EscapeSequences.{control, spelled, spelled_by};
-ghost use Rattle.ini_text.specs.Grammar.EscapeSequences.{EscapeSequence, EscapeStops};
-ghost use Rattle.ini_text.specs.Inside.Readers.{AppendsValue};
+ghost use Rattle.ini_text.specs.Inside.Reading.{found, prepend, Appends, Gives};
+ghost use Rattle.ini_text.specs.Inside.StringReader.{coded, string, unit, value_behind_backslash};
 ghost use Rattle.ini_text.specs.Parsing.Items.{string_text};
-ghost use Rattle.ini_text.specs.Grammar.Strings.{Str, StrStops};
-ghost use Rattle.ini_text.specs.Inside.TrimmedStrings.{SplitsPlain};
-ghost use Rattle.ini_text.specs.Inside.Units.{ReadsUnit, SplitsCoded, value_behind_backslash};
 
 use crate::error::ParseKind;
 use crate::parser::endpoints::{Endpoints, split_run};
@@ -19,7 +15,7 @@ use std::alloc::AllocError;
 /// A string of one run, and what follows it, from its endpoint on. `None` where it has a backslash, or
 /// isn't ended.
 pub(crate) fn split_plain(text: &str, ends: Endpoints) -> Option<(&str, &str)>
-    ensures { SplitsPlain (ends_of ends) (chars text.now) result }
+    ensures { IfSome result (λ p. (escapes : Bool) → string escapes (ends_of ends) (chars text.now) ≡ found (chars p.0.now) (chars p.1.now)) }
 {
     let (run, rest) = split_run(text, ends);
     match split_first(rest) {
@@ -45,8 +41,8 @@ pub(crate) fn read_string<'a>(
     escapes: bool,
     ends: Endpoints,
 ) -> Result<&'a str, Stop<'a>>
-    ensures { AppendsValue (Str escapes (ends_of ends)) (StrStops escapes (ends_of ends))
-        (string_text out.old) (string_text out.new) (chars text.now) result }
+    ensures { Appends (string_text out.new) result
+        (prepend (string_text out.old) (string escapes (ends_of ends) (chars text.now))) }
 {
     let mut rest = text;
     'pieces: loop {
@@ -108,9 +104,9 @@ fn escaped_value(c: char) -> char
 
 // coded = "\x" 4unit
 /// Appends the character that the four units behind `\x` spell.
+#[tactic(auto, unfolding(crate::specs::Inside::StringReader::coded))]
 fn read_coded<'a>(out: &mut String, text: &'a str, ends: Endpoints) -> Result<&'a str, Stop<'a>>
-    ensures { AppendsValue (λ s r v. EscapeSequence true s v) EscapeStops
-        (string_text out.old) (string_text out.new) (backslash ∷ letter_x ∷ chars text.now) result }
+    ensures { Appends (string_text out.new) result (prepend (string_text out.old) (coded (chars text.now))) }
 {
     if let Some((value, rest)) = split_coded(text) {
         push(out, value)?;
@@ -133,7 +129,7 @@ fn read_coded<'a>(out: &mut String, text: &'a str, ends: Endpoints) -> Result<&'
 
 /// The character that the four characters behind `\x` spell, and what follows them.
 fn split_coded(text: &str) -> Option<(char, &str)>
-    ensures { SplitsCoded (chars text.now) result }
+    ensures { IfSome result (λ p. coded (chars text.now) ≡ found (p.0 ∷ []) (chars p.1.now)) }
 {
     let (a, rest) = split_first(text)?;
     let (b, rest) = split_first(rest)?;
@@ -145,7 +141,7 @@ fn split_coded(text: &str) -> Option<(char, &str)>
 // unit = character / "\" LF
 /// A unit: a character other than a backslash, or a backslash and LF, which is `None`.
 fn read_unit(text: &str, ends: Endpoints) -> Result<(Option<char>, &str), Stop<'_>>
-    ensures { ReadsUnit (chars text.now) result }
+    ensures { Gives (λ u. u ∷ []) result (unit (chars text.now)) }
 {
     let Some((c, after)) = split_first(text) else {
         return Err(Stop::new(ParseKind::EndOfText, ends.expected(), text));

@@ -1,11 +1,10 @@
 //! Values: a line, and in multiline values the lines with which it goes on, less the line feeds at both
 //! ends. This file knows lines, and no key.
-ghost use Rattle.std.specs.Prelude.{◌≡◌, chars, IfOk};
-ghost use Rattle.ini_text.specs.Inside.Readers.{AppendsValue};
-ghost use Rattle.ini_text.specs.Parsing.Items.{string_text};
-ghost use Rattle.ini_text.specs.Inside.ValueParts.{AfterLineEnd, AfterCr, MakesValue};
-ghost use Rattle.ini_text.specs.Grammar.Values.{MoreLines, MoreLinesStop};
+ghost use Rattle.std.specs.Prelude.{◌≡◌, [], chars, option_map, IfOk};
 ghost use Rattle.ini_text.specs.Grammar.WhiteSpace.{without_outer_line_feeds};
+ghost use Rattle.ini_text.specs.Inside.Reading.{prepend, Appends, Gives};
+ghost use Rattle.ini_text.specs.Inside.ValueReader.{after_end, empty_cr, more_lines, value};
+ghost use Rattle.ini_text.specs.Parsing.Items.{string_text};
 
 use crate::error::ParseKind;
 use crate::option::ParseOption;
@@ -16,13 +15,14 @@ use std::alloc::{AllocError, Global};
 
 // value = *inline-white line [line-end more-lines]
 /// The value that begins behind a separator, and what follows it.
+#[tactic(auto, using(crate::proofs::ReaderLemmas::ValueReaderLemmas::value_line))]
 pub(crate) fn read_value<'a>(
     alloc: Global,
     scratch: &mut String,
     text: &'a str,
     option: ParseOption,
 ) -> Result<(String, &'a str), Stop<'a>>
-    ensures { MakesValue option (chars text.now) result }
+    ensures { Gives string_text result (value option (chars text.now)) }
 {
     let start = skip(text, Class::InlineWhite);
     let (mut value, end) = read_first_line(alloc, scratch, start, option)?;
@@ -38,7 +38,7 @@ pub(crate) fn read_value<'a>(
 
 /// What follows a line end, if the text begins with one.
 fn after_line_end(text: &str) -> Option<&str>
-    ensures { AfterLineEnd (chars text.now) result }
+    ensures { after_end (chars text.now) ≡ option_map (λ rest. chars rest.now) result }
 {
     let (c, after) = split_first(text)?;
     if c == '\n' {
@@ -58,7 +58,7 @@ fn after_line_end(text: &str) -> Option<&str>
 
 /// What follows an empty line behind its CR.
 fn after_cr(text: &str) -> Result<&str, Stop<'_>>
-    ensures { AfterCr (chars text.now) result }
+    ensures { Appends [] result (empty_cr (chars text.now)) }
 {
     let message = "\\r is not followed by \\n";
     match split_first(text) {
@@ -76,8 +76,8 @@ fn read_more<'a>(
     text: &'a str,
     option: ParseOption,
 ) -> Result<&'a str, Stop<'a>>
-    ensures { AppendsValue (MoreLines option) (MoreLinesStop option)
-        (string_text out.old) (string_text out.new) (chars text.now) result }
+    ensures { Appends (string_text out.new) result
+        (prepend (string_text out.old) (more_lines option (chars text.now))) }
 {
     let mut rest = text;
     'lines: while let Some((c, after)) = split_first(rest) {

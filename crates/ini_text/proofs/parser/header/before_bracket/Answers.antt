@@ -1,15 +1,15 @@
 use Rattle.std.proofs.Common.{chars, sym, ap, ◌∙◌, rules}
-use Rattle.ini_text.proofs.GrammarLemmas.BracketedNameLemmas.{name_in, name_found, no_name, name_before_blank, name_before_bracket, no_name_before}
+use Rattle.ini_text.specs.Inside.ElementReader.{name_in}
+use Rattle.ini_text.proofs.GrammarLemmas.BracketedNameLemmas.{name_before_blank, name_before_bracket, no_name_before}
 use Rattle.ini_text.proofs.parser.header.before_bracket.Goals as goal
 
 pub returns-then-c-eq93 : goal.returns-then-c-eq93
-returns-then-c-eq93 c =
-    name_found _ _ (sym c.blanks.invariant.name ∙ ap name_in c.in-Some.ensures ∙ name_before_bracket _ _ c.if-c-eq93.true)
+returns-then-c-eq93 c = sym c.blanks.invariant.name ∙ ap name_in c.in-Some.ensures ∙ name_before_bracket _ _ c.if-c-eq93.true
 
 pub returns-then-not-contain : goal.returns-then-not-contain
 returns-then-not-contain c =
-    no_name _ (sym c.blanks.invariant.name ∙ ap name_in c.in-Some.ensures
-    ∙ no_name_before (chars c.in-Some.before.now) c.in-Some.c (sym c.contain.ensures ∙ c.if-not-contain.true) c.if-c-eq93.false)
+    sym c.blanks.invariant.name ∙ ap name_in c.in-Some.ensures
+    ∙ no_name_before (chars c.in-Some.before.now) c.in-Some.c (sym c.contain.ensures ∙ c.if-not-contain.true) c.if-c-eq93.false
 
 pub blanks-preserved : goal.blanks-preserved
 blanks-preserved c = record {
@@ -17,6 +17,3 @@ blanks-preserved c = record {
   name = sym (name_before_blank (chars c.in-Some.before.now) c.in-Some.c (sym c.contain.ensures ∙ c.if-not-contain.false))
       ∙ ap name_in (sym c.in-Some.ensures) ∙ c.blanks.invariant.name;
 }
-
-pub returns : goal.returns
-returns c = no_name _ (sym c.blanks.invariant.name ∙ ap name_in c.in_default.ensures)

@@ -1,7 +1,7 @@
 use Rattle.std.proofs.Common.{◌≡◌, length, chars}
 use denote.Text.{Utf8}
 use denote.Shadow.{shadow}
-use Rattle.ini_text.proofs.GrammarLemmas.BracketedNameLemmas.{name_in}
+use Rattle.ini_text.specs.Inside.ElementReader.{name_in}
 use Rattle.ini_text.proofs.parser.header.before_bracket.Given as goal
 
 abbrev pub decreases-blanks : goal.decreases-blanks

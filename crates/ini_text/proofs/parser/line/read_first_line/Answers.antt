@@ -1,15 +1,17 @@
-use Rattle.std.proofs.Common.{[], ap, chars, subst, sym, true, ◌∙◌}
-use Rattle.ini_text.specs.Grammar.Lines.{Line}
-use Rattle.ini_text.specs.Inside.Readers.{AppendedValue}
-use Rattle.ini_text.proofs.GrammarLemmas.AppendedValueLemmas.{from_nothing}
-use Rattle.ini_text.proofs.GrammarLemmas.LineLemmas.{plain_line}
+use Rattle.std.proofs.Common.{ap, chars, subst, sym, ◌∙◌}
+use Rattle.ini_text.specs.Inside.Reading.{Gives, found}
+use Rattle.ini_text.specs.Parsing.Items.{string_text}
+use Rattle.ini_text.proofs.ReaderLemmas.ReaderLemmas.{from_nothing, passed}
+use Rattle.ini_text.proofs.ReaderLemmas.LineReaderLemmas.{line_plain}
 use Rattle.ini_text.proofs.parser.line.read_first_line.Goals as goal
 
 pub returns-in-None : goal.returns-in-None
-returns-in-None c = plain_line c.args.option (chars c.args.text.now) c.read_trimmed.result c.in-None.ensures c.read_trimmed.ensures
+returns-in-None c = subst (Gives string_text c.read_trimmed.result) (sym (line_plain c.args.option (chars c.args.text.now) c.in-None.ensures)) c.read_trimmed.ensures
+
+pub returns-in_err-end-in-Some : goal.returns-in_err-end-in-Some
+returns-in_err-end-in-Some c = passed _ _ _ c.from_residual.ensures.1 c.in_err-end-in-Some.ensures (λ r k h. sym (from_nothing _ c.clear.ensures.bytes) ∙ h)
 
 pub returns-in_ok-from_str-in-Some : goal.returns-in_ok-from_str-in-Some
 returns-in_ok-from_str-in-Some c =
-    let end = chars c.in_ok-end-in-Some.end.now in
-    subst (λ value. AppendedValue [] value (chars c.args.text.now) end (λ s v. Line c.args.option true s end v))
-    (sym (ap chars (c.in_ok-from_str-in-Some.ensures.ok ∙ c.as_str.ensures.value))) (from_nothing c.clear.ensures.bytes c.in_ok-end-in-Some.ensures)
+    sym (from_nothing _ c.clear.ensures.bytes) ∙ c.in_ok-end-in-Some.ensures
+    ∙ ap (λ bytes. found (chars bytes) (chars c.in_ok-end-in-Some.end.now)) (sym (c.in_ok-from_str-in-Some.ensures.ok ∙ c.as_str.ensures.value))

@@ -1,28 +1,34 @@
-use Rattle.std.proofs.Common.{chars, ap, ◌∙◌, sym}
-use Rattle.ini_text.specs.Inside.ElementParts.{kept_blanks}
-use Rattle.ini_text.proofs.GrammarLemmas.ElementLemmas.{blanks_at_end, blank_line, blanks_before_header}
-use Rattle.ini_text.proofs.GrammarLemmas.KeyLemmas.{indented, key_begins, indented_key, tail_stops}
+use Rattle.std.proofs.Common.{chars, ap, ◌∙◌, sym, drop, subst}
+use Rattle.ini_text.specs.Grammar.CharacterKinds.{is_blank}
+use Rattle.ini_text.specs.Grammar.Strings.{key_ends}
+use Rattle.ini_text.specs.Inside.ElementReader.{behind_blanks, behind_separator, given, indented_keyed, kept_blanks, trimmed_key}
+use Rattle.ini_text.specs.Inside.Reading.{Gives, prepend}
+use Rattle.ini_text.specs.Inside.Scans.{run_of}
+use Rattle.ini_text.specs.Inside.StringReader.{string}
+use Rattle.ini_text.proofs.ReaderLemmas.ReaderLemmas.{stays}
+use Rattle.ini_text.proofs.ReaderLemmas.ElementReaderLemmas.{blanks_front, key_at}
 use Rattle.ini_text.proofs.parser.pair.read_indented.Goals as goal
 
-pub returns-in_default : goal.returns-in_default
-returns-in_default c = blanks_at_end (indented _ _ _ c.requires.line c.requires.begins c.skip-start.ensures) c.in_default.ensures.characters
-
-pub returns-then-is_line_end : goal.returns-then-is_line_end
-returns-then-is_line_end c = blank_line (indented _ _ _ c.requires.line c.requires.begins c.skip-start.ensures) c.in-Some.ensures.characters (sym c.is_line_end.ensures ∙ c.if-is_line_end.true)
-
-pub returns-then-c-eq91 : goal.returns-then-c-eq91
-returns-then-c-eq91 c = blanks_before_header (indented _ _ _ c.requires.line c.requires.begins c.skip-start.ensures) c.in-Some.ensures.characters c.if-c-eq91.true
-
 pub front_before-requires : goal.front_before-requires
-front_before-requires c = (indented (chars c.args.front.now) _ _ c.requires.line c.requires.begins c.skip-start.ensures).is_rest
+front_before-requires c = (blanks_front c.skip-start.ensures).1
 
-pub read_pair-requires : goal.read_pair-requires
-read_pair-requires c =
-    let i = indented _ _ _ c.requires.line c.requires.begins c.skip-start.ensures in
-    indented_key i (key_begins i.ends c.in-Some.ensures.characters (sym c.is_line_end.ensures ∙ c.if-is_line_end.false) c.if-c-eq91.false)
-    (c.in_ok-key.ensures ∙ ap (kept_blanks c.args.option) (c.front_before.ensures ∙ i.front)) c.in-Ok.ensures c.in_ok-key-in-Ok.ensures
+pub returns-in-Ok : goal.returns-in-Ok
+returns-in-Ok c =
+    let o = c.args.option in
+    let w = run_of is_blank (chars c.args.text.now) in
+    let start = chars c.skip-start.result.now in
+    let read = key_at o w c.in-Some.ensures.characters (sym c.is_line_end.ensures ∙ c.if-is_line_end.false) c.if-c-eq91.false
+    ∙ ap (λ k. indented_keyed o (trimmed_key o (prepend k (string o.enabled_escape key_ends start)))) (sym (c.in_ok-key.ensures ∙ ap (kept_blanks o) (c.front_before.ensures ∙ (blanks_front c.skip-start.ensures).0)))
+    ∙ ap (λ a. indented_keyed o (trimmed_key o a)) c.in-Ok.ensures
+    ∙ ap (λ k. behind_separator o k (drop 1 (chars c.in-Ok.rest.now))) (sym c.in_ok-key-in-Ok.ensures) in
+    subst (Gives given c.read_pair.result) (sym (ap (behind_blanks o w) (sym c.skip-start.ensures) ∙ read)) c.read_pair.ensures
 
-pub drop_tail-requires : goal.drop_tail-requires
-drop_tail-requires c =
-    let i = indented _ _ _ c.requires.line c.requires.begins c.skip-start.ensures in
-    tail_stops _ i (key_begins i.ends c.in-Some.ensures.characters (sym c.is_line_end.ensures ∙ c.if-is_line_end.false) c.if-c-eq91.false) c.in-Err.ensures
+pub returns : goal.returns
+returns c =
+    let o = c.args.option in
+    let w = run_of is_blank (chars c.args.text.now) in
+    let start = chars c.skip-start.result.now in
+    let read = key_at o w c.in-Some.ensures.characters (sym c.is_line_end.ensures ∙ c.if-is_line_end.false) c.if-c-eq91.false
+    ∙ ap (λ k. indented_keyed o (trimmed_key o (prepend k (string o.enabled_escape key_ends start)))) (sym (c.in_ok-key.ensures ∙ ap (kept_blanks o) (c.front_before.ensures ∙ (blanks_front c.skip-start.ensures).0))) in
+    subst (Gives given c.drop_tail.result) (sym (ap (behind_blanks o w) (sym c.skip-start.ensures) ∙ read))
+    (c.drop_tail.ensures o _ (stays c.in-Err.stop c.in-Err.ensures (λ r k h. ap (trimmed_key o) h)))

@@ -1,66 +1,72 @@
-use Rattle.std.proofs.Common.{◌≡◌, ◌≢◌, ◌∙◌, sym, true, rules}
-use Rattle.std.proofs.lemmas.Bool.{false≢true}
-use Rattle.std.proofs.lemmas.Result.{err_from_is_err_and}
+use Rattle.std.proofs.Common.{◌≡◌, ◌==◌, ◌&&◌, ◌∙◌, false, refl, sym, ap, append-nil, ne_eqb, rules, ℕ, length, length-append, arith}
+use Rattle.std.proofs.Math.Bool.{and-false}
 use Rattle.ini_text.specs.Grammar.CharacterKinds.{letter_x}
-use Rattle.ini_text.specs.Grammar.Strings.{Row, StrStops}
 use Rattle.ini_text.specs.Inside.Endpoints.{ends_of}
-use Rattle.ini_text.proofs.GrammarLemmas.AppendedValueLemmas.{nothing_yet, stopped}
-use Rattle.ini_text.proofs.GrammarLemmas.EscapeSequenceLemmas.{one_character, units_stop, with_units}
-use Rattle.ini_text.proofs.GrammarLemmas.StringProductionLemmas.{and_run, and_escape, escape_stops, string_at_end, string_at_endpoint, lone_backslash, ends_early, ends_behind_backslash, behind_backslash}
+use Rattle.ini_text.specs.Inside.Reading.{prepend}
+use Rattle.ini_text.specs.Parsing.Items.{string_text}
+use Rattle.ini_text.proofs.ReaderLemmas.ReaderLemmas.{and_more, and_found, and_stopped, then_found, then_stopped, passed}
+use Rattle.ini_text.proofs.ReaderLemmas.StringReaderLemmas.{string_run, string_at_end, string_at_endpoint, string_at_backslash, string_pair, string_coded, coded_shortens}
 use Rattle.ini_text.proofs.parser.string.read_string.Goals as goal
 use Rattle.ini_text.proofs.parser.string.read_string.Goals.{else-escapes-via-then-escapes+else-d-eq120, else-escapes-via-else-escapes}
 
 pub pieces-init : goal.pieces-init
-pieces-init c = record { text = search rules; row = nothing_yet Row.none }
+pieces-init c = record { text = search rules; read = refl }
 
 pub returns-then-contain_text_end : goal.returns-then-contain_text_end
 returns-then-contain_text_end c =
-    string_at_end (and_run _ c.pieces.invariant.row c.in_ok-push_text.ensures c.split_run.ensures.parts c.split_run.ensures.run)
-    c.in_default.ensures.characters (sym c.contain_text_end.ensures ∙ c.if-contain_text_end.true)
+    and_found _ (and_more _ _ _ c.pieces.invariant.read (string_run _ _ _ _ c.split_run.ensures.parts c.split_run.ensures.run) c.in_ok-push_text.ensures)
+    (string_at_end _ _ c.in_default.ensures.characters (sym c.if-contain_text_end.true ∙ c.contain_text_end.ensures)) (sym (append-nil _))
 
 pub returns-in_default : goal.returns-in_default
 returns-in_default c =
-    stopped (StrStops c.args.escapes (ends_of c.args.ends)) _ c.new.ensures
-    (ends_early (and_run _ c.pieces.invariant.row c.in_ok-push_text.ensures c.split_run.ensures.parts c.split_run.ensures.run)
-    c.in_default.ensures.characters (sym c.contain_text_end.ensures ∙ c.if-contain_text_end.false))
+    rw c.new.ensures (and_stopped _ (and_more _ _ _ c.pieces.invariant.read (string_run _ _ _ _ c.split_run.ensures.parts c.split_run.ensures.run) c.in_ok-push_text.ensures)
+    (string_at_end _ _ c.in_default.ensures.characters (sym c.if-contain_text_end.false ∙ c.contain_text_end.ensures)))
 
 pub returns-then-c-ne92 : goal.returns-then-c-ne92
 returns-then-c-ne92 c =
-    string_at_endpoint (and_run _ c.pieces.invariant.row c.in_ok-push_text.ensures c.split_run.ensures.parts c.split_run.ensures.run)
-    c.in-Some.ensures.characters c.if-c-ne92.true c.split_run.ensures.stops
+    and_found _ (and_more _ _ _ c.pieces.invariant.read (string_run _ _ _ _ c.split_run.ensures.parts c.split_run.ensures.run) c.in_ok-push_text.ensures)
+    (string_at_endpoint _ _ c.in-Some.ensures.characters c.if-c-ne92.true c.split_run.ensures.stops) (sym (append-nil _))
 
 pub returns-then-not-contain_text_end : goal.returns-then-not-contain_text_end
 returns-then-not-contain_text_end c =
-    stopped (StrStops c.args.escapes (ends_of c.args.ends)) _ c.new-then-not-contain_text_end.ensures
-    (ends_behind_backslash (and_run _ c.pieces.invariant.row c.in_ok-push_text.ensures c.split_run.ensures.parts c.split_run.ensures.run)
-    c.in-Some.ensures.characters c.if-c-ne92.false c.in_default-split_first.ensures.characters (sym c.contain_text_end-in_default-split_first.ensures ∙ c.if-not-contain_text_end.true))
+    rw c.new-then-not-contain_text_end.ensures (and_stopped _ (and_more _ _ _ c.pieces.invariant.read (string_run _ _ _ _ c.split_run.ensures.parts c.split_run.ensures.run) c.in_ok-push_text.ensures)
+    (string_at_backslash _ _ c.in-Some.ensures.characters c.if-c-ne92.false c.in_default-split_first.ensures.characters
+    (sym c.if-not-contain_text_end.true ∙ c.contain_text_end-in_default-split_first.ensures)))
 
 pub returns-in_default-split_first : goal.returns-in_default-split_first
 returns-in_default-split_first c =
-    lone_backslash (and_run _ c.pieces.invariant.row c.in_ok-push_text.ensures c.split_run.ensures.parts c.split_run.ensures.run)
-    c.in-Some.ensures.characters c.if-c-ne92.false c.in_default-split_first.ensures.characters (sym c.contain_text_end-in_default-split_first.ensures ∙ c.if-not-contain_text_end.false) c.in_ok-push.ensures
+    and_found _ (and_more _ _ _ c.pieces.invariant.read (string_run _ _ _ _ c.split_run.ensures.parts c.split_run.ensures.run) c.in_ok-push_text.ensures)
+    (string_at_backslash _ _ c.in-Some.ensures.characters c.if-c-ne92.false c.in_default-split_first.ensures.characters
+    (sym c.if-not-contain_text_end.false ∙ c.contain_text_end-in_default-split_first.ensures)) c.in_ok-push.ensures
 
 pub returns-in_err-rest : goal.returns-in_err-rest
 returns-in_err-rest c =
-    let p = err_from_is_err_and c.from_residual-in_err-rest.result c.from_residual-in_err-rest.ensures.1 in
-    rw (p.1, p.2) (escape_stops _ (and_run _ c.pieces.invariant.row c.in_ok-push_text.ensures c.split_run.ensures.parts c.split_run.ensures.run)
-    (behind_backslash c.in-Some.ensures.characters c.if-c-ne92.false c.in-Some-split_first.ensures.characters) (units_stop _ _ c.if-escapes.true c.if-d-eq120.true c.in_err-rest.ensures))
+    passed _ _ _ c.from_residual-in_err-rest.ensures.1 c.in_err-rest.ensures λ r k h.
+    and_more _ _ _ c.pieces.invariant.read (string_run _ _ _ _ c.split_run.ensures.parts c.split_run.ensures.run) c.in_ok-push_text.ensures
+    ∙ ap (prepend (string_text c.push_text.new.out)) (string_coded _ _ c.in-Some.ensures.characters c.if-c-ne92.false c.in-Some-split_first.ensures.characters c.if-escapes.true c.if-d-eq120.true)
+    ∙ then_stopped _ _ _ h
 
 pub pieces-preserved-in_ok-rest : goal.pieces-preserved-in_ok-rest
 pieces-preserved-in_ok-rest c = record {
   text = search rules;
-  row = and_escape (and_run _ c.pieces.invariant.row c.in_ok-push_text.ensures c.split_run.ensures.parts c.split_run.ensures.run)
-      (behind_backslash c.in-Some.ensures.characters c.if-c-ne92.false c.in-Some-split_first.ensures.characters) (with_units c.if-escapes.true c.if-d-eq120.true c.in_ok-rest.ensures);
+  read = and_more _ _ _ c.pieces.invariant.read (string_run _ _ _ _ c.split_run.ensures.parts c.split_run.ensures.run) c.in_ok-push_text.ensures
+      ∙ ap (prepend (string_text c.push_text.new.out)) (string_coded _ _ c.in-Some.ensures.characters c.if-c-ne92.false c.in-Some-split_first.ensures.characters c.if-escapes.true c.if-d-eq120.true)
+      ∙ then_found _ _ _ c.in_ok-rest.ensures;
 }
 
 pub pieces-preserved : goal.pieces-preserved
 pieces-preserved c =
-    let other : c.args.escapes ≡ true → c.in-Some-split_first.d ≢ letter_x = elim c.else-escapes.branch [
-      | else-escapes-via-then-escapes+else-d-eq120 w ↦ λ on same. w.if-d-eq120.false same
-      | else-escapes-via-else-escapes w ↦ λ on same. false≢true (sym w.if-escapes.false ∙ on)
+    let other : (c.in-Some-split_first.d == letter_x && c.args.escapes) ≡ false = elim c.else-escapes.branch [
+      | else-escapes-via-then-escapes+else-d-eq120 w ↦ rw (ne_eqb _ 120 w.if-d-eq120.false) refl
+      | else-escapes-via-else-escapes w ↦ rw (w.if-escapes.false, and-false) refl
     ] in
     record {
       text = search rules;
-      row = and_escape (and_run _ c.pieces.invariant.row c.in_ok-push_text.ensures c.split_run.ensures.parts c.split_run.ensures.run)
-          (behind_backslash c.in-Some.ensures.characters c.if-c-ne92.false c.in-Some-split_first.ensures.characters) (one_character other c.in_ok-push_escaped.ensures);
+      read = and_more _ _ _ (and_more _ _ _ c.pieces.invariant.read (string_run _ _ _ _ c.split_run.ensures.parts c.split_run.ensures.run) c.in_ok-push_text.ensures)
+          (string_pair _ _ c.in-Some.ensures.characters c.if-c-ne92.false c.in-Some-split_first.ensures.characters other) c.in_ok-push_escaped.ensures;
     }
+
+pub pieces-smaller-in_ok-rest : goal.pieces-smaller-in_ok-rest
+pieces-smaller-in_ok-rest c =
+    let shorter = coded_shortens _ (ends_of c.args.ends) _ c.in-Some.ensures.characters c.if-c-ne92.false c.in-Some-split_first.ensures.characters c.if-escapes.true c.if-d-eq120.true c.in_ok-rest.ensures in
+    omega (arith, length-append {A = ℕ}, ap length c.split_run.ensures.parts)

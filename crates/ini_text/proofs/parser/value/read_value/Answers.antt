@@ -1,28 +1,25 @@
-use Rattle.std.proofs.Common.{◌∙◌, ap, chars}
-use Rattle.std.proofs.lemmas.Result.{err_from_is_err_and}
+use Rattle.std.proofs.Common.{◌∙◌, sym, ap, chars}
 use Rattle.ini_text.specs.Grammar.WhiteSpace.{without_outer_line_feeds}
-use Rattle.ini_text.proofs.GrammarLemmas.ValueLemmas.{one_line, value_to_end, value_of_lines, first_line_stops, later_line_stops}
+use Rattle.ini_text.specs.Inside.Reading.{altered, found}
+use Rattle.ini_text.proofs.ReaderLemmas.ReaderLemmas.{passed}
+use Rattle.ini_text.proofs.ReaderLemmas.ValueReaderLemmas.{value_stops, value_ends, value_goes_on}
 use Rattle.ini_text.proofs.parser.value.read_value.Goals as goal
 
 pub returns-in_err-value : goal.returns-in_err-value
-returns-in_err-value c =
-    let p = err_from_is_err_and c.from_residual.result c.from_residual.ensures.1 in
-    rw (p.1, p.2) (first_line_stops c.args.option (chars c.args.text.now) _ c.skip-start.ensures c.in_err-value.ensures)
-
-pub returns-then-not-option : goal.returns-then-not-option
-returns-then-not-option c = one_line c.if-not-option.true c.skip-start.ensures c.in_ok-value.ensures
+returns-in_err-value c = passed _ _ _ c.from_residual.ensures.1 c.in_err-value.ensures (λ r k h. value_stops c.args.option _ c.skip-start.ensures h)
 
 pub returns-in_default : goal.returns-in_default
 returns-in_default c =
-    value_to_end c.if-not-option.false c.skip-start.ensures c.in_ok-value.ensures c.in_default.ensures
+    value_ends c.args.option _ c.skip-start.ensures c.if-not-option.false c.in_ok-value.ensures c.in_default.ensures
     (c.in_ok-trim_line_feeds.ensures ∙ ap (λ b. without_outer_line_feeds (chars b)) c.as_str.ensures.value)
 
 pub returns-in_err-rest : goal.returns-in_err-rest
 returns-in_err-rest c =
-    let p = err_from_is_err_and c.from_residual-in_err-rest.result c.from_residual-in_err-rest.ensures.1 in
-    rw (p.1, p.2) (later_line_stops c.args.option (chars c.args.text.now) _ c.if-not-option.false c.skip-start.ensures c.in_ok-value.ensures c.in-Some.ensures c.in_err-rest.ensures)
+    passed _ _ _ c.from_residual-in_err-rest.ensures.1 c.in_err-rest.ensures
+    (λ r k h. value_goes_on c.args.option _ c.skip-start.ensures c.if-not-option.false c.in_ok-value.ensures c.in-Some.ensures ∙ ap (altered without_outer_line_feeds) h)
 
 pub returns : goal.returns
 returns c =
-    value_of_lines c.if-not-option.false c.skip-start.ensures c.in_ok-value.ensures c.in-Some.ensures c.in_ok-rest.ensures
-    (c.in_ok-trim_line_feeds-2.ensures ∙ ap (λ b. without_outer_line_feeds (chars b)) c.as_str-2.ensures.value)
+    value_goes_on c.args.option _ c.skip-start.ensures c.if-not-option.false c.in_ok-value.ensures c.in-Some.ensures
+    ∙ ap (altered without_outer_line_feeds) c.in_ok-rest.ensures
+    ∙ ap (λ v. found v (chars c.in_ok-rest.rest.now)) (sym (c.in_ok-trim_line_feeds-2.ensures ∙ ap (λ b. without_outer_line_feeds (chars b)) c.as_str-2.ensures.value))

@@ -1,0 +1,107 @@
+-- Reading an element by the character with which it begins.
+use Rattle.std.specs.Prelude.{ℕ, Bool, not, ◌&&◌, ◌==◌, true, if◌then◌else◌, List, [], ◌∷◌, drop, Option, Some, None}
+use Rattle.std.specs.Char.{is_whitespace}
+use Rattle.std.specs.List.{list_all}
+use Rattle.ini_text.specs.Grammar.CharacterKinds.{open_bracket, close_bracket, is_line_feed, is_line_end, is_blank, is_comment_mark}
+use Rattle.ini_text.specs.Grammar.Elements.{Given, Header, Pair}
+use Rattle.ini_text.specs.Grammar.Positions.{starts_line, is_column_one}
+use Rattle.ini_text.specs.Grammar.Strings.{name_ends, bracketed_name_ends, key_ends}
+use Rattle.ini_text.specs.Grammar.WhiteSpace.{trimmed}
+use Rattle.ini_text.specs.Inside.Reading.{Answer, found, stopped, prepend, altered}
+use Rattle.ini_text.specs.Inside.Scans.{run_of, skipped, trimmed_at}
+use Rattle.ini_text.specs.Inside.StringReader.{string}
+use Rattle.ini_text.specs.Inside.ValueReader.{value}
+use Rattle.ini_text.specs.Parsing.Items.{item_of}
+use Rattle.ini_text.specs.declared.error.ParseKind.{ParseKind}
+use Rattle.ini_text.specs.declared.error.ParseKind.TheVariants.{EndOfText, HeaderEnd, InlineComment, MissingKey}
+use Rattle.ini_text.specs.declared.item.Item.{Item}
+use Rattle.ini_text.specs.declared.option.ParseOption.{ParseOption}
+
+-- one item or none
+abbrev pub given : Option Item → List Given
+given None = []
+given (Some item) = item_of item ∷ []
+
+-- the name that begins with c, by the name in what follows c
+abbrev pub name_from : ℕ → List ℕ → Option (List ℕ) → Option (List ℕ)
+name_from c cs (Some name) = Some (c ∷ name)
+name_from c cs None = if c == close_bracket && list_all is_blank cs then Some [] else None
+
+-- the name before the last closing bracket, behind which blanks alone stand
+abbrev pub name_in : List ℕ → Option (List ℕ)
+name_in [] = None
+name_in (c ∷ cs) = name_from c cs (name_in cs)
+
+abbrev pub header : Answer ℕ → Answer Given
+header (found name r) = found (Header name ∷ []) (drop 1 r)
+header (stopped r k) = stopped r k
+
+-- behind a header's string, by the name in it
+abbrev pub named : Option (List ℕ) → List ℕ → Answer Given
+named (Some name) r = found (Header (trimmed name) ∷ []) r
+named None r = stopped (drop 1 r) HeaderEnd
+
+abbrev pub bracketed_header : Answer ℕ → Answer Given
+bracketed_header (found v r) = named (name_in v) r
+bracketed_header (stopped r k) = stopped r k
+
+-- behind an opening bracket
+abbrev pub behind_bracket : ParseOption → List ℕ → Answer Given
+behind_bracket o cs =
+    if o.enabled_brackets_in_section_names then bracketed_header (string o.enabled_escape bracketed_name_ends cs)
+    else header (altered (trimmed_at true) (string o.enabled_escape name_ends cs))
+
+abbrev pub paired : List ℕ → Answer ℕ → Answer Given
+paired key (found v r) = found (Pair key v ∷ []) r
+paired key (stopped r k) = stopped r k
+
+abbrev pub behind_separator : ParseOption → List ℕ → List ℕ → Answer Given
+behind_separator o [] r = stopped r MissingKey
+behind_separator o (c ∷ key) r = paired (c ∷ key) (value o r)
+
+-- a key's string is trimmed at both ends, or at its end alone
+abbrev pub trimmed_key : ParseOption → Answer ℕ → Answer ℕ
+trimmed_key o a = altered (trimmed_at (not o.enabled_preserve_key_leading_whitespace)) a
+
+abbrev pub keyed : ParseOption → Answer ℕ → Answer Given
+keyed o (found key r) = behind_separator o key (drop 1 r)
+keyed o (stopped r k) = stopped r k
+
+abbrev pub unindented : ParseOption → List ℕ → Answer Given
+unindented o t = keyed o (trimmed_key o (string o.enabled_escape key_ends t))
+
+-- the text's end is no fault in an indented key
+abbrev pub dropped : List ℕ → ParseKind → Answer Given
+dropped r EndOfText = found [] r
+dropped r k = stopped r k
+
+abbrev pub indented_keyed : ParseOption → Answer ℕ → Answer Given
+indented_keyed o (found key r) = behind_separator o key (drop 1 r)
+indented_keyed o (stopped r k) = dropped r k
+
+-- the blanks with which a key begins, where they are kept
+abbrev pub kept_blanks : ParseOption → List ℕ → List ℕ
+kept_blanks o w = if o.enabled_preserve_key_leading_whitespace then w else []
+
+abbrev pub indented : ParseOption → List ℕ → List ℕ → Answer Given
+indented o w t = indented_keyed o (trimmed_key o (prepend (kept_blanks o w) (string o.enabled_escape key_ends t)))
+
+-- behind the blanks w at a line's start
+abbrev pub behind_blanks : ParseOption → List ℕ → List ℕ → Answer Given
+behind_blanks o w [] = found [] []
+behind_blanks o w (c ∷ cs) =
+    if is_line_end c then found [] cs
+    else if c == open_bracket then found [] (c ∷ cs)
+    else indented o w (c ∷ cs)
+
+abbrev pub is_comment_part : ℕ → Bool
+is_comment_part c = not (is_line_feed c)
+
+unfoldable pub element : ParseOption → List ℕ → List ℕ → Answer Given
+element o b [] = found [] []
+element o b (c ∷ cs) =
+    if is_blank c && starts_line b then behind_blanks o (run_of is_blank (c ∷ cs)) (skipped is_blank (c ∷ cs))
+    else if is_whitespace c then found [] cs
+    else if is_comment_mark c then (if is_column_one b then found [] (drop 1 (skipped is_comment_part cs)) else stopped cs InlineComment)
+    else if c == open_bracket then behind_bracket o cs
+    else unindented o (c ∷ cs)
