@@ -178,6 +178,7 @@ fn without_mark(text: &str) -> &str
 }
 
 // A header opens a section last, a pair goes last in the last section.
+#[inline(always)]
 fn push_item(alloc: Global, document: &mut Ini, item: Item) -> Result<(), Error>
     requires { 0 < length document.old }
     ensures pushed { OnOk result (document.new ≡ with_item document.old (item_of item)) }

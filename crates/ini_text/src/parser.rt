@@ -85,6 +85,7 @@ impl<'a> Parser<'a> {
     ///
     /// The text is refused by `Error::Parse` where reading it stops, and by `Error::Memory` for want of
     /// memory. After a refusal the parser stays where it was, and answers the same refusal from then on.
+    #[inline(always)]
     pub fn next_item(&mut self) -> Result<Option<Item>, Error>
         ensures option { self.new.option ≡ self.old.option }
         ensures text { self.new.text ≡ self.old.text }
@@ -120,6 +121,7 @@ impl<'a> Parser<'a> {
 }
 
 /// The first item of what is left of a text, and what follows it.
+#[inline(always)]
 fn find_item<'a>(
     alloc: Global,
     scratch: &mut String,

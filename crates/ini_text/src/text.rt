@@ -110,6 +110,7 @@ pub(crate) fn push(out: &mut String, c: char) -> Result<(), AllocError>
 }
 
 /// Appends a text.
+#[inline(always)]
 pub(crate) fn push_text(out: &mut String, text: &str) -> Result<(), AllocError>
     ensures { OnOk result (string_text out.new ≡ string_text out.old ++ chars text.now) }
 {
@@ -193,6 +194,7 @@ fn is_visible(byte: u8) -> bool
 }
 
 /// Trims what stands from `start` on, at its end or at both ends.
+#[inline(always)]
 pub(crate) fn trim_from(
     alloc: Global,
     out: &mut String,

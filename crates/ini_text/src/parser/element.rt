@@ -16,6 +16,7 @@ use std::alloc::Global;
 // element = gap / comment / header / pair / dropped-tail
 /// The element with which a text that begins with `c` goes on behind a front, if it gives an item, and
 /// what follows it.
+#[inline(always)]
 #[tactic(auto, unfolding(crate::specs::Inside::ElementReader::element))]
 pub(crate) fn read_element<'a>(
     alloc: Global,

@@ -30,6 +30,7 @@ fn split_mark(text: &str, option: ParseOption) -> Option<(Endpoints, &str)>
 }
 
 /// The value of a first line, and what follows the line, from its end on.
+#[inline(always)]
 pub(crate) fn read_first_line<'a>(
     alloc: Global,
     scratch: &mut String,
@@ -57,6 +58,7 @@ pub(crate) fn read_first_line<'a>(
 
 // line = *quoted-part plain-part
 /// Appends the value of a line, and gives what follows the line, from its end on.
+#[inline(always)]
 pub(crate) fn read_line<'a>(
     alloc: Global,
     out: &mut String,

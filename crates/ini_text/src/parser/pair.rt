@@ -21,6 +21,7 @@ use std::alloc::{AllocError, Global};
 
 // pair = key separator value
 /// A pair whose key isn't indented.
+#[inline(always)]
 pub(crate) fn read_unindented<'a>(
     alloc: Global,
     scratch: &mut String,
@@ -97,6 +98,7 @@ fn drop_tail(stop: Stop<'_>) -> Result<(Option<Item>, &str), Stop<'_>>
 
 // separator value, behind a key
 /// What follows a key, from its separator on.
+#[inline(always)]
 fn read_pair<'a>(
     alloc: Global,
     scratch: &mut String,

@@ -74,6 +74,7 @@ pub(crate) fn read_string<'a>(
 }
 
 /// Appends what a backslash and a character stand for, other than the `x` of a code.
+#[inline(always)]
 fn push_escaped(out: &mut String, c: char, escapes: bool) -> Result<(), AllocError>
     ensures { OnOk result (string_text out.new ≡ string_text out.old ++ value_behind_backslash escapes c) }
 {
@@ -128,6 +129,7 @@ fn read_coded<'a>(out: &mut String, text: &'a str, ends: Endpoints) -> Result<&'
 }
 
 /// The character that the four characters behind `\x` spell, and what follows them.
+#[inline(always)]
 fn split_coded(text: &str) -> Option<(char, &str)>
     ensures { IfSome result (λ p. coded (chars text.now) ≡ found (p.0 ∷ []) (chars p.1.now)) }
 {
@@ -170,6 +172,7 @@ fn spelled_by(a: Option<char>, b: Option<char>, c: Option<char>, d: Option<char>
 }
 
 /// The character that four characters spell.
+#[inline(always)]
 #[tactic(auto, unfolding(crate::specs::Grammar::EscapeSequences::spelled))]
 fn spelled(a: char, b: char, c: char, d: char) -> Option<char>
     ensures { result ≡ spelled a b c d }

@@ -15,6 +15,7 @@ use std::alloc::Global;
 
 /// A string up to an endpoint, trimmed at its end or at both ends, and what follows it, from its endpoint
 /// on. What `scratch` holds is lost.
+#[inline(always)]
 pub(crate) fn read_trimmed<'a>(
     alloc: Global,
     scratch: &mut String,

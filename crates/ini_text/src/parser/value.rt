@@ -15,6 +15,7 @@ use std::alloc::{AllocError, Global};
 
 // value = *inline-white line [line-end more-lines]
 /// The value that begins behind a separator, and what follows it.
+#[inline(always)]
 #[tactic(auto, using(crate::proofs::ReaderLemmas::ValueReaderLemmas::value_line))]
 pub(crate) fn read_value<'a>(
     alloc: Global,

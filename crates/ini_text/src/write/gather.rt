@@ -116,6 +116,7 @@ impl Gatherer {
     }
 
     // Holds a line back if no character of it is escaped and there is room.
+    #[inline(always)]
     fn hold_line(
         &mut self,
         first: &str,

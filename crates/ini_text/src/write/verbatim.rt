@@ -24,6 +24,7 @@ pub(crate) fn split_verbatim(text: &str, policy: EscapePolicy) -> (&str, &str)
 }
 
 /// Whether the whole text goes out as it is.
+#[inline(always)]
 pub(crate) fn is_verbatim(text: &str, policy: EscapePolicy) -> bool
     ensures { result ≡ true → escaped_bytes policy text.now ≡ text.now }
 {

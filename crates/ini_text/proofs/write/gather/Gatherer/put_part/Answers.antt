@@ -1,6 +1,6 @@
 use Rattle.std.proofs.lemmas.Result.{err_from_is_err_and}
 use Rattle.ini_text.proofs.WriteLemmas.SendLemmas.{Sends-cut, Sends-then}
-use Rattle.ini_text.proofs.gather.Gatherer.put_part.Goals as goal
+use Rattle.ini_text.proofs.write.gather.Gatherer.put_part.Goals as goal
 
 pub returns-in_err-put_escaped : goal.returns-in_err-put_escaped
 returns-in_err-put_escaped g c =

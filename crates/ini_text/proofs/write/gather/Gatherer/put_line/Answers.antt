@@ -1,7 +1,7 @@
 use Rattle.std.proofs.Common.{[]}
 use Rattle.std.proofs.lemmas.Result.{err_from_is_err_and}
 use Rattle.ini_text.proofs.WriteLemmas.SendLemmas.{Sends-cut, Sends-held, Sends-then}
-use Rattle.ini_text.proofs.gather.Gatherer.put_line.Goals as goal
+use Rattle.ini_text.proofs.write.gather.Gatherer.put_line.Goals as goal
 
 pub returns-in_err-put_part : goal.returns-in_err-put_part
 returns-in_err-put_part g c =

@@ -4,7 +4,7 @@ use Rattle.std.proofs.Math.Seq.{drop-length}
 use Rattle.ini_text.specs.Inside.Verbatim.{begins_escaped}
 use Rattle.ini_text.proofs.WriteLemmas.EscapeByteLemmas.{escaped_bytes-nil}
 use Rattle.ini_text.proofs.WriteLemmas.VerbatimRunLemmas.{escaped_bytes-run}
-use Rattle.ini_text.proofs.verbatim.is_verbatim.Goals as goal
+use Rattle.ini_text.proofs.write.verbatim.is_verbatim.Goals as goal
 
 pub returns : goal.returns
 returns c whole =
