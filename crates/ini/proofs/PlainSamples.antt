@@ -8,8 +8,8 @@ use Rattle.ini_text.specs.Laws.Plain.{IsBareKey, IsPlainKey, IsPlainName, IsPlai
 use Rattle.ini_text.specs.Escaping.Policies.{is_escaped, is_extended}
 use Rattle.ini_text.specs.Options.WriteOptions.{IsDefaultWriteOption}
 use Rattle.ini_text.specs.declared.option.ParseOption.{ParseOption}
-use Rattle.ini_text.specs.declared.policy.EscapePolicy.TheVariants.{Basics}
-use Rattle.ini_text.specs.declared.write_option.WriteOption.{WriteOption}
+use Rattle.ini_text.specs.declared.write.policy.EscapePolicy.TheVariants.{Basics}
+use Rattle.ini_text.specs.declared.write.option.WriteOption.{WriteOption}
 use Rattle.ini.specs.Documents.{Document}
 use Rattle.ini.specs.Plain.{IsPlain}
 use Rattle.ini.specs.Texts.{Text}

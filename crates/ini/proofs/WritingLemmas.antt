@@ -10,15 +10,15 @@ use Rattle.ini_text.specs.Device.Gathering.{Sends}
 use Rattle.ini_text.specs.Device.Watched.{IsClear}
 use Rattle.ini_text.proofs.WriteLemmas.SendLemmas.{Sends-cut, Sends-nil, Sends-then}
 use Rattle.ini_text.specs.declared.error.Error.{Error}
-use Rattle.ini_text.specs.declared.policy.EscapePolicy.{EscapePolicy}
-use Rattle.ini_text.specs.declared.write_option.LineSeparator.{LineSeparator}
-use Rattle.ini_text.specs.declared.write_option.LineSeparator.TheVariants.{SystemDefault, CR, CRLF}
-use Rattle.ini_text.specs.declared.watched.Watched.{Watched}
+use Rattle.ini_text.specs.declared.write.policy.EscapePolicy.{EscapePolicy}
+use Rattle.ini_text.specs.declared.write.option.LineSeparator.{LineSeparator}
+use Rattle.ini_text.specs.declared.write.option.LineSeparator.TheVariants.{SystemDefault, CR, CRLF}
+use Rattle.ini_text.specs.declared.device.Watched.{Watched}
 use Rattle.ini.specs.Texts.{Text}
 use Rattle.ini.specs.Inside.SentTexts.{SendsText}
 use Rattle.ini.specs.Documents.{Document}
 use Rattle.ini.specs.Written.{written, written_name, written_pair}
-use Rattle.ini_text.specs.declared.write_option.WriteOption.{WriteOption}
+use Rattle.ini_text.specs.declared.write.option.WriteOption.{WriteOption}
 
 module _ {W : Type 0} {contents : W → Option (List ℕ)} where
   -- a text as it is, seen as its characters

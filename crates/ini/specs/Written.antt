@@ -3,7 +3,7 @@ use Rattle.std.specs.Prelude.{Bool, false, not, ◌&&◌, ◌||◌, ◌==◌, if
 use Rattle.ini_text.specs.Grammar.CharacterKinds.{open_bracket, close_bracket}
 use Rattle.ini_text.specs.Escaping.EscapedTexts.{escaped}
 use Rattle.ini_text.specs.Options.WriteOptions.{line_end}
-use Rattle.ini_text.specs.declared.write_option.WriteOption.{WriteOption}
+use Rattle.ini_text.specs.declared.write.option.WriteOption.{WriteOption}
 use Rattle.ini.specs.Texts.{Text}
 use Rattle.ini.specs.Properties.{Pairs}
 use Rattle.ini.specs.Documents.{Document}

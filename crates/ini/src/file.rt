@@ -3,7 +3,7 @@ ghost use Rattle.std.specs.Prelude.{IfErr, IfOk, OnOk};
 ghost use Rattle.ini_text.specs.Device.DeviceRefusals.{IsIoOrNoProgress};
 ghost use Rattle.ini_text.specs.Options.ReadOptions.{default_parse_option, without_escapes};
 ghost use Rattle.ini_text.specs.Options.WriteOptions.{IsDefaultWriteOption, with_policy};
-ghost use Rattle.ini_text.specs.declared.write_option.WriteOption.{WriteOption};
+ghost use Rattle.ini_text.specs.declared.write.option.WriteOption.{WriteOption};
 ghost use Rattle.ini.specs.Documents.{HasGeneral};
 ghost use Rattle.ini.specs.Files.{IsDocumentOfFile, IsNoTextOfFile, IsStopOfFile, IsWrittenToFile};
 ghost use Rattle.ini.specs.Loading.{IfParse, IsNotUtf8, IsReadRefusal};

@@ -5,7 +5,7 @@ ghost use Rattle.ini_text.specs.Escaping.EscapedTexts.{escaped};
 ghost use Rattle.ini_text.specs.Device.DeviceRefusals.{IsIoOrNoProgress};
 ghost use Rattle.ini_text.specs.Device.Watched.{IsClear, WritesBytes};
 ghost use Rattle.ini_text.specs.Options.WriteOptions.{IsDefaultWriteOption, with_policy};
-ghost use Rattle.ini_text.specs.declared.write_option.WriteOption.{WriteOption};
+ghost use Rattle.ini_text.specs.declared.write.option.WriteOption.{WriteOption};
 ghost use Rattle.ini.specs.Texts.{str_name};
 ghost use Rattle.ini.specs.Written.{written, written_gap, written_name, written_pair};
 ghost use Rattle.ini.specs.Written.{written_pairs, written_section};

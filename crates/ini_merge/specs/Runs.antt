@@ -3,7 +3,7 @@ use Rattle.std.specs.Prelude.{◌≡◌, ℕ, List, length, Result, Err, ⊤, en
 use Rattle.ini_text.specs.Options.WriteOptions.{IsDefaultWriteOption}
 use Rattle.ini_text.specs.declared.error.Error.{Error}
 use Rattle.ini_text.specs.declared.error.Error.TheVariants.{Io, Parse, Memory, NotUtf8, NoProgress}
-use Rattle.ini_text.specs.declared.write_option.WriteOption.{WriteOption}
+use Rattle.ini_text.specs.declared.write.option.WriteOption.{WriteOption}
 use Rattle.ini.specs.Documents.{Document}
 use Rattle.ini.specs.Written.{written}
 use Rattle.ini_layers.specs.Merging.{merged}

@@ -11,7 +11,7 @@ ghost use Rattle.ini_text.specs.Grammar.Texts.{Stops};
 
 use crate::error::ParseKind;
 use crate::option::ParseOption;
-use crate::write_option::WriteOption;
+use crate::write::option::WriteOption;
 
 /// A text derives just one list of items, or reading it stops for just one reason at just one place, and
 /// never both.

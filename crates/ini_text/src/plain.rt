@@ -15,8 +15,8 @@ ghost use Rattle.ini_text.specs.Inside.PlainTests.{is_read_escaped, is_read_raw,
 ghost use Rattle.ini_text.specs.Inside.PlainTests.{may_begin_key, may_indent};
 
 use crate::option::ParseOption;
-use crate::policy::EscapePolicy;
 use crate::text::{Class, is_comment_mark, is_line_end, skip, split_first};
+use crate::write::policy::EscapePolicy;
 
 /// Whether the text, written between keys and their values, is read as that alone: one `=` or `:` with no
 /// more than spaces and tabs around it.

@@ -3,14 +3,16 @@ ghost use Rattle.std.specs.Prelude.{◌≡◌, []};
 ghost use Rattle.ini_text.specs.Escaping.EscapedTexts.{escaped_bytes};
 ghost use Rattle.ini_text.specs.Device.Watched.{IsClear, WritesBytes};
 
+use crate::device::Watched;
 use crate::error::Error;
-use crate::policy::EscapePolicy;
-use crate::watched::Watched;
 use crate::write::gather::Gatherer;
+use crate::write::policy::EscapePolicy;
 use std::io::Write;
 
 mod escape;
 pub(crate) mod gather;
+pub(crate) mod option;
+pub(crate) mod policy;
 mod verbatim;
 
 /// Writes a text as it is. Takes no memory, and an empty text makes no call of the device.

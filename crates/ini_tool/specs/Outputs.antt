@@ -3,8 +3,8 @@ use Rattle.std.specs.Prelude.{◌≡◌, [], ◌∷◌, ◌++◌, flat_map, code
 use Rattle.std.specs.Option.{option_map}
 use Rattle.ini_text.specs.Grammar.CharacterKinds.{close_bracket, line_feed, open_bracket, tab}
 use Rattle.ini_text.specs.Escaping.EscapedTexts.{escaped}
-use Rattle.ini_text.specs.declared.policy.EscapePolicy.TheVariants.{Basics}
-use Rattle.ini_text.specs.declared.write_option.WriteOption.{WriteOption}
+use Rattle.ini_text.specs.declared.write.policy.EscapePolicy.TheVariants.{Basics}
+use Rattle.ini_text.specs.declared.write.option.WriteOption.{WriteOption}
 use Rattle.ini.specs.Texts.{Text}
 use Rattle.ini.specs.Documents.{Document, value_in}
 use Rattle.ini.specs.Edits.{delete_in, set_in}

@@ -7,8 +7,8 @@ use Rattle.ini_text.specs.Device.DeviceRefusals.{failures_in, stalls_in}
 use Rattle.ini_text.specs.Device.Watched.{SameDevice, WritesAll, WritesFront, device_now, failure_count, stall_count}
 use Rattle.ini_text.specs.declared.error.Error.{Error}
 use Rattle.ini_text.specs.declared.error.Error.TheVariants.{Io, Memory, NoProgress}
-use Rattle.ini_text.specs.declared.policy.EscapePolicy.TheVariants.{Basics}
-use Rattle.ini_text.specs.declared.watched.Watched.{Watched}
+use Rattle.ini_text.specs.declared.write.policy.EscapePolicy.TheVariants.{Basics}
+use Rattle.ini_text.specs.declared.device.Watched.{Watched}
 use Rattle.ini.specs.Texts.{Text}
 
 -- nothing was there to write, or memory was refused

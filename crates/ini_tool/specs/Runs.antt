@@ -4,10 +4,10 @@ use Rattle.std.specs.Prelude.{◌++◌, codes, map, string_bytes, String}
 use Rattle.std.specs.Str.{IsUtf8}
 use Rattle.std.specs.declared.alloc.Global.{Global}
 use Rattle.ini_text.specs.Device.Watched.{WritesAll, WritesFront}
-use Rattle.ini_text.specs.declared.watched.Watched.{Watched}
+use Rattle.ini_text.specs.declared.device.Watched.{Watched}
 use Rattle.ini_text.specs.declared.error.Error.TheVariants.{Io, Parse, Memory, NotUtf8, NoProgress}
 use Rattle.ini_text.specs.declared.error.ParseError.{ParseError}
-use Rattle.ini_text.specs.declared.write_option.WriteOption.{WriteOption}
+use Rattle.ini_text.specs.declared.write.option.WriteOption.{WriteOption}
 use Rattle.ini.specs.Documents.{Document}
 use Rattle.ini.specs.Loading.{IsDocumentOf, IsStopOf, IsTextWith, text_bytes}
 use Rattle.ini.specs.Texts.{Text}

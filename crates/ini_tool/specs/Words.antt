@@ -4,12 +4,12 @@ use Rattle.std.specs.Prelude.{Option, None, Some, option_and_then}
 use Rattle.std.specs.Option.{option_map, option_map_or}
 use Rattle.ini_text.specs.Options.ReadOptions.{default_parse_option}
 use Rattle.ini_text.specs.declared.option.ParseOption.{ParseOption}
-use Rattle.ini_text.specs.declared.policy.EscapePolicy.{EscapePolicy}
-use Rattle.ini_text.specs.declared.policy.EscapePolicy.TheVariants.{Nothing, Basics, BasicsUnicode}
-use Rattle.ini_text.specs.declared.policy.EscapePolicy.TheVariants.{BasicsUnicodeExtended, Reserved}
-use Rattle.ini_text.specs.declared.policy.EscapePolicy.TheVariants.{ReservedUnicode, ReservedUnicodeExtended}
-use Rattle.ini_text.specs.declared.policy.EscapePolicy.TheVariants.{Everything}
-use Rattle.ini_text.specs.declared.write_option.LineSeparator.TheVariants.{SystemDefault, CRLF}
+use Rattle.ini_text.specs.declared.write.policy.EscapePolicy.{EscapePolicy}
+use Rattle.ini_text.specs.declared.write.policy.EscapePolicy.TheVariants.{Nothing, Basics, BasicsUnicode}
+use Rattle.ini_text.specs.declared.write.policy.EscapePolicy.TheVariants.{BasicsUnicodeExtended, Reserved}
+use Rattle.ini_text.specs.declared.write.policy.EscapePolicy.TheVariants.{ReservedUnicode, ReservedUnicodeExtended}
+use Rattle.ini_text.specs.declared.write.policy.EscapePolicy.TheVariants.{Everything}
+use Rattle.ini_text.specs.declared.write.option.LineSeparator.TheVariants.{SystemDefault, CRLF}
 use Rattle.ini.specs.Texts.{is_text}
 use Rattle.ini_tool.specs.Requests.{Request, Fmt, Listing, Get, Set, Del}
 use Rattle.ini_tool.specs.declared.words.Options.{Options}

@@ -4,7 +4,7 @@ ghost use Rattle.ini_text.specs.Grammar.CharacterKinds.{line_feed};
 ghost use Rattle.ini_text.specs.Escaping.EscapedTexts.{escaped};
 ghost use Rattle.ini_text.specs.Device.HeldBack.{held};
 ghost use Rattle.ini_text.specs.Device.Watched.{IsClear, WritesBytes};
-ghost use Rattle.ini_text.specs.declared.policy.EscapePolicy.TheVariants.{Basics};
+ghost use Rattle.ini_text.specs.declared.write.policy.EscapePolicy.TheVariants.{Basics};
 ghost use Rattle.ini.specs.Texts.{str_name};
 ghost use Rattle.ini.specs.Inside.SentTexts.{SendsText};
 ghost use Rattle.ini_tool.specs.Requests.{Del, Fmt, Set, request_of};

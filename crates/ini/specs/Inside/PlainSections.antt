@@ -2,7 +2,7 @@
 use Rattle.std.specs.Prelude.{IsSomeAnd, All, Option}
 use Rattle.ini_text.specs.Laws.Plain.{IsPlainName, IsPlainPair}
 use Rattle.ini_text.specs.declared.option.ParseOption.{ParseOption}
-use Rattle.ini_text.specs.declared.policy.EscapePolicy.{EscapePolicy}
+use Rattle.ini_text.specs.declared.write.policy.EscapePolicy.{EscapePolicy}
 use Rattle.ini.specs.Properties.{Pairs}
 use Rattle.ini.specs.Texts.{Text}
 

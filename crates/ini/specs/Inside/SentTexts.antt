@@ -2,7 +2,7 @@
 use Rattle.std.specs.Prelude.{ℕ, List, Option, Result, encode_utf8_all}
 use Rattle.ini_text.specs.Device.Gathering.{Sends}
 use Rattle.ini_text.specs.declared.error.Error.{Error}
-use Rattle.ini_text.specs.declared.watched.Watched.{Watched}
+use Rattle.ini_text.specs.declared.device.Watched.{Watched}
 use Rattle.ini.specs.Texts.{Text}
 
 -- the text's bytes were sent, where `before` was held back before the call, and `after` is held back after it

@@ -2,10 +2,10 @@
 use Rattle.std.proofs.Common.{◌≡◌, inl, inr, ℕ, Bool, true, cond, List, [], ◌∷◌, ◌++◌, refl, subst, arith}
 use Rattle.std.proofs.lemmas.Bool.{cases_Bool}
 use Rattle.ini_text.specs.declared.option.ParseOption.{ParseOption}
-use Rattle.ini_text.specs.declared.policy.EscapePolicy.{EscapePolicy}
-use Rattle.ini_text.specs.declared.write_option.LineSeparator.{LineSeparator}
-use Rattle.ini_text.specs.declared.write_option.LineSeparator.TheVariants.{SystemDefault, CR, CRLF}
-use Rattle.ini_text.specs.declared.write_option.WriteOption.{WriteOption}
+use Rattle.ini_text.specs.declared.write.policy.EscapePolicy.{EscapePolicy}
+use Rattle.ini_text.specs.declared.write.option.LineSeparator.{LineSeparator}
+use Rattle.ini_text.specs.declared.write.option.LineSeparator.TheVariants.{SystemDefault, CR, CRLF}
+use Rattle.ini_text.specs.declared.write.option.WriteOption.{WriteOption}
 use Rattle.ini_text.specs.Options.WriteOptions.{line_end}
 use Rattle.ini_text.specs.Grammar.CharacterKinds.{close_bracket, open_bracket}
 use Rattle.ini_text.specs.Escaping.EscapedTexts.{escaped}

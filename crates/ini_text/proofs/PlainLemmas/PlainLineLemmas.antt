@@ -3,10 +3,10 @@ use Rattle.std.proofs.Common.{◌≡◌, ℕ, Bool, true, false, not, ◌||◌, 
 use Rattle.std.proofs.lemmas.Bool.{or_left, or_from, and_parts, and_from, not-true, both_ways}
 use Rattle.std.specs.List.{list_all}
 use Rattle.ini_text.specs.declared.option.ParseOption.{ParseOption}
-use Rattle.ini_text.specs.declared.policy.EscapePolicy.{EscapePolicy}
-use Rattle.ini_text.specs.declared.write_option.LineSeparator.{LineSeparator}
-use Rattle.ini_text.specs.declared.write_option.WriteOption.{WriteOption}
-use Rattle.ini_text.specs.declared.write_option.LineSeparator.TheVariants.{SystemDefault, CR, CRLF}
+use Rattle.ini_text.specs.declared.write.policy.EscapePolicy.{EscapePolicy}
+use Rattle.ini_text.specs.declared.write.option.LineSeparator.{LineSeparator}
+use Rattle.ini_text.specs.declared.write.option.WriteOption.{WriteOption}
+use Rattle.ini_text.specs.declared.write.option.LineSeparator.TheVariants.{SystemDefault, CR, CRLF}
 use Rattle.ini_text.specs.Grammar.CharacterKinds.{line_feed, carriage_return, close_bracket, open_bracket, is_blank, is_line_end, is_line_feed}
 use Rattle.ini_text.specs.Escaping.EscapedTexts.{escaped}
 use Rattle.ini_text.specs.Escaping.Policies.{is_escaped}

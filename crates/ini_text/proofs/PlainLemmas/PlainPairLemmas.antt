@@ -4,11 +4,11 @@ use Rattle.std.proofs.lemmas.Bool.{cond_both, cond-true, cond-false, or_left, or
 use Rattle.std.specs.Char.{is_whitespace}
 use Rattle.std.specs.List.{list_all}
 use Rattle.ini_text.specs.declared.option.ParseOption.{ParseOption}
-use Rattle.ini_text.specs.declared.policy.EscapePolicy.{EscapePolicy}
-use Rattle.ini_text.specs.declared.policy.EscapePolicy.TheVariants.{Nothing, Basics, BasicsUnicode, BasicsUnicodeExtended, Reserved, ReservedUnicode, ReservedUnicodeExtended, Everything}
-use Rattle.ini_text.specs.declared.write_option.LineSeparator.{LineSeparator}
-use Rattle.ini_text.specs.declared.write_option.WriteOption.{WriteOption}
-use Rattle.ini_text.specs.declared.write_option.LineSeparator.TheVariants.{SystemDefault, CR, CRLF}
+use Rattle.ini_text.specs.declared.write.policy.EscapePolicy.{EscapePolicy}
+use Rattle.ini_text.specs.declared.write.policy.EscapePolicy.TheVariants.{Nothing, Basics, BasicsUnicode, BasicsUnicodeExtended, Reserved, ReservedUnicode, ReservedUnicodeExtended, Everything}
+use Rattle.ini_text.specs.declared.write.option.LineSeparator.{LineSeparator}
+use Rattle.ini_text.specs.declared.write.option.WriteOption.{WriteOption}
+use Rattle.ini_text.specs.declared.write.option.LineSeparator.TheVariants.{SystemDefault, CR, CRLF}
 use Rattle.ini_text.specs.Grammar.CharacterKinds.{backslash, line_feed, carriage_return, open_bracket, space, is_blank, is_comment_mark, is_inline_white, is_line_end, is_line_feed, is_mark, is_separator, BeginsWith, BeginsWithNo}
 use Rattle.ini_text.specs.Escaping.EscapedTexts.{escape, escape_by, escaped, letter_of}
 use Rattle.ini_text.specs.Escaping.Policies.{is_escaped}

@@ -10,9 +10,9 @@ use Rattle.ini_text.specs.Escaping.EscapedTexts.{escape, escaped}
 use Rattle.ini_text.specs.Laws.Plain.{IsPlainSeparator}
 use Rattle.ini_text.specs.Escaping.Policies.{is_escaped}
 use Rattle.ini_text.specs.Options.WriteOptions.{line_end}
-use Rattle.ini_text.specs.declared.policy.EscapePolicy.{EscapePolicy}
-use Rattle.ini_text.specs.declared.write_option.LineSeparator.{LineSeparator}
-use Rattle.ini_text.specs.declared.write_option.LineSeparator.TheVariants.{SystemDefault, CR, CRLF}
+use Rattle.ini_text.specs.declared.write.policy.EscapePolicy.{EscapePolicy}
+use Rattle.ini_text.specs.declared.write.option.LineSeparator.{LineSeparator}
+use Rattle.ini_text.specs.declared.write.option.LineSeparator.TheVariants.{SystemDefault, CR, CRLF}
 use Rattle.ini_text.proofs.WriteLemmas.EscapeByteLemmas.{IsAscii-escape}
 
 pub scalars-append : (a b : List ℕ) → all_scalars a ≡ true → all_scalars b ≡ true

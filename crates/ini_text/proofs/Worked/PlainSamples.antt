@@ -7,8 +7,8 @@ use Rattle.ini_text.specs.Options.ReadOptions.{default_parse_option}
 use Rattle.ini_text.specs.Laws.Plain.{HasReadEscapes, HasNoEscapes, IsBareKey, IsPlainKey, IsPlainName, IsPlainSeparator, IsPlainValue, IsReadBack, has_unread_letter}
 use Rattle.ini_text.specs.Escaping.Policies.{is_basic, is_escaped, is_extended}
 use Rattle.ini_text.specs.declared.option.ParseOption.{ParseOption}
-use Rattle.ini_text.specs.declared.policy.EscapePolicy.{EscapePolicy}
-use Rattle.ini_text.specs.declared.policy.EscapePolicy.TheVariants.{Nothing, Basics, Reserved, Everything}
+use Rattle.ini_text.specs.declared.write.policy.EscapePolicy.{EscapePolicy}
+use Rattle.ini_text.specs.declared.write.policy.EscapePolicy.TheVariants.{Nothing, Basics, Reserved, Everything}
 use Rattle.ini_text.proofs.PlainLemmas.EscapedTextLemmas.{basic-escaped}
 
 -- Where escapes are on and the policy isn't `Nothing`, a text that has no escapes and needs none is one whose

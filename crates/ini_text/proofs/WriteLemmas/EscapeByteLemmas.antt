@@ -7,7 +7,7 @@ use Rattle.std.proofs.lemmas.Str.Ascii.{IsAscii-nil, IsAscii-cons}
 use Rattle.ini_text.specs.Escaping.EscapedTexts.{escape, escape_by, escaped, escaped_bytes, letter_of, hex_digits, digit_count}
 use Rattle.ini_text.specs.Escaping.Policies.{is_escaped}
 use Rattle.ini_text.specs.Grammar.CharacterKinds.{BeginsWithNo, backslash, letter_x}
-use Rattle.ini_text.specs.declared.policy.EscapePolicy.{EscapePolicy}
+use Rattle.ini_text.specs.declared.write.policy.EscapePolicy.{EscapePolicy}
 
 IsAscii-hex_digits : (n c : ℕ) → IsAscii (hex_digits n c)
 IsAscii-hex_digits zero c = IsAscii-nil

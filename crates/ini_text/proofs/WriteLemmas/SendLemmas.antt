@@ -7,7 +7,7 @@ use Rattle.ini_text.specs.Device.Gathering.{IsUnderWay, Sends}
 use Rattle.std.specs.Io.KnownBytes.{Appends}
 use Rattle.ini_text.specs.Device.Watched.{AppendsFront, IsClear, WritesBytes}
 use Rattle.ini_text.specs.declared.error.Error.{Error}
-use Rattle.ini_text.specs.declared.watched.Watched.{Watched}
+use Rattle.ini_text.specs.declared.device.Watched.{Watched}
 use Rattle.ini_text.proofs.WriteLemmas.ProgressLemmas.{under_way_front}
 
 -- what is held after a first text, and a second

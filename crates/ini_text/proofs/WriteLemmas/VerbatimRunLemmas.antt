@@ -12,8 +12,8 @@ use Rattle.ini_text.specs.Grammar.CharacterKinds.{BeginsWithNo}
 use Rattle.ini_text.specs.Escaping.EscapedTexts.{escape, escaped, escaped_bytes}
 use Rattle.ini_text.specs.Escaping.Policies.{is_basic, is_escaped, is_reserved}
 use Rattle.ini_text.specs.Inside.Verbatim.{begins_escaped}
-use Rattle.ini_text.specs.declared.policy.EscapePolicy.{EscapePolicy}
-use Rattle.ini_text.specs.declared.policy.EscapePolicy.TheVariants.{Nothing, Basics, Reserved}
+use Rattle.ini_text.specs.declared.write.policy.EscapePolicy.{EscapePolicy}
+use Rattle.ini_text.specs.declared.write.policy.EscapePolicy.TheVariants.{Nothing, Basics, Reserved}
 
 is_escaped-unicode : (policy : EscapePolicy) (c : ℕ) → 0x80 ≤ c → c < 0x1_0000 → is_escaped policy 0x80 ≡ is_escaped policy c
 is_escaped-unicode Nothing c low high = refl

@@ -4,7 +4,7 @@ use Rattle.std.specs.Io.KnownBytes.{Appends}
 use Rattle.ini_text.specs.Device.DeviceRefusals.{IsIoOrNoProgress, failures_in, stalls_in}
 use Rattle.ini_text.specs.Device.Watched.{AppendsFront, SameDevice, device_now, failure_count, stall_count}
 use Rattle.ini_text.specs.declared.error.Error.{Error}
-use Rattle.ini_text.specs.declared.watched.Watched.{Watched}
+use Rattle.ini_text.specs.declared.device.Watched.{Watched}
 
 -- a part of the whole was appended, and the rest is to come
 pub record IsUnderWay (old new : Option (List ℕ)) (whole rest : List ℕ) : Type 0 where

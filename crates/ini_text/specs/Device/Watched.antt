@@ -4,7 +4,7 @@ use Rattle.std.specs.Borrow.{MutBor}
 use Rattle.std.specs.Io.KnownBytes.{Appends}
 use Rattle.ini_text.specs.Device.DeviceRefusals.{IsIo, IsIoOrNoProgress, IsNoProgress, failures_in, stalls_in}
 use Rattle.ini_text.specs.declared.error.Error.{Error}
-use Rattle.ini_text.specs.declared.watched.Watched.{Watched}
+use Rattle.ini_text.specs.declared.device.Watched.{Watched}
 
 -- the device as it is now
 abbrev pub device_now : {D : Type 0} → Watched D → D

@@ -3,7 +3,7 @@ use Rattle.std.specs.Prelude.{ℕ, zero, suc, ◌/◌, ◌%◌, ◌^◌, ◌||�
 use Rattle.std.specs.Char.{digit_char}
 use Rattle.ini_text.specs.Grammar.CharacterKinds.{backslash, letter_x}
 use Rattle.ini_text.specs.Escaping.Policies.{is_escaped, is_reserved}
-use Rattle.ini_text.specs.declared.policy.EscapePolicy.{EscapePolicy}
+use Rattle.ini_text.specs.declared.write.policy.EscapePolicy.{EscapePolicy}
 
 -- the one character that follows the backslash, where one is enough: \\ \; \# \= \: \0 \a \b \t \n \v \f \r
 abbrev pub letter_of : ℕ → Option ℕ

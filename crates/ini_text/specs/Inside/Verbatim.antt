@@ -1,7 +1,7 @@
 -- How a byte tells whether the character that it begins is escaped.
 use Rattle.std.specs.Prelude.{ℕ, Bool, false, nat_lt, if◌then◌else◌}
 use Rattle.ini_text.specs.Escaping.Policies.{is_escaped}
-use Rattle.ini_text.specs.declared.policy.EscapePolicy.{EscapePolicy}
+use Rattle.ini_text.specs.declared.write.policy.EscapePolicy.{EscapePolicy}
 
 -- below 0x80 a byte is its character; 0x80 to 0xBF begin none, 0xC0 to 0xEF those up to U+FFFF, the others those above
 abbrev pub begins_escaped : EscapePolicy → ℕ → Bool

@@ -7,8 +7,8 @@ use Rattle.ini_text.specs.Grammar.CharacterKinds.{backslash, close_bracket, open
 use Rattle.ini_text.specs.Escaping.Policies.{is_escaped, is_extended}
 use Rattle.ini_text.specs.Grammar.WhiteSpace.{trimmed, end_trimmed}
 use Rattle.ini_text.specs.declared.option.ParseOption.{ParseOption}
-use Rattle.ini_text.specs.declared.policy.EscapePolicy.{EscapePolicy}
-use Rattle.ini_text.specs.declared.policy.EscapePolicy.TheVariants.{Nothing}
+use Rattle.ini_text.specs.declared.write.policy.EscapePolicy.{EscapePolicy}
+use Rattle.ini_text.specs.declared.write.policy.EscapePolicy.TheVariants.{Nothing}
 
 -- what is written between a key and its value
 pub record IsPlainSeparator (text : List ℕ) : Type 0 where

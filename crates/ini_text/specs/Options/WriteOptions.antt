@@ -1,11 +1,11 @@
 -- Line ends, and the options of writing that are used where none are given.
 use Rattle.std.specs.Prelude.{◌≡◌, ℕ, List, [], ◌∷◌, codes}
 use Rattle.ini_text.specs.Grammar.CharacterKinds.{carriage_return, line_feed}
-use Rattle.ini_text.specs.declared.policy.EscapePolicy.{EscapePolicy}
-use Rattle.ini_text.specs.declared.policy.EscapePolicy.TheVariants.{Basics}
-use Rattle.ini_text.specs.declared.write_option.LineSeparator.{LineSeparator}
-use Rattle.ini_text.specs.declared.write_option.LineSeparator.TheVariants.{SystemDefault, CR, CRLF}
-use Rattle.ini_text.specs.declared.write_option.WriteOption.{WriteOption}
+use Rattle.ini_text.specs.declared.write.policy.EscapePolicy.{EscapePolicy}
+use Rattle.ini_text.specs.declared.write.policy.EscapePolicy.TheVariants.{Basics}
+use Rattle.ini_text.specs.declared.write.option.LineSeparator.{LineSeparator}
+use Rattle.ini_text.specs.declared.write.option.LineSeparator.TheVariants.{SystemDefault, CR, CRLF}
+use Rattle.ini_text.specs.declared.write.option.WriteOption.{WriteOption}
 
 -- LF, LF, CR LF
 abbrev pub line_end : LineSeparator → List ℕ

@@ -6,11 +6,11 @@ ghost use Rattle.ini_text.specs.Device.Gathering.{Sends};
 ghost use Rattle.ini_text.specs.Device.Watched.{IsClear};
 ghost use Rattle.ini_text.specs.declared.write.gather.TheConstants.{ROOM};
 
+use crate::device::Watched;
 use crate::error::Error;
-use crate::policy::EscapePolicy;
 use crate::text::split_first;
-use crate::watched::Watched;
 use crate::write::escape::{hex_digit, letter_of};
+use crate::write::policy::EscapePolicy;
 use crate::write::verbatim::{is_verbatim, split_verbatim};
 use crate::write::write_bytes;
 use std::io::Write;

@@ -6,10 +6,10 @@ ghost use Rattle.ini_text.specs.Grammar.CharacterKinds.{BeginsWithNo};
 ghost use Rattle.ini_text.specs.Escaping.EscapedTexts.{escaped_bytes};
 ghost use Rattle.ini_text.specs.Escaping.Policies.{is_escaped};
 ghost use Rattle.ini_text.specs.Inside.Verbatim.{begins_escaped};
-ghost use Rattle.ini_text.specs.declared.policy.EscapePolicy.TheVariants as policies;
+ghost use Rattle.ini_text.specs.declared.write.policy.EscapePolicy.TheVariants as policies;
 
 use crate::lanes::{Marks, run_before};
-use crate::policy::EscapePolicy;
+use crate::write::policy::EscapePolicy;
 use std::simd::prelude::*;
 
 /// The run at the front of a text that goes out as it is, and what follows: nothing, or a character that

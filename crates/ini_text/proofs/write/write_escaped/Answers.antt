@@ -2,7 +2,7 @@ use Rattle.std.proofs.Common.{◌≡◌, [], ◌∙◌, ap, arith, refl, sym, su
 use Rattle.std.proofs.lemmas.List.{nil_from_length}
 use Rattle.std.proofs.lemmas.Result.{err_from_is_err_and}
 use Rattle.std.specs.Str.{chars}
-use Rattle.ini_text.specs.declared.policy.EscapePolicy.{EscapePolicy}
+use Rattle.ini_text.specs.declared.write.policy.EscapePolicy.{EscapePolicy}
 use Rattle.ini_text.specs.Escaping.EscapedTexts.{escaped_bytes}
 use Rattle.ini_text.specs.Device.Watched.{WritesBytes}
 use Rattle.ini_text.proofs.WriteLemmas.SendLemmas.{Sends-all, Sends-flushed, Sends-nil}

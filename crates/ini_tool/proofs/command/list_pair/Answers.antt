@@ -1,5 +1,5 @@
 use Rattle.std.proofs.Common.{append-nil, append_assoc}
-use Rattle.ini_text.specs.declared.write_option.LineSeparator.TheVariants.{SystemDefault}
+use Rattle.ini_text.specs.declared.write.option.LineSeparator.TheVariants.{SystemDefault}
 use Rattle.ini.proofs.WritingLemmas.{chars-line_end, chars-open_bracket}
 use Rattle.ini_tool.proofs.Lines.{chars-close_bracket_tab, chars-nothing, chars-tab}
 use Rattle.ini_tool.proofs.command.list_pair.Goals as goal

@@ -2,7 +2,7 @@ use Rattle.std.proofs.Common.{◌∙◌, ◌||◌, ap, sym}
 use lib.Lanes.{mask_l}
 use Rattle.ini_text.specs.Escaping.Policies.{is_basic, is_reserved}
 use Rattle.ini_text.specs.Inside.Verbatim.{begins_escaped}
-use Rattle.ini_text.specs.declared.policy.EscapePolicy.TheVariants.{Reserved}
+use Rattle.ini_text.specs.declared.write.policy.EscapePolicy.TheVariants.{Reserved}
 use Rattle.ini_text.proofs.StringLemmas.LaneLemmas.{below, bits, either, equal, map_same}
 use Rattle.ini_text.proofs.WriteLemmas.VerbatimRunLemmas.{begins-reserved}
 use Rattle.ini_text.proofs.write.verbatim.ReservedMarks.find.Goals as goal

@@ -2,7 +2,7 @@
 ghost use Rattle.std.specs.Prelude.{◌≡◌, Some};
 ghost use Rattle.ini_text.specs.Options.WriteOptions.{line_end, IsDefaultWriteOption};
 
-use crate::policy::EscapePolicy;
+use crate::write::policy::EscapePolicy;
 use std::fmt;
 
 /// What ends a written line.
