@@ -3,9 +3,9 @@
 //!
 //! A line of standard input asks: five flags, each `0` or `1` (escapes, quotes, multiline values, kept
 //! indentation, brackets in names), a space, and the UTF-8 of a text in hexadecimal. For each there is a
-//! line of standard output, its names, keys and values in hexadecimal too: `ok`, and then ` G` for the general
-//! section or ` S` and the name for any other, each followed by ` KEY=VALUE` for every pair; or `err`, and
-//! the refusal as it prints.
+//! line of standard output, its names, keys and values in hexadecimal too: `ok`, and then ` G` for the
+//! general section or ` S` and the name for any other, each followed by ` KEY=VALUE` for every pair; or
+//! `err`, and the refusal as it prints.
 //!
 //! Where an escape policy by its name, a space, a line end (`LF` or `CRLF`) and a space stand in front of
 //! that, the answer is `written`, a space, and in hexadecimal what the loaded document is written as under

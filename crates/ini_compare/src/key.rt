@@ -111,7 +111,8 @@ impl Probe<NoCase> for &str {
 
     ghost probe_code = { λ q. text_code (lower q.now) };
 
-    ghost one_class = { λ q a b. nat_list_eq_equiv.congr (lower q.now) (lower (string_bytes a.0)) (lower (string_bytes b.0)) };
+    ghost one_class = { λ q a b.
+        nat_list_eq_equiv.congr (lower q.now) (lower (string_bytes a.0)) (lower (string_bytes b.0)) };
 
     ghost same_code = { λ q k h. sym (text_code-eq (lower q.now) (lower (string_bytes k.0)) h) };
 

@@ -1,5 +1,5 @@
-//! Edits of a document as values, and whole runs over them: from a text to a document, edited, to a text. This file knows
-//! documents by the public calls of `ini` alone.
+//! Edits of a document as values, and whole runs over them: from a text to a document, edited, to a text.
+//! This file knows documents by the public calls of `ini` alone.
 ghost use Rattle.std.specs.Prelude.{◌≡◌, ◌<◌, ◌↔◌, ℕ, List, IfErr, IsOkUnless, OnErr, OnOk, alloc_error};
 ghost use Rattle.std.specs.Prelude.{chars};
 ghost use Rattle.ini_text.specs.Device.DeviceRefusals.{IsIo, IsNoProgress, failures_in, stalls_in};
@@ -13,7 +13,8 @@ use ini::{Error, Ini, ParseOption, Watched, WriteOption};
 use std::alloc::Global;
 use std::io::Write;
 
-/// An edit of a document. Each but `Clear` begins with the name of a section; `None` is the general section's.
+/// An edit of a document. Each but `Clear` begins with the name of a section; `None` is the general
+/// section's.
 #[derive(Debug, Drop)]
 pub enum Edit {
     /// Sets the value of a key, as the setter's `set` does.
@@ -34,8 +35,8 @@ pub enum Edit {
 ///
 /// # Errors
 ///
-/// `Memory` where an edit that puts in a pair was refused: the edits before it stand, and neither it nor a later one is
-/// made.
+/// `Memory` where an edit that puts in a pair was refused: the edits before it stand, and neither it nor a
+/// later one is made.
 pub fn apply(doc: &mut Ini, edits: &[Edit]) -> Result<(), Error>
     ensures edited { OnOk result (doc.new ≡ edited doc.old edits.now) }
     ensures cut_short { OnErr result (IsCutShort edits.now doc.old doc.new) }
@@ -75,13 +76,14 @@ fn make(doc: &mut Ini, edit: &Edit) -> Result<(), Error>
     Ok(())
 }
 
-/// Loads a text, makes the edits in order, and writes what the document is then: from text to document to bytes.
+/// Loads a text, makes the edits in order, and writes what the document is then: from text to document to
+/// bytes.
 ///
 /// # Errors
 ///
-/// The first refusal: `Parse` where reading the text stops; `Memory` where memory is refused; `Io` and `NoProgress` as
-/// `Ini::write_watched` has them. `Parse` and `Memory` have written nothing; after a refused write a front of the text went
-/// out.
+/// The first refusal: `Parse` where reading the text stops; `Memory` where memory is refused; `Io` and
+/// `NoProgress` as `Ini::write_watched` has them. `Parse` and `Memory` have written nothing; after a
+/// refused write a front of the text went out.
 pub fn edit_text<W: Write>(
     alloc: Global,
     text: &str,

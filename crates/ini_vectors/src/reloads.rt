@@ -1,5 +1,5 @@
-//! Callers that write a document and load it again. Each proves what it answers by the laws of documents, and
-//! by the contracts of writing and loading, alone.
+//! Callers that write a document and load it again. Each proves what it answers by the laws of documents,
+//! and by the contracts of writing and loading, alone.
 ghost use Rattle.std.specs.Prelude.{◌≡◌, chars, true, IfErr, IfOk};
 ghost use Rattle.std.specs.Str.{all_scalars};
 ghost use Rattle.ini_text.specs.Laws.PlainLaws.{IsEmptyOrHeader};
@@ -50,8 +50,8 @@ pub fn reload(
     load(alloc, &text, read)
 }
 
-/// Writes a plain document, and loads what was written with another text behind it that is empty or begins with
-/// an opening bracket: the outcome of that text, behind the document.
+/// Writes a plain document, and loads what was written with another text behind it that is empty or begins
+/// with an opening bracket: the outcome of that text, behind the document.
 pub fn reload_with(
     alloc: Global,
     document: &Ini,

@@ -44,7 +44,8 @@ impl<'a, K: MapKey, V> Model for Keys<'a, K, V> {
         it.passed it.end };
 }
 
-// Whether a pair before slot `at` has the key. Where there are chains, only pairs of its code are asked about.
+// Whether a pair before slot `at` has the key. Where there are chains, only pairs of its code are asked
+// about.
 fn has_key<K: MapKey, V>(
     keys: &[Option<K>],
     values: &[Option<V>],

@@ -36,7 +36,8 @@ impl<'a, K: MapKey, V, Q: Probe<K> + Copy> Model for Values<'a, K, V, Q> {
 
     ghost view = { λ it. values_from (Q.fits it.q) it.keys.now it.values.now it.first it.last };
 
-    ghost invariant = { λ it. AreBetween K.key_code (Q.probe_code it.q) it.keys.now it.values.now it.index.now
+    ghost invariant = { λ it.
+        AreBetween K.key_code (Q.probe_code it.q) it.keys.now it.values.now it.index.now
         it.first it.last };
 }
 

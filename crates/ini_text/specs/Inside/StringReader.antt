@@ -1,5 +1,5 @@
 -- Reading a string by steps that each take a piece.
-use Rattle.std.specs.Prelude.{ℕ, zero, suc, ◌==◌, ◌&&◌, Bool, if◌then◌else◌, List, [], ◌∷◌, Option, Some, None, unwrap_or}
+use Rattle.std.specs.Prelude.{◌≡◌, ℕ, zero, suc, ◌==◌, ◌&&◌, Bool, if◌then◌else◌, List, [], ◌∷◌, Option, Some, None, unwrap_or}
 use Rattle.ini_text.specs.Grammar.CharacterKinds.{backslash, letter_x, line_feed}
 use Rattle.ini_text.specs.Grammar.EscapeSequences.{control, spelled_by}
 use Rattle.ini_text.specs.Grammar.Strings.{Ends, is_endpoint}
@@ -62,3 +62,7 @@ piece e to (c ∷ cs) =
 
 unfoldable pub string : Bool → Ends → List ℕ → Answer ℕ
 string e to t = read_by (piece e to) t
+
+-- with escapes and without, the string at the front of a text is v, and r follows it
+abbrev pub ReadsRaw : Ends → List ℕ → List ℕ → List ℕ → Type 0
+ReadsRaw to t v r = (e : Bool) → string e to t ≡ found v r

@@ -46,7 +46,8 @@ fn read_bracketed_header<'a>(
     text: &'a str,
     option: ParseOption,
 ) -> Result<(Option<Item>, &'a str), Stop<'a>>
-    ensures { Gives given result (bracketed_header (string option.enabled_escape bracketed_name_ends (chars text.now))) }
+    ensures { Gives given result
+        (bracketed_header (string option.enabled_escape bracketed_name_ends (chars text.now))) }
 {
     let mut line = String::new(alloc);
     let rest = read_string(

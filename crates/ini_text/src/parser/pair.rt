@@ -2,7 +2,8 @@
 //! blanks. This file knows strings and values.
 ghost use Rattle.std.specs.Prelude.{◌≡◌, ℕ, chars, drop, IfOk};
 ghost use Rattle.ini_text.specs.Grammar.CharacterKinds.{is_blank};
-ghost use Rattle.ini_text.specs.Inside.ElementReader.{behind_blanks, behind_separator, given, indented_keyed, kept_blanks, unindented};
+ghost use Rattle.ini_text.specs.Inside.ElementReader.{behind_blanks, behind_separator, given};
+ghost use Rattle.ini_text.specs.Inside.ElementReader.{indented_keyed, kept_blanks, unindented};
 ghost use Rattle.ini_text.specs.Inside.Reading.{Answer, Gives, StopsBy};
 ghost use Rattle.ini_text.specs.Inside.Scans.{run_of, skipped};
 ghost use Rattle.ini_text.specs.Parsing.Items.{string_text};
@@ -85,7 +86,8 @@ fn begin_key(alloc: Global, blanks: &str, option: ParseOption) -> Result<String,
 
 /// What is left of a text that ends within an indented key gives nothing; other stops stay.
 fn drop_tail(stop: Stop<'_>) -> Result<(Option<Item>, &str), Stop<'_>>
-    ensures { (o : ParseOption) (a : Answer ℕ) → StopsBy a stop.entry → Gives given result (indented_keyed o a) }
+    ensures { (o : ParseOption) (a : Answer ℕ) → StopsBy a stop.entry
+        → Gives given result (indented_keyed o a) }
 {
     match stop {
         Stop::Memory => Err(stop),

@@ -3,7 +3,7 @@ ghost use Rattle.std.specs.Prelude.{◌≡◌, ◌∷◌, ◌++◌, [], chars, u
 ghost use Rattle.ini_text.specs.Inside.Endpoints.{ends_of};
 ghost use Rattle.ini_text.specs.Grammar.EscapeSequences.{control, spelled, spelled_by};
 ghost use Rattle.ini_text.specs.Inside.Reading.{found, prepend, Appends, Gives};
-ghost use Rattle.ini_text.specs.Inside.StringReader.{coded, string, unit, value_behind_backslash};
+ghost use Rattle.ini_text.specs.Inside.StringReader.{ReadsRaw, coded, string, unit, value_behind_backslash};
 ghost use Rattle.ini_text.specs.Parsing.Items.{string_text};
 
 use crate::error::ParseKind;
@@ -15,7 +15,7 @@ use std::alloc::AllocError;
 /// A string of one run, and what follows it, from its endpoint on. `None` where it has a backslash, or
 /// isn't ended.
 pub(crate) fn split_plain(text: &str, ends: Endpoints) -> Option<(&str, &str)>
-    ensures { IfSome result (λ p. (escapes : Bool) → string escapes (ends_of ends) (chars text.now) ≡ found (chars p.0.now) (chars p.1.now)) }
+    ensures { IfSome result (λ p. ReadsRaw (ends_of ends) (chars text.now) (chars p.0.now) (chars p.1.now)) }
 {
     let (run, rest) = split_run(text, ends);
     match split_first(rest) {

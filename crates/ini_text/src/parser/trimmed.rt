@@ -24,7 +24,8 @@ pub(crate) fn read_trimmed<'a>(
     ends: Endpoints,
     both: bool,
 ) -> Result<(String, &'a str), Stop<'a>>
-    ensures { Gives string_text result (altered (trimmed_at both) (string escapes (ends_of ends) (chars text.now))) }
+    ensures { Gives string_text result
+        (altered (trimmed_at both) (string escapes (ends_of ends) (chars text.now))) }
 {
     // Most strings are one run of the text: they are copied once, as long as they are.
     if let Some((run, rest)) = split_plain(text, ends) {
