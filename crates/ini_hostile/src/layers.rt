@@ -1,4 +1,5 @@
-//! Layers while memory is refused: a document that can't be pushed comes back, and layers that can't be merged stay.
+//! Layers while memory is refused: a document that can't be pushed comes back, and layers that can't be
+//! merged stay.
 use crate::scarce::{CALLS, Famine};
 use crate::show::shown;
 use ini::{Error, Ini};
