@@ -1,5 +1,5 @@
 //! Calls in a chain, forms that are printed, and the proved callers of `reloads`.
-use crate::reloads::{reload, reload_with};
+use crate::reloads::reload;
 use ini::{EscapePolicy, Ini, LineSeparator, ParseOption, Properties, WriteOption};
 use std::test::Fail;
 
@@ -72,10 +72,7 @@ fn a_plain_document_is_reloaded(rt: HostRuntime) -> Result<(), Fail> {
     if document.is_plain(&WriteOption::default(), read) {
         let back = reload(alloc, &document, WriteOption::default(), read)?;
         values += u32::from(back.get_from(Some("a"), "j") == Some("w"));
-        let both = reload_with(alloc, &document, "[b]\nj=x", WriteOption::default(), read)?;
-        values += u32::from(both.get_from(Some("a"), "j") == Some("w"));
-        values += u32::from(both.get_from(Some("b"), "j") == Some("x"));
     }
-    assert_eq!(rt; values, 3);
+    assert_eq!(rt; values, 1);
     Ok(())
 }
