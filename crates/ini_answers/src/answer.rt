@@ -81,7 +81,7 @@ mod tests {
         for (line, want) in rows {
             let question = Question::parse(rt.alloc(), line)?;
             let answer = answer(rt.alloc(), question)?;
-            assert_eq!(rt; answer.as_str(), want, "at {line}");
+            assert!(rt; answer.as_str() == want, "at {line}");
         }
         Ok(())
     }

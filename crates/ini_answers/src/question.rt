@@ -111,7 +111,7 @@ mod tests {
     #[test]
     fn reads_flags_and_text(rt: HostRuntime) -> Result<(), Fail> {
         let question = Question::parse(rt.alloc(), "10011 6b3dC3a9")?;
-        assert_eq!(rt; question.text.as_str(), "k=é");
+        assert!(rt; question.text.as_str() == "k=é");
         assert!(rt; question.reading.enabled_escape);
         assert!(rt; !question.reading.enabled_quote);
         assert!(rt; !question.reading.enabled_indented_mutiline_value);
@@ -143,11 +143,11 @@ mod tests {
         ];
         for (line, policy, separator) in rows {
             let question = Question::parse(rt.alloc(), line)?;
-            assert_eq!(rt; question.text.as_str(), "k");
+            assert!(rt; question.text.as_str() == "k");
             let option = question.writing.expect(&rt, line);
-            assert_eq!(rt; option.escape_policy, policy, "at {line}");
-            assert_eq!(rt; option.line_separator, separator, "at {line}");
-            assert_eq!(rt; option.kv_separator, "=", "at {line}");
+            assert!(rt; option.escape_policy == policy, "at {line}");
+            assert!(rt; option.line_separator == separator, "at {line}");
+            assert!(rt; option.kv_separator == "=", "at {line}");
         }
         Ok(())
     }

@@ -30,11 +30,11 @@ const SECTIONS_OF_ONE_NAME: &[&'static str] = &["k=1\n[a]\nx=1\n", "[a]\nx=2\ny=
 fn no_layers(rt: HostRuntime) -> Result<(), Fail> {
     let layers = Layers::new(rt.alloc());
     assert!(rt; layers.is_empty());
-    assert_eq!(rt; layers.len(), 0);
-    assert_eq!(rt; layers.get_from(None, "k"), None);
+    assert!(rt; layers.len() == 0);
+    assert!(rt; layers.get_from(None, "k").is_none());
     let merged = layers.merged()?;
-    assert_eq!(rt; merged.len(), 1);
-    assert_eq!(rt; written_text(rt.alloc(), &merged)?.as_str(), "");
+    assert!(rt; merged.len() == 1);
+    assert!(rt; written_text(rt.alloc(), &merged)?.as_str() == "");
     Ok(())
 }
 
@@ -49,7 +49,7 @@ fn the_last_layer_that_has_the_key_counts(rt: HostRuntime) -> Result<(), Fail> {
         (None, "k", Some("1")),
         (None, "x", None),
     ] {
-        assert_eq!(rt; layers.get_from(name, key), want, "at {name:?} {key}");
+        assert!(rt; layers.get_from(name, key) == want, "at {name:?} {key}");
     }
     Ok(())
 }
@@ -57,14 +57,14 @@ fn the_last_layer_that_has_the_key_counts(rt: HostRuntime) -> Result<(), Fail> {
 #[test]
 fn a_first_section_without_the_key_leaves_the_layers_below(rt: HostRuntime) -> Result<(), Fail> {
     let layers = layers_of(rt.alloc(), &["[a]\nx=1\n", "[a]\n[a]\nx=2\n"])?;
-    assert_eq!(rt; layers.get_from(Some("a"), "x"), Some("1"));
+    assert!(rt; layers.get_from(Some("a"), "x") == Some("1"));
     Ok(())
 }
 
 #[test]
 fn the_first_value_of_a_repeated_key_counts(rt: HostRuntime) -> Result<(), Fail> {
     let layers = layers_of(rt.alloc(), &["x=1\nx=2\n[e]\n"])?;
-    assert_eq!(rt; layers.get_from(None, "x"), Some("1"));
+    assert!(rt; layers.get_from(None, "x") == Some("1"));
     let merged = layers.merged()?;
     assert!(rt; merged.section(Some("e")).is_none());
     Ok(())
@@ -87,9 +87,8 @@ fn merged_layers_are_written(rt: HostRuntime) -> Result<(), Fail> {
     ];
     for (texts, want) in rows {
         let merged = layers_of(rt.alloc(), texts)?.merged()?;
-        assert_eq!(rt;
-            written_text(rt.alloc(), &merged)?.as_str(),
-            want,
+        assert!(rt;
+            written_text(rt.alloc(), &merged)?.as_str() == want,
             "at {texts:?}"
         );
     }
@@ -103,7 +102,7 @@ fn a_cleared_document_is_a_layer_without_values(rt: HostRuntime) -> Result<(), F
     let mut layers = Layers::new(rt.alloc());
     layers.push(document).map_err(|_| "no room for a layer")?;
     let merged = layers.merged()?;
-    assert_eq!(rt; merged.len(), 1);
+    assert!(rt; merged.len() == 1);
     assert!(rt; merged.general_section().is_empty());
     Ok(())
 }
@@ -111,7 +110,7 @@ fn a_cleared_document_is_a_layer_without_values(rt: HostRuntime) -> Result<(), F
 #[test]
 fn documents_come_from_both_ends(rt: HostRuntime) -> Result<(), Fail> {
     let layers = layers_of(rt.alloc(), &["k=1\n", "k=2\n", "k=3\n"])?;
-    assert_eq!(rt; layers.len(), 3);
+    assert!(rt; layers.len() == 3);
     assert!(rt; !layers.is_empty());
     let mut documents = layers.iter();
     let mut ends = [None, None, None, None];
@@ -121,7 +120,7 @@ fn documents_come_from_both_ends(rt: HostRuntime) -> Result<(), Fail> {
     ends[3] = documents.next_back();
     for (document, want) in ends.iter().zip([Some("1"), Some("3"), Some("2"), None]) {
         let value = document.and_then(|document| document.get_from(None, "k"));
-        assert_eq!(rt; value, want);
+        assert!(rt; value == want);
     }
     Ok(())
 }

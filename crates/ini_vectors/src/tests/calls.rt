@@ -1,37 +1,53 @@
 //! Calls in a chain, forms that are printed, and the proved callers of `reloads`.
 use crate::reloads::reload;
-use ini::{EscapePolicy, Ini, LineSeparator, ParseOption, Properties, WriteOption};
+use ini::{Error, EscapePolicy, Ini, LineSeparator, ParseOption, Properties, WriteOption};
+use std::alloc::Global;
 use std::test::Fail;
 
-#[test]
-fn section_setter_chain(rt: HostRuntime) -> Result<(), Fail> {
-    let mut document = Ini::new(rt.alloc())?;
+// What is set in a chain is there, the last value of each key; what is deleted is gone.
+fn chain_of_one_section(document: &mut Ini) -> Result<bool, Error> {
     let setter = document
         .with_section(Some("section"))
         .set("a", "1")?
         .set("b", "2")?;
     let setter = setter.set("c", "3")?;
-    assert_eq!(rt; setter.get("a"), Some("1"));
-    assert_eq!(rt; setter.get("b"), Some("2"));
-    assert_eq!(rt; setter.get("c"), Some("3"));
+    if setter.get("a") != Some("1")
+        || setter.get("b") != Some("2")
+        || setter.get("c") != Some("3")
+    {
+        return Ok(false);
+    }
     let setter = setter.set("a", "4")?.set("b", "5")?.set("c", "6")?;
     let setter = setter.delete("a").delete("b");
-    assert_eq!(rt; setter.get("a"), None);
-    assert_eq!(rt; setter.get("b"), None);
-    assert_eq!(rt; setter.get("c"), Some("6"));
-    assert_eq!(rt; setter.delete("c").get("c"), None);
+    if setter.get("a").is_some() || setter.get("b").is_some() || setter.get("c") != Some("6") {
+        return Ok(false);
+    }
+    Ok(setter.delete("c").get("c").is_none())
+}
+
+// The same of the general section, before and after all is cleared.
+fn chain_of_the_general_section(document: &mut Ini) -> Result<bool, Error> {
     let setter = document
         .with_general_section()
         .set("a", "7")?
         .delete("b")
         .add("a", "8")?;
-    assert_eq!(rt; setter.get("a"), Some("7"));
+    if setter.get("a") != Some("7") {
+        return Ok(false);
+    }
     document.clear();
-    assert_eq!(rt; document.with_general_section().get("k"), None);
+    if document.with_general_section().get("k").is_some() {
+        return Ok(false);
+    }
     document.with_general_section().set("k", "v")?;
-    assert_eq!(rt; document.get_from(None, "k"), Some("v"));
-    assert_eq!(rt; document.len(), 1);
-    Ok(())
+    Ok(document.get_from(None, "k") == Some("v") && document.len() == 1)
+}
+
+#[test]
+fn section_setter_chain(rt: HostRuntime) {
+    let mut document = Ini::new(rt.alloc()).expect(&rt, "memory");
+    assert!(rt; matches!(chain_of_one_section(&mut document), Ok(true)));
+    assert!(rt; matches!(chain_of_the_general_section(&mut document), Ok(true)));
 }
 
 #[test]
@@ -51,28 +67,30 @@ fn line_ends_and_the_default(rt: HostRuntime) -> Result<(), Fail> {
         (LineSeparator::CRLF, "\r\n"),
     ] {
         let printed = format!(in rt.alloc(); "{separator}")?;
-        assert_eq!(rt; separator.as_str(), text);
-        assert_eq!(rt; printed.as_str(), text);
+        assert!(rt; separator.as_str() == text);
+        assert!(rt; printed.as_str() == text);
     }
     let default = WriteOption::default().clone()?;
     assert!(rt; default.escape_policy == EscapePolicy::Basics);
     assert!(rt; default.line_separator == LineSeparator::SystemDefault);
-    assert_eq!(rt; default.kv_separator, "=");
+    assert!(rt; default.kv_separator == "=");
     Ok(())
 }
 
-#[test]
-fn a_plain_document_is_reloaded(rt: HostRuntime) -> Result<(), Fail> {
-    let (alloc, read) = (rt.alloc(), ParseOption::default());
-    let document = Ini::load_from_str(alloc, "k=v\n[a]\nj=w\n")?;
-    let mut empty = Ini::read_from(alloc, &mut b"".as_slice())?;
-    assert_eq!(rt; document.general_section().len(), 1);
-    assert_eq!(rt; empty.general_section_mut().len(), 0);
-    let mut values = 0u32;
-    if document.is_plain(&WriteOption::default(), read) {
-        let back = reload(alloc, &document, WriteOption::default(), read)?;
-        values += u32::from(back.get_from(Some("a"), "j") == Some("w"));
+// Whether the document of a text is plain, and is written and loaded again with the value that it has.
+fn is_reloaded(alloc: Global, text: &str) -> Result<bool, Error> {
+    let (write, read) = (WriteOption::default(), ParseOption::default());
+    let document = Ini::load_from_str(alloc, text)?;
+    if document.general_section().len() != 1 || !document.is_plain(&write, read) {
+        return Ok(false);
     }
-    assert_eq!(rt; values, 1);
-    Ok(())
+    let back = reload(alloc, &document, write, read)?;
+    Ok(back.get_from(Some("a"), "j") == Some("w"))
+}
+
+#[test]
+fn a_plain_document_is_reloaded(rt: HostRuntime) {
+    assert!(rt; matches!(is_reloaded(rt.alloc(), "k=v\n[a]\nj=w\n"), Ok(true)));
+    let mut empty = Ini::read_from(rt.alloc(), &mut b"".as_slice()).expect(&rt, "memory");
+    assert!(rt; empty.general_section_mut().len() == 0);
 }

@@ -6,7 +6,6 @@ use std::alloc::Global;
 use std::io;
 use std::io::{ErrorKind, Read, Write};
 use std::process::Abort;
-use std::test::Fail;
 
 /// A reader that answers a fault in place of its end.
 #[derive(Drop)]
@@ -24,29 +23,33 @@ impl Read for Cut<'_> {
     }
 }
 
+/// Asks that the call answered this fault.
+fn expect_fault<T: Drop>(rt: &impl Abort, answer: Result<T, Error>, kind: ErrorKind) {
+    match answer {
+        Err(Error::Io(fault)) => assert!(rt; fault.kind() == kind),
+        _ => panic!(rt; "no fault"),
+    }
+}
+
 #[test]
-fn reads_up_to_the_fault(rt: HostRuntime) -> Result<(), Fail> {
+fn reads_up_to_the_fault(rt: HostRuntime) {
     for kind in [ErrorKind::Other, ErrorKind::Interrupted] {
         let mut device = Cut { rest: b"abc", kind };
         let mut input = Watched::new(&mut device);
         let mut piece = [0u8; 2];
-        assert_eq!(rt; input.read(&mut piece)?, 2);
-        assert_eq!(rt; piece.as_slice(), b"ab".as_slice());
-        assert_eq!(rt; input.read(&mut piece)?, 1);
-        assert_eq!(rt; piece.as_slice(), b"cb".as_slice());
-        assert_eq!(rt; input.failures(), 0);
-        match input.read(&mut piece) {
-            Err(Error::Io(fault)) => assert!(rt; fault.kind() == kind),
-            _ => panic!(rt; "no fault"),
-        }
-        assert_eq!(rt; input.failures(), 1);
-        assert_eq!(rt; input.stalls(), 0);
+        assert!(rt; matches!(input.read(&mut piece), Ok(2)));
+        assert!(rt; piece.as_slice() == b"ab".as_slice());
+        assert!(rt; matches!(input.read(&mut piece), Ok(1)));
+        assert!(rt; piece.as_slice() == b"cb".as_slice());
+        assert!(rt; input.failures() == 0);
+        expect_fault(&rt, input.read(&mut piece), kind);
+        assert!(rt; input.failures() == 1);
+        assert!(rt; input.stalls() == 0);
     }
     let mut ended: &[u8] = b"";
     let mut input = Watched::new(&mut ended);
-    assert_eq!(rt; input.read(&mut [0u8; 2])?, 0);
-    assert_eq!(rt; input.failures(), 0);
-    Ok(())
+    assert!(rt; matches!(input.read(&mut [0u8; 2]), Ok(0)));
+    assert!(rt; input.failures() == 0);
 }
 
 /// A device whose first call fails; its later calls go well.
@@ -84,27 +87,19 @@ impl Write for FailsOnce {
     }
 }
 
-/// Asks that the call answered this fault.
-fn expect_fault<T: Drop>(rt: &impl Abort, answer: Result<T, Error>, kind: ErrorKind) {
-    match answer {
-        Err(Error::Io(fault)) => assert!(rt; fault.kind() == kind),
-        _ => panic!(rt; "no fault"),
-    }
-}
-
 #[test]
 fn a_device_that_failed_is_not_called_again(rt: HostRuntime) {
     for kind in [ErrorKind::Other, ErrorKind::Interrupted] {
         let mut device = FailsOnce { kind, calls: 0 };
         let mut input = Watched::new(&mut device);
         expect_fault(&rt, input.read(&mut [0u8; 2]), kind);
-        assert_eq!(rt; (input.failures(), input.stalls()), (1, 0));
-        assert_eq!(rt; device.calls, 1);
+        assert!(rt; (input.failures(), input.stalls()) == (1, 0));
+        assert!(rt; device.calls == 1);
         let mut device = FailsOnce { kind, calls: 0 };
         let mut output = Watched::new(&mut device);
         expect_fault(&rt, write_raw("ab", &mut output), kind);
-        assert_eq!(rt; (output.failures(), output.stalls()), (1, 0));
-        assert_eq!(rt; device.calls, 1);
+        assert!(rt; (output.failures(), output.stalls()) == (1, 0));
+        assert!(rt; device.calls == 1);
     }
 }
 
@@ -166,9 +161,9 @@ fn expect_front(rt: &impl Abort, mut device: Limited, as_it_is: bool) {
         Err(other) => assert!(rt; !fails && matches!(other, Error::NoProgress)),
     }
     let stopped = room < ESCAPED.len();
-    assert_eq!(rt; out.failures(), u64::from(stopped && fails));
-    assert_eq!(rt; out.stalls(), u64::from(stopped && !fails));
-    assert_eq!(rt; device.taken.as_slice(), &ESCAPED.as_bytes()[..room]);
+    assert!(rt; out.failures() == u64::from(stopped && fails));
+    assert!(rt; out.stalls() == u64::from(stopped && !fails));
+    assert!(rt; device.taken.as_slice() == &ESCAPED.as_bytes()[..room]);
 }
 
 #[test]
@@ -181,35 +176,51 @@ fn a_device_takes_what_it_has_room_for(rt: HostRuntime) {
     }
 }
 
-#[test]
-fn runs_go_out_together(rt: HostRuntime) -> Result<(), Fail> {
-    let mut text = "plain é 字 ".repeat(rt.alloc(), 1000)?;
+// How often a device is called for a text with escapes at its end, and whether it took the escaped text.
+fn calls_for_runs_and_escapes(alloc: Global) -> Result<(u64, bool), Error> {
+    let mut text = "plain é 字 ".repeat(alloc, 1000)?;
     let mut escaped = text.clone()?;
-    text.push_str("\x1B".repeat(rt.alloc(), 25)?.as_str())?;
-    escaped.push_str(r"\x001b".repeat(rt.alloc(), 25)?.as_str())?;
-    let mut device = Limited::new(rt.alloc(), usize::MAX, true);
+    text.push_str("\x1B".repeat(alloc, 25)?.as_str())?;
+    escaped.push_str(r"\x001b".repeat(alloc, 25)?.as_str())?;
+    let mut device = Limited::new(alloc, usize::MAX, true);
     write_escaped(
         text.as_str(),
         EscapePolicy::Basics,
         &mut Watched::new(&mut device),
     )?;
-    assert_eq!(rt; device.taken.as_slice(), escaped.as_bytes());
-    assert!(rt; device.calls <= 4, "{} calls", device.calls);
-    Ok(())
+    Ok((device.calls, device.taken.as_slice() == escaped.as_bytes()))
 }
 
 #[test]
-fn a_run_is_not_parted(rt: HostRuntime) -> Result<(), Fail> {
-    for (length, calls) in [(0, 1), (20, 1), (4_000, 1), (10_000, 3)] {
-        let run = "a".repeat(rt.alloc(), length)?;
-        let text = format!(in rt.alloc(); "\x1B{run}\x1B")?;
-        let mut device = Limited::new(rt.alloc(), usize::MAX, true);
-        write_escaped(&text, EscapePolicy::Basics, &mut Watched::new(&mut device))?;
-        assert_eq!(rt; device.calls, calls, "{length}");
-    }
-    let mut device = Limited::new(rt.alloc(), 0, true);
+fn runs_go_out_together(rt: HostRuntime) {
+    assert!(rt; matches!(calls_for_runs_and_escapes(rt.alloc()), Ok((0..=4, true))));
+}
+
+// How often a device is called for a run of this length between two escapes.
+fn calls_for_a_run(alloc: Global, length: usize) -> Result<u64, Error> {
+    let run = "a".repeat(alloc, length)?;
+    let text = format!(in alloc; "\x1B{run}\x1B")?;
+    let mut device = Limited::new(alloc, usize::MAX, true);
+    write_escaped(
+        text.as_str(),
+        EscapePolicy::Basics,
+        &mut Watched::new(&mut device),
+    )?;
+    Ok(device.calls)
+}
+
+// The same for an empty text, as it is and escaped.
+fn calls_for_nothing(alloc: Global) -> Result<u64, Error> {
+    let mut device = Limited::new(alloc, 0, true);
     write_raw("", &mut Watched::new(&mut device))?;
     write_escaped("", EscapePolicy::Everything, &mut Watched::new(&mut device))?;
-    assert_eq!(rt; device.calls, 0);
-    Ok(())
+    Ok(device.calls)
+}
+
+#[test]
+fn a_run_is_not_parted(rt: HostRuntime) {
+    for (length, calls) in [(0, 1), (20, 1), (4_000, 1), (10_000, 3)] {
+        assert!(rt; matches!(calls_for_a_run(rt.alloc(), length), Ok(found) if found == calls));
+    }
+    assert!(rt; matches!(calls_for_nothing(rt.alloc()), Ok(0)));
 }

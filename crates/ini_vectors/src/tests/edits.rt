@@ -1,8 +1,7 @@
 //! Lists of edits, made on documents and on texts.
 use crate::{Edit, apply, edit_text};
-use ini::{EscapePolicy, Ini, LineSeparator, ParseOption, Watched, WriteOption};
+use ini::{Error, EscapePolicy, Ini, LineSeparator, ParseOption, Watched, WriteOption};
 use std::alloc::{AllocError, Global};
-use std::test::Fail;
 
 /// Sections of which two have one name.
 const PEERS: &'static str = "[p]\nk=1\n[q]\n[p]\nk=2\n";
@@ -51,37 +50,33 @@ const AFTER_EACH: [&'static str; 9] = [
     "k=v\n",
 ];
 
-#[test]
-fn edits_are_made_in_order(rt: HostRuntime) -> Result<(), Fail> {
-    let alloc = rt.alloc();
-    let edits = each_form(alloc)?;
-    for (count, want) in AFTER_EACH.iter().enumerate() {
-        let first = edits.get(..count).ok_or("too few edits")?;
-        let mut document = Ini::load_from_str(alloc, PEERS)?;
-        apply(&mut document, first)?;
-        let mut text: Vec<u8> = Vec::new(alloc);
-        document.write_to(&mut text)?;
-        assert_eq!(rt; text.as_slice(), want.as_bytes(), "after {count}");
-        let mut bytes = b"; kept\n".to_vec(alloc)?;
-        let mut out = Watched::new(&mut bytes);
-        edit_text(
-            alloc,
-            PEERS,
-            ParseOption::default(),
-            first,
-            WriteOption::default(),
-            &mut out,
-        )?;
-        assert_eq!(rt; (out.failures(), out.stalls()), (0, 0));
-        let all = format!(in alloc; "; kept\n{want}")?;
-        assert_eq!(rt; bytes.as_slice(), all.as_bytes(), "after {count}");
-    }
-    Ok(())
+// Whether edits made on a document of `PEERS`, and on the text behind one that is kept, give this text.
+fn gives(alloc: Global, edits: &[Edit], want: &str) -> Result<bool, Error> {
+    let mut document = Ini::load_from_str(alloc, PEERS)?;
+    apply(&mut document, edits)?;
+    let mut text: Vec<u8> = Vec::new(alloc);
+    document.write_to(&mut text)?;
+    let mut bytes = b"; kept\n".to_vec(alloc)?;
+    let mut out = Watched::new(&mut bytes);
+    let (read, write) = (ParseOption::default(), WriteOption::default());
+    edit_text(alloc, PEERS, read, edits, write, &mut out)?;
+    let sound = out.failures() == 0 && out.stalls() == 0;
+    let all = format!(in alloc; "; kept\n{want}")?;
+    Ok(sound && text.as_slice() == want.as_bytes() && bytes.as_slice() == all.as_bytes())
 }
 
 #[test]
-fn texts_are_read_and_written_by_the_options(rt: HostRuntime) -> Result<(), Fail> {
-    let edits = [set(rt.alloc(), None, "a:b")?];
+fn edits_are_made_in_order(rt: HostRuntime) {
+    let edits = each_form(rt.alloc()).expect(&rt, "memory");
+    for (count, want) in AFTER_EACH.iter().enumerate() {
+        let first = edits.get(..count).expect(&rt, "too few edits");
+        assert!(rt; matches!(gives(rt.alloc(), first, want), Ok(true)));
+    }
+}
+
+// What is written of a text that has an edit made on it, by options of each kind.
+fn written_by_options(alloc: Global) -> Result<Vec<u8>, Error> {
+    let edits = [set(alloc, None, "a:b")?];
     let option = WriteOption {
         escape_policy: EscapePolicy::Reserved,
         line_separator: LineSeparator::CRLF,
@@ -91,33 +86,39 @@ fn texts_are_read_and_written_by_the_options(rt: HostRuntime) -> Result<(), Fail
         enabled_escape: false,
         ..ParseOption::default()
     };
-    let mut bytes: Vec<u8> = Vec::new(rt.alloc());
+    let mut bytes: Vec<u8> = Vec::new(alloc);
     let mut out = Watched::new(&mut bytes);
-    edit_text(rt.alloc(), r"j=C:\x", noescape, &edits, option, &mut out)?;
-    assert_eq!(rt;
-        bytes.as_slice(),
-        b"j = C\\:\\\\x\r\nk = a\\:b\r\n".as_slice()
-    );
-    Ok(())
+    edit_text(alloc, r"j=C:\x", noescape, &edits, option, &mut out)?;
+    Ok(bytes)
 }
 
 #[test]
-fn a_refused_text_writes_nothing(rt: HostRuntime) -> Result<(), Fail> {
-    let alloc = rt.alloc();
-    let edits = each_form(alloc)?;
-    for (refused, want) in [("=v", "1:2 missing key"), ("[p", "1:3 expecting")] {
-        let mut bytes = b"; kept\n".to_vec(alloc)?;
-        let mut out = Watched::new(&mut bytes);
-        let (read, write) = (ParseOption::default(), WriteOption::default());
-        match edit_text(alloc, refused, read, &edits, write, &mut out) {
-            Err(refusal) => {
-                let printed = refusal.to_string(alloc)?;
-                assert!(rt; printed.as_str().starts_with(want), "{printed}");
-            }
-            Ok(()) => panic!(rt; "no refusal at {refused:?}"),
-        }
-        assert_eq!(rt; (out.failures(), out.stalls()), (0, 0));
-        assert_eq!(rt; bytes.as_slice(), b"; kept\n".as_slice());
+fn texts_are_read_and_written_by_the_options(rt: HostRuntime) {
+    let bytes = written_by_options(rt.alloc()).expect(&rt, "memory");
+    assert!(rt; bytes.as_slice() == b"j = C\\:\\\\x\r\nk = a\\:b\r\n".as_slice());
+}
+
+// What edits made on a refused text tell, if nothing was written and no device failed.
+fn refusal_of(alloc: Global, text: &str, edits: &[Edit]) -> Result<Option<String>, AllocError> {
+    let mut bytes = b"; kept\n".to_vec(alloc)?;
+    let mut out = Watched::new(&mut bytes);
+    let (read, write) = (ParseOption::default(), WriteOption::default());
+    let Err(refusal) = edit_text(alloc, text, read, edits, write, &mut out) else {
+        return Ok(None);
+    };
+    let sound = out.failures() == 0 && out.stalls() == 0;
+    if !sound || bytes.as_slice() != b"; kept\n".as_slice() {
+        return Ok(None);
     }
-    Ok(())
+    Ok(Some(refusal.to_string(alloc)?))
+}
+
+#[test]
+fn a_refused_text_writes_nothing(rt: HostRuntime) {
+    let edits = each_form(rt.alloc()).expect(&rt, "memory");
+    for (refused, want) in [("=v", "1:2 missing key"), ("[p", "1:3 expecting")] {
+        let told = refusal_of(rt.alloc(), refused, edits.as_slice()).expect(&rt, "memory");
+        let told = told.expect(&rt, "no refusal");
+        assert!(rt; told.as_str().starts_with(want));
+    }
 }

@@ -15,7 +15,7 @@ const NAME: &'static str = "settings.ini";
 /// Asks that a call told a fault of this kind.
 fn expect_fault<T: Drop>(rt: &impl Abort, answer: Result<T, Error>, kind: ErrorKind) {
     match answer {
-        Err(Error::Io(fault)) => assert_eq!(rt; fault.kind(), kind),
+        Err(Error::Io(fault)) => assert!(rt; fault.kind() == kind),
         Err(_) => panic!(rt; "another refusal"),
         Ok(_) => panic!(rt; "no refusal"),
     }
@@ -33,7 +33,7 @@ fn long_files_are_read_and_written_whole(rt: HostRuntime) -> Result<(), Fail> {
     let document = Ini::load_from_file(&rt, rt.alloc(), path)?;
     for loaded in [&by_bytes, &document] {
         let section = loaded.section(None).ok_or("no section")?;
-        assert_eq!(rt; section.iter().size_hint(), (20_000, Some(20_000)));
+        assert!(rt; section.iter().size_hint() == (20_000, Some(20_000)));
     }
     fs::remove_file(&rt, NAME)?;
     document.write_to_file(&rt, path)?;
@@ -47,9 +47,9 @@ fn a_file_is_replaced_by_one_beside_it(rt: HostRuntime) -> Result<(), Fail> {
     let mut document = Ini::load_from_file(&rt, rt.alloc(), Path::new(NAME))?;
     document.with_general_section().set("k", "2")?;
     document.write_to_file(&rt, Path::new("settings.ini.new"))?;
-    assert_eq!(rt; fs::read(&rt, NAME)?.as_slice(), b"k=1\n".as_slice());
+    assert!(rt; fs::read(&rt, NAME)?.as_slice() == b"k=1\n".as_slice());
     fs::rename(&rt, "settings.ini.new", NAME)?;
-    assert_eq!(rt; fs::read(&rt, NAME)?.as_slice(), b"k=2\n".as_slice());
+    assert!(rt; fs::read(&rt, NAME)?.as_slice() == b"k=2\n".as_slice());
     assert!(rt; !fs::exists(&rt, "settings.ini.new")?);
     Ok(())
 }
@@ -116,7 +116,7 @@ fn a_name_that_is_not_there_is_made_by_writing_alone(rt: HostRuntime) -> Result<
     );
     assert!(rt; !fs::exists(&rt, name)?);
     Ini::load_from_str(rt.alloc(), "k=v")?.write_to_file(&rt, path)?;
-    assert_eq!(rt; fs::read(&rt, name)?.as_slice(), b"k=v\n".as_slice());
+    assert!(rt; fs::read(&rt, name)?.as_slice() == b"k=v\n".as_slice());
     fs::remove_file(&rt, name)?;
     Ok(())
 }
@@ -140,12 +140,12 @@ fn files_without_the_right_to_them(rt: HostRuntime) -> Result<(), Fail> {
     set_mode(&rt, 0o400)?;
     expect_fault(&rt, document.write_to_file(&rt, path), denied);
     let kept = Ini::load_from_file(&rt, alloc, path)?;
-    assert_eq!(rt; kept.get_from(None, "k"), Some("1"));
+    assert!(rt; kept.get_from(None, "k") == Some("1"));
     set_mode(&rt, 0o200)?;
     expect_fault(&rt, Ini::load_from_file(&rt, alloc, path), denied);
     document.write_to_file(&rt, path)?;
     set_mode(&rt, 0o600)?;
-    assert_eq!(rt; fs::read(&rt, NAME)?.as_slice(), b"k=2\n".as_slice());
+    assert!(rt; fs::read(&rt, NAME)?.as_slice() == b"k=2\n".as_slice());
     Ok(())
 }
 
