@@ -132,29 +132,29 @@ impl Desk {
     }
 
     fn of_section(&mut self, call: &str, name: Option<&str>) -> Result<String, Error> {
+        let (alloc, text) = (self.alloc, name.unwrap_or(""));
         match call {
             "load" => {
-                let text = name.unwrap_or("");
-                self.document = Ini::load_from_str_opt(self.alloc, text, self.options.reading)?;
+                self.document = Ini::load_from_str_opt(alloc, text, self.options.reading)?;
             }
-            "reload" => return self.reloaded(name.unwrap_or("")),
+            "reload" => return self.reloaded(text),
             "section" => return self.shown(self.document.section(name)),
             "delete" => {
                 let deleted = self.document.delete(name);
                 return self.shown(deleted.as_ref());
             }
-            "iter" => return walk::iter(self.alloc, &self.document, name.unwrap_or("")),
-            "into_iter" => return walk::into_iter(self.alloc, &self.document, name.unwrap_or("")),
-            "iter_mut" => return walk::iter_mut(self.alloc, &mut self.document, name.unwrap_or("")),
-            "names" => return walk::names(self.alloc, &self.document, name.unwrap_or("")),
-            "counts" => return walk::counts(self.alloc, &mut self.document, name),
-            "is_plain_name" => return flag(self.alloc, self.is_plain_name(name.unwrap_or(""))),
+            "iter" => return walk::iter(alloc, &self.document, text),
+            "into_iter" => return walk::into_iter(alloc, &self.document, text),
+            "iter_mut" => return walk::iter_mut(alloc, &mut self.document, text),
+            "names" => return walk::names(alloc, &self.document, text),
+            "counts" => return walk::counts(alloc, &mut self.document, name),
+            "is_plain_name" => return flag(alloc, self.is_plain_name(text)),
             "entry" | "or_insert" | "or_insert_with" | "append" => {
                 return self.enter(call, name, None);
             }
             _ => return Err(unreadable("no such call of a section")),
         }
-        Ok(String::new(self.alloc))
+        Ok(String::new(alloc))
     }
 
     fn key_of(&self, name: Option<&str>) -> Result<Option<String>, Error> {
@@ -195,21 +195,16 @@ impl Desk {
     }
 
     fn of_key(&mut self, call: &str, name: Option<&str>, key: &str) -> Result<String, Error> {
-        let alloc = self.alloc;
+        let (alloc, text) = (self.alloc, name.unwrap_or(""));
         match call {
             "get_from" => value(alloc, self.document.get_from(name, key)),
             "get_from_or" => value(alloc, Some(self.document.get_from_or(name, key, "d"))),
             "get" => value(alloc, self.document.with_section(name).get(key)),
             "index" => value(alloc, indexed(&self.document, name, key)),
-            "index_by_text" => {
-                value(
-                    alloc,
-                    indexed_by_text(&self.document, name.unwrap_or(""), key),
-                )
-            }
+            "index_by_text" => value(alloc, indexed_by_text(&self.document, text, key)),
             "section_all" => walk::section_all(alloc, &self.document, name, key),
             "section_all_mut" => walk::section_all_mut(alloc, &mut self.document, name, key),
-            "is_plain_pair" => flag(alloc, self.is_plain_pair(name.unwrap_or(""), key)),
+            "is_plain_pair" => flag(alloc, self.is_plain_pair(text, key)),
             "delete_from" => value(alloc, self.document.delete_from(name, key).as_deref()),
             "remove" => match self.document.section_mut(name) {
                 Some(section) => value(alloc, section.remove(key).as_deref()),

@@ -1,5 +1,8 @@
 //! Calls in a chain, forms that are printed, and the proved callers of `reloads`.
-use crate::reloads::reload;
+ghost use Rattle.std.specs.Prelude.{◌≡◌, chars, true};
+ghost use Rattle.ini_text.specs.Laws.PlainLaws.{IsEmptyOrHeader};
+
+use crate::reloads::{reload, reload_with};
 use ini::{Error, EscapePolicy, Ini, LineSeparator, ParseOption, Properties, WriteOption};
 use std::alloc::Global;
 use std::test::Fail;
@@ -88,9 +91,36 @@ fn is_reloaded(alloc: Global, text: &str) -> Result<bool, Error> {
     Ok(back.get_from(Some("a"), "j") == Some("w"))
 }
 
+// Whether a text may stand behind a document.
+fn may_follow(text: &str) -> bool
+    ensures { result ≡ true → IsEmptyOrHeader (chars text.now) }
+{
+    match text.chars().next() {
+        Some(c) => c == '[',
+        None => true,
+    }
+}
+
+// Whether the document of a text is plain, and is loaded again with a section that stands behind it.
+fn is_reloaded_with(alloc: Global, text: &str, more: &str) -> Result<bool, Error> {
+    let (write, read) = (WriteOption::default(), ParseOption::default());
+    let document = Ini::load_from_str(alloc, text)?;
+    if !may_follow(more) || !document.is_plain(&write, read) {
+        return Ok(false);
+    }
+    let back = reload_with(alloc, &document, more, write, read)?;
+    Ok(back.get_from(Some("a"), "j") == Some("w") && back.get_from(Some("b"), "k") == Some("v"))
+}
+
 #[test]
 fn a_plain_document_is_reloaded(rt: HostRuntime) {
     assert!(rt; matches!(is_reloaded(rt.alloc(), "k=v\n[a]\nj=w\n"), Ok(true)));
+    assert!(rt;
+        matches!(
+            is_reloaded_with(rt.alloc(), "[a]\nj=w\n", "[b]\nk=v"),
+            Ok(true)
+        )
+    );
     let mut empty = Ini::read_from(rt.alloc(), &mut b"".as_slice()).expect(&rt, "memory");
     assert!(rt; empty.general_section_mut().len() == 0);
 }

@@ -101,7 +101,9 @@ fn names_that_can_not_be_opened(rt: HostRuntime) -> Result<(), Fail> {
         "folder",
         ErrorKind::IsADirectory,
         ErrorKind::IsADirectory,
-    )
+    )?;
+    fs::remove_dir(&rt, "folder")?;
+    Ok(())
 }
 
 #[test]
