@@ -1,6 +1,7 @@
 -- Total readers on lists, which find whatever the grammar says of a text.
 pub mod ReaderLemmas
 pub mod StringReaderLemmas
+pub mod ShortPieceLemmas
 pub mod LineReaderLemmas
 pub mod RunReaderLemmas
 pub mod ValueReaderLemmas

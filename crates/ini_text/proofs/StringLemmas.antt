@@ -5,6 +5,7 @@ pub mod ScanLemmas
 pub mod LaneLemmas
 pub mod RunLemmas
 pub mod PushLemmas
+pub mod BlockLemmas
 pub mod LineFeedLemmas
 pub mod PositionLemmas
 pub mod SameTextLemmas

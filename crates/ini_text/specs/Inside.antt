@@ -9,5 +9,6 @@ pub mod ValueReader
 pub mod ElementReader
 pub mod ItemSearch
 pub mod Lanes
+pub mod ShortPieces
 pub mod Verbatim
 pub mod PlainTests

@@ -9,7 +9,7 @@ ghost use Rattle.ini_text.specs.declared.lanes.TheConstants.{HALF, LANES};
 use std::simd::prelude::*;
 
 // How many bytes are tested together.
-const LANES: usize = 16;
+pub(crate) const LANES: usize = 16;
 
 // Half of them.
 const HALF: usize = 8;

@@ -19,6 +19,7 @@ use std::alloc::{AllocError, Global};
 use std::borrow::CowStr;
 use std::marker::Model;
 
+mod block;
 mod element;
 mod endpoints;
 mod fault;
@@ -26,6 +27,7 @@ mod header;
 mod line;
 mod pair;
 mod position;
+mod short;
 mod string;
 mod trimmed;
 mod value;

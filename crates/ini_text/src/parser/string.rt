@@ -9,6 +9,7 @@ ghost use Rattle.ini_text.specs.Parsing.Items.{string_text};
 use crate::error::ParseKind;
 use crate::parser::endpoints::{Endpoints, split_run};
 use crate::parser::fault::Stop;
+use crate::parser::short::read_short;
 use crate::text::{push, push_text, split_first};
 use std::alloc::AllocError;
 
@@ -46,7 +47,8 @@ pub(crate) fn read_string<'a>(
 {
     let mut rest = text;
     'pieces: loop {
-        let (run, stop) = split_run(rest, ends);
+        let front = read_short(out, rest, escapes, ends)?;
+        let (run, stop) = split_run(front, ends);
         push_text(out, run)?;
         let Some((c, after)) = split_first(stop) else {
             if ends.contain_text_end() {
@@ -89,7 +91,7 @@ fn push_escaped(out: &mut String, c: char, escapes: bool) -> Result<(), AllocErr
 }
 
 /// What a backslash and a character other than `x` or LF stand for.
-fn escaped_value(c: char) -> char
+pub(crate) fn escaped_value(c: char) -> char
     ensures { result ≡ unwrap_or (control c) c }
 {
     match c {
@@ -130,7 +132,7 @@ fn read_coded<'a>(out: &mut String, text: &'a str, ends: Endpoints) -> Result<&'
 
 /// The character that the four characters behind `\x` spell, and what follows them.
 #[inline(always)]
-fn split_coded(text: &str) -> Option<(char, &str)>
+pub(crate) fn split_coded(text: &str) -> Option<(char, &str)>
     ensures { IfSome result (λ p. coded (chars text.now) ≡ found (p.0 ∷ []) (chars p.1.now)) }
 {
     let (a, rest) = split_first(text)?;

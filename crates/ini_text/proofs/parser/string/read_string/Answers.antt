@@ -14,42 +14,42 @@ pieces-init c = record { text = search rules; read = refl }
 
 pub returns-then-contain_text_end : goal.returns-then-contain_text_end
 returns-then-contain_text_end c =
-    and_found _ (and_more _ _ _ c.pieces.invariant.read (string_run _ _ _ _ c.split_run.ensures.parts c.split_run.ensures.run) c.in_ok-push_text.ensures)
+    and_found _ (and_more _ _ _ (c.pieces.invariant.read ∙ c.in_ok-front.ensures.read) (string_run _ _ _ _ c.split_run.ensures.parts c.split_run.ensures.run) c.in_ok-push_text.ensures)
     (string_at_end _ _ c.in_default.ensures.characters (sym c.if-contain_text_end.true ∙ c.contain_text_end.ensures)) (sym (append-nil _))
 
 pub returns-in_default : goal.returns-in_default
 returns-in_default c =
-    rw c.new.ensures (and_stopped _ (and_more _ _ _ c.pieces.invariant.read (string_run _ _ _ _ c.split_run.ensures.parts c.split_run.ensures.run) c.in_ok-push_text.ensures)
+    rw c.new.ensures (and_stopped _ (and_more _ _ _ (c.pieces.invariant.read ∙ c.in_ok-front.ensures.read) (string_run _ _ _ _ c.split_run.ensures.parts c.split_run.ensures.run) c.in_ok-push_text.ensures)
     (string_at_end _ _ c.in_default.ensures.characters (sym c.if-contain_text_end.false ∙ c.contain_text_end.ensures)))
 
 pub returns-then-c-ne92 : goal.returns-then-c-ne92
 returns-then-c-ne92 c =
-    and_found _ (and_more _ _ _ c.pieces.invariant.read (string_run _ _ _ _ c.split_run.ensures.parts c.split_run.ensures.run) c.in_ok-push_text.ensures)
+    and_found _ (and_more _ _ _ (c.pieces.invariant.read ∙ c.in_ok-front.ensures.read) (string_run _ _ _ _ c.split_run.ensures.parts c.split_run.ensures.run) c.in_ok-push_text.ensures)
     (string_at_endpoint _ _ c.in-Some.ensures.characters c.if-c-ne92.true c.split_run.ensures.stops) (sym (append-nil _))
 
 pub returns-then-not-contain_text_end : goal.returns-then-not-contain_text_end
 returns-then-not-contain_text_end c =
-    rw c.new-then-not-contain_text_end.ensures (and_stopped _ (and_more _ _ _ c.pieces.invariant.read (string_run _ _ _ _ c.split_run.ensures.parts c.split_run.ensures.run) c.in_ok-push_text.ensures)
+    rw c.new-then-not-contain_text_end.ensures (and_stopped _ (and_more _ _ _ (c.pieces.invariant.read ∙ c.in_ok-front.ensures.read) (string_run _ _ _ _ c.split_run.ensures.parts c.split_run.ensures.run) c.in_ok-push_text.ensures)
     (string_at_backslash _ _ c.in-Some.ensures.characters c.if-c-ne92.false c.in_default-split_first.ensures.characters
     (sym c.if-not-contain_text_end.true ∙ c.contain_text_end-in_default-split_first.ensures)))
 
 pub returns-in_default-split_first : goal.returns-in_default-split_first
 returns-in_default-split_first c =
-    and_found _ (and_more _ _ _ c.pieces.invariant.read (string_run _ _ _ _ c.split_run.ensures.parts c.split_run.ensures.run) c.in_ok-push_text.ensures)
+    and_found _ (and_more _ _ _ (c.pieces.invariant.read ∙ c.in_ok-front.ensures.read) (string_run _ _ _ _ c.split_run.ensures.parts c.split_run.ensures.run) c.in_ok-push_text.ensures)
     (string_at_backslash _ _ c.in-Some.ensures.characters c.if-c-ne92.false c.in_default-split_first.ensures.characters
     (sym c.if-not-contain_text_end.false ∙ c.contain_text_end-in_default-split_first.ensures)) c.in_ok-push.ensures
 
 pub returns-in_err-rest : goal.returns-in_err-rest
 returns-in_err-rest c =
     passed _ _ _ c.from_residual-in_err-rest.ensures.1 c.in_err-rest.ensures λ r k h.
-    and_more _ _ _ c.pieces.invariant.read (string_run _ _ _ _ c.split_run.ensures.parts c.split_run.ensures.run) c.in_ok-push_text.ensures
+    and_more _ _ _ (c.pieces.invariant.read ∙ c.in_ok-front.ensures.read) (string_run _ _ _ _ c.split_run.ensures.parts c.split_run.ensures.run) c.in_ok-push_text.ensures
     ∙ ap (prepend (string_text c.push_text.new.out)) (string_coded _ _ c.in-Some.ensures.characters c.if-c-ne92.false c.in-Some-split_first.ensures.characters c.if-escapes.true c.if-d-eq120.true)
     ∙ then_stopped _ _ _ h
 
 pub pieces-preserved-in_ok-rest : goal.pieces-preserved-in_ok-rest
 pieces-preserved-in_ok-rest c = record {
   text = search rules;
-  read = and_more _ _ _ c.pieces.invariant.read (string_run _ _ _ _ c.split_run.ensures.parts c.split_run.ensures.run) c.in_ok-push_text.ensures
+  read = and_more _ _ _ (c.pieces.invariant.read ∙ c.in_ok-front.ensures.read) (string_run _ _ _ _ c.split_run.ensures.parts c.split_run.ensures.run) c.in_ok-push_text.ensures
       ∙ ap (prepend (string_text c.push_text.new.out)) (string_coded _ _ c.in-Some.ensures.characters c.if-c-ne92.false c.in-Some-split_first.ensures.characters c.if-escapes.true c.if-d-eq120.true)
       ∙ then_found _ _ _ c.in_ok-rest.ensures;
 }
@@ -62,11 +62,11 @@ pieces-preserved c =
     ] in
     record {
       text = search rules;
-      read = and_more _ _ _ (and_more _ _ _ c.pieces.invariant.read (string_run _ _ _ _ c.split_run.ensures.parts c.split_run.ensures.run) c.in_ok-push_text.ensures)
+      read = and_more _ _ _ (and_more _ _ _ (c.pieces.invariant.read ∙ c.in_ok-front.ensures.read) (string_run _ _ _ _ c.split_run.ensures.parts c.split_run.ensures.run) c.in_ok-push_text.ensures)
           (string_pair _ _ c.in-Some.ensures.characters c.if-c-ne92.false c.in-Some-split_first.ensures.characters other) c.in_ok-push_escaped.ensures;
     }
 
 pub pieces-smaller-in_ok-rest : goal.pieces-smaller-in_ok-rest
 pieces-smaller-in_ok-rest c =
     let shorter = coded_shortens _ (ends_of c.args.ends) _ c.in-Some.ensures.characters c.if-c-ne92.false c.in-Some-split_first.ensures.characters c.if-escapes.true c.if-d-eq120.true c.in_ok-rest.ensures in
-    omega (arith, length-append {A = ℕ}, ap length c.split_run.ensures.parts)
+    omega (arith, shorter, c.in_ok-front.ensures.shorter, length-append {A = ℕ}, ap length c.split_run.ensures.parts)

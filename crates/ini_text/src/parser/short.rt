@@ -1,0 +1,106 @@
+//! Short pieces of a string: a run of fewer bytes than are tested together, and an escape behind it. This
+//! file knows escapes, and nothing of lines, keys or names.
+ghost use Rattle.std.specs.Prelude.{◌≡◌, ◌∷◌, ◌≤◌, ◌<◌, [], true, chars, length, IfOk, IfSome};
+ghost use Rattle.ini_text.specs.Grammar.Strings.{Ends};
+ghost use Rattle.ini_text.specs.Inside.Endpoints.{ends_of};
+ghost use Rattle.ini_text.specs.Inside.Reading.{prepend};
+ghost use Rattle.ini_text.specs.Inside.ShortPieces.{IsShort, bytes_in};
+ghost use Rattle.ini_text.specs.Inside.StringReader.{string};
+ghost use Rattle.ini_text.specs.Parsing.Items.{string_text};
+
+use crate::lanes::{LANES, Marks};
+use crate::parser::block::Block;
+use crate::parser::endpoints::Endpoints;
+use crate::parser::string::{escaped_value, split_coded};
+use crate::text::push_text;
+use std::alloc::AllocError;
+use std::simd::prelude::*;
+
+/// Appends the values of some short pieces at the front of a text, if escapes are read, and gives what
+/// follows them.
+#[inline(always)]
+pub(crate) fn read_short<'a>(
+    out: &mut String,
+    text: &'a str,
+    escapes: bool,
+    ends: Endpoints,
+) -> Result<&'a str, AllocError>
+    ensures read { IfOk result (λ rest.
+        prepend (string_text out.old) (string escapes (ends_of ends) (chars text.now))
+        ≡ prepend (string_text out.new) (string escapes (ends_of ends) (chars rest.now))) }
+    ensures shorter { IfOk result (λ rest. length (chars rest.now) ≤ length (chars text.now)) }
+{
+    if !escapes {
+        return Ok(text);
+    }
+    let mut block = Block::new();
+    let rest = gather(&mut block, text, ends);
+    match str::from_utf8(block.as_bytes()) {
+        Ok(values) => {
+            push_text(out, values)?;
+            Ok(rest)
+        }
+        // The values are a text, so this isn't met.
+        Err(_) => Ok(text),
+    }
+}
+
+/// Gathers the values of some short pieces, and gives what follows them.
+#[inline(always)]
+fn gather<'a>(block: &mut Block, text: &'a str, ends: Endpoints) -> &'a str
+    requires { bytes_in block.old ≡ [] }
+    ensures read { string true (ends_of ends) (chars text.now)
+        ≡ prepend (chars (bytes_in block.new)) (string true (ends_of ends) (chars result.now)) }
+    ensures shorter { length (chars result.now) ≤ length (chars text.now) }
+{
+    let mut rest = text;
+    'pieces: while block.has_room() {
+        let Some((len, value, behind)) = split_short(rest, ends) else {
+            return rest;
+        };
+        block.push_front(rest.as_bytes(), len);
+        block.push(value);
+        rest = behind;
+    }
+    rest
+}
+
+/// How many bytes of a run stand before an escape, what that stands for, and what follows.
+#[inline(always)]
+fn split_short(text: &str, ends: Endpoints) -> Option<(usize, char, &str)>
+    ensures { IfSome result (λ p. IsShort (ends_of ends) text.now p.0 p.1 (chars p.2.now)) }
+{
+    if text.len() < LANES {
+        return None;
+    }
+    let found = ends.marks().find(u8x16::from_slice(text.as_bytes()));
+    if found == 0 {
+        return None;
+    }
+    let len = found.trailing_zeros() as usize;
+    let (_, stop) = text.split_at(len);
+    let (value, rest) = split_escape(stop)?;
+    Some((len, value, rest))
+}
+
+/// What an escape stands for that is read without a look at what follows it, and what that is.
+#[inline(always)]
+fn split_escape(text: &str) -> Option<(char, &str)>
+    ensures read { IfSome result (λ p. (to : Ends) → string true to (chars text.now)
+        ≡ prepend (p.0 ∷ []) (string true to (chars p.1.now))) }
+    ensures shorter { IfSome result (λ p. length (chars p.1.now) < length (chars text.now)) }
+{
+    let [b'\\', byte, ..] = text.as_bytes() else {
+        return None;
+    };
+    let letter = *byte;
+    if letter >= 0x80 || letter == b'\n' {
+        return None;
+    }
+    let (_, behind) = text.split_at(2);
+    if letter == b'x' {
+        let (value, rest) = split_coded(behind)?;
+        return Some((value, rest));
+    }
+    Some((escaped_value(char::from(letter)), behind))
+}
