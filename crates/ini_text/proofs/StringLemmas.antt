@@ -6,6 +6,7 @@ pub mod LaneLemmas
 pub mod RunLemmas
 pub mod PushLemmas
 pub mod BlockLemmas
+pub mod TableLemmas
 pub mod LineFeedLemmas
 pub mod PositionLemmas
 pub mod SameTextLemmas

@@ -1,8 +1,9 @@
 //! The parser: the items of a text, one at a time. This file knows fronts, elements and refusals, and
 //! nothing of what an element is made of.
 //!
-//! The files below, from the least part to the greatest: `endpoints`, `string`, `trimmed`, `line`, `value`,
-//! `pair` and `header`, `element`. Beside them `fault` has why reading stops, and `position` where.
+//! The files below, from the least part to the greatest: `tables`, `endpoints`, `block`, `short`, `string`,
+//! `trimmed`, `line`, `value`, `pair` and `header`, `element`. Beside them `fault` has why reading stops,
+//! and `position` where.
 ghost use Rattle.std.specs.Prelude.{◌≡◌, chars, [], None, Some, Ok, IfSome, IsOkAnd, IsErrAnd, OnErr};
 ghost use Rattle.ini_text.specs.Parsing.Fronts.{IsRest};
 ghost use Rattle.ini_text.specs.Parsing.Parser.{AnswersItem, KeepsRefusal, Tells, refusal_of};
@@ -29,6 +30,7 @@ mod pair;
 mod position;
 mod short;
 mod string;
+mod tables;
 mod trimmed;
 mod value;
 

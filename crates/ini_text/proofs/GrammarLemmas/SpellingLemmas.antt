@@ -1,5 +1,5 @@
 -- Four digits and the character that they spell.
-use Rattle.std.proofs.Common.{◌≡◌, ◌≢◌, ℕ, Bool, true, false, cond, eqb, refl, sym, ap, ◌∙◌, subst, ◌&&◌, ◌||◌, ◌+◌, ◌*◌, ◌<◌, SomeIff, lt-ltb, Option, Some, None, eq-eqb, ne_eqb}
+use Rattle.std.proofs.Common.{◌≡◌, ◌≢◌, ℕ, Bool, true, false, cond, eqb, refl, sym, ap, ◌∙◌, subst, ◌&&◌, ◌||◌, ◌+◌, ◌*◌, ◌<◌, SomeIff, arith, lt-ltb, Option, Some, None, eq-eqb, ne_eqb}
 use Rattle.std.proofs.Math.Bool.{or-true}
 use Rattle.std.proofs.lemmas.Bool.{cond-true, cond-false}
 use lib.Utf8.{scalar}
@@ -30,3 +30,10 @@ first_plus a f h q = (ap (λ t. is_digit a 16 || t) (eq-eqb a 43 h) ∙ or-true 
 
 pub first_other : (a f y : ℕ) → a ≢ plus → (digit_value a < 16) × (y ≡ digit_value a) → f ≡ y → ((is_digit a 16 || eqb a plus) ≡ true) × (f ≡ first_digit a)
 first_other a f y h d q = (ap (λ t. t || eqb a plus) (lt-ltb (digit_value a) 16 d.0), q ∙ d.1 ∙ sym (cond-false (eqb a 43) 0 (digit_value a) (ne_eqb a 43 h)))
+
+-- four digits, none of which is a plus sign
+pub digits_spell : (a b c d f y z x : ℕ) (r : Option ℕ) → (f < 16) × (f ≡ digit_value a) → (y < 16) × (y ≡ digit_value b) → (z < 16) × (z ≡ digit_value c) → (x < 16) × (x ≡ digit_value d)
+    → SomeIff r (scalar (f * 0x1000 + y * 0x100 + z * 0x10 + x) ≡ true) (f * 0x1000 + y * 0x100 + z * 0x10 + x) → r ≡ spelled a b c d
+digits_spell a b c d f y z x r ha hb hc hd h =
+    let first = first_other a f f (λ q. let z = subst (λ k. f ≡ digit_value k) q ha.1 in absurd (omega arith)) (omega arith, ha.1) refl in
+    spelled_value a b c d f y z x _ r first.0 first.1 (omega arith, hb.1) (omega arith, hc.1) (omega arith, hd.1) refl h

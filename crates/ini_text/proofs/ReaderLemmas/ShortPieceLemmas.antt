@@ -1,8 +1,9 @@
 -- Short pieces of a string, as they are gathered.
-use Rattle.std.proofs.Common.{◌≡◌, ◌≢◌, ℕ, ◌<◌, ◌≤◌, Bool, true, not, List, [], ◌∷◌, map, length, drop, take, get_or, ◌++◌, append-nil, append_assoc, length-append, unwrap_or, refl, sym, ap, ◌∙◌, subst, arith, chars, IsUtf8, IsCharBoundary, encode_utf8, ne_eqb}
+use Rattle.std.proofs.Common.{◌≡◌, ◌≢◌, ℕ, ◌<◌, ◌≤◌, Bool, true, not, List, [], ◌∷◌, map, length, drop, take, get_or, ◌++◌, append-nil, append_assoc, length-append, length-drop, unwrap_or, refl, sym, ap, ◌∙◌, subst, arith, chars, IsUtf8, IsCharBoundary, encode_utf8, ne_eqb}
+use Rattle.std.proofs.lemmas.List.{drop-drop, get_or-drop}
 use Rattle.std.proofs.lemmas.List.Sums.{prefix_len-le-length}
 use Rattle.std.proofs.lemmas.Simd.{length-chunk, trailing_mask_l}
-use Rattle.std.proofs.lemmas.Str.{chars-append, chars-encodes, chars_past_char, encode_ascii, IsCharBoundary-after_ascii, IsUtf8-append, IsUtf8-encode, IsUtf8-past_char, IsUtf8-take}
+use Rattle.std.proofs.lemmas.Str.{chars-append, chars-encodes, chars_past_char, encode_ascii, IsCharBoundary-after_ascii, IsUtf8-append, IsUtf8-drop, IsUtf8-encode, IsUtf8-past_char, IsUtf8-take}
 use Rattle.std.proofs.Math.Bool.{and-true}
 use Rattle.std.proofs.Math.Seq.{drop-cons}
 use Rattle.std.specs.Char.{IsScalar}
@@ -39,6 +40,18 @@ begins_with_two t bytes a b same u long first second low-a low-b =
     let next = past_ascii (drop 1 bytes) (drop 2 bytes) b begins.1 (drop-cons bytes 1 0 (omega arith) ∙ ap (λ x. x ∷ drop 2 bytes) second) low-b in
     let two : BeginsWithTwo bytes a b = record { read = begins.0 ∙ ap (λ x. a ∷ x) next.0; cut = IsCharBoundary-after_ascii bytes 1 text (omega arith) (omega arith) } in
     subst (λ x. BeginsWithTwo x a b) same two
+
+-- and one whose first four are
+pub begins_with_four : (t bytes : List ℕ) (a b c d : ℕ) → bytes ≡ t → IsUtf8 t → 4 ≤ length bytes → get_or bytes 0 0 ≡ a → get_or bytes 1 0 ≡ b → get_or bytes 2 0 ≡ c → get_or bytes 3 0 ≡ d
+    → a < 128 → b < 128 → c < 128 → d < 128 → (chars t ≡ a ∷ b ∷ c ∷ d ∷ chars (drop 4 t)) × IsCharBoundary t 4
+begins_with_four t bytes a b c d same u long first second third fourth low-a low-b low-c low-d =
+    let text : IsUtf8 bytes = subst IsUtf8 (sym same) u in
+    let two = begins_with_two bytes bytes a b refl text (omega arith) first second low-a low-b in
+    let next = begins_with_two (drop 2 bytes) (drop 2 bytes) c d refl (IsUtf8-drop bytes 2 text two.cut) (omega (arith, length-drop 2 bytes))
+    (get_or-drop 2 bytes 0 0 ∙ third) (get_or-drop 2 bytes 1 0 ∙ fourth) low-c low-d in
+    let cut : IsCharBoundary bytes 4 = IsCharBoundary-after_ascii bytes 3 text (omega arith) (omega arith) in
+    let read : chars bytes ≡ a ∷ b ∷ c ∷ d ∷ chars (drop 4 bytes) = two.read ∙ ap (λ x. a ∷ b ∷ x) (next.read ∙ ap (λ x. c ∷ d ∷ chars x) (drop-drop 2 2 bytes)) in
+    subst (λ x. (chars x ≡ a ∷ b ∷ c ∷ d ∷ chars (drop 4 x)) × IsCharBoundary x 4) same (read, cut)
 
 module _ (to : Ends) where
   -- a backslash and the character behind it

@@ -11,7 +11,8 @@ ghost use Rattle.ini_text.specs.Parsing.Items.{string_text};
 use crate::lanes::{LANES, Marks};
 use crate::parser::block::Block;
 use crate::parser::endpoints::Endpoints;
-use crate::parser::string::{escaped_value, split_coded};
+use crate::parser::string::split_coded;
+use crate::parser::tables::letter_value;
 use crate::text::push_text;
 use std::alloc::AllocError;
 use std::simd::prelude::*;
@@ -94,13 +95,14 @@ fn split_escape(text: &str) -> Option<(char, &str)>
         return None;
     };
     let letter = *byte;
-    if letter >= 0x80 || letter == b'\n' {
+    if let Some(value) = letter_value(letter) {
+        let (_, behind) = text.split_at(2);
+        return Some((value, behind));
+    }
+    if letter != b'x' {
         return None;
     }
     let (_, behind) = text.split_at(2);
-    if letter == b'x' {
-        let (value, rest) = split_coded(behind)?;
-        return Some((value, rest));
-    }
-    Some((escaped_value(char::from(letter)), behind))
+    let (value, rest) = split_coded(behind)?;
+    Some((value, rest))
 }

@@ -10,6 +10,7 @@ use crate::error::ParseKind;
 use crate::parser::endpoints::{Endpoints, split_run};
 use crate::parser::fault::Stop;
 use crate::parser::short::read_short;
+use crate::parser::tables::digit;
 use crate::text::{push, push_text, split_first};
 use std::alloc::AllocError;
 
@@ -91,7 +92,7 @@ fn push_escaped(out: &mut String, c: char, escapes: bool) -> Result<(), AllocErr
 }
 
 /// What a backslash and a character other than `x` or LF stand for.
-pub(crate) fn escaped_value(c: char) -> char
+fn escaped_value(c: char) -> char
     ensures { result ≡ unwrap_or (control c) c }
 {
     match c {
@@ -130,16 +131,21 @@ fn read_coded<'a>(out: &mut String, text: &'a str, ends: Endpoints) -> Result<&'
     Ok(rest)
 }
 
-/// The character that the four characters behind `\x` spell, and what follows them.
+/// The character that the four characters behind `\x` spell, if they are digits, and what follows them.
 #[inline(always)]
 pub(crate) fn split_coded(text: &str) -> Option<(char, &str)>
     ensures { IfSome result (λ p. coded (chars text.now) ≡ found (p.0 ∷ []) (chars p.1.now)) }
 {
-    let (a, rest) = split_first(text)?;
-    let (b, rest) = split_first(rest)?;
-    let (c, rest) = split_first(rest)?;
-    let (d, rest) = split_first(rest)?;
-    Some((spelled(a, b, c, d)?, rest))
+    let [a, b, c, d, ..] = text.as_bytes() else {
+        return None;
+    };
+    let (a, b, c, d) = (digit(*a), digit(*b), digit(*c), digit(*d));
+    if a >= 16 || b >= 16 || c >= 16 || d >= 16 {
+        return None;
+    }
+    let value = char::from_u32(a * 0x1000 + b * 0x100 + c * 0x10 + d)?;
+    let (_, rest) = text.split_at(4);
+    Some((value, rest))
 }
 
 // unit = character / "\" LF
