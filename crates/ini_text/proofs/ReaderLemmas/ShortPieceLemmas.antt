@@ -1,9 +1,9 @@
 -- Short pieces of a string, as they are gathered.
-use Rattle.std.proofs.Common.{◌≡◌, ◌≢◌, ℕ, ◌<◌, ◌≤◌, Bool, true, not, List, [], ◌∷◌, map, length, drop, take, get_or, ◌++◌, append-nil, append_assoc, length-append, length-drop, unwrap_or, refl, sym, ap, ◌∙◌, subst, arith, chars, IsUtf8, IsCharBoundary, encode_utf8, ne_eqb}
+use Rattle.std.proofs.Common.{◌-◌, ◌/◌, ◌^◌, ◌≡◌, ◌≢◌, ℕ, ◌<◌, ◌≤◌, Bool, true, false, not, List, [], ◌∷◌, map, length, drop, take, get_or, ◌++◌, append-nil, append_assoc, length-append, length-drop, unwrap_or, refl, sym, ap, ◌∙◌, subst, arith, chars, IsUtf8, IsCharBoundary, encode_utf8, ne_eqb}
 use Rattle.std.proofs.lemmas.List.{drop-drop, get_or-drop}
 use Rattle.std.proofs.lemmas.List.Sums.{prefix_len-le-length}
 use Rattle.std.proofs.lemmas.Simd.{length-chunk, trailing_mask_l}
-use Rattle.std.proofs.lemmas.Str.{chars-append, chars-encodes, chars_past_char, encode_ascii, IsCharBoundary-after_ascii, IsUtf8-append, IsUtf8-drop, IsUtf8-encode, IsUtf8-past_char, IsUtf8-take}
+use Rattle.std.proofs.lemmas.Str.{chars-append, chars-encodes, chars_past_char, encode_ascii, IsCharBoundary-after_ascii, IsCharBoundary-from_rest, IsUtf8-append, IsUtf8-drop, IsUtf8-encode, IsUtf8-past_char, IsUtf8-take}
 use Rattle.std.proofs.Math.Bool.{and-true}
 use Rattle.std.proofs.Math.Seq.{drop-cons}
 use Rattle.std.specs.Char.{IsScalar}
@@ -17,11 +17,11 @@ use Rattle.ini_text.specs.Grammar.Strings.{Ends, plain_ends}
 use Rattle.ini_text.specs.Inside.Endpoints.{ends_of}
 use Rattle.ini_text.specs.Inside.Reading.{found, prepend, and_then}
 use Rattle.ini_text.specs.Inside.Scans.{is_plain}
-use Rattle.ini_text.specs.Inside.ShortPieces.{IsShort}
+use Rattle.ini_text.specs.Inside.ShortPieces.{IsEscape, IsShort, Sees}
 use Rattle.ini_text.specs.Inside.StringReader.{coded, string}
 use Rattle.ini_text.proofs.ReaderLemmas.ReaderLemmas.{prepend-nil, prepend-prepend}
 use Rattle.ini_text.proofs.ReaderLemmas.StringReaderLemmas.{string_run, string_pair, string_coded, coded_shortens}
-use Rattle.ini_text.proofs.StringLemmas.LaneLemmas.{same_run, stopped}
+use Rattle.ini_text.proofs.StringLemmas.LaneLemmas.{bits_past, map_same, same_run, stopped}
 use Rattle.ini_text.proofs.StringLemmas.RunLemmas.{boundary, plain_wide, split_chars, run_chars}
 
 -- a text whose first two bytes are ASCII
@@ -67,32 +67,81 @@ module _ (to : Ends) where
 pub coded_shorter : {t ds rest v : List ℕ} → t ≡ backslash ∷ letter_x ∷ ds → coded ds ≡ found v rest → length rest < length t
 coded_shorter {ds = ds} two is = coded_shortens true plain_ends [] two refl refl refl refl (prepend-nil (coded ds) ∙ is)
 
--- the run before the first of sixteen bytes that is marked
-pub run_in_lanes : (p marked : ℕ → Bool) (t : List ℕ) (bits : ℕ) → ((c : ℕ) → p c ≡ not (marked c)) → 16 ≤ length t → bits ≡ mask_l (map marked (chunk 0 16 t)) → 0 < bits
-    → (count_trailing_zeros 64 bits ≡ prefix_len p t) × (count_trailing_zeros 64 bits ≤ 16)
-run_in_lanes p marked t bits same long is some =
-    let few = length-chunk 0 16 t (omega arith) in
-    let zeros = ap (count_trailing_zeros 64) is in
-    let here = trailing_mask_l marked 64 (chunk 0 16 t) (omega arith) (omega arith) in (
-      zeros ∙ sym (stopped marked t 0 16 (omega arith) (omega arith) (omega arith)) ∙ sym (same_run p (λ x. not (marked x)) same t),
-      omega (arith, prefix_len-le-length (λ x. not (marked x)) (chunk 0 16 t)),
-    )
+pub letter_escape : {t : List ℕ} {d v : ℕ} → BeginsWithTwo t 92 d → d ≢ line_feed → d ≢ letter_x → v ≡ unwrap_or (control d) d → IsEscape t v 2
+letter_escape two n m is = record {
+  few = omega arith;
+  cut = two.cut;
+  read = λ to. pair_read to two.read n m is;
+  shorter = omega (arith, ap length two.read);
+}
+
+pub coded_escape : {t behind rest : List ℕ} {v : ℕ} → BeginsWithTwo t 92 120 → 2 ≤ length t → behind ≡ drop 2 t → coded (chars behind) ≡ found (v ∷ []) (chars rest) → rest ≡ drop 4 behind → IsCharBoundary behind 4
+    → IsEscape t v 6
+coded_escape {t} {behind} {rest} {v} two long is_behind is is_rest cut =
+    let codes : coded (chars (drop 2 t)) ≡ found (v ∷ []) (chars (drop 6 t)) =
+    ap (λ x. coded (chars x)) (sym is_behind) ∙ is ∙ ap (λ x. found (v ∷ []) (chars x)) (is_rest ∙ ap (drop 4) is_behind ∙ drop-drop 4 2 t) in
+    record {
+      few = omega arith;
+      cut = IsCharBoundary-from_rest t 2 4 long (subst (λ x. IsCharBoundary x 4) is_behind cut);
+      read = λ to. coded_read to two.read codes;
+      shorter = coded_shorter two.read codes;
+    }
+
+twice : (b : Bool) → b ≡ not (not b)
+twice true = refl
+twice false = refl
+
+module _ (to : Ends) where
+  pub Sees-none : (t : List ℕ) → Sees to 0 t
+  Sees-none t = record { lanes = 0; few = omega arith; within = omega arith; are = refl }
+
+  pub Sees-found : (marked : ℕ → Bool) (t : List ℕ) {bits : ℕ} → ((c : ℕ) → is_plain to c ≡ not (marked c)) → 16 ≤ length t → bits ≡ mask_l (map marked (chunk 0 16 t)) → Sees to bits t
+  Sees-found marked t same long is = record {
+    lanes = 16;
+    few = omega arith;
+    within = long;
+    are = is ∙ ap mask_l (map_same marked (λ c. not (is_plain to c)) (λ c. twice (marked c) ∙ ap not (sym (same c))) (take 16 t));
+  }
+
+  pub Sees-past : (j : ℕ) {bits : ℕ} {t rest : List ℕ} → Sees to bits t → rest ≡ drop j t → Sees to (bits / 2 ^ j) rest
+  Sees-past j {t = t} sees is =
+      let marked = λ (c : ℕ). not (is_plain to c) in
+      subst (Sees to _) (sym is) record {
+        lanes = sees.lanes - j;
+        few = omega (arith, sees.few);
+        within = omega (arith, sees.within, length-drop j t);
+        are = ap (λ n. n / 2 ^ j) sees.are ∙ bits_past marked j sees.lanes t;
+      }
+
+  -- the run before the first mark that is seen
+  pub run_seen : {bits : ℕ} {t : List ℕ} → Sees to bits t → 0 < bits → (count_trailing_zeros 64 bits ≡ prefix_len (is_plain to) t) × (count_trailing_zeros 64 bits ≤ 16)
+  run_seen {bits} {t} sees some =
+      let marked = λ (c : ℕ). not (is_plain to c) in
+      let few = sees.few in
+      let within = sees.within in
+      let are = sees.are in
+      let long = length-chunk 0 sees.lanes t (omega arith) in
+      let here = trailing_mask_l marked 64 (chunk 0 sees.lanes t) (omega arith) (omega arith) in (
+        ap (count_trailing_zeros 64) are ∙ sym (stopped marked t 0 sees.lanes (omega arith) (omega arith) (omega arith)) ∙ sym (same_run (is_plain to) (λ x. not (marked x)) (λ c. twice (is_plain to c)) t),
+        omega (arith, prefix_len-le-length (λ x. not (marked x)) (chunk 0 sees.lanes t), ap (count_trailing_zeros 64) are),
+      )
 
 -- a run and an escape
-pub short_piece : (ends : Endpoints) (t stop rest : List ℕ) (n v : ℕ) → IsUtf8 t → 16 ≤ length t → n ≤ 16 → n ≡ prefix_len (is_plain (ends_of ends)) t → stop ≡ drop n t
-    → string true (ends_of ends) (chars stop) ≡ prepend (v ∷ []) (string true (ends_of ends) rest) → length rest < length (chars stop) → IsShort (ends_of ends) t n v rest
-short_piece ends t stop rest n v u long within is behind read shorter =
+pub short_piece : (ends : Endpoints) (t stop rest : List ℕ) (n v k : ℕ) → IsUtf8 t → 16 ≤ length t → n ≤ 16 → n ≡ prefix_len (is_plain (ends_of ends)) t → stop ≡ drop n t → IsEscape stop v k → rest ≡ drop k stop
+    → IsShort (ends_of ends) t n v (chars rest)
+short_piece ends t stop rest n v k u long within is behind escape is_rest =
     let plain = is_plain (ends_of ends) in
     let cut : IsCharBoundary t n = subst (IsCharBoundary t) (sym is) (boundary plain t (plain_wide ends)) in
     let run = take n t in
     let parts = split_chars t run stop n u cut refl behind in
+    let read = escape.read (ends_of ends) ∙ ap (λ x. prepend (v ∷ []) (string true (ends_of ends) (chars x))) (sym is_rest) in
     record {
       within = within;
       long = long;
       run = IsUtf8-take t n u cut;
       read = string_run true (ends_of ends) (chars run) (chars stop) parts (run_chars plain t run n (plain_wide ends) u is refl)
-          ∙ ap (prepend (chars run)) read ∙ prepend-prepend (chars run) (v ∷ []) (string true (ends_of ends) rest);
-      shorter = omega (arith, length-append (chars run) (chars stop), ap length parts);
+          ∙ ap (prepend (chars run)) read ∙ prepend-prepend (chars run) (v ∷ []) (string true (ends_of ends) (chars rest));
+      shorter = omega (arith, escape.shorter, ap (λ x. length (chars x)) is_rest, length-append (chars run) (chars stop), ap length parts);
     }
 
 -- what is gathered grows by a run and a character

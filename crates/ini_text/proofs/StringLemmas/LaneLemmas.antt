@@ -1,10 +1,11 @@
 -- Runs that are seen sixteen bytes at a time.
-use Rattle.std.proofs.Common.{◌≡◌, ℕ, ◌+◌, ◌-◌, ◌*◌, ◌%◌, ◌^◌, ◌<◌, ◌≤◌, Bool, true, false, not, ◌&&◌, ◌||◌, cond, eqb, ltb, List, [], ◌∷◌, map, length, drop, replicate, ◌++◌, get_or, length-append, inl, inr, subst, refl, sym, ap, ap₂, ◌∙◌, arith}
+use Rattle.std.proofs.Common.{◌≡◌, ℕ, zero, suc, ◌+◌, ◌-◌, ◌*◌, ◌/◌, ◌%◌, ◌^◌, ◌<◌, ◌≤◌, Bool, true, false, not, ◌&&◌, ◌||◌, cond, eqb, ltb, List, [], ◌∷◌, map, length, take, take_all, drop, replicate, ◌++◌, get_or, length-append, inl, inr, subst, refl, sym, ap, ap₂, ◌∙◌, arith}
 use Rattle.std.proofs.lemmas.Simd.{chunk-drop, get_or-chunk, length-chunk, leading_from_mask_l, trailing_mask_l, zip2_splat, zip2_of_maps, map-map, mask_l-mod}
 use Rattle.std.proofs.lemmas.List.{get_or_append_left, get_or-append-add, length-drop, length-map}
 use Rattle.std.proofs.lemmas.List.Folds.{prefix_len-append}
 use Rattle.std.proofs.lemmas.List.Sums.{prefix_len-le-length, prefix_len_is, prefix_len_passes}
 use Rattle.std.proofs.lemmas.Bool.{cases_lt, eq-eqb, ne_eqb}
+use Rattle.std.proofs.Math.Nat.{div-div-eq-div-mul, div-one, mul_comm, pow-suc, zero-div}
 use Rattle.std.specs.List.{prefix_len, position_or_len}
 use lib.Bits.{bit_or}
 use lib.Lanes.{chunk, mask_l, top, zip2}
@@ -123,3 +124,17 @@ unmarked p bytes some few none =
           subst (λ x. p x ≡ false) (get_or-append-add a b j 0 ∙ get_or-chunk back 8 bytes j 0 (omega arith) ∙ ap (λ i. get_or bytes i 0) place) (free (length a + j) (omega (arith, length-append a b)))
     ]))
     (λ past. absurd (omega arith))
+
+halved : (b : Bool) (n : ℕ) → (cond b 1 0 + 2 * n) / 2 ≡ n
+halved true n = omega arith
+halved false n = omega arith
+
+-- the bits of the first k, past the first j of them
+pub bits_past : (p : ℕ → Bool) (j k : ℕ) (xs : List ℕ) → mask_l (map p (take k xs)) / 2 ^ j ≡ mask_l (map p (take (k - j) (drop j xs)))
+bits_past p zero k xs = div-one (mask_l (map p (take k xs))) ∙ ap (λ n. mask_l (map p (take n xs))) (let same : k ≡ k - 0 = omega arith in same)
+bits_past p (suc j) zero xs = zero-div (2 ^ suc j) ∙ ap (λ n. mask_l (map p (take n (drop (suc j) xs)))) (let same : 0 ≡ 0 - suc j = omega arith in same)
+bits_past p (suc j) (suc k) [] = zero-div (2 ^ suc j) ∙ ap (λ l. mask_l (map p l)) (sym (take_all (suc k - suc j) [] (omega arith)))
+bits_past p (suc j) (suc k) (x ∷ xs) =
+    let bits = mask_l (map p (take k xs)) in
+    ap (λ n. (cond (p x) 1 0 + 2 * bits) / n) (pow-suc 2 j ∙ mul_comm (2 ^ j) 2) ∙ sym (div-div-eq-div-mul (cond (p x) 1 0 + 2 * bits) 2 (2 ^ j))
+    ∙ ap (λ n. n / 2 ^ j) (halved (p x) bits) ∙ bits_past p j k xs ∙ ap (λ n. mask_l (map p (take n (drop j xs)))) (let same : k - j ≡ suc k - suc j = omega arith in same)

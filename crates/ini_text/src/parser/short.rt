@@ -1,10 +1,9 @@
 //! Short pieces of a string: a run of fewer bytes than are tested together, and an escape behind it. This
 //! file knows escapes, and nothing of lines, keys or names.
 ghost use Rattle.std.specs.Prelude.{◌≡◌, ◌∷◌, ◌≤◌, ◌<◌, [], true, chars, length, IfOk, IfSome};
-ghost use Rattle.ini_text.specs.Grammar.Strings.{Ends};
 ghost use Rattle.ini_text.specs.Inside.Endpoints.{ends_of};
 ghost use Rattle.ini_text.specs.Inside.Reading.{prepend};
-ghost use Rattle.ini_text.specs.Inside.ShortPieces.{IsShort, bytes_in};
+ghost use Rattle.ini_text.specs.Inside.ShortPieces.{IsEscape, IsShort, Sees, bytes_in};
 ghost use Rattle.ini_text.specs.Inside.StringReader.{string};
 ghost use Rattle.ini_text.specs.Parsing.Items.{string_text};
 
@@ -55,54 +54,70 @@ fn gather<'a>(block: &mut Block, text: &'a str, ends: Endpoints) -> &'a str
     ensures shorter { length (chars result.now) ≤ length (chars text.now) }
 {
     let mut rest = text;
+    let mut found = 0;
     'pieces: while block.has_room() {
-        let Some((len, value, behind)) = split_short(rest, ends) else {
+        let Some((len, value, behind, left)) = split_short(rest, found, ends) else {
             return rest;
         };
         block.push_front(rest.as_bytes(), len);
         block.push(value);
         rest = behind;
+        found = left;
     }
     rest
 }
 
-/// How many bytes of a run stand before an escape, what that stands for, and what follows.
+/// How many bytes of a run stand before an escape, what that stands for, and what follows, with the marks
+/// that are found there already.
 #[inline(always)]
-fn split_short(text: &str, ends: Endpoints) -> Option<(usize, char, &str)>
-    ensures { IfSome result (λ p. IsShort (ends_of ends) text.now p.0 p.1 (chars p.2.now)) }
+fn split_short(text: &str, found: u64, ends: Endpoints) -> Option<(usize, char, &str, u64)>
+    requires { Sees (ends_of ends) found text.now }
+    ensures piece { IfSome result (λ p. IsShort (ends_of ends) text.now p.0 p.1 (chars p.2.now)) }
+    ensures left { IfSome result (λ p. Sees (ends_of ends) p.3 p.2.now) }
 {
     if text.len() < LANES {
         return None;
     }
-    let found = ends.marks().find(u8x16::from_slice(text.as_bytes()));
-    if found == 0 {
+    let marks = marks_ahead(text, found, ends);
+    if marks == 0 {
         return None;
     }
-    let len = found.trailing_zeros() as usize;
+    let len = marks.trailing_zeros() as usize;
     let (_, stop) = text.split_at(len);
-    let (value, rest) = split_escape(stop)?;
-    Some((len, value, rest))
+    let (value, taken) = split_escape(stop)?;
+    let (_, rest) = stop.split_at(taken);
+    Some((len, value, rest, marks >> (len + taken)))
 }
 
-/// What an escape stands for that is read without a look at what follows it, and what that is.
+/// The marks among a text's first bytes, which are looked for where none is found already.
 #[inline(always)]
-fn split_escape(text: &str) -> Option<(char, &str)>
-    ensures read { IfSome result (λ p. (to : Ends) → string true to (chars text.now)
-        ≡ prepend (p.0 ∷ []) (string true to (chars p.1.now))) }
-    ensures shorter { IfSome result (λ p. length (chars p.1.now) < length (chars text.now)) }
+fn marks_ahead(text: &str, found: u64, ends: Endpoints) -> u64
+    requires long { LANES ≤ length text.now }
+    requires found { Sees (ends_of ends) found text.now }
+    ensures { Sees (ends_of ends) result text.now }
+{
+    if found != 0 {
+        return found;
+    }
+    ends.marks().find(u8x16::from_slice(text.as_bytes()))
+}
+
+/// What an escape stands for that is read without a look at what follows it, and how many bytes it has.
+#[inline(always)]
+fn split_escape(text: &str) -> Option<(char, usize)>
+    ensures { IfSome result (λ p. IsEscape text.now p.0 p.1) }
 {
     let [b'\\', byte, ..] = text.as_bytes() else {
         return None;
     };
     let letter = *byte;
     if let Some(value) = letter_value(letter) {
-        let (_, behind) = text.split_at(2);
-        return Some((value, behind));
+        return Some((value, 2));
     }
     if letter != b'x' {
         return None;
     }
     let (_, behind) = text.split_at(2);
-    let (value, rest) = split_coded(behind)?;
-    Some((value, rest))
+    let (value, _) = split_coded(behind)?;
+    Some((value, 6))
 }

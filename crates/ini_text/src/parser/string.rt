@@ -1,5 +1,6 @@
 //! Strings: rows of pieces up to an endpoint. This file knows escapes, and nothing of lines, keys or names.
-ghost use Rattle.std.specs.Prelude.{◌≡◌, ◌∷◌, ◌++◌, [], chars, unwrap_or, Bool, IfSome, OnOk};
+ghost use Rattle.std.specs.Prelude.{◌≡◌, ◌∷◌, ◌++◌, [], chars, drop, unwrap_or, Bool, IfSome, OnOk};
+ghost use Rattle.std.specs.Str.{IsCharBoundary};
 ghost use Rattle.ini_text.specs.Inside.Endpoints.{ends_of};
 ghost use Rattle.ini_text.specs.Grammar.EscapeSequences.{control, spelled, spelled_by};
 ghost use Rattle.ini_text.specs.Inside.Reading.{found, prepend, Appends, Gives};
@@ -134,7 +135,8 @@ fn read_coded<'a>(out: &mut String, text: &'a str, ends: Endpoints) -> Result<&'
 /// The character that the four characters behind `\x` spell, if they are digits, and what follows them.
 #[inline(always)]
 pub(crate) fn split_coded(text: &str) -> Option<(char, &str)>
-    ensures { IfSome result (λ p. coded (chars text.now) ≡ found (p.0 ∷ []) (chars p.1.now)) }
+    ensures coded { IfSome result (λ p. coded (chars text.now) ≡ found (p.0 ∷ []) (chars p.1.now)) }
+    ensures rest { IfSome result (λ p. (p.1.now ≡ drop 4 text.now) × IsCharBoundary text.now 4) }
 {
     let [a, b, c, d, ..] = text.as_bytes() else {
         return None;

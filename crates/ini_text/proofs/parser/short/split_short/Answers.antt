@@ -1,29 +1,32 @@
-use Rattle.std.proofs.Common.{◌∙◌, arith, ap, map, subst, sym, IsCharBoundary}
-use lib.Lanes.{chunk, mask_l}
+use Rattle.std.proofs.Common.{◌+◌, ◌∙◌, IsCharBoundary, ap, arith, drop, subst, sym}
+use Rattle.std.proofs.lemmas.List.{drop-drop}
+use lib.Count.{count_trailing_zeros}
 use Rattle.ini_text.specs.Inside.Endpoints.{ends_of}
-use Rattle.ini_text.specs.Inside.Lanes.{is_one_of}
 use Rattle.ini_text.specs.Inside.Scans.{is_plain}
-use Rattle.ini_text.proofs.ReaderLemmas.ShortPieceLemmas.{run_in_lanes, short_piece}
+use Rattle.ini_text.proofs.ReaderLemmas.ShortPieceLemmas.{Sees-past, run_seen, short_piece}
 use Rattle.ini_text.proofs.StringLemmas.RunLemmas.{boundary, plain_wide}
 use Rattle.ini_text.proofs.parser.short.split_short.Goals as goal
 
 pub split_at-requires : goal.split_at-requires
 split_at-requires c =
-    let three = c.marks.result in
     let text = c.args.text.now in
-    let plain = is_plain (ends_of c.args.ends) in
-    let marked = is_one_of three.0 three.1 three.2 in
-    let found = c.find-found.ensures ∙ ap (λ x. mask_l (map marked (chunk 0 16 x))) c.as_bytes.ensures.value in
-    let run = run_in_lanes plain marked text c.find-found.result c.marks.ensures (omega arith) found (omega arith) in
-    subst (IsCharBoundary text) (sym run.0) (boundary plain text (plain_wide c.args.ends))
+    let run = run_seen (ends_of c.args.ends) c.marks_ahead-marks.ensures (omega arith) in
+    subst (IsCharBoundary text) (sym run.0) (boundary (is_plain (ends_of c.args.ends)) text (plain_wide c.args.ends))
 
-pub returns : goal.returns
-returns c =
-    let three = c.marks.result in
+pub overflow_shr-result : goal.overflow_shr-result
+overflow_shr-result c =
+    let run = run_seen (ends_of c.args.ends) c.marks_ahead-marks.ensures (omega arith) in
+    omega (arith, run.1, c.in_ok-value.ensures.few)
+
+pub returns-clause-piece : goal.returns-clause-piece
+returns-clause-piece c =
+    let run = run_seen (ends_of c.args.ends) c.marks_ahead-marks.ensures (omega arith) in
+    short_piece c.args.ends c.args.text.now c.split_at.result.1.now c.split_at-2.result.1.now _ c.in_ok-value.value c.in_ok-value.taken c.utf8.text (omega arith) run.1 run.0 c.split_at.ensures.back
+    c.in_ok-value.ensures c.split_at-2.ensures.back
+
+pub returns-clause-left : goal.returns-clause-left
+returns-clause-left c =
     let text = c.args.text.now in
-    let plain = is_plain (ends_of c.args.ends) in
-    let marked = is_one_of three.0 three.1 three.2 in
-    let found = c.find-found.ensures ∙ ap (λ x. mask_l (map marked (chunk 0 16 x))) c.as_bytes.ensures.value in
-    let run = run_in_lanes plain marked text c.find-found.result c.marks.ensures (omega arith) found (omega arith) in
-    short_piece c.args.ends text c.split_at.result.1.now _ _ c.in_ok-value.value c.utf8.text (omega arith) run.1 run.0 c.split_at.ensures.back
-    (c.in_ok-value.ensures.read (ends_of c.args.ends)) c.in_ok-value.ensures.shorter
+    let len = count_trailing_zeros 64 c.marks_ahead-marks.result in
+    let taken = c.in_ok-value.taken in
+    Sees-past (ends_of c.args.ends) (len + taken) c.marks_ahead-marks.ensures (c.split_at-2.ensures.back ∙ ap (drop taken) c.split_at.ensures.back ∙ drop-drop taken len text)
