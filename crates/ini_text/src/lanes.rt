@@ -8,7 +8,7 @@ ghost use Rattle.ini_text.specs.declared.lanes.TheConstants.{HALF, LANES};
 
 use std::simd::prelude::*;
 
-// How many bytes are tested together.
+/// How many bytes are tested together.
 pub(crate) const LANES: usize = 16;
 
 // Half of them.

@@ -59,7 +59,7 @@ same_run p q same [] = refl
 same_run p q same (x ∷ xs) = ap₂ (λ b n. cond b (1 + n) 0) (same x) (same_run p q same xs)
 
 module _ (p : ℕ → Bool) where
-  no_bits : (xs : List ℕ) → position_or_len p xs ≡ length xs → mask_l (map p xs) ≡ 0
+  pub no_bits : (xs : List ℕ) → position_or_len p xs ≡ length xs → mask_l (map p xs) ≡ 0
   no_bits [] e = refl
   no_bits (x ∷ xs) e = none_fails (p x) _ (length xs) _ (prefix_len-le-length (λ y. not (p y)) xs) (omega arith) (no_bits xs)
 

@@ -5,7 +5,7 @@ use Rattle.std.proofs.Math.Seq.{take-append_seam}
 use Rattle.std.proofs.lemmas.List.{take-append-le}
 use Rattle.ini_text.specs.Device.Gathering.{IsUnderWay, Sends}
 use Rattle.std.specs.Io.KnownBytes.{Appends}
-use Rattle.ini_text.specs.Device.Watched.{AppendsFront, IsClear, WritesBytes}
+use Rattle.ini_text.specs.Device.Watched.{AppendsFront, IsClear, SameDevice, WritesBytes}
 use Rattle.ini_text.specs.declared.error.Error.{Error}
 use Rattle.ini_text.specs.declared.device.Watched.{Watched}
 use Rattle.ini_text.proofs.WriteLemmas.ProgressLemmas.{under_way_front}
@@ -173,3 +173,42 @@ module _ {W : Type 0} {contents : W → Option (List ℕ)} where
     Sending-stops {e} cut =
         subst (Sends contents a c before after (Err e)) (ap (λ l. left.so_far ++ l) (sym front) ∙ left.joined)
         (Sends-then left.sent (Sends-cut more cut))
+
+-- a part of the whole went out, and the rest is held back or is to come
+pub record Leaving {W : Type 0} (contents : W → Option (List ℕ)) (a b : Watched W) (whole left : List ℕ) : Type 0 where
+  pub clear : IsClear b
+  pub same_device : SameDevice a b
+  pub under_way : IsUnderWay (contents a.device.now) (contents b.device.now) whole left
+
+module _ {W : Type 0} {contents : W → Option (List ℕ)} where
+  pub Leaving-starts : {a : Watched W} (whole : List ℕ) → IsClear a → Leaving contents a a whole whole
+  Leaving-starts whole clear = record { clear = clear; same_device = refl; under_way = record { done = []; appended = Appends-nil _; parts = refl } }
+
+  pub Leaving-ends : {a b : Watched W} (before after xs : List ℕ) → Leaving contents a b (before ++ xs) after → Sends contents a b before after (Ok (tt {0})) xs
+  Leaving-ends before after xs all = record {
+    same_device = all.same_device;
+    sent = all.under_way;
+    front = tt;
+    failures = all.clear.0;
+    stalls = all.clear.1;
+    only = tt;
+  }
+
+  -- a call that was to send the bytes xs behind what is held
+  module _ {a b c : Watched W} {held after whole left : List ℕ} (xs more : List ℕ) (front : left ≡ held ++ (xs ++ more)) (so_far : Leaving contents a b whole left) where
+    pub Leaving-goes_on : Sends contents b c held after (Ok (tt {0})) xs → Leaving contents a c whole (after ++ more)
+    Leaving-goes_on step = record {
+      clear = (step.failures, step.stalls);
+      same_device = step.same_device ∙ so_far.same_device;
+      under_way = under_way-then so_far.under_way (rw front (under_way-behind held xs more step.sent));
+    }
+
+    pub Leaving-stops : {e : Error} (before ys : List ℕ) → before ++ ys ≡ whole → Sends contents b c held after (Err e) xs → Sends contents a c before after (Err e) ys
+    Leaving-stops before ys all cut = record {
+      same_device = cut.same_device ∙ so_far.same_device;
+      sent = tt;
+      front = subst (AppendsFront _ _) (sym all) (under_way_front _ (held ++ xs) more so_far.under_way (front ∙ sym (append_assoc held xs more)) cut.front);
+      failures = cut.failures;
+      stalls = cut.stalls;
+      only = cut.only;
+    }

@@ -5,23 +5,29 @@ ghost use Rattle.std.specs.Char.{digit_char};
 ghost use Rattle.ini_text.specs.Escaping.EscapedTexts.{letter_of};
 
 /// The character that follows the backslash, where one is enough.
+#[inline(always)]
 pub(crate) fn letter_of(c: char) -> Option<u8>
     ensures { result ≡ letter_of c }
 {
+    if c < '\x0E' {
+        return match c {
+            '\0' => Some(b'0'),
+            '\x07' => Some(b'a'),
+            '\x08' => Some(b'b'),
+            '\t' => Some(b't'),
+            '\n' => Some(b'n'),
+            '\x0B' => Some(b'v'),
+            '\x0C' => Some(b'f'),
+            '\r' => Some(b'r'),
+            _ => None,
+        };
+    }
     match c {
         '\\' => Some(b'\\'),
         ';' => Some(b';'),
         '#' => Some(b'#'),
         '=' => Some(b'='),
         ':' => Some(b':'),
-        '\0' => Some(b'0'),
-        '\x07' => Some(b'a'),
-        '\x08' => Some(b'b'),
-        '\t' => Some(b't'),
-        '\n' => Some(b'n'),
-        '\x0B' => Some(b'v'),
-        '\x0C' => Some(b'f'),
-        '\r' => Some(b'r'),
         _ => None,
     }
 }

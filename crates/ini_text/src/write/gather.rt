@@ -1,25 +1,33 @@
 //! Texts on their way to a device, gathered so that many of them reach it together. This file knows
 //! bytes and escapes, and no section, key or value.
-ghost use Rattle.std.specs.Prelude.{◌≡◌, ◌+◌, ◌++◌, ◌≤◌, [], length, OnOk, if◌then◌else◌};
+ghost use Rattle.std.specs.Prelude.{◌≡◌, ℕ, ◌+◌, ◌++◌, ◌≤◌, [], ◌∷◌, length, take, OnOk, if◌then◌else◌};
+ghost use Rattle.ini_text.specs.Grammar.CharacterKinds.{backslash};
 ghost use Rattle.ini_text.specs.Escaping.EscapedTexts.{escape, escaped_bytes};
+ghost use Rattle.ini_text.specs.Inside.Verbatim.{marked_escaped};
 ghost use Rattle.ini_text.specs.Device.Gathering.{Sends};
 ghost use Rattle.ini_text.specs.Device.Watched.{IsClear};
-ghost use Rattle.ini_text.specs.declared.write.gather.TheConstants.{ROOM};
+ghost use Rattle.ini_text.specs.declared.lanes.TheConstants.{LANES};
+ghost use Rattle.ini_text.specs.declared.write.gather.TheConstants.{ROOM, SHORT};
 
 use crate::device::Watched;
 use crate::error::Error;
+use crate::lanes::{LANES, Marks, run_before};
 use crate::text::split_first;
 use crate::write::escape::{hex_digit, letter_of};
 use crate::write::policy::EscapePolicy;
-use crate::write::verbatim::{is_verbatim, split_verbatim};
+use crate::write::verbatim::{Basics, Reserved, is_verbatim, split_verbatim};
 use crate::write::write_bytes;
 use std::io::Write;
+use std::simd::prelude::*;
 
 // How many bytes are held back at most.
 const ROOM: usize = 4096;
 
 // How long an escape is at most: a backslash, `x` and six digits.
 const LONGEST: usize = 8;
+
+// How long an escape by one letter is.
+const SHORT: usize = 2;
 
 /// Holds bytes back on their way to a device, so that many short texts reach it in one call.
 ///
@@ -69,10 +77,11 @@ impl Gatherer {
         ensures { Sends W.contents out.old out.new (held self.old) (held self.new) result
             (escaped_bytes policy text.now) }
     {
-        if self.hold_verbatim(text, policy) {
-            return Ok(());
+        match policy {
+            EscapePolicy::Basics => self.put_marked(text.as_bytes(), &Basics, out),
+            EscapePolicy::Reserved => self.put_marked(text.as_bytes(), &Reserved, out),
+            _ => self.put_runs(text, policy, out),
         }
-        self.put_runs(text, policy, out)
     }
 
     /// Sends a line: two texts escaped, and behind each another as it is. The errors are those of `put`.
@@ -148,19 +157,118 @@ impl Gatherer {
         true
     }
 
-    // Holds a text back if no character of it is escaped and there is room.
-    fn hold_verbatim(&mut self, text: &str, policy: EscapePolicy) -> bool
-        ensures { held self.new ≡ held self.old ++ (if result then escaped_bytes policy text.now else []) }
+    // Sends bytes, each that is marked as the escape of its character.
+    #[inline(always)]
+    fn put_marked<M: Marks, W: Write>(
+        &mut self,
+        bytes: &[u8],
+        marks: &M,
+        out: &mut Watched<'_, W>,
+    ) -> Result<(), Error>
+        requires { IsClear out.old }
+        ensures { Sends W.contents out.old out.new (held self.old) (held self.new) result
+            (marked_escaped (M.is_marked marks.now) bytes.now) }
     {
-        let (run, rest) = split_verbatim(text, policy);
-        if !rest.is_empty() {
-            return false;
+        let rest = self.hold_marked(bytes, marks);
+        if rest.is_empty() {
+            return Ok(());
         }
-        if run.len() > ROOM - self.len {
-            return false;
+        self.put_pieces(rest, marks, out)
+    }
+
+    // The same, piece by piece.
+    #[inline(never)]
+    fn put_pieces<M: Marks, W: Write>(
+        &mut self,
+        bytes: &[u8],
+        marks: &M,
+        out: &mut Watched<'_, W>,
+    ) -> Result<(), Error>
+        requires { IsClear out.old }
+        ensures { Sends W.contents out.old out.new (held self.old) (held self.new) result
+            (marked_escaped (M.is_marked marks.now) bytes.now) }
+    {
+        let mut rest = bytes;
+        'pieces: loop {
+            let (run, after) = rest.split_at(run_before(rest, marks));
+            self.put_bytes(run, out)?;
+            let [marked, following @ ..] = after else {
+                return Ok(());
+            };
+            self.put_escape(char::from(*marked), out)?;
+            rest = self.hold_marked(following, marks);
         }
-        self.append(run.as_bytes());
-        true
+    }
+
+    // Holds back bytes at the front, each that is marked as the escape of its character, and answers those
+    // that are left: where there is no room, or at an escape by digits.
+    #[inline(never)]
+    fn hold_marked<'a, M: Marks>(&mut self, bytes: &'a [u8], marks: &M) -> &'a [u8]
+        ensures held { held self.new ++ marked_escaped (M.is_marked marks.now) result.now
+            ≡ held self.old ++ marked_escaped (M.is_marked marks.now) bytes.now }
+        ensures shorter { length result.now ≤ length bytes.now }
+    {
+        let rest = self.hold_lanes(bytes, marks);
+        self.hold_few(rest, marks)
+    }
+
+    // The same, sixteen bytes at a time, of which those before the first that is marked count.
+    #[inline(always)]
+    fn hold_lanes<'a, M: Marks>(&mut self, bytes: &'a [u8], marks: &M) -> &'a [u8]
+        ensures held { held self.new ++ marked_escaped (M.is_marked marks.now) result.now
+            ≡ held self.old ++ marked_escaped (M.is_marked marks.now) bytes.now }
+        ensures shorter { length result.now ≤ length bytes.now }
+    {
+        let mut rest = bytes;
+        let mut len = self.len;
+        'lanes: while rest.len() >= LANES && len <= ROOM - LANES - SHORT {
+            let lanes = u8x16::from_slice(rest);
+            let found = marks.find(lanes);
+            place_lanes(&mut self.bytes, len, lanes);
+            if found == 0 {
+                len += LANES;
+                rest = &rest[LANES..];
+                continue 'lanes;
+            }
+            let run = found.trailing_zeros() as usize;
+            let Some(letter) = letter_of(char::from(rest[run])) else {
+                break 'lanes;
+            };
+            place_escape(&mut self.bytes, len + run, letter);
+            len += run + SHORT;
+            rest = &rest[run + 1..];
+        }
+        self.len = len;
+        rest
+    }
+
+    // The same of fewer bytes than sixteen.
+    #[inline(always)]
+    fn hold_few<'a, M: Marks>(&mut self, bytes: &'a [u8], marks: &M) -> &'a [u8]
+        ensures held { held self.new ++ marked_escaped (M.is_marked marks.now) result.now
+            ≡ held self.old ++ marked_escaped (M.is_marked marks.now) bytes.now }
+        ensures shorter { length result.now ≤ length bytes.now }
+    {
+        if bytes.len() >= LANES || self.len > ROOM - SHORT * LANES {
+            return bytes;
+        }
+        let mut rest = bytes;
+        let mut len = self.len;
+        'few: while let [byte, following @ ..] = rest {
+            if marks.contain(*byte) {
+                let Some(letter) = letter_of(char::from(*byte)) else {
+                    break 'few;
+                };
+                place_escape(&mut self.bytes, len, letter);
+                len += SHORT;
+            } else {
+                self.bytes[len] = *byte;
+                len += 1;
+            }
+            rest = following;
+        }
+        self.len = len;
+        rest
     }
 
     // Sends a text escaped, run by run.
@@ -290,4 +398,23 @@ impl Gatherer {
         }
         self.len = end;
     }
+}
+
+// Puts sixteen bytes behind those that are held back.
+#[inline(always)]
+fn place_lanes(bytes: &mut [u8; ROOM], len: usize, lanes: u8x16)
+    requires { len + LANES ≤ ROOM }
+    ensures { (n : ℕ) → n ≤ LANES → take (len + n) bytes.new ≡ take len bytes.old ++ take n lanes }
+{
+    lanes.copy_to_slice(&mut bytes[len..]);
+}
+
+// Puts the escape by a letter behind those that are held back.
+#[inline(always)]
+fn place_escape(bytes: &mut [u8; ROOM], len: usize, letter: u8)
+    requires { len + SHORT ≤ ROOM }
+    ensures { take (len + SHORT) bytes.new ≡ take len bytes.old ++ backslash ∷ letter ∷ [] }
+{
+    bytes[len] = b'\\';
+    bytes[len + 1] = letter;
 }

@@ -47,7 +47,7 @@ fn run_len(bytes: &[u8], policy: EscapePolicy) -> usize
 
 // What `EscapePolicy::Basics` escapes.
 #[derive(Clone, Copy)]
-struct Basics;
+pub(crate) struct Basics;
 
 impl Marks for Basics {
     ghost is_marked = { λ _ byte. begins_escaped policies.Basics byte };
@@ -68,7 +68,7 @@ impl Marks for Basics {
 
 // What `EscapePolicy::Reserved` escapes.
 #[derive(Clone, Copy)]
-struct Reserved;
+pub(crate) struct Reserved;
 
 impl Marks for Reserved {
     ghost is_marked = { λ _ byte. begins_escaped policies.Reserved byte };

@@ -1,0 +1,170 @@
+-- Bytes of which each that is marked goes out as the escape of its character.
+use Rattle.std.proofs.Common.{◌≡◌, ℕ, zero, suc, ◌+◌, ◌<◌, ◌≤◌, Bool, true, false, not, cond, List, [], ◌∷◌, ◌++◌, length, map, take, drop, get_or, inl, inr, Some, leb, refl, ap, ap₂, ◌∙◌, sym, arith, append_assoc, append-nil, IsUtf8, chars, encode_utf8_all, add-zero}
+use lib.Utf8.{encode}
+use Rattle.std.proofs.Math.Seq.{take-append-add}
+use Rattle.std.proofs.lemmas.Bool.Decides.{nat_tests}
+use Rattle.std.proofs.lemmas.Grind.{flat_map-append}
+use Rattle.std.proofs.lemmas.Str.{encode_ascii, encodes-IsAscii, encodes-append, encodes-chars}
+use Rattle.std.proofs.lemmas.Bool.{and_parts, cases_lt}
+use Rattle.std.proofs.lemmas.List.{drop_more, get_or-drop, length-drop, length-take-le, take-append-le, take-take}
+use Rattle.std.proofs.lemmas.List.Sums.{passes_at_first, prefix_len-le-length}
+use Rattle.std.proofs.lemmas.Simd.{length-chunk, put_chunk_is, trailing_mask_l}
+use Rattle.std.specs.List.{list_all, position_or_len}
+use lib.Count.{count_trailing_zeros}
+use lib.Lanes.{chunk, mask_l, put_chunk}
+use Rattle.ini_text.specs.Escaping.EscapedTexts.{escape, escape_by, escaped, escaped_bytes, letter_of}
+use Rattle.ini_text.specs.Escaping.Policies.{is_escaped}
+use Rattle.ini_text.specs.Grammar.CharacterKinds.{backslash}
+use Rattle.ini_text.specs.Inside.Verbatim.{begins_escaped, marked_escaped}
+use Rattle.ini_text.specs.declared.write.policy.EscapePolicy.{EscapePolicy}
+use Rattle.ini_text.specs.declared.write.policy.EscapePolicy.TheVariants.{Basics, Reserved}
+use Rattle.ini_text.proofs.WriteLemmas.EscapeByteLemmas.{IsAscii-escape}
+use Rattle.ini_text.proofs.WriteLemmas.VerbatimRunLemmas.{begins-basic, begins-reserved}
+use Rattle.ini_text.proofs.StringLemmas.LaneLemmas.{no_bits, stopped}
+
+module _ (p : ℕ → Bool) where
+  passed_first : (b : Bool) (n left c : ℕ) (front back : List ℕ) → suc n ≤ cond (not b) (1 + left) 0 → (n ≤ left → back ≡ front) → cond b (escape c) (c ∷ []) ++ back ≡ c ∷ front
+  passed_first true n left c front back fits rest = absurd (omega arith)
+  passed_first false n left c front back fits rest = ap (λ l. c ∷ l) (rest (omega arith))
+
+  -- bytes of which none is marked
+  pub marked_escaped-run : (n : ℕ) (bytes : List ℕ) → n ≤ position_or_len p bytes → marked_escaped p bytes ≡ take n bytes ++ marked_escaped p (drop n bytes)
+  marked_escaped-run zero bytes within = refl
+  marked_escaped-run (suc n) [] within = absurd (omega arith)
+  marked_escaped-run (suc n) (c ∷ bytes) within = passed_first (p c) n (position_or_len p bytes) c _ _ within (marked_escaped-run n bytes)
+
+  -- a byte that is marked
+  pub marked_escaped-next : (c : ℕ) (bytes rest : List ℕ) → bytes ≡ c ∷ rest → p c ≡ true → marked_escaped p bytes ≡ escape c ++ marked_escaped p rest
+  marked_escaped-next c bytes rest parts is = ap (marked_escaped p) parts ∙ ap (λ b. cond b (escape c) (c ∷ []) ++ marked_escaped p rest) is
+
+  -- a piece more is held, and what follows it is left
+  pub held_more : (before piece rest left : List ℕ) {after whole : List ℕ} → after ≡ before ++ piece → marked_escaped p rest ≡ piece ++ marked_escaped p left
+      → before ++ marked_escaped p rest ≡ whole → after ++ marked_escaped p left ≡ whole
+  held_more before piece rest left grown next so_far =
+      ap (λ l. l ++ marked_escaped p left) grown ∙ append_assoc before piece (marked_escaped p left) ∙ ap (λ l. before ++ l) (sym next) ∙ so_far
+
+  -- sixteen bytes at the front, of which some are marked: how many stand before the first of them
+  pub record StopsAt (bytes : List ℕ) (run : ℕ) : Type 0 where
+    pub position : run ≡ position_or_len p bytes
+    pub below : run < 16
+    pub within : run < length bytes
+
+  pub stops_at : (bytes : List ℕ) (found : ℕ) → 16 ≤ length bytes → found ≡ mask_l (map p (chunk 0 16 bytes)) → 0 < found → StopsAt bytes (count_trailing_zeros 64 found)
+  stops_at bytes found long is some =
+      let first = stopped p bytes 0 16 (omega arith) (omega arith) (omega (arith, is)) ∙ ap (count_trailing_zeros 64) (sym is) in
+      let lanes = chunk 0 16 bytes in
+      let many = length-chunk 0 16 bytes long in
+      let place = ap (count_trailing_zeros 64) is ∙ trailing_mask_l p 64 lanes (omega arith) (omega (arith, is)) in
+      let below : count_trailing_zeros 64 found < 16 = elim (cases_lt (position_or_len p lanes) (length lanes)) [
+        | inl below ↦ omega arith
+        | inr above ↦ absurd (omega (arith, no_bits p lanes (omega (arith, prefix_len-le-length (λ x. not (p x)) lanes))))
+      ] in
+      record { position = sym first; below = below; within = omega arith }
+
+  -- a byte that is marked, and has a letter
+  pub marked_escaped-letter : (bytes : List ℕ) (at letter : ℕ) → at < length bytes → p (get_or bytes at 0) ≡ true → Some letter ≡ letter_of (get_or bytes at 0)
+      → marked_escaped p (drop at bytes) ≡ (backslash ∷ letter ∷ []) ++ marked_escaped p (drop (at + 1) bytes)
+  unfolding escape
+  marked_escaped-letter bytes at letter within marked is =
+      let c = get_or bytes at 0 in
+      marked_escaped-next c (drop at bytes) (drop (at + 1) bytes) (drop_more bytes at 0 within) marked ∙ ap (λ l. escape_by l c ++ marked_escaped p (drop (at + 1) bytes)) (sym is)
+
+  -- the same behind bytes that are not marked
+  pub marked_escaped-short : (bytes : List ℕ) (run letter : ℕ) → StopsAt bytes run → Some letter ≡ letter_of (get_or bytes run 0)
+      → marked_escaped p bytes ≡ (take run bytes ++ backslash ∷ letter ∷ []) ++ marked_escaped p (drop (run + 1) bytes)
+  marked_escaped-short bytes run letter stops is =
+      let marked : p (get_or bytes run 0) ≡ true = rw stops.position (passes_at_first p bytes 0 (rw stops.position at stops.within)) in
+      marked_escaped-run run bytes (omega (arith, stops.position)) ∙ ap (λ l. take run bytes ++ l) (marked_escaped-letter bytes run letter stops.within marked is)
+      ∙ sym (append_assoc (take run bytes) (backslash ∷ letter ∷ []) (marked_escaped p (drop (run + 1) bytes)))
+
+  -- the bytes before the first that is marked, and what stands behind them
+  pub marked_escaped-split : (bytes front back : List ℕ) (run : ℕ) → run ≡ position_or_len p bytes → front ≡ take run bytes → back ≡ drop run bytes
+      → marked_escaped p bytes ≡ front ++ marked_escaped p back
+  marked_escaped-split bytes front back run stops is_front is_back =
+      marked_escaped-run run bytes (omega (arith, stops)) ∙ sym (ap (λ l. l ++ marked_escaped p back) is_front ∙ ap (λ l. take run bytes ++ marked_escaped p l) is_back)
+
+  pub marked_escaped-at : (bytes back : List ℕ) (run : ℕ) → run ≡ position_or_len p bytes → back ≡ drop run bytes → 0 < length back
+      → marked_escaped p back ≡ escape (get_or back 0 0) ++ marked_escaped p (drop 1 back)
+  marked_escaped-at bytes back run stops is_back some =
+      let within : position_or_len p bytes < length bytes = omega (arith, length-drop run bytes, ap length is_back) in
+      let first : get_or back 0 0 ≡ get_or bytes (position_or_len p bytes) 0 = rw (is_back, get_or-drop, add-zero, stops) refl in
+      marked_escaped-next (get_or back 0 0) back (drop 1 back) (drop_more back 0 0 some) (ap p first ∙ passes_at_first p bytes 0 within)
+
+  -- bytes beyond ASCII, of which none is marked
+  marked_escaped-beyond : ((byte : ℕ) → 0x80 ≤ byte → p byte ≡ false) → (bytes : List ℕ) → list_all (λ b. leb 0x80 b) bytes ≡ true → marked_escaped p bytes ≡ bytes
+  marked_escaped-beyond none [] beyond = refl
+  marked_escaped-beyond none (b ∷ bytes) beyond =
+      let both = and_parts (leb 0x80 b) (list_all (λ b. leb 0x80 b) bytes) beyond in
+      ap (λ x. cond x (escape b) (b ∷ []) ++ marked_escaped p bytes) (none b (let high = both.0 in grind (arith, nat_tests))) ∙ ap (λ l. b ∷ l) (marked_escaped-beyond none bytes both.1)
+
+encode_beyond : (c : ℕ) → 0x80 ≤ c → list_all (λ b. leb 0x80 b) (encode c) ≡ true
+unfolding encode
+encode_beyond c beyond = grind (arith, nat_tests)
+
+-- Where a policy escapes ASCII alone, each byte tells what goes out for it.
+module _ (policy : EscapePolicy) (ascii : (c : ℕ) → 0x80 ≤ c → (begins_escaped policy c ≡ false) × (is_escaped policy c ≡ false)) where
+  one_escaped : (c : ℕ) → marked_escaped (begins_escaped policy) (encode c) ≡ encode_utf8_all (cond (is_escaped policy c) (escape c) (c ∷ []))
+  one_escaped c =
+      elim (cases_lt c 0x80) [
+        | inl below ↦ ascii_escaped (is_escaped policy c) below refl
+        | inr beyond ↦
+            marked_escaped-beyond (begins_escaped policy) (λ b h. (ascii b h).0) (encode c) (encode_beyond c beyond)
+            ∙ sym (ap (λ b. encode_utf8_all (cond b (escape c) (c ∷ []))) (ascii c beyond).1 ∙ append-nil (encode c))
+      ]
+    where
+      ascii_escaped : (b : Bool) → c < 0x80 → is_escaped policy c ≡ b → marked_escaped (begins_escaped policy) (encode c) ≡ encode_utf8_all (cond b (escape c) (c ∷ []))
+      ascii_escaped true below is =
+          let same : begins_escaped policy c ≡ is_escaped policy c = grind (arith, nat_tests) in
+          ap (marked_escaped (begins_escaped policy)) (encode_ascii c below) ∙ ap (λ b. cond b (escape c) (c ∷ []) ++ []) (same ∙ is)
+          ∙ append-nil (escape c) ∙ sym (encodes-IsAscii (escape c) (IsAscii-escape c))
+      ascii_escaped false below is =
+          let same : begins_escaped policy c ≡ is_escaped policy c = grind (arith, nat_tests) in
+          ap (marked_escaped (begins_escaped policy)) (encode_ascii c below) ∙ ap (λ b. cond b (escape c) (c ∷ []) ++ []) (same ∙ is)
+          ∙ sym (ap (λ l. l ++ []) (encode_ascii c below))
+
+  chars_escaped : (text : List ℕ) → marked_escaped (begins_escaped policy) (encode_utf8_all text) ≡ encode_utf8_all (escaped policy text)
+  chars_escaped [] = refl
+  chars_escaped (c ∷ text) =
+      flat_map-append _ (encode c) (encode_utf8_all text) ∙ ap₂ (λ a b. a ++ b) (one_escaped c) (chars_escaped text)
+      ∙ sym (encodes-append (cond (is_escaped policy c) (escape c) (c ∷ [])) (escaped policy text))
+
+  escaped_bytes-marked : (bytes : List ℕ) → IsUtf8 bytes → escaped_bytes policy bytes ≡ marked_escaped (begins_escaped policy) bytes
+  escaped_bytes-marked bytes is_text = sym (chars_escaped (chars bytes)) ∙ ap (marked_escaped (begins_escaped policy)) (encodes-chars bytes is_text)
+
+basics_ascii : (c : ℕ) → 0x80 ≤ c → (begins_escaped Basics c ≡ false) × (is_escaped Basics c ≡ false)
+basics_ascii c beyond = (begins-basic c ∙ grind (arith, nat_tests), grind (arith, nat_tests))
+
+reserved_ascii : (c : ℕ) → 0x80 ≤ c → (begins_escaped Reserved c ≡ false) × (is_escaped Reserved c ≡ false)
+reserved_ascii c beyond = (begins-reserved c ∙ grind (arith, nat_tests), grind (arith, nat_tests))
+
+pub escaped_bytes-basics : (bytes : List ℕ) → IsUtf8 bytes → escaped_bytes Basics bytes ≡ marked_escaped (begins_escaped Basics) bytes
+escaped_bytes-basics bytes is_text = escaped_bytes-marked Basics basics_ascii bytes is_text
+
+pub escaped_bytes-reserved : (bytes : List ℕ) → IsUtf8 bytes → escaped_bytes Reserved bytes ≡ marked_escaped (begins_escaped Reserved) bytes
+escaped_bytes-reserved bytes is_text = escaped_bytes-marked Reserved reserved_ascii bytes is_text
+
+-- lanes that are put behind the first bytes
+pub placed : (len n : ℕ) (bytes mid lanes past : List ℕ) → len ≤ length bytes → length lanes ≤ length mid → n ≤ length lanes
+    → take (len + n) (take len bytes ++ (put_chunk 0 mid lanes ++ past)) ≡ take len bytes ++ take n lanes
+placed len n bytes mid lanes past within room some =
+    let front = take len bytes in
+    let left = drop (length lanes) mid in
+    let front_len : length front ≡ len = length-take-le len bytes within in
+    let parts : put_chunk 0 mid lanes ≡ lanes ++ left = put_chunk_is 0 mid lanes (omega arith) in
+    let taken : take n ((lanes ++ left) ++ past) ≡ take n lanes = ap (take n) (append_assoc lanes left past) ∙ take-append-le n lanes (left ++ past) some in
+    ap (λ l. take (len + n) (front ++ (l ++ past))) parts ∙ ap (λ k. take (k + n) (front ++ ((lanes ++ left) ++ past))) (sym front_len)
+    ∙ take-append-add front ((lanes ++ left) ++ past) n ∙ ap (λ l. front ++ l) taken
+
+-- a run and an escape by a letter, put behind the first bytes
+pub placed_short : (len run letter : ℕ) (before bytes lanes after : List ℕ) → run ≤ 16 → take (len + run) lanes ≡ take len before ++ take run (chunk 0 16 bytes)
+    → take (len + run + 2) after ≡ take (len + run) lanes ++ backslash ∷ letter ∷ [] → take (len + (run + 2)) after ≡ take len before ++ (take run bytes ++ backslash ∷ letter ∷ [])
+placed_short len run letter before bytes lanes after below first second =
+    let end : len + (run + 2) ≡ len + run + 2 = omega arith in
+    ap (λ k. take k after) end ∙ second ∙ ap (λ l. l ++ backslash ∷ letter ∷ []) (first ∙ ap (λ l. take len before ++ l) (take-take run 16 bytes below))
+    ∙ append_assoc (take len before) (take run bytes) (backslash ∷ letter ∷ [])
+
+-- lanes of which none counts
+pub placed_none : (len : ℕ) (before after : List ℕ) → take (len + 0) after ≡ take len before ++ [] → take len after ≡ take len before
+placed_none len before after is =
+    let end : len ≡ len + 0 = omega arith in
+    ap (λ k. take k after) end ∙ is ∙ append-nil (take len before)

@@ -1,0 +1,14 @@
+use Rattle.std.proofs.Common.{◌≡◌, ◌+◌, ◌*◌, ◌++◌, ◌≤◌, length, take}
+use Rattle.ini_text.specs.Inside.Verbatim.{marked_escaped}
+use Rattle.ini_text.specs.Device.HeldBack.{held}
+use Rattle.ini_text.proofs.write.gather.Gatherer.hold_few.Given as goal
+
+abbrev pub invariant-few : goal.invariant-few
+invariant-few g l = record {
+  held : take l.len l.self.bytes ++ marked_escaped (g.M.Marks.is_marked l.marks) l.rest ≡ held l.fn.self ++ marked_escaped (g.M.Marks.is_marked l.fn.marks) l.fn.bytes;
+  within : l.len + 2 * length l.rest ≤ 4096;
+  shorter : length l.rest ≤ length l.fn.bytes;
+}
+
+abbrev pub decreases-few : goal.decreases-few
+decreases-few g l = length l.rest

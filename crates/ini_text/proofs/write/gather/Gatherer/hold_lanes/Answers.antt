@@ -1,0 +1,48 @@
+use Rattle.std.proofs.Common.{◌+◌, ◌++◌, ◌∙◌, ◌∷◌, [], length, take, ap, sym, arith, length-drop}
+use Rattle.std.proofs.lemmas.List.{take_rest}
+use lib.Count.{count_trailing_zeros}
+use Rattle.ini_text.proofs.WriteLemmas.MarkedByteLemmas.{held_more, marked_escaped-short, placed_none, placed_short, stops_at}
+use Rattle.ini_text.specs.Grammar.CharacterKinds.{backslash}
+use Rattle.ini_text.specs.Inside.Verbatim.{marked_escaped}
+use Rattle.ini_text.specs.Escaping.EscapedTexts.{letter_of}
+use Rattle.ini_text.proofs.write.gather.Gatherer.hold_lanes.Goals.{then-lanes-test+else-len, else-lanes-test, then-lanes-test+then-len+else-found-eq0+in_default}
+use Rattle.ini_text.proofs.write.gather.Gatherer.hold_lanes.Goals as goal
+
+pub bounds-rest-run : goal.bounds-rest-run
+bounds-rest-run g c = let stops = stops_at (g.M.Marks.is_marked c.args.marks.now) c.lanes.rest.now c.find-found.result (omega arith) c.find-found.ensures (omega arith) in stops.within
+
+pub place_escape-requires : goal.place_escape-requires
+place_escape-requires g c = let stops = stops_at (g.M.Marks.is_marked c.args.marks.now) c.lanes.rest.now c.find-found.result (omega arith) c.find-found.ensures (omega arith) in omega (arith, stops.below)
+
+pub slice_bounds-rest-count-in-lanes : goal.slice_bounds-rest-count-in-lanes
+slice_bounds-rest-count-in-lanes g c = let stops = stops_at (g.M.Marks.is_marked c.args.marks.now) c.lanes.rest.now c.find-found.result (omega arith) c.find-found.ensures (omega arith) in omega (arith, stops.within)
+
+pub slice_bounds-rest-start-in-lanes : goal.slice_bounds-rest-start-in-lanes
+slice_bounds-rest-start-in-lanes g c = let stops = stops_at (g.M.Marks.is_marked c.args.marks.now) c.lanes.rest.now c.find-found.result (omega arith) c.find-found.ensures (omega arith) in omega (arith, stops.within)
+
+pub lanes-preserved : goal.lanes-preserved
+lanes-preserved g c =
+    let p = g.M.Marks.is_marked c.args.marks.now in
+    let rest = c.lanes.rest.now in
+    let run = count_trailing_zeros 64 c.find-found.result in
+    let stops = stops_at p rest c.find-found.result (omega arith) c.find-found.ensures (omega arith) in
+    let piece = take run rest ++ backslash ∷ c.in-Some.letter ∷ [] in
+    let left = take_rest rest (run + 1) in
+    let next = marked_escaped-short p rest run c.in-Some.letter stops (sym c.in-Some.is ∙ c.letter_of.ensures ∙ ap letter_of c.from.ensures) in
+    let grown = placed_short c.lanes.len run c.in-Some.letter c.lanes.self.bytes rest c.place_lanes.new.bytes c.place_escape.new.bytes (omega (arith, stops.below))
+    (c.place_lanes.ensures run (omega (arith, stops.below))) c.place_escape.ensures in
+    record {
+      held = held_more p _ piece rest _ grown (next ∙ ap (λ l. piece ++ marked_escaped p l) (sym left)) c.lanes.invariant.held;
+      within = omega (arith, stops.below);
+      shorter = omega (arith, ap length left, length-drop (run + 1) rest, c.lanes.invariant.shorter);
+    }
+
+pub returns-clause-held : goal.returns-clause-held
+returns-clause-held g c =
+    elim c.lanes-test.branch [
+      | then-lanes-test+else-len w ↦ rw w.self-is c.lanes.invariant.held
+      | else-lanes-test w ↦ rw w.self-is c.lanes.invariant.held
+      | then-lanes-test+then-len+else-found-eq0+in_default w ↦
+          let kept = placed_none c.lanes.len c.lanes.self.bytes w.place_lanes.new.bytes (w.place_lanes.ensures 0 (omega arith)) in
+          rw w.self-is (ap (λ l. l ++ marked_escaped (g.M.Marks.is_marked c.args.marks.now) c.lanes.rest.now) kept ∙ c.lanes.invariant.held)
+    ]
