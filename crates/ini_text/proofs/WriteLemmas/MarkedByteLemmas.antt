@@ -43,6 +43,10 @@ module _ (p : ℕ → Bool) where
   held_more before piece rest left grown next so_far =
       ap (λ l. l ++ marked_escaped p left) grown ∙ append_assoc before piece (marked_escaped p left) ∙ ap (λ l. before ++ l) (sym next) ∙ so_far
 
+  -- all is held, and nothing is left
+  pub held_all : (after left : List ℕ) {whole : List ℕ} → left ≡ [] → after ++ marked_escaped p left ≡ whole → after ≡ whole
+  held_all after left none all = sym (ap (λ l. after ++ marked_escaped p l) none ∙ append-nil after) ∙ all
+
   -- sixteen bytes at the front, of which some are marked: how many stand before the first of them
   pub record StopsAt (bytes : List ℕ) (run : ℕ) : Type 0 where
     pub position : run ≡ position_or_len p bytes
@@ -168,3 +172,7 @@ pub placed_none : (len : ℕ) (before after : List ℕ) → take (len + 0) after
 placed_none len before after is =
     let end : len ≡ len + 0 = omega arith in
     ap (λ k. take k after) end ∙ is ∙ append-nil (take len before)
+
+-- what stands before a place is kept where more is
+pub kept_front : (fewer len : ℕ) (before after : List ℕ) → fewer ≤ len → take len after ≡ take len before → take fewer after ≡ take fewer before
+kept_front fewer len before after within same = sym (take-take fewer len after within) ∙ ap (take fewer) same ∙ take-take fewer len before within

@@ -1,6 +1,6 @@
 //! Texts on their way to a device, gathered so that many of them reach it together. This file knows
 //! bytes and escapes, and no section, key or value.
-ghost use Rattle.std.specs.Prelude.{◌≡◌, ℕ, ◌+◌, ◌++◌, ◌≤◌, [], ◌∷◌, length, take, OnOk, if◌then◌else◌};
+ghost use Rattle.std.specs.Prelude.{◌≡◌, ℕ, true, ◌+◌, ◌++◌, ◌≤◌, [], ◌∷◌, length, take, OnOk, if◌then◌else◌};
 ghost use Rattle.ini_text.specs.Grammar.CharacterKinds.{backslash};
 ghost use Rattle.ini_text.specs.Escaping.EscapedTexts.{escape, escaped_bytes};
 ghost use Rattle.ini_text.specs.Inside.Verbatim.{marked_escaped};
@@ -77,6 +77,9 @@ impl Gatherer {
         ensures { Sends W.contents out.old out.new (held self.old) (held self.new) result
             (escaped_bytes policy text.now) }
     {
+        if self.hold_verbatim(text, policy) {
+            return Ok(());
+        }
         match policy {
             EscapePolicy::Basics => self.put_marked(text.as_bytes(), &Basics, out),
             EscapePolicy::Reserved => self.put_marked(text.as_bytes(), &Reserved, out),
@@ -100,7 +103,9 @@ impl Gatherer {
             ((escaped_bytes policy first.now ++ between.now)
             ++ (escaped_bytes policy second.now ++ end.now)) }
     {
-        if self.hold_line(first, between, second, end, policy) {
+        if self.hold_line(first, between, second, end, policy)
+            || self.hold_escaped_line(first, between, second, end, policy)
+        {
             return Ok(());
         }
         self.put_part(first, between, policy, out)?;
@@ -157,6 +162,72 @@ impl Gatherer {
         true
     }
 
+    // Holds a text back if no character of it is escaped and there is room.
+    fn hold_verbatim(&mut self, text: &str, policy: EscapePolicy) -> bool
+        ensures { held self.new ≡ held self.old ++ (if result then escaped_bytes policy text.now else []) }
+    {
+        let (run, rest) = split_verbatim(text, policy);
+        if !rest.is_empty() {
+            return false;
+        }
+        if run.len() > ROOM - self.len {
+            return false;
+        }
+        self.append(run.as_bytes());
+        true
+    }
+
+    // Holds a line back if each escape has a letter and there is room.
+    #[inline(never)]
+    fn hold_escaped_line(
+        &mut self,
+        first: &str,
+        between: &str,
+        second: &str,
+        end: &str,
+        policy: EscapePolicy,
+    ) -> bool
+        ensures { held self.new ≡ held self.old ++ (if result
+            then (escaped_bytes policy first.now ++ between.now)
+            ++ (escaped_bytes policy second.now ++ end.now)
+            else []) }
+    {
+        let len = self.len;
+        if self.hold_part(first, between, policy) && self.hold_part(second, end, policy) {
+            return true;
+        }
+        self.len = len;
+        false
+    }
+
+    // Holds a text back escaped, and another as it is behind it, or a front of the two.
+    #[inline(always)]
+    fn hold_part(&mut self, text: &str, behind: &str, policy: EscapePolicy) -> bool
+        ensures all { result ≡ true → held self.new ≡ held self.old ++ (escaped_bytes policy text.now ++ behind.now) }
+        ensures front { take self.old.len self.new.bytes ≡ held self.old }
+        ensures longer { self.old.len ≤ self.new.len }
+    {
+        if !self.hold_text(text, policy) || behind.len() > ROOM - self.len {
+            return false;
+        }
+        self.append(behind.as_bytes());
+        true
+    }
+
+    // Holds a text back escaped, or a front of it.
+    #[inline(always)]
+    fn hold_text(&mut self, text: &str, policy: EscapePolicy) -> bool
+        ensures all { result ≡ true → held self.new ≡ held self.old ++ escaped_bytes policy text.now }
+        ensures front { take self.old.len self.new.bytes ≡ held self.old }
+        ensures longer { self.old.len ≤ self.new.len }
+    {
+        match policy {
+            EscapePolicy::Basics => self.hold_marked(text.as_bytes(), &Basics).is_empty(),
+            EscapePolicy::Reserved => self.hold_marked(text.as_bytes(), &Reserved).is_empty(),
+            _ => false,
+        }
+    }
+
     // Sends bytes, each that is marked as the escape of its character.
     #[inline(always)]
     fn put_marked<M: Marks, W: Write>(
@@ -206,6 +277,8 @@ impl Gatherer {
     fn hold_marked<'a, M: Marks>(&mut self, bytes: &'a [u8], marks: &M) -> &'a [u8]
         ensures held { held self.new ++ marked_escaped (M.is_marked marks.now) result.now
             ≡ held self.old ++ marked_escaped (M.is_marked marks.now) bytes.now }
+        ensures front { take self.old.len self.new.bytes ≡ held self.old }
+        ensures longer { self.old.len ≤ self.new.len }
         ensures shorter { length result.now ≤ length bytes.now }
     {
         let rest = self.hold_lanes(bytes, marks);
@@ -217,6 +290,8 @@ impl Gatherer {
     fn hold_lanes<'a, M: Marks>(&mut self, bytes: &'a [u8], marks: &M) -> &'a [u8]
         ensures held { held self.new ++ marked_escaped (M.is_marked marks.now) result.now
             ≡ held self.old ++ marked_escaped (M.is_marked marks.now) bytes.now }
+        ensures front { take self.old.len self.new.bytes ≡ held self.old }
+        ensures longer { self.old.len ≤ self.new.len }
         ensures shorter { length result.now ≤ length bytes.now }
     {
         let mut rest = bytes;
@@ -247,6 +322,8 @@ impl Gatherer {
     fn hold_few<'a, M: Marks>(&mut self, bytes: &'a [u8], marks: &M) -> &'a [u8]
         ensures held { held self.new ++ marked_escaped (M.is_marked marks.now) result.now
             ≡ held self.old ++ marked_escaped (M.is_marked marks.now) bytes.now }
+        ensures front { take self.old.len self.new.bytes ≡ held self.old }
+        ensures longer { self.old.len ≤ self.new.len }
         ensures shorter { length result.now ≤ length bytes.now }
     {
         if bytes.len() >= LANES || self.len > ROOM - SHORT * LANES {
@@ -413,7 +490,8 @@ fn place_lanes(bytes: &mut [u8; ROOM], len: usize, lanes: u8x16)
 #[inline(always)]
 fn place_escape(bytes: &mut [u8; ROOM], len: usize, letter: u8)
     requires { len + SHORT ≤ ROOM }
-    ensures { take (len + SHORT) bytes.new ≡ take len bytes.old ++ backslash ∷ letter ∷ [] }
+    ensures placed { take (len + SHORT) bytes.new ≡ take len bytes.old ++ backslash ∷ letter ∷ [] }
+    ensures kept { take len bytes.new ≡ take len bytes.old }
 {
     bytes[len] = b'\\';
     bytes[len + 1] = letter;
