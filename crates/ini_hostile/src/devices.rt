@@ -1,5 +1,6 @@
 //! Devices that are slow, that fail, or that are full. Each counts its calls. A fault is answered once, and
 //! from then on the device works, so that it shows where it is asked again.
+use ini::{Error, Watched};
 use std::alloc::Global;
 use std::io;
 use std::io::{ErrorKind, Read, Write};
@@ -48,43 +49,78 @@ impl Read for SlowReader<'_> {
     }
 }
 
-/// A writer that takes `room` bytes, at most `step` in a call. The call that finds no room answers the fault
-/// or, where there is none, takes no bytes.
-#[derive(Drop)]
-pub(crate) struct LimitedWriter {
-    pub(crate) taken: Vec<u8>,
+/// How much a writer takes: `room` bytes, at most `step` in a call. The call that finds no room answers the
+/// fault or, where there is none, takes no bytes.
+#[derive(Clone, Copy, Debug)]
+pub(crate) struct Limits {
     pub(crate) room: usize,
     pub(crate) step: usize,
     pub(crate) fault: Option<ErrorKind>,
-    pub(crate) calls: usize,
-    pub(crate) flushes: usize,
+}
+
+impl Limits {
+    /// Takes all that comes.
+    pub(crate) const NONE: Limits = Limits {
+        room: usize::MAX,
+        step: usize::MAX,
+        fault: None,
+    };
+
+    /// Whether an answer tells what stopped the writer of a text as it is, or that nothing did.
+    pub(crate) fn is_told(self, answer: &Result<(), Error>, text: &str) -> bool {
+        let full = self.room < text.len();
+        match answer {
+            Ok(()) => !full,
+            Err(Error::Io(told)) => full && self.fault == Some(told.kind()),
+            Err(Error::NoProgress) => full && self.fault.is_none(),
+            Err(_) => false,
+        }
+    }
+}
+
+/// A writer of such limits.
+#[derive(Drop)]
+pub(crate) struct LimitedWriter {
+    limits: Limits,
+    room: usize,
+    taken: Vec<u8>,
+    calls: usize,
+    flushes: usize,
 }
 
 impl LimitedWriter {
-    pub(crate) fn new(
-        alloc: Global,
-        room: usize,
-        step: usize,
-        fault: Option<ErrorKind>,
-    ) -> LimitedWriter {
+    pub(crate) fn new(alloc: Global, limits: Limits) -> LimitedWriter {
         LimitedWriter {
+            limits,
+            room: limits.room,
             taken: Vec::new(alloc),
-            room,
-            step,
-            fault,
             calls: 0,
             flushes: 0,
         }
+    }
+
+    /// Whether it was called so often, and took this text.
+    pub(crate) fn has_taken(&self, text: &str, calls: usize) -> bool {
+        self.calls == calls && self.flushes == 0 && self.taken.as_slice() == text.as_bytes()
+    }
+
+    /// Whether as much of the text went out as there was room for, no call followed the one that found
+    /// none, and nothing was flushed.
+    pub(crate) fn has_front_of(&self, text: &str) -> bool {
+        let Limits { room, step, .. } = self.limits;
+        let front = text.as_bytes().get(..room).unwrap_or(text.as_bytes());
+        let calls = room.saturating_add(usize::from(room < text.len()));
+        (step > 1 || self.calls == calls) && self.flushes == 0 && self.taken.as_slice() == front
     }
 }
 
 impl Write for LimitedWriter {
     fn write(&mut self, buf: &[u8]) -> io::Result<usize> {
         self.calls = self.calls.saturating_add(1);
-        let count = buf.len().min(self.room).min(self.step);
+        let count = buf.len().min(self.room).min(self.limits.step);
         if count == 0 {
             self.room = usize::MAX;
-            return match self.fault {
+            return match self.limits.fault {
                 Some(fault) => Err(io::Error::from(fault)),
                 None => Ok(0),
             };
@@ -98,6 +134,21 @@ impl Write for LimitedWriter {
         self.flushes = self.flushes.saturating_add(1);
         Ok(())
     }
+}
+
+/// Whether the faults and the stalls of writing were counted as its answer tells them.
+pub(crate) fn is_counted<D>(device: &Watched<'_, D>, answer: &Result<(), Error>) -> bool {
+    let wanted = match answer {
+        Ok(()) => (0, 0),
+        Err(Error::NoProgress) => (0, 1),
+        Err(_) => (1, 0),
+    };
+    (device.failures(), device.stalls()) == wanted
+}
+
+/// Whether neither a fault nor a stall was counted.
+pub(crate) fn is_quiet<D>(device: &Watched<'_, D>) -> bool {
+    device.failures() == 0 && device.stalls() == 0
 }
 
 /// The faults of readers.

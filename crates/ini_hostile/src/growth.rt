@@ -1,11 +1,9 @@
 //! Each request for memory of a growing call refused in turn: refused, the call tells that and leaves all as
 //! it was; else it answers as it does with ample memory.
 use crate::scarce::{CALLS, Famine};
-use crate::show::shown;
+use crate::show::{expect_shown, loaded, text};
 use ini::{Error, Ini, NoRoom, Properties, SectionEntry};
-use std::alloc::Global;
 use std::process::Abort;
-use std::test::Fail;
 
 /// The calls.
 #[derive(Clone, Copy, Debug)]
@@ -34,15 +32,15 @@ struct Given {
 }
 
 impl Given {
-    fn new(alloc: Global, name: &str, key: &str) -> Result<Given, Error> {
-        let mut section = Properties::new(alloc);
-        section.append("k", "v")?;
-        Ok(Given {
-            name: Some(String::from_str(alloc, name)?),
-            key: String::from_str(alloc, key)?,
-            value: String::from_str(alloc, "v")?,
+    fn new(rt: &(impl Abort + AllocGlobal), name: &str, key: &str) -> Given {
+        let mut section = Properties::new(rt.alloc());
+        assert!(rt; section.append("k", "v").is_ok());
+        Given {
+            name: Some(text(rt, name)),
+            key: text(rt, key),
+            value: text(rt, "v"),
             section,
-        })
+        }
     }
 }
 
@@ -54,43 +52,41 @@ enum Refusal {
 }
 
 impl Call {
-    /// Makes a call of the document, or of the properties of the first section of the name. A copy of the
-    /// document is answered.
-    fn make(self, document: &mut Ini, given: Given) -> Result<Option<Ini>, Refusal> {
-        let copy = match self {
-            Call::OrInsert | Call::OrInsertWith | Call::VacantInsert | Call::OccupiedAppend => {
-                self.make_of_entry(document, given)
-                    .map_err(Refusal::HandedBack)?;
-                None
-            }
-            Call::SetTo => {
-                set_to(document, given).map_err(Refusal::Told)?;
-                None
-            }
-            Call::CloneDocument => Some(document.clone().map_err(Refusal::Told)?),
-            _ => {
-                self.make_of_document(document, &given)
-                    .map_err(Refusal::Told)?;
-                None
-            }
+    /// Makes a call of the document, or of the properties of the first section of the name. A copy takes the
+    /// document's place.
+    fn make(self, document: &mut Ini, given: Given) -> Result<(), Refusal> {
+        if self.is_of_entry() {
+            return match self.make_of_entry(document, given) {
+                Ok(()) => Ok(()),
+                Err(refused) => Err(Refusal::HandedBack(refused)),
+            };
+        }
+        let answer = match self {
+            Call::SetTo => set_to(document, given),
+            _ => self.make_of_document(document, given.name.as_deref(), &given.key),
         };
-        Ok(copy)
+        match answer {
+            Ok(()) => Ok(()),
+            Err(refused) => Err(Refusal::Told(refused)),
+        }
     }
 
-    fn make_of_document(self, document: &mut Ini, given: &Given) -> Result<(), Error> {
+    fn make_of_document(
+        self,
+        document: &mut Ini,
+        name: Option<&str>,
+        key: &str,
+    ) -> Result<(), Error> {
         match self {
+            Call::CloneDocument => *document = document.clone()?,
             Call::Set => {
-                document
-                    .with_section(given.name.as_deref())
-                    .set(&given.key, "v")?;
+                document.with_section(name).set(key, "v")?;
             }
             Call::Add => {
-                document
-                    .with_section(given.name.as_deref())
-                    .add(&given.key, "v")?;
+                document.with_section(name).add(key, "v")?;
             }
-            _ => match document.section_mut(given.name.as_deref()) {
-                Some(section) => self.make_of_pairs(section, &given.key)?,
+            _ => match document.section_mut(name) {
+                Some(section) => self.make_of_pairs(section, key)?,
                 None => return Err(Error::NotUtf8),
             },
         }
@@ -105,35 +101,27 @@ impl Call {
                 Ok(_) => Ok(()),
                 Err(refused) => Err(refused),
             },
-            _ => {
-                let copy = section.clone()?;
-                if copy == *section {
-                    Ok(())
-                } else {
-                    Err(Error::NotUtf8)
-                }
-            }
+            _ => match section.clone() {
+                Ok(copy) if copy == *section => Ok(()),
+                Ok(_) => Err(Error::NotUtf8),
+                Err(refused) => Err(refused),
+            },
         }
     }
 
     fn make_of_entry(self, document: &mut Ini, given: Given) -> Result<(), NoRoom> {
-        let Given {
-            name,
-            key: _key,
-            value: _value,
-            section: value,
-        } = given;
+        let Given { name, section, .. } = given;
         match (self, document.entry(name)) {
             (Call::OrInsert, entry) => {
-                entry.or_insert(value)?;
+                entry.or_insert(section)?;
             }
             (Call::OrInsertWith, entry) => {
-                entry.or_insert_with(move || value)?;
+                entry.or_insert_with(move || section)?;
             }
             (_, SectionEntry::Vacant(entry)) => {
-                entry.insert(value)?;
+                entry.insert(section)?;
             }
-            (_, SectionEntry::Occupied(mut entry)) => entry.append(value)?,
+            (_, SectionEntry::Occupied(mut entry)) => entry.append(section)?,
         }
         Ok(())
     }
@@ -152,7 +140,7 @@ fn set_to(document: &mut Ini, given: Given) -> Result<(), Error> {
         name,
         key,
         value,
-        section: _section,
+        ..
     } = given;
     document.set_to(name.as_deref(), key, value)
 }
@@ -208,58 +196,61 @@ const ROWS: [(Call, &'static str, &'static str, &'static str); 19] = [
     ),
 ];
 
-/// Asks that a refusal is the one that the call names, and hands back what an entry was given.
-fn expect_refusal(rt: &impl Abort, call: Call, refusal: Refusal) {
+// Whether a refusal is the one that the call names, and hands back what an entry was given.
+fn is_refusal_of(call: Call, refusal: &Refusal) -> bool {
     match refusal {
-        Refusal::Told(Error::Memory(_)) => assert!(rt; !call.is_of_entry(), "{call:?}"),
+        Refusal::Told(Error::Memory(_)) => !call.is_of_entry(),
         Refusal::HandedBack(refused) => {
-            assert!(rt; call.is_of_entry(), "{call:?}");
-            let pairs = refused.value;
-            assert!(rt;
-                pairs.get("k").is_some_and(|value| value == "v"),
-                "{call:?}"
-            );
-            assert_eq!(rt; pairs.len(), 1, "{call:?}");
+            let pairs = &refused.value;
+            call.is_of_entry() && pairs.get("k") == Some("v") && pairs.len() == 1
         }
-        _ => panic!(rt; "{call:?}: another refusal"),
+        _ => false,
+    }
+}
+
+// Makes the call with so much memory. Whether it was enough; refused, it tells that.
+fn is_made(
+    rt: &(impl Abort + AllocGlobal),
+    famine: &mut Famine,
+    steps: usize,
+    (call, name, key): (Call, &str, &str),
+    document: &mut Ini,
+) -> bool {
+    let given = Given::new(rt, name, key);
+    let rest = famine.leave(rt, steps);
+    let answer = call.make(document, given);
+    drop(rest);
+    match answer {
+        Ok(()) => true,
+        Err(refusal) => {
+            assert!(rt; is_refusal_of(call, &refusal), "{call:?}");
+            false
+        }
     }
 }
 
 /// Makes the call with more and more memory until it has enough, and answers how often it was refused.
 fn expect_growth(
-    rt: &impl Abort,
-    alloc: Global,
+    rt: &(impl Abort + AllocGlobal),
     (call, name, key, want): (Call, &str, &str, &str),
-) -> Result<usize, Fail> {
-    let mut document = Ini::load_from_str(alloc, TEXT)?;
-    let mut famine = Famine::new(alloc)?;
+) -> usize {
+    let mut document = loaded(rt, TEXT);
+    let mut famine = Famine::new(rt);
     for steps in 0..CALLS {
-        let given = Given::new(alloc, name, key)?;
-        let rest = famine.leave(steps)?;
-        let answer = call.make(&mut document, given);
-        drop(rest);
-        match answer {
-            Ok(copy) => {
-                drop(famine);
-                let made = copy.as_ref().unwrap_or(&document);
-                assert_eq!(rt; shown(alloc, made)?.as_str(), want, "{call:?}");
-                return Ok(steps);
-            }
-            Err(refusal) => {
-                expect_refusal(rt, call, refusal);
-                assert_eq!(rt; shown(alloc, &document)?.as_str(), SHOWN, "{call:?}");
-            }
+        if is_made(rt, &mut famine, steps, (call, name, key), &mut document) {
+            expect_shown(rt, call, &document, want);
+            return steps;
         }
+        expect_shown(rt, call, &document, SHOWN);
     }
-    Err("never enough".into())
+    panic!(rt; "{call:?}: never enough")
 }
 
 #[test]
-fn each_request_of_a_document_is_refused(rt: HostRuntime) -> Result<(), Fail> {
+fn each_request_of_a_document_is_refused(rt: HostRuntime) {
     let mut refused: usize = 0;
     for row in ROWS {
-        refused = refused.saturating_add(expect_growth(&rt, rt.alloc(), row)?);
+        refused = refused.saturating_add(expect_growth(&rt, row));
     }
     assert!(rt; refused > ROWS.len());
-    Ok(())
 }

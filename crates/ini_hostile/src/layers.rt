@@ -1,11 +1,33 @@
 //! Layers while memory is refused: a document that can't be pushed comes back, and layers that can't be
 //! merged stay.
 use crate::scarce::{CALLS, Famine};
-use crate::show::shown;
+use crate::show::{expect_shown, loaded};
 use ini::{Error, Ini};
 use ini_layers::{Layers, NoLayer};
+use std::panic::Expect;
 use std::process::Abort;
-use std::test::Fail;
+
+// Pushes the document with so much room. Refused, it comes back, and the layers are as many as before.
+fn push_with(
+    rt: &impl Abort,
+    famine: &mut Famine,
+    steps: usize,
+    layers: &mut Layers,
+    document: Ini,
+) -> Option<Ini> {
+    let before = layers.len();
+    let rest = famine.leave(rt, steps);
+    let answer = layers.push(document);
+    drop(rest);
+    match answer {
+        Ok(()) => None,
+        Err(NoLayer { doc }) => {
+            assert!(rt; layers.len() == before);
+            assert!(rt; doc.get_from(None, "k") == Some("v"));
+            Some(doc)
+        }
+    }
+}
 
 // Pushes the document with more and more room, and answers how often that was refused.
 fn push_in_famine(
@@ -13,73 +35,68 @@ fn push_in_famine(
     famine: &mut Famine,
     layers: &mut Layers,
     document: Ini,
-) -> Result<u32, Fail> {
+) -> usize {
     let mut document = document;
-    let mut refused: u32 = 0;
-    let before = layers.len();
     for steps in 0..CALLS {
-        let rest = famine.leave(steps)?;
-        let answer = layers.push(document);
-        drop(rest);
-        match answer {
-            Ok(()) => return Ok(refused),
-            Err(NoLayer { doc }) => {
-                assert_eq!(rt; layers.len(), before);
-                assert_eq!(rt; doc.get_from(None, "k"), Some("v"));
-                document = doc;
-            }
+        match push_with(rt, famine, steps, layers, document) {
+            None => return steps,
+            Some(refused) => document = refused,
         }
-        refused = refused.saturating_add(1);
     }
-    Err("never pushed".into())
+    panic!(rt; "never pushed")
+}
+
+// Nine documents of one pair.
+fn nine_documents(rt: &(impl Abort + AllocGlobal)) -> Vec<Ini> {
+    let mut documents = Vec::with_capacity(rt.alloc(), 9).expect(rt, "memory");
+    for _ in 0..9 {
+        assert!(rt; documents.push(loaded(rt, "k=v\n")).is_ok());
+    }
+    documents
 }
 
 #[test]
-fn each_request_of_push_is_refused(rt: HostRuntime) -> Result<(), Fail> {
-    let alloc = rt.alloc();
-    let mut documents = Vec::with_capacity(alloc, 9)?;
-    for _ in 0..9 {
-        documents.push(Ini::load_from_str(alloc, "k=v\n")?)?;
-    }
-    let mut famine = Famine::new(alloc)?;
-    let mut layers = Layers::new(alloc);
-    let mut refused: u32 = 0;
+fn each_request_of_push_is_refused(rt: HostRuntime) {
+    let documents = nine_documents(&rt);
+    let mut famine = Famine::new(&rt);
+    let mut layers = Layers::new(rt.alloc());
+    let mut refused: usize = 0;
     for document in documents {
-        let more = push_in_famine(&rt, &mut famine, &mut layers, document)?;
+        let more = push_in_famine(&rt, &mut famine, &mut layers, document);
         refused = refused.saturating_add(more);
     }
     assert!(rt; refused > 0);
-    assert_eq!(rt; layers.len(), 9);
-    Ok(())
+    assert!(rt; layers.len() == 9);
 }
 
-#[test]
-fn each_request_of_merged_is_refused(rt: HostRuntime) -> Result<(), Fail> {
-    let alloc = rt.alloc();
-    let mut layers = Layers::new(alloc);
+// Two layers, of which the later one has a section twice.
+fn two_layers(rt: &(impl Abort + AllocGlobal)) -> Layers {
+    let mut layers = Layers::new(rt.alloc());
     for text in ["k=1\n[a]\nx=1\n", "[a]\nx=2\ny=3\n[a]\nz=9\n"] {
-        let document = Ini::load_from_str(alloc, text)?;
-        layers.push(document).map_err(|_| "no room for a layer")?;
+        assert!(rt; layers.push(loaded(rt, text)).is_ok());
     }
-    let mut famine = Famine::new(alloc)?;
-    let mut refused: u32 = 0;
+    layers
+}
+
+// Merges with more and more memory until it is enough. The document, and how often it was refused.
+fn merged_at_last(rt: &(impl Abort + AllocGlobal), layers: &Layers) -> (Ini, usize) {
+    let mut famine = Famine::new(rt);
     for steps in 0..CALLS {
-        let rest = famine.leave(steps)?;
+        let rest = famine.leave(rt, steps);
         let answer = layers.merged();
         drop(rest);
         match answer {
-            Ok(merged) => {
-                drop(famine);
-                assert!(rt; refused > 0);
-                assert_eq!(rt;
-                    shown(alloc, &merged)?.as_str(),
-                    "general: <k|1> [a]: <x|2> <y|3> "
-                );
-                return Ok(());
-            }
-            Err(Error::Memory(_)) => refused = refused.saturating_add(1),
-            Err(_) => panic!(rt; "another refusal"),
+            Ok(merged) => return (merged, steps),
+            Err(fault) => assert!(rt; matches!(fault, Error::Memory(_))),
         }
     }
-    Err("never merged".into())
+    panic!(rt; "never merged")
+}
+
+#[test]
+fn each_request_of_merged_is_refused(rt: HostRuntime) {
+    let layers = two_layers(&rt);
+    let (merged, refused) = merged_at_last(&rt, &layers);
+    assert!(rt; refused > 0);
+    expect_shown(&rt, "layers", &merged, "general: <k|1> [a]: <x|2> <y|3> ");
 }

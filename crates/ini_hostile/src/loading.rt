@@ -1,11 +1,10 @@
 //! Each request for memory of loading refused in turn, of a text and of a reader's bytes.
-use crate::devices::SlowReader;
+use crate::devices::{SlowReader, is_quiet};
 use crate::scarce::{CALLS, Famine};
-use crate::show::shown;
+use crate::show::expect_shown;
 use ini::{Error, Ini, ParseOption, Watched};
 use ini_text::Parser;
-use std::alloc::Global;
-use std::test::Fail;
+use std::process::Abort;
 
 /// A text with each production of the grammar in it, where every option is on.
 const EACH: &'static str =
@@ -26,85 +25,104 @@ fn all_on() -> ParseOption {
     }
 }
 
-#[test]
-fn each_request_of_loading_is_refused(rt: HostRuntime) -> Result<(), Fail> {
-    let alloc = rt.alloc();
-    let mut famine = Famine::new(alloc)?;
+// Loads with more and more memory until it is enough. The document, and how often it was refused.
+fn loaded_at_last(rt: &(impl Abort + AllocGlobal)) -> (Ini, usize) {
+    let mut famine = Famine::new(rt);
     for steps in 0..CALLS {
-        let rest = famine.leave(steps)?;
-        let answer = Ini::load_from_str_opt(alloc, EACH, all_on());
+        let rest = famine.leave(rt, steps);
+        let answer = Ini::load_from_str_opt(rt.alloc(), EACH, all_on());
         drop(rest);
         match answer {
-            Ok(document) => {
-                drop(famine);
-                assert!(rt; steps > 0);
-                assert_eq!(rt; shown(alloc, &document)?.as_str(), EACH_SHOWN);
-                return Ok(());
-            }
-            Err(Error::Memory(_)) => {}
-            Err(_) => panic!(rt; "another refusal"),
+            Ok(document) => return (document, steps),
+            Err(fault) => assert!(rt; matches!(fault, Error::Memory(_))),
         }
     }
-    Err("never loaded".into())
+    panic!(rt; "never loaded")
 }
 
 #[test]
-fn each_request_of_reading_is_refused(rt: HostRuntime) -> Result<(), Fail> {
-    let alloc = rt.alloc();
-    let mut famine = Famine::new(alloc)?;
+fn each_request_of_loading_is_refused(rt: HostRuntime) {
+    let (document, refused) = loaded_at_last(&rt);
+    assert!(rt; refused > 0);
+    expect_shown(&rt, "loading", &document, EACH_SHOWN);
+}
+
+// Reads what the device gives, with so much memory; none where memory was refused. No fault is counted.
+fn read_with(rt: &(impl Abort + AllocGlobal), famine: &mut Famine, steps: usize) -> Option<Ini> {
+    let mut device = SlowReader::new(EACH.as_bytes());
+    let mut reader = Watched::new(&mut device);
+    let rest = famine.leave(rt, steps);
+    let answer = Ini::read_watched(rt.alloc(), &mut reader, all_on(), true);
+    drop(rest);
+    assert!(rt; is_quiet(&reader));
+    match answer {
+        Ok(document) => Some(document),
+        Err(Error::Memory(_)) => None,
+        Err(_) => panic!(rt; "another refusal"),
+    }
+}
+
+// Reads with more and more memory until it is enough. The document, and how often it was refused.
+fn read_at_last(rt: &(impl Abort + AllocGlobal)) -> (Ini, usize) {
+    let mut famine = Famine::new(rt);
     for steps in 0..CALLS {
-        let mut device = SlowReader::new(EACH.as_bytes());
-        let mut reader = Watched::new(&mut device);
-        let rest = famine.leave(steps)?;
-        let answer = Ini::read_watched(alloc, &mut reader, all_on(), true);
-        drop(rest);
-        assert_eq!(rt; (reader.failures(), reader.stalls()), (0, 0));
-        match answer {
-            Ok(document) => {
-                drop(famine);
-                assert!(rt; steps > 0);
-                assert_eq!(rt; shown(alloc, &document)?.as_str(), EACH_SHOWN);
-                return Ok(());
-            }
-            Err(Error::Memory(_)) => {}
-            Err(_) => panic!(rt; "another refusal"),
+        if let Some(document) = read_with(rt, &mut famine, steps) {
+            return (document, steps);
         }
     }
-    Err("never read".into())
+    panic!(rt; "never read")
+}
+
+#[test]
+fn each_request_of_reading_is_refused(rt: HostRuntime) {
+    let (document, refused) = read_at_last(&rt);
+    assert!(rt; refused > 0);
+    expect_shown(&rt, "reading", &document, EACH_SHOWN);
 }
 
 /// A text that is refused behind a pair.
 const REFUSED: &'static str = "key=value\n=v";
 
-#[test]
-fn a_refused_text_is_told_where_memory_is_enough(rt: HostRuntime) -> Result<(), Fail> {
-    let mut famine = Famine::new(rt.alloc())?;
-    for steps in 0..CALLS {
-        let rest = famine.leave(steps)?;
-        let answer = Ini::load_from_str(rt.alloc(), REFUSED);
-        drop(rest);
-        match answer {
-            Err(Error::Parse(fault)) => {
-                assert!(rt; steps > 0);
-                assert_eq!(rt; (fault.line, fault.col), (2, 2));
-                return Ok(());
-            }
-            Err(Error::Memory(_)) => {}
-            _ => panic!(rt; "another answer"),
+// Loads the refused text with so much memory. Whether the place of its fault is told; else memory was
+// refused.
+fn is_told(rt: &(impl Abort + AllocGlobal), famine: &mut Famine, steps: usize) -> bool {
+    let rest = famine.leave(rt, steps);
+    let answer = Ini::load_from_str(rt.alloc(), REFUSED);
+    drop(rest);
+    match answer {
+        Err(Error::Parse(fault)) => {
+            assert!(rt; (fault.line, fault.col) == (2, 2));
+            true
         }
+        Err(Error::Memory(_)) => false,
+        _ => panic!(rt; "another answer"),
     }
-    Err("never told".into())
 }
 
 #[test]
-fn want_of_memory_is_told_from_then_on(rt: HostRuntime) -> Result<(), Fail> {
-    let mut famine = Famine::new(rt.alloc())?;
+fn a_refused_text_is_told_where_memory_is_enough(rt: HostRuntime) {
+    let mut famine = Famine::new(&rt);
+    for steps in 0..CALLS {
+        if is_told(&rt, &mut famine, steps) {
+            assert!(rt; steps > 0);
+            return;
+        }
+    }
+    panic!(rt; "never told")
+}
+
+// Whether the next item is refused for want of memory.
+fn wants_memory(parser: &mut Parser<'_>) -> bool {
+    matches!(parser.next_item(), Err(Error::Memory(_)))
+}
+
+#[test]
+fn want_of_memory_is_told_from_then_on(rt: HostRuntime) {
+    let famine = Famine::total(&rt);
     let mut parser = Parser::new(rt.alloc(), "key=value\n", ParseOption::default());
-    assert!(rt; famine.take_all());
-    assert!(rt; matches!(parser.next_item(), Err(Error::Memory(_))));
+    assert!(rt; wants_memory(&mut parser));
     drop(famine);
     for _ in 0..3 {
-        assert!(rt; matches!(parser.next_item(), Err(Error::Memory(_))));
+        assert!(rt; wants_memory(&mut parser));
     }
-    Ok(())
 }

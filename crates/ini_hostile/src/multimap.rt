@@ -1,9 +1,9 @@
 //! Each request for memory of a growing call of the multimap refused in turn.
 use crate::scarce::{CALLS, Famine};
+use crate::show::text;
 use ini_multimap::{Multimap, Refused};
-use std::alloc::{AllocError, Global};
+use std::fmt::Write;
 use std::process::Abort;
-use std::test::Fail;
 
 /// Texts under texts.
 type Map = Multimap<String, String>;
@@ -25,30 +25,43 @@ enum Refusal {
 }
 
 impl Call {
-    /// Makes the call. A copy is answered.
-    fn make(self, map: &mut Map, key: String, value: String) -> Result<Option<Map>, Refusal> {
+    /// Makes the call. A copy takes the multimap's place.
+    fn make(self, map: &mut Map, key: String, value: String) -> Result<(), Refusal> {
         match self {
-            Call::Append => map.append(key, value).map_err(Refusal::HandedBack)?,
-            Call::Insert => {
-                map.insert(key, value).map_err(Refusal::HandedBack)?;
-            }
-            Call::RemoveAll => {
-                map.remove_all(key.as_str()).map_err(|_| Refusal::Told)?;
-            }
-            Call::Clone => return map.clone().map(Some).map_err(|_| Refusal::Told),
+            Call::Append => match map.append(key, value) {
+                Ok(()) => Ok(()),
+                Err(refused) => Err(Refusal::HandedBack(refused)),
+            },
+            Call::Insert => match map.insert(key, value) {
+                Ok(_) => Ok(()),
+                Err(refused) => Err(Refusal::HandedBack(refused)),
+            },
+            Call::RemoveAll => match map.remove_all(key.as_str()) {
+                Ok(_) => Ok(()),
+                Err(_) => Err(Refusal::Told),
+            },
+            Call::Clone => match map.clone() {
+                Ok(copy) => {
+                    *map = copy;
+                    Ok(())
+                }
+                Err(_) => Err(Refusal::Told),
+            },
         }
-        Ok(None)
     }
 }
 
-/// The pairs in order.
-fn shown(alloc: Global, map: &Map) -> Result<String, AllocError> {
-    let mut out = String::new(alloc);
+// Asks that the multimap has the pairs, in order.
+fn expect_pairs(rt: &(impl Abort + AllocGlobal), call: Call, map: &Map, want: &str) {
+    let mut got = String::new(rt.alloc());
     for (key, value) in map {
-        out.push_str(&format!(in alloc; "<{key}|{value}>")?)?;
+        assert!(rt; write!(got, "<{key}|{value}>").is_ok());
     }
-    Ok(out)
+    assert!(rt; got.as_str() == want, "{call:?}: {got}, and not {want}");
 }
+
+/// The pairs that each call is made on.
+const PAIRS: &'static str = "<k|1><k|2><a|3><b|4>";
 
 /// The calls with the key, and the pairs then: of the multimap, or of its copy.
 const ROWS: [(Call, &'static str, &'static str); 5] = [
@@ -56,66 +69,68 @@ const ROWS: [(Call, &'static str, &'static str); 5] = [
     (Call::Append, "j", "<k|1><k|2><a|3><b|4><j|v>"),
     (Call::Insert, "j", "<k|1><k|2><a|3><b|4><j|v>"),
     (Call::RemoveAll, "k", "<a|3><b|4>"),
-    (Call::Clone, "k", "<k|1><k|2><a|3><b|4>"),
+    (Call::Clone, "k", PAIRS),
 ];
 
-/// Asks that a refusal hands back what the call was given.
-fn expect_refusal(rt: &impl Abort, call: Call, key: &str, refusal: Refusal) {
+// Whether a refusal hands back what the call was given, where the call hands back.
+fn is_refusal_of(call: Call, key: &str, refusal: &Refusal) -> bool {
     match refusal {
         Refusal::HandedBack(refused) => {
-            assert_eq!(rt; refused.key.as_str(), key, "{call:?}");
-            assert_eq!(rt; refused.value.as_str(), "v", "{call:?}");
+            refused.key.as_str() == key && refused.value.as_str() == "v"
         }
-        Refusal::Told => assert!(rt; matches!(call, Call::RemoveAll | Call::Clone), "{call:?}"),
+        Refusal::Told => matches!(call, Call::RemoveAll | Call::Clone),
     }
+}
+
+// Makes the call with so much memory. Whether it was enough; refused, it tells that.
+fn is_made(
+    rt: &(impl Abort + AllocGlobal),
+    famine: &mut Famine,
+    steps: usize,
+    (call, key): (Call, &str),
+    map: &mut Map,
+) -> bool {
+    let (given, value) = (text(rt, key), text(rt, "v"));
+    let rest = famine.leave(rt, steps);
+    let answer = call.make(map, given, value);
+    drop(rest);
+    match answer {
+        Ok(()) => true,
+        Err(refusal) => {
+            assert!(rt; is_refusal_of(call, key, &refusal), "{call:?}");
+            false
+        }
+    }
+}
+
+// Appends the pairs.
+fn pairs(rt: &(impl Abort + AllocGlobal)) -> Map {
+    let mut map: Map = Multimap::new(rt.alloc());
+    for (key, value) in [("k", "1"), ("k", "2"), ("a", "3"), ("b", "4")] {
+        assert!(rt; map.append(text(rt, key), text(rt, value)).is_ok());
+    }
+    map
 }
 
 /// Makes the call with more and more memory until it has enough, and answers how often it was refused.
-fn expect_growth(
-    rt: &impl Abort,
-    alloc: Global,
-    (call, key, want): (Call, &str, &str),
-) -> Result<usize, Fail> {
-    let mut map: Map = Multimap::new(alloc);
-    for (key, value) in [("k", "1"), ("k", "2"), ("a", "3"), ("b", "4")] {
-        let (key, value) = (
-            String::from_str(alloc, key)?,
-            String::from_str(alloc, value)?,
-        );
-        map.append(key, value).map_err(|_| "no room")?;
-    }
-    let mut famine = Famine::new(alloc)?;
+fn expect_growth(rt: &(impl Abort + AllocGlobal), (call, key, want): (Call, &str, &str)) -> usize {
+    let mut map = pairs(rt);
+    let mut famine = Famine::new(rt);
     for steps in 0..CALLS {
-        let (given, value) = (String::from_str(alloc, key)?, String::from_str(alloc, "v")?);
-        let rest = famine.leave(steps)?;
-        let answer = call.make(&mut map, given, value);
-        drop(rest);
-        match answer {
-            Ok(copy) => {
-                drop(famine);
-                let made = copy.as_ref().unwrap_or(&map);
-                assert_eq!(rt; shown(alloc, made)?.as_str(), want, "{call:?}");
-                return Ok(steps);
-            }
-            Err(refusal) => {
-                expect_refusal(rt, call, key, refusal);
-                assert_eq!(rt;
-                    shown(alloc, &map)?.as_str(),
-                    "<k|1><k|2><a|3><b|4>",
-                    "{call:?}"
-                );
-            }
+        if is_made(rt, &mut famine, steps, (call, key), &mut map) {
+            expect_pairs(rt, call, &map, want);
+            return steps;
         }
+        expect_pairs(rt, call, &map, PAIRS);
     }
-    Err("never enough".into())
+    panic!(rt; "{call:?}: never enough")
 }
 
 #[test]
-fn each_request_of_a_multimap_is_refused(rt: HostRuntime) -> Result<(), Fail> {
+fn each_request_of_a_multimap_is_refused(rt: HostRuntime) {
     let mut refused: usize = 0;
     for row in ROWS {
-        refused = refused.saturating_add(expect_growth(&rt, rt.alloc(), row)?);
+        refused = refused.saturating_add(expect_growth(&rt, row));
     }
     assert!(rt; refused > ROWS.len());
-    Ok(())
 }

@@ -1,297 +1,354 @@
 //! The calls that take no memory, each made where not one byte is left.
 use crate::scarce::Famine;
-use crate::show::shown;
+use crate::show::{expect_shown, loaded, text};
 use ini::{
     Error, EscapePolicy, Ini, ParseKind, ParseOption, Properties, SectionEntry, Watched,
     WriteOption, write_escaped, write_raw,
 };
 use ini_multimap::Multimap;
 use ini_text::Parser;
-use std::alloc::Global;
-use std::test::Fail;
+use std::panic::Expect;
+use std::process::Abort;
+
+// Asks that this held of the call.
+fn expect(rt: &impl Abort, held: bool, call: &str) {
+    assert!(rt; held, "{call}");
+}
 
 /// A document that the calls are made on.
 const TEXT: &'static str = "g=0\n[p]\nk=1\nk=2\nj=3\n[q]\n[p]\nk=4\n";
 
-fn peers(alloc: Global) -> Result<Ini, Error> {
-    Ini::load_from_str(alloc, TEXT)
+/// The name of its second section and of its last.
+const P: Option<&'static str> = Some("p");
+
+fn look_up(rt: &impl Abort, document: &Ini) {
+    let pairs = document.section(P).map(Properties::len);
+    expect(
+        rt,
+        document.len() == 3 && !document.is_empty(),
+        "len, is_empty",
+    );
+    expect(rt, pairs == Some(2), "section");
+    expect(rt, document.get_from(P, "k") == Some("1"), "get_from");
+    expect(rt, document.get_from_or(P, "z", "d") == "d", "get_from_or");
 }
 
-/// The properties of the first section p.
-fn peer(alloc: Global) -> Result<Properties, Fail> {
-    Ok(peers(alloc)?.delete(Some("p")).ok_or("no section")?)
-}
-
-#[test]
-fn look_ups_of_documents(rt: HostRuntime) -> Result<(), Fail> {
-    let document = peers(rt.alloc())?;
-    let mut famine = Famine::new(rt.alloc())?;
-    assert!(rt; famine.take_all());
-    let p = Some("p");
-    assert_eq!(rt;
-        (document.len(), document.is_empty()),
-        (3, false),
-        "len, is_empty"
-    );
-    assert_eq!(rt;
-        document.section(p).map(Properties::len),
-        Some(2),
-        "section"
-    );
-    assert_eq!(rt; document.get_from(p, "k"), Some("1"), "get_from");
-    assert_eq!(rt; document.get_from_or(p, "z", "d"), "d", "get_from_or");
-    assert_eq!(rt; document.section_all(p).count(), 2, "section_all");
-    assert_eq!(rt; document.sections().count(), 3, "sections");
-    assert_eq!(rt; document.iter().size_hint(), (4, Some(4)), "iter");
-    for (name, section) in &document {
-        assert!(rt; section.is_empty() == (name == Some("q")), "a walk");
+fn walk(rt: &impl Abort, document: &Ini) {
+    expect(rt, document.section_all(P).count() == 2, "section_all");
+    expect(rt, document.sections().count() == 3, "sections");
+    expect(rt, document.iter().size_hint() == (4, Some(4)), "iter");
+    for (name, section) in document {
+        expect(rt, section.is_empty() == (name == Some("q")), "a walk");
     }
-    let option = WriteOption::default();
-    assert!(rt;
-        document.is_plain(&option, ParseOption::default()),
-        "is_plain"
-    );
-    Ok(())
 }
 
 #[test]
-fn look_ups_for_writing(rt: HostRuntime) -> Result<(), Fail> {
-    let mut document = peers(rt.alloc())?;
-    let mut famine = Famine::new(rt.alloc())?;
-    assert!(rt; famine.take_all());
-    let p = Some("p");
-    assert!(rt; document.section_mut(p).is_some(), "section_mut");
-    assert!(rt; document.get_from_mut(p, "k").is_some(), "get_from_mut");
-    assert_eq!(rt; document.section_all_mut(p).count(), 2, "section_all_mut");
-    assert_eq!(rt; document.iter_mut().size_hint(), (4, Some(4)), "iter_mut");
-    for (_, section) in &mut document {
+fn look_ups_of_documents(rt: HostRuntime) {
+    let document = loaded(&rt, TEXT);
+    let _famine = Famine::total(&rt);
+    look_up(&rt, &document);
+    walk(&rt, &document);
+    let plain = document.is_plain(&WriteOption::default(), ParseOption::default());
+    expect(&rt, plain, "is_plain");
+}
+
+fn look_up_for_writing(rt: &impl Abort, document: &mut Ini) {
+    expect(rt, document.section_mut(P).is_some(), "section_mut");
+    expect(rt, document.get_from_mut(P, "k").is_some(), "get_from_mut");
+    expect(
+        rt,
+        document.section_all_mut(P).count() == 2,
+        "section_all_mut",
+    );
+    expect(
+        rt,
+        document.iter_mut().size_hint() == (4, Some(4)),
+        "iter_mut",
+    );
+}
+
+fn walk_for_writing(rt: &impl Abort, document: &mut Ini) {
+    for (_, section) in document {
         for (_, value) in section {
-            assert!(rt; !value.as_str().is_empty(), "a walk for writing");
+            expect(rt, !value.is_empty(), "a walk for writing");
         }
     }
+}
+
+fn walk_by_value(rt: &impl Abort, document: Ini) {
     for (_, section) in document {
         for (key, _) in section {
-            assert!(rt; !key.as_str().is_empty(), "a walk by value");
+            expect(rt, !key.is_empty(), "a walk by value");
         }
     }
-    Ok(())
 }
 
 #[test]
-fn removals_and_replacements(rt: HostRuntime) -> Result<(), Fail> {
-    let mut document = peers(rt.alloc())?;
-    let (key, value) = (
-        String::from_str(rt.alloc(), "j")?,
-        String::from_str(rt.alloc(), "v")?,
+fn look_ups_for_writing(rt: HostRuntime) {
+    let mut document = loaded(&rt, TEXT);
+    let _famine = Famine::total(&rt);
+    look_up_for_writing(&rt, &mut document);
+    walk_for_writing(&rt, &mut document);
+    walk_by_value(&rt, document);
+}
+
+// Sets the value of j, and looks it up by setters.
+fn replace(rt: &impl Abort, famine: &mut Famine, document: &mut Ini, key: String, value: String) {
+    famine.take_all(rt);
+    expect(
+        rt,
+        document.set_to(P, key, value).is_ok(),
+        "set_to of a key that is there",
     );
-    let mut famine = Famine::new(rt.alloc())?;
-    let p = Some("p");
-    assert!(rt; famine.take_all());
-    assert!(rt;
-        document.set_to(p, key, value).is_ok(),
-        "set_to of a key that is there"
+    famine.take_all(rt);
+    expect(
+        rt,
+        document.with_section(P).get("j") == Some("v"),
+        "with_section, get",
     );
-    assert!(rt; famine.take_all());
-    assert_eq!(rt;
-        document.with_section(p).get("j"),
-        Some("v"),
-        "with_section, get"
-    );
-    assert_eq!(rt;
-        document.with_general_section().get("g"),
-        Some("0"),
-        "with_general_section"
-    );
-    let _ = document.with_section(p).delete("k");
-    assert!(rt; famine.take_all());
-    assert!(rt; document.delete_from(p, "k").is_some(), "delete_from");
-    assert!(rt; famine.take_all());
-    assert!(rt; document.delete(p).is_some(), "delete");
+    let general = document.with_general_section().get("g") == Some("0");
+    expect(rt, general, "with_general_section");
+}
+
+fn delete(rt: &impl Abort, famine: &mut Famine, document: &mut Ini) {
+    let _ = document.with_section(P).delete("k");
+    famine.take_all(rt);
+    expect(rt, document.delete_from(P, "k").is_some(), "delete_from");
+    famine.take_all(rt);
+    expect(rt, document.delete(P).is_some(), "delete");
+}
+
+#[test]
+fn removals_and_replacements(rt: HostRuntime) {
+    let mut document = loaded(&rt, TEXT);
+    let (key, value) = (text(&rt, "j"), text(&rt, "v"));
+    let mut famine = Famine::new(&rt);
+    replace(&rt, &mut famine, &mut document, key, value);
+    delete(&rt, &mut famine, &mut document);
     drop(famine);
-    let shown = shown(rt.alloc(), &document)?;
-    assert_eq!(rt; shown.as_str(), "general: <g|0> [q]: [p]: ");
-    let mut famine = Famine::new(rt.alloc())?;
-    assert!(rt; famine.take_all());
+    expect_shown(&rt, "delete", &document, "general: <g|0> [q]: [p]: ");
+    let _famine = Famine::total(&rt);
     document.clear();
-    assert!(rt; document.is_empty(), "clear");
-    Ok(())
+    expect(&rt, document.is_empty(), "clear");
 }
 
-/// The name p.
-fn name(alloc: Global) -> Result<Option<String>, Error> {
-    Ok(Some(String::from_str(alloc, "p")?))
+// The name p.
+fn name(rt: &(impl Abort + AllocGlobal)) -> Option<String> {
+    Some(text(rt, "p"))
 }
 
-#[test]
-fn occupied_entries(rt: HostRuntime) -> Result<(), Fail> {
-    let mut document = peers(rt.alloc())?;
-    let (first, second) = (name(rt.alloc())?, name(rt.alloc())?);
-    let third = name(rt.alloc())?;
-    let mut famine = Famine::new(rt.alloc())?;
-    assert!(rt; famine.take_all());
-    let none = Properties::new(rt.alloc());
-    match document.entry(first).or_insert(none) {
-        Ok(section) => assert_eq!(rt; section.len(), 2, "or_insert"),
-        Err(_) => panic!(rt; "or_insert"),
-    }
-    assert!(rt; famine.take_all());
+fn or_insert(rt: &(impl Abort + AllocGlobal), document: &mut Ini, name: Option<String>) {
+    let answer = document.entry(name).or_insert(Properties::new(rt.alloc()));
+    let pairs = answer.ok().map(|section| section.len());
+    expect(rt, pairs == Some(2), "or_insert");
+}
+
+fn or_insert_with(rt: &(impl Abort + AllocGlobal), document: &mut Ini, name: Option<String>) {
     let alloc = rt.alloc();
-    match document
-        .entry(second)
-        .or_insert_with(move || Properties::new(alloc))
-    {
-        Ok(section) => assert_eq!(rt; section.len(), 2, "or_insert_with"),
-        Err(_) => panic!(rt; "or_insert_with"),
-    }
-    assert!(rt; famine.take_all());
-    match document.entry(third) {
-        SectionEntry::Occupied(entry) => assert_eq!(rt; entry.into_mut().len(), 2, "into_mut"),
+    let answer = document
+        .entry(name)
+        .or_insert_with(move || Properties::new(alloc));
+    let pairs = answer.ok().map(|section| section.len());
+    expect(rt, pairs == Some(2), "or_insert_with");
+}
+
+fn into_mut(rt: &impl Abort, document: &mut Ini, name: Option<String>) {
+    match document.entry(name) {
+        SectionEntry::Occupied(entry) => expect(rt, entry.into_mut().len() == 2, "into_mut"),
         SectionEntry::Vacant(_) => panic!(rt; "into_mut"),
     }
-    Ok(())
 }
 
 #[test]
-fn calls_of_properties(rt: HostRuntime) -> Result<(), Fail> {
-    let (mut pairs, same) = (peer(rt.alloc())?, peer(rt.alloc())?);
-    let mut famine = Famine::new(rt.alloc())?;
-    assert!(rt; famine.take_all());
-    assert!(rt; Properties::new(rt.alloc()).is_empty(), "new");
-    assert!(rt; pairs == same, "==");
-    assert_eq!(rt;
-        (pairs.len(), pairs.is_empty()),
-        (2, false),
-        "len, is_empty"
-    );
-    assert!(rt; pairs.contains_key("k"), "contains_key");
-    assert_eq!(rt; pairs.get("k"), Some("1"), "get");
-    assert_eq!(rt; pairs.get_all("k").count(), 2, "get_all");
-    assert_eq!(rt; pairs.iter().size_hint(), (3, Some(3)), "iter");
-    assert_eq!(rt; pairs.iter_mut().size_hint(), (3, Some(3)), "iter_mut");
-    match pairs.remove_all("z") {
-        Ok(none) => assert_eq!(rt; none.count(), 0, "remove_all of a key that isn't there"),
-        Err(_) => panic!(rt; "remove_all of a key that isn't there"),
-    }
-    assert!(rt; famine.take_all());
-    assert!(rt; pairs.remove("k").is_some(), "remove");
-    assert!(rt; famine.take_all());
-    assert_eq!(rt; pairs.into_iter().size_hint(), (2, Some(2)), "into_iter");
-    Ok(())
+fn occupied_entries(rt: HostRuntime) {
+    let mut document = loaded(&rt, TEXT);
+    let (first, second, third) = (name(&rt), name(&rt), name(&rt));
+    let mut famine = Famine::total(&rt);
+    or_insert(&rt, &mut document, first);
+    famine.take_all(&rt);
+    or_insert_with(&rt, &mut document, second);
+    famine.take_all(&rt);
+    into_mut(&rt, &mut document, third);
 }
 
-/// Texts under texts: two pairs of k, one of j.
-fn texts(alloc: Global) -> Result<Multimap<String, String>, Fail> {
-    let mut map = Multimap::new(alloc);
+// The properties of the first section p.
+fn peer(rt: &(impl Abort + AllocGlobal)) -> Properties {
+    loaded(rt, TEXT).delete(P).expect(rt, "a section")
+}
+
+fn look_up_pairs(rt: &impl Abort, pairs: &Properties) {
+    expect(rt, pairs.len() == 2 && !pairs.is_empty(), "len, is_empty");
+    expect(rt, pairs.contains_key("k"), "contains_key");
+    expect(rt, pairs.get("k") == Some("1"), "get");
+    expect(rt, pairs.get_all("k").count() == 2, "get_all");
+    expect(rt, pairs.iter().size_hint() == (3, Some(3)), "iter");
+}
+
+fn remove_none(rt: &impl Abort, pairs: &mut Properties) {
+    let removed = pairs.remove_all("z").ok().map(Iterator::count);
+    expect(
+        rt,
+        removed == Some(0),
+        "remove_all of a key that isn't there",
+    );
+}
+
+#[test]
+fn calls_of_properties(rt: HostRuntime) {
+    let (mut pairs, same) = (peer(&rt), peer(&rt));
+    let mut famine = Famine::total(&rt);
+    expect(&rt, Properties::new(rt.alloc()).is_empty(), "new");
+    expect(&rt, pairs == same, "==");
+    look_up_pairs(&rt, &pairs);
+    expect(
+        &rt,
+        pairs.iter_mut().size_hint() == (3, Some(3)),
+        "iter_mut",
+    );
+    remove_none(&rt, &mut pairs);
+    famine.take_all(&rt);
+    expect(&rt, pairs.remove("k").is_some(), "remove");
+    famine.take_all(&rt);
+    expect(
+        &rt,
+        pairs.into_iter().size_hint() == (2, Some(2)),
+        "into_iter",
+    );
+}
+
+/// Texts under texts.
+type Map = Multimap<String, String>;
+
+// Two pairs of k, one of j.
+fn texts(rt: &(impl Abort + AllocGlobal)) -> Map {
+    let mut map = Multimap::new(rt.alloc());
     for (key, value) in [("k", "1"), ("j", "3"), ("k", "2")] {
-        let (key, value) = (
-            String::from_str(alloc, key)?,
-            String::from_str(alloc, value)?,
-        );
-        map.append(key, value).map_err(|_| "no room")?;
+        assert!(rt; map.append(text(rt, key), text(rt, value)).is_ok());
     }
-    Ok(map)
+    map
+}
+
+fn look_up_texts(rt: &impl Abort, map: &Map) {
+    expect(
+        rt,
+        map.len_pairs() == 3 && map.len_keys() == 2,
+        "len_pairs, len_keys",
+    );
+    expect(rt, !map.is_empty(), "is_empty");
+    expect(rt, map.get("k").map(String::as_str) == Some("1"), "get");
+    expect(rt, map.get_all("k").count() == 2, "get_all");
+    expect(rt, map.keys().count() == 2, "keys");
+    expect(rt, map.iter().size_hint() == (3, Some(3)), "iter");
+}
+
+fn look_up_texts_for_writing(rt: &impl Abort, map: &mut Map) {
+    expect(rt, map.get_mut("k").is_some(), "get_mut");
+    expect(rt, map.get_nth_mut("k", 1).is_some(), "get_nth_mut");
+    expect(rt, map.get_last_mut().is_some(), "get_last_mut");
+    expect(rt, map.get_all_mut("k").count() == 2, "get_all_mut");
+    expect(rt, map.iter_mut().size_hint() == (3, Some(3)), "iter_mut");
 }
 
 #[test]
-fn look_ups_of_a_multimap(rt: HostRuntime) -> Result<(), Fail> {
-    let mut map = texts(rt.alloc())?;
-    let mut famine = Famine::new(rt.alloc())?;
-    assert!(rt; famine.take_all());
-    assert_eq!(rt;
-        (map.len_pairs(), map.len_keys(), map.is_empty()),
-        (3, 2, false),
-        "len_pairs, len_keys, is_empty"
+fn look_ups_of_a_multimap(rt: HostRuntime) {
+    let mut map = texts(&rt);
+    let _famine = Famine::total(&rt);
+    look_up_texts(&rt, &map);
+    look_up_texts_for_writing(&rt, &mut map);
+    expect(
+        &rt,
+        map.into_iter().size_hint() == (3, Some(3)),
+        "into_iter",
     );
-    assert_eq!(rt; map.get("k").map(String::as_str), Some("1"), "get");
-    assert!(rt; map.get_mut("k").is_some(), "get_mut");
-    assert!(rt; map.get_nth_mut("k", 1).is_some(), "get_nth_mut");
-    assert!(rt; map.get_last_mut().is_some(), "get_last_mut");
-    assert_eq!(rt; map.get_all("k").count(), 2, "get_all");
-    assert_eq!(rt; map.get_all_mut("k").count(), 2, "get_all_mut");
-    assert_eq!(rt; map.keys().count(), 2, "keys");
-    assert_eq!(rt; map.iter().size_hint(), (3, Some(3)), "iter");
-    assert_eq!(rt; map.iter_mut().size_hint(), (3, Some(3)), "iter_mut");
-    assert_eq!(rt; map.into_iter().size_hint(), (3, Some(3)), "into_iter");
-    Ok(())
 }
 
-#[test]
-fn edits_of_a_multimap(rt: HostRuntime) -> Result<(), Fail> {
-    let mut map = texts(rt.alloc())?;
-    let (key, value) = (
-        String::from_str(rt.alloc(), "k")?,
-        String::from_str(rt.alloc(), "v")?,
-    );
-    let mut famine = Famine::new(rt.alloc())?;
-    assert!(rt; famine.take_all());
-    let none: Multimap<String, String> = Multimap::new(rt.alloc());
-    assert!(rt; none.is_empty(), "new");
-    assert!(rt;
+fn insert_and_remove(
+    rt: &impl Abort,
+    famine: &mut Famine,
+    map: &mut Map,
+    key: String,
+    value: String,
+) {
+    expect(
+        rt,
         map.insert(key, value).is_ok(),
-        "insert of a key that is there"
+        "insert of a key that is there",
     );
-    assert!(rt; famine.take_all());
-    assert!(rt;
+    famine.take_all(rt);
+    expect(
+        rt,
         map.remove_all("z").is_ok(),
-        "remove_all of a key that isn't there"
+        "remove_all of a key that isn't there",
     );
-    assert!(rt; map.remove("k").is_some(), "remove");
-    assert_eq!(rt; map.len_pairs(), 1);
-    assert!(rt; famine.take_all());
-    map.clear();
-    assert!(rt; map.is_empty(), "clear");
-    Ok(())
+    expect(rt, map.remove("k").is_some(), "remove");
+    expect(rt, map.len_pairs() == 1, "remove");
 }
 
 #[test]
-fn writing(rt: HostRuntime) -> Result<(), Fail> {
-    let document = Ini::load_from_str(rt.alloc(), "k=\u{e9}\n")?;
-    let mut famine = Famine::new(rt.alloc())?;
-    assert!(rt; famine.take_all());
+fn edits_of_a_multimap(rt: HostRuntime) {
+    let mut map = texts(&rt);
+    let (key, value) = (text(&rt, "k"), text(&rt, "v"));
+    let mut famine = Famine::total(&rt);
+    let none: Map = Multimap::new(rt.alloc());
+    expect(&rt, none.is_empty(), "new");
+    insert_and_remove(&rt, &mut famine, &mut map, key, value);
+    famine.take_all(&rt);
+    map.clear();
+    expect(&rt, map.is_empty(), "clear");
+}
+
+// Writes the document by each form.
+fn write_document(rt: &impl Abort, document: &Ini, writer: &mut &mut [u8]) {
     let policy = EscapePolicy::Everything;
-    let option = WriteOption::default();
+    expect(rt, document.write_to(writer).is_ok(), "write_to");
+    expect(
+        rt,
+        document.write_to_policy(writer, policy).is_ok(),
+        "write_to_policy",
+    );
+    let by_option = document.write_to_opt(writer, WriteOption::default());
+    expect(rt, by_option.is_ok(), "write_to_opt");
+    let mut out = Watched::new(writer);
+    let watched = document.write_watched(&mut out, WriteOption::default());
+    expect(rt, watched.is_ok(), "write_watched");
+}
+
+// Writes texts, one escaped and one as it is.
+fn write_texts(rt: &impl Abort, writer: &mut &mut [u8]) {
+    let mut out = Watched::new(writer);
+    let escaped = write_escaped("\u{e9}", EscapePolicy::Everything, &mut out);
+    expect(rt, escaped.is_ok(), "write_escaped");
+    let mut out = Watched::new(writer);
+    expect(rt, write_raw("!", &mut out).is_ok(), "write_raw");
+}
+
+#[test]
+fn writing(rt: HostRuntime) {
+    let document = loaded(&rt, "k=\u{e9}\n");
+    let _famine = Famine::total(&rt);
     let mut place = [0u8; 64];
     let mut writer: &mut [u8] = &mut place;
-    assert!(rt; document.write_to(&mut writer).is_ok(), "write_to");
-    assert!(rt;
-        document.write_to_policy(&mut writer, policy).is_ok(),
-        "write_to_policy"
-    );
-    assert!(rt;
-        document.write_to_opt(&mut writer, option).is_ok(),
-        "write_to_opt"
-    );
-    let mut out = Watched::new(&mut writer);
-    let option = WriteOption::default();
-    assert!(rt;
-        document.write_watched(&mut out, option).is_ok(),
-        "write_watched"
-    );
-    let mut out = Watched::new(&mut writer);
-    assert!(rt;
-        write_escaped("\u{e9}", policy, &mut out).is_ok(),
-        "write_escaped"
-    );
-    let mut out = Watched::new(&mut writer);
-    assert!(rt; write_raw("!", &mut out).is_ok(), "write_raw");
+    write_document(&rt, &document, &mut writer);
+    write_texts(&rt, &mut writer);
     let want = "k=é\nk=\\x00e9\nk=é\nk=é\n\\x00e9!";
-    assert!(rt; place.starts_with(want.as_bytes()));
-    Ok(())
+    expect(&rt, place.starts_with(want.as_bytes()), "what was written");
+}
+
+// Whether the fault behind the line's second column is told.
+fn is_refused(parser: &mut Parser<'_>) -> bool {
+    match parser.next_item() {
+        Err(Error::Parse(fault)) => {
+            fault.kind == ParseKind::InlineComment && (fault.line, fault.col) == (1, 3)
+        }
+        _ => false,
+    }
 }
 
 #[test]
-fn refusals_of_a_text(rt: HostRuntime) -> Result<(), Fail> {
-    let mut famine = Famine::new(rt.alloc())?;
-    assert!(rt; famine.take_all());
+fn refusals_of_a_text(rt: HostRuntime) {
+    let _famine = Famine::total(&rt);
     let mut parser = Parser::new(rt.alloc(), "\u{B}#", ParseOption::default());
     for _ in 0..3 {
-        match parser.next_item() {
-            Err(Error::Parse(fault)) => {
-                assert!(rt; fault.kind == ParseKind::InlineComment);
-                assert_eq!(rt; (fault.line, fault.col), (1, 3));
-            }
-            _ => panic!(rt; "another answer"),
-        }
+        expect(&rt, is_refused(&mut parser), "next_item");
     }
-    Ok(())
 }

@@ -1,11 +1,11 @@
 //! Readers that fail at each of their calls: what each form of reading answers.
-use crate::devices::{READ_FAULTS, SlowReader};
-use crate::show::{multiline, shown};
+use crate::devices::{READ_FAULTS, SlowReader, is_quiet};
+use crate::show::{expect_shown, multiline};
 use ini::{Error, Ini, Watched};
 use std::alloc::Global;
 use std::io::ErrorKind;
+use std::panic::Expect;
 use std::process::Abort;
-use std::test::Fail;
 
 /// The forms of reading.
 #[derive(Clone, Copy, Debug)]
@@ -53,41 +53,42 @@ pub(crate) const CONTINUED_SHOWN: &'static str =
     "general: [Foo]: <bar|u\nv> <baz|w\nx # intentional trailing whitespace below\ny\n\nz #2> <bla|a> ";
 
 #[test]
-fn each_form_asks_once_behind_the_last_byte(rt: HostRuntime) -> Result<(), Fail> {
+fn each_form_asks_once_behind_the_last_byte(rt: HostRuntime) {
     for (form, want) in READINGS {
         let mut device = SlowReader::new(MARKED.as_bytes());
-        let document = form.read(rt.alloc(), &mut device)?;
-        assert_eq!(rt; shown(rt.alloc(), &document)?.as_str(), want, "{form:?}");
-        assert_eq!(rt; device.calls, MARKED.len().saturating_add(1), "{form:?}");
+        let document = form.read(rt.alloc(), &mut device).expect(&rt, "a document");
+        expect_shown(&rt, form, &document, want);
+        let calls = MARKED.len().saturating_add(1);
+        assert!(rt; device.calls == calls, "{form:?}");
     }
-    Ok(())
 }
 
-/// Asks that a fault at the call is told as it is, and that no call follows it.
-fn expect_fault(
-    rt: &impl Abort,
-    alloc: Global,
-    form: Form,
-    bytes: &[u8],
-    (call, fault): (usize, ErrorKind),
-) {
+// Whether a fault at the call is told as it is, and no call follows it.
+fn is_told(alloc: Global, form: Form, bytes: &[u8], call: usize, fault: ErrorKind) -> bool {
     let mut device = SlowReader::failing(bytes, call, fault);
-    match form.read(alloc, &mut device) {
-        Err(Error::Io(told)) => assert!(rt; told.kind() == fault, "{form:?} at call {call}"),
-        _ => panic!(rt; "{form:?}: no fault at call {call}"),
+    let answer = form.read(alloc, &mut device);
+    let told = match &answer {
+        Err(Error::Io(told)) => told.kind() == fault,
+        _ => false,
+    };
+    told && device.calls == call
+}
+
+/// Asks that each form tells a fault at the call as it is, and that no call follows it.
+fn expect_fault(rt: &(impl Abort + AllocGlobal), bytes: &[u8], call: usize, fault: ErrorKind) {
+    for (form, _) in READINGS {
+        let told = is_told(rt.alloc(), form, bytes, call, fault);
+        assert!(rt; told, "{form:?}: {fault:?} at call {call}");
     }
-    assert_eq!(rt; device.calls, call, "{form:?}");
 }
 
 #[test]
 fn each_form_fails_at_each_call(rt: HostRuntime) {
     for text in [MARKED, CONTINUED] {
-        for (form, _) in READINGS {
-            for good_calls in 0..=text.len() {
-                for fault in READ_FAULTS {
-                    let call = good_calls.saturating_add(1);
-                    expect_fault(&rt, rt.alloc(), form, text.as_bytes(), (call, fault));
-                }
+        for good_calls in 0..=text.len() {
+            for fault in READ_FAULTS {
+                let call = good_calls.saturating_add(1);
+                expect_fault(&rt, text.as_bytes(), call, fault);
             }
         }
     }
@@ -97,45 +98,54 @@ fn each_form_fails_at_each_call(rt: HostRuntime) {
 fn a_fault_is_told_before_what_was_read(rt: HostRuntime) {
     let rows: [&'static [u8]; 5] = [b"\xC3", b"\xEF\xBB", b"=v", b"[p", b""];
     for bytes in rows {
-        for (form, _) in READINGS {
-            let call = bytes.len().saturating_add(1);
-            expect_fault(&rt, rt.alloc(), form, bytes, (call, ErrorKind::Other));
-        }
+        let call = bytes.len().saturating_add(1);
+        expect_fault(&rt, bytes, call, ErrorKind::Other);
     }
+}
+
+// Whether a fault at the call is counted once, and none where no call fails.
+fn is_counted(alloc: Global, call: usize, fault: ErrorKind, drop_mark: bool) -> bool {
+    let mut device = SlowReader::failing(MARKED.as_bytes(), call, fault);
+    let mut reader = Watched::new(&mut device);
+    let answer = Ini::read_watched(alloc, &mut reader, multiline(), drop_mark);
+    let counted = reader.failures() == u64::from(call > 0) && reader.stalls() == 0;
+    answer.is_ok() == (call == 0) && counted
 }
 
 #[test]
 fn each_fault_of_a_reader_is_counted(rt: HostRuntime) {
     for call in 0..MARKED.len().saturating_add(2) {
         for (fault, drop_mark) in [(ErrorKind::Other, true), (ErrorKind::Interrupted, false)] {
-            let mut device = SlowReader::failing(MARKED.as_bytes(), call, fault);
-            let mut reader = Watched::new(&mut device);
-            let answer = Ini::read_watched(rt.alloc(), &mut reader, multiline(), drop_mark);
-            assert!(rt; answer.is_ok() == (call == 0), "at call {call}");
-            let failures = u64::from(call > 0);
-            assert_eq!(rt; (reader.failures(), reader.stalls()), (failures, 0));
+            let counted = is_counted(rt.alloc(), call, fault, drop_mark);
+            assert!(rt; counted, "{fault:?} at call {call}");
         }
     }
 }
 
 #[test]
-fn what_a_slow_reader_gives_has_a_general_section(rt: HostRuntime) -> Result<(), Fail> {
-    let document = Ini::read_from(rt.alloc(), &mut SlowReader::new(b"k=v\n[p]\n"))?;
-    assert_eq!(rt; document.general_section().get("k"), Some("v"));
-    Ok(())
+fn what_a_slow_reader_gives_has_a_general_section(rt: HostRuntime) {
+    let document = Ini::read_from(rt.alloc(), &mut SlowReader::new(b"k=v\n[p]\n")).expect(
+        &rt,
+        "a document",
+    );
+    assert!(rt; document.general_section().get("k") == Some("v"));
+}
+
+// Whether a piece without room takes nothing and counts nothing, and one with room then takes all bytes.
+fn is_read_by_pieces(bytes: &[u8]) -> bool {
+    let mut device = SlowReader::new(bytes);
+    let mut reader = Watched::new(&mut device);
+    let none = matches!(reader.read(&mut []), Ok(0));
+    if !none || !is_quiet(&reader) {
+        return false;
+    }
+    let mut piece = [0u8; 2];
+    let all = matches!(reader.read(&mut piece), Ok(count) if count == bytes.len());
+    all && is_quiet(&reader)
 }
 
 #[test]
-fn an_empty_piece_is_no_fault(rt: HostRuntime) -> Result<(), Fail> {
-    let rows: [&'static [u8]; 2] = [b"k", b""];
-    for bytes in rows {
-        let mut device = SlowReader::new(bytes);
-        let mut reader = Watched::new(&mut device);
-        assert_eq!(rt; reader.read(&mut [])?, 0);
-        assert_eq!(rt; (reader.failures(), reader.stalls()), (0, 0));
-        let mut piece = [0u8; 2];
-        assert_eq!(rt; reader.read(&mut piece)?, bytes.len());
-        assert_eq!(rt; (reader.failures(), reader.stalls()), (0, 0));
-    }
-    Ok(())
+fn an_empty_piece_is_no_fault(rt: HostRuntime) {
+    assert!(rt; is_read_by_pieces(b"k"));
+    assert!(rt; is_read_by_pieces(b""));
 }

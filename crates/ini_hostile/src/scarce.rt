@@ -1,6 +1,7 @@
 //! The heap of the C library run down, so that a call has hardly any memory, or none.
 use std::alloc::Global;
-use std::test::Fail;
+use std::panic::Expect;
+use std::process::Abort;
 
 // A block that is given back, so that a part of it is what a call has.
 const RESERVE: usize = 0x1_0000;
@@ -19,19 +20,34 @@ pub(crate) struct Famine {
     reserves: Vec<Vec<u8>>,
 }
 
+// A block of the size.
+fn block(rt: &impl Abort, alloc: Global, size: usize) -> Vec<u8> {
+    Vec::with_capacity(alloc, size).expect(rt, "memory")
+}
+
 impl Famine {
     /// Takes nothing yet.
-    pub(crate) fn new(alloc: Global) -> Result<Famine, Fail> {
-        let taken = Vec::with_capacity(alloc, 400_000)?;
-        let mut reserves = Vec::with_capacity(alloc, CALLS)?;
+    pub(crate) fn new(rt: &(impl Abort + AllocGlobal)) -> Famine {
+        let alloc = rt.alloc();
+        let taken = Vec::with_capacity(alloc, 400_000).expect(rt, "memory");
+        let mut reserves = Vec::with_capacity(alloc, CALLS).expect(rt, "memory");
         for _ in 0..CALLS {
-            reserves.push(Vec::with_capacity(alloc, RESERVE)?)?;
+            reserves
+                .push(block(rt, alloc, RESERVE))
+                .expect(rt, "memory");
         }
-        Ok(Famine {
+        Famine {
             alloc,
             taken,
             reserves,
-        })
+        }
+    }
+
+    /// Leaves not one byte.
+    pub(crate) fn total(rt: &(impl Abort + AllocGlobal)) -> Famine {
+        let mut famine = Famine::new(rt);
+        famine.take_all(rt);
+        famine
     }
 
     // Takes blocks of the size until one is refused.
@@ -46,24 +62,23 @@ impl Famine {
         }
     }
 
-    /// Takes all that there is, in blocks of fewer and fewer bytes. Whether not one byte is left.
-    pub(crate) fn take_all(&mut self) -> bool {
+    /// Takes all that there is, in blocks of fewer and fewer bytes, so that not one byte is left.
+    pub(crate) fn take_all(&mut self, rt: &impl Abort) {
         for bits in 10..35u32 {
             self.take_blocks(1usize << (44 - bits));
         }
         for steps in 0..65usize {
             self.take_blocks(1040 - steps * STEP);
         }
-        Vec::<u8>::with_capacity(self.alloc, 1).is_err()
+        let refused = Vec::<u8>::with_capacity(self.alloc, 1).is_err();
+        assert!(rt; refused, "memory is left");
     }
 
     /// Leaves so many steps of bytes until the block that it answers is dropped.
-    pub(crate) fn leave(&mut self, steps: usize) -> Result<Vec<u8>, Fail> {
-        if !self.take_all() {
-            return Err("memory is left".into());
-        }
-        drop(self.reserves.pop().ok_or("no reserve is left")?);
+    pub(crate) fn leave(&mut self, rt: &impl Abort, steps: usize) -> Vec<u8> {
+        self.take_all(rt);
+        drop(self.reserves.pop().expect(rt, "a reserve"));
         let room = steps.saturating_mul(STEP);
-        Ok(Vec::with_capacity(self.alloc, RESERVE.saturating_sub(room))?)
+        block(rt, self.alloc, RESERVE.saturating_sub(room))
     }
 }

@@ -2,23 +2,51 @@
 //!
 //! A section is shown as its name in brackets, or `general`, and a colon; each of its pairs follows as `
 //! <key|value>`.
-use ini::{Ini, ParseOption};
-use std::alloc::{AllocError, Global};
+use ini::{Ini, ParseOption, Properties};
+use std::fmt::{Debug, Write};
+use std::process::Abort;
+
+// Puts the section behind the others.
+fn show_section(rt: &impl Abort, out: &mut String, name: Option<&str>, section: &Properties) {
+    let named = match name {
+        None => out.push_str("general:"),
+        Some(name) => write!(out, "[{name}]:"),
+    };
+    assert!(rt; named.is_ok());
+    for (key, value) in section {
+        assert!(rt; write!(out, " <{key}|{value}>").is_ok());
+    }
+    assert!(rt; out.push_str(" ").is_ok());
+}
 
 /// The sections in order, one after another.
-pub(crate) fn shown(alloc: Global, document: &Ini) -> Result<String, AllocError> {
-    let mut out = String::new(alloc);
+pub(crate) fn shown(rt: &(impl Abort + AllocGlobal), document: &Ini) -> String {
+    let mut out = String::new(rt.alloc());
     for (name, section) in document {
-        match name {
-            None => out.push_str("general:")?,
-            Some(name) => out.push_str(&format!(in alloc; "[{name}]:")?)?,
-        }
-        for (key, value) in section {
-            out.push_str(&format!(in alloc; " <{key}|{value}>")?)?;
-        }
-        out.push_str(" ")?;
+        show_section(rt, &mut out, name, section);
     }
-    Ok(out)
+    out
+}
+
+/// Asks that the document is shown so, of what is named.
+pub(crate) fn expect_shown(
+    rt: &(impl Abort + AllocGlobal),
+    of: impl Debug + Drop,
+    document: &Ini,
+    want: &str,
+) {
+    let got = shown(rt, document);
+    assert!(rt; got.as_str() == want, "{of:?}: {got}, and not {want}");
+}
+
+/// The document of a text, with ample memory.
+pub(crate) fn loaded(rt: &(impl Abort + AllocGlobal), text: &str) -> Ini {
+    Ini::load_from_str(rt.alloc(), text).expect(rt, "a document")
+}
+
+/// A copy of the text, with ample memory.
+pub(crate) fn text(rt: &(impl Abort + AllocGlobal), text: &str) -> String {
+    String::from_str(rt.alloc(), text).expect(rt, "memory")
 }
 
 /// The default options, and values go on over indented lines.

@@ -1,12 +1,12 @@
 //! Writers that fail at each of their calls or bytes: what each form of writing answers.
-use crate::devices::{LimitedWriter, SlowReader, WRITE_FAULTS};
+use crate::devices::{LimitedWriter, Limits, SlowReader, WRITE_FAULTS, is_counted};
 use crate::reading::{CONTINUED, CONTINUED_SHOWN};
-use crate::show::{multiline, shown};
+use crate::show::{expect_shown, loaded, multiline, shown};
 use ini::{Error, EscapePolicy, Ini, LineSeparator, Watched, WriteOption};
-use std::alloc::Global;
+use std::fmt::Write;
 use std::io::ErrorKind;
+use std::panic::Expect;
 use std::process::Abort;
-use std::test::Fail;
 
 /// The forms of writing.
 #[derive(Clone, Copy, Debug)]
@@ -43,12 +43,7 @@ impl Form {
 fn write_watched(rt: &impl Abort, document: &Ini, device: &mut LimitedWriter) -> Result<(), Error> {
     let mut out = Watched::new(device);
     let answer = document.write_watched(&mut out, WriteOption::default());
-    let wanted = match &answer {
-        Ok(()) => (0, 0),
-        Err(Error::NoProgress) => (0, 1),
-        Err(_) => (1, 0),
-    };
-    assert_eq!(rt; (out.failures(), out.stalls()), wanted);
+    assert!(rt; is_counted(&out, &answer));
     answer
 }
 
@@ -68,60 +63,49 @@ const WRITTEN: [(Form, &'static str, &'static str); 6] = [
 /// Asks that as much of the text goes out as there is room for, that what stopped it is told as it is, that
 /// no call follows it, and that nothing is flushed.
 fn expect_front(
-    rt: &impl Abort,
+    rt: &(impl Abort + AllocGlobal),
     form: Form,
     document: &Ini,
     text: &str,
-    mut device: LimitedWriter,
+    limits: Limits,
 ) {
-    let (room, step, fault) = (device.room, device.step, device.fault);
-    let full = room < text.len();
-    match form.write(rt, document, &mut device) {
-        Ok(()) => assert!(rt; !full, "{form:?}, room {room}"),
-        Err(Error::Io(told)) => {
-            assert!(rt; full && fault == Some(told.kind()), "{form:?}, room {room}")
-        }
-        Err(Error::NoProgress) => assert!(rt; full && fault.is_none(), "{form:?}, room {room}"),
-        Err(_) => panic!(rt; "{form:?}: another refusal, room {room}"),
-    }
-    let front = text.as_bytes().get(..room).unwrap_or(text.as_bytes());
-    assert_eq!(rt; device.taken.as_slice(), front, "{form:?}");
-    assert_eq!(rt; device.flushes, 0, "{form:?}");
-    if step == 1 {
-        let calls = room.saturating_add(usize::from(full));
-        assert_eq!(rt; device.calls, calls, "{form:?}");
-    }
+    let mut device = LimitedWriter::new(rt.alloc(), limits);
+    let answer = form.write(rt, document, &mut device);
+    let told = limits.is_told(&answer, text) && device.has_front_of(text);
+    assert!(rt; told, "{form:?}, {limits:?}");
 }
 
-#[test]
-fn each_form_fails_at_each_byte(rt: HostRuntime) -> Result<(), Fail> {
-    for (form, text, written) in WRITTEN {
-        let document = Ini::load_from_str(rt.alloc(), text)?;
-        let before = shown(rt.alloc(), &document)?;
-        for room in 0..=written.len() {
-            for fault in WRITE_FAULTS {
-                for step in [1, usize::MAX] {
-                    let device = LimitedWriter::new(rt.alloc(), room, step, fault);
-                    expect_front(&rt, form, &document, written, device);
-                }
+// Asks that of the document, at each room, for each fault, by bytes and by whole texts.
+fn expect_fronts(rt: &(impl Abort + AllocGlobal), form: Form, document: &Ini, text: &str) {
+    for room in 0..=text.len() {
+        for fault in WRITE_FAULTS {
+            for step in [1, usize::MAX] {
+                expect_front(rt, form, document, text, Limits { room, step, fault });
             }
         }
-        assert_eq!(rt; shown(rt.alloc(), &document)?.as_str(), before.as_str());
     }
-    Ok(())
 }
 
 #[test]
-fn a_short_text_goes_out_in_one_call(rt: HostRuntime) -> Result<(), Fail> {
+fn each_form_fails_at_each_byte(rt: HostRuntime) {
     for (form, text, written) in WRITTEN {
-        let document = Ini::load_from_str(rt.alloc(), text)?;
-        let mut device = LimitedWriter::new(rt.alloc(), usize::MAX, usize::MAX, None);
-        form.write(&rt, &document, &mut device)?;
-        assert_eq!(rt; device.taken.as_slice(), written.as_bytes(), "{form:?}");
-        let calls = usize::from(!written.is_empty());
-        assert_eq!(rt; (device.calls, device.flushes), (calls, 0), "{form:?}");
+        let document = loaded(&rt, text);
+        let before = shown(&rt, &document);
+        expect_fronts(&rt, form, &document, written);
+        expect_shown(&rt, form, &document, &before);
     }
-    Ok(())
+}
+
+#[test]
+fn a_short_text_goes_out_in_one_call(rt: HostRuntime) {
+    for (form, text, written) in WRITTEN {
+        let document = loaded(&rt, text);
+        let mut device = LimitedWriter::new(rt.alloc(), Limits::NONE);
+        let answer = form.write(&rt, &document, &mut device);
+        let calls = usize::from(!written.is_empty());
+        let taken = answer.is_ok() && device.has_taken(written, calls);
+        assert!(rt; taken, "{form:?}");
+    }
 }
 
 /// What is written of the text whose values go on.
@@ -129,37 +113,45 @@ const CONTINUED_WRITTEN: &'static str =
     "[Foo]\nbar=u\\nv\nbaz=w\\nx # intentional trailing whitespace below\\ny\\n\\nz #2\nbla=a\n";
 
 #[test]
-fn slow_devices_answer_as_whole_ones(rt: HostRuntime) -> Result<(), Fail> {
+fn slow_devices_answer_as_whole_ones(rt: HostRuntime) {
     let mut input = SlowReader::new(CONTINUED.as_bytes());
-    let document = Ini::read_from_opt(rt.alloc(), &mut input, multiline())?;
-    assert_eq!(rt; shown(rt.alloc(), &document)?.as_str(), CONTINUED_SHOWN);
-    let mut output = LimitedWriter::new(rt.alloc(), usize::MAX, 1, None);
-    document.write_to(&mut output)?;
-    assert_eq!(rt; output.taken.as_slice(), CONTINUED_WRITTEN.as_bytes());
-    assert_eq!(rt; output.calls, CONTINUED_WRITTEN.len());
-    Ok(())
+    let document = Ini::read_from_opt(rt.alloc(), &mut input, multiline()).expect(
+        &rt,
+        "a document",
+    );
+    expect_shown(&rt, "a slow reader", &document, CONTINUED_SHOWN);
+    let limits = Limits {
+        step: 1,
+        ..Limits::NONE
+    };
+    let mut output = LimitedWriter::new(rt.alloc(), limits);
+    assert!(rt; document.write_to(&mut output).is_ok());
+    assert!(rt; output.has_taken(CONTINUED_WRITTEN, CONTINUED_WRITTEN.len()));
 }
 
-/// A text of more pairs than are gathered at once, with a value that goes out in a call of its own.
-fn long_text(alloc: Global) -> Result<String, Fail> {
-    let mut text = String::new(alloc);
+// A text of more pairs than are gathered at once, with a value that goes out in a call of its own.
+fn long_text(rt: &(impl Abort + AllocGlobal)) -> String {
+    let mut text = String::new(rt.alloc());
     for _ in 0..10 {
-        text.push_str("key=a value of some bytes\n")?;
+        assert!(rt; text.push_str("key=a value of some bytes\n").is_ok());
     }
-    let long = "v".repeat(alloc, 4_000)?;
-    text.push_str(&format!(in alloc; "long={long}\n\n[p]\nk=v\n")?)?;
-    Ok(text)
+    let long = "v".repeat(rt.alloc(), 4_000).expect(rt, "memory");
+    assert!(rt; write!(text, "long={long}\n\n[p]\nk=v\n").is_ok());
+    text
 }
 
 #[test]
-fn a_long_text_fails_at_each_byte(rt: HostRuntime) -> Result<(), Fail> {
-    let text = long_text(rt.alloc())?;
-    let document = Ini::load_from_str(rt.alloc(), &text)?;
+fn a_long_text_fails_at_each_byte(rt: HostRuntime) {
+    let text = long_text(&rt);
+    let document = loaded(&rt, &text);
     for room in 0..=text.len() {
         for fault in [Some(ErrorKind::Interrupted), None] {
-            let device = LimitedWriter::new(rt.alloc(), room, usize::MAX, fault);
-            expect_front(&rt, Form::Watched, &document, &text, device);
+            let limits = Limits {
+                room,
+                fault,
+                ..Limits::NONE
+            };
+            expect_front(&rt, Form::Watched, &document, &text, limits);
         }
     }
-    Ok(())
 }
