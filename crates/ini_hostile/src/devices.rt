@@ -2,8 +2,10 @@
 //! from then on the device works, so that it shows where it is asked again.
 use ini::{Error, Watched};
 use std::alloc::Global;
+use std::fmt::Debug;
 use std::io;
 use std::io::{ErrorKind, Read, Write};
+use std::process::Abort;
 
 /// A reader of one byte at a time, which answers a fault at one of its calls.
 #[derive(Drop)]
@@ -76,6 +78,11 @@ impl Limits {
             Err(_) => false,
         }
     }
+
+    /// Asks that this held of a writer with these limits, and of what is named.
+    pub(crate) fn expect(self, rt: &impl Abort, of: impl Debug + Drop, held: bool) {
+        assert!(rt; held, "{of:?}: {self:?}");
+    }
 }
 
 /// A writer of such limits.
@@ -108,9 +115,10 @@ impl LimitedWriter {
     /// none, and nothing was flushed.
     pub(crate) fn has_front_of(&self, text: &str) -> bool {
         let Limits { room, step, .. } = self.limits;
-        let front = text.as_bytes().get(..room).unwrap_or(text.as_bytes());
+        let taken = self.taken.as_slice();
         let calls = room.saturating_add(usize::from(room < text.len()));
-        (step > 1 || self.calls == calls) && self.flushes == 0 && self.taken.as_slice() == front
+        let called = self.flushes == 0 && (step > 1 || self.calls == calls);
+        called && taken.len() == room.min(text.len()) && text.as_bytes().starts_with(taken)
     }
 }
 

@@ -9,19 +9,21 @@ use ini::{Error, Ini, ParseOption, Watched, WriteOption};
 use ini_vectors::{Edit, apply, edit_text};
 use std::alloc::Global;
 use std::io::Write;
+use std::panic::Expect;
 use std::process::Abort;
 
 /// Sections of which two have one name.
 const PEERS: &'static str = "[p]\nk=1\n[q]\n[p]\nk=2\n";
 
 /// The edits: the first pair k is set, one is added to q, one taken out, and a new section is opened.
-fn edits(rt: &(impl Abort + AllocGlobal)) -> [Edit; 4] {
-    [
+fn edits(rt: &(impl Abort + AllocGlobal)) -> Vec<Edit> {
+    let edits = [
         Edit::Set(Some(text(rt, "p")), text(rt, "k"), text(rt, "9")),
         Edit::Add(Some(text(rt, "q")), text(rt, "k"), text(rt, "é")),
         Edit::DeleteFrom(Some(text(rt, "p")), text(rt, "k")),
         Edit::Set(Some(text(rt, "n")), text(rt, "k"), text(rt, "v")),
-    ]
+    ];
+    Vec::from_array(rt.alloc(), edits).expect(rt, "memory")
 }
 
 /// What is written of the edited document.
@@ -44,14 +46,19 @@ fn edit<W: Write>(alloc: Global, edits: &[Edit], out: &mut Watched<'_, W>) -> Re
     edit_text(alloc, PEERS, read, edits, write, out)
 }
 
+// Writes the edited text. Whether what stopped it is told and counted.
+fn is_told(alloc: Global, edits: &[Edit], device: &mut LimitedWriter, limits: Limits) -> bool {
+    let mut out = Watched::new(device);
+    let answer = edit(alloc, edits, &mut out);
+    limits.is_told(&answer, EDITED) && is_counted(&out, &answer)
+}
+
 /// Asks that as much of the edited text goes out as there is room for, that what stopped it is told and
 /// counted, that no call follows it, and that nothing is flushed.
 fn expect_front(rt: &(impl Abort + AllocGlobal), edits: &[Edit], limits: Limits) {
     let mut device = LimitedWriter::new(rt.alloc(), limits);
-    let mut out = Watched::new(&mut device);
-    let answer = edit(rt.alloc(), edits, &mut out);
-    let told = limits.is_told(&answer, EDITED) && is_counted(&out, &answer);
-    assert!(rt; told && device.has_front_of(EDITED), "{limits:?}");
+    let told = is_told(rt.alloc(), edits, &mut device, limits);
+    limits.expect(rt, "edited", told && device.has_front_of(EDITED));
 }
 
 #[test]
@@ -60,7 +67,7 @@ fn edited_texts_fail_at_each_byte(rt: HostRuntime) {
     for room in 0..=EDITED.len() {
         for fault in WRITE_FAULTS {
             for step in [1, usize::MAX] {
-                expect_front(&rt, &edits, Limits { room, step, fault });
+                expect_front(&rt, edits.as_slice(), Limits { room, step, fault });
             }
         }
     }
@@ -99,7 +106,7 @@ fn each_request_of_an_edited_text_is_refused(rt: HostRuntime) {
     let edits = edits(&rt);
     let mut famine = Famine::new(&rt);
     for steps in 0..CALLS {
-        if is_edited(&rt, &mut famine, steps.saturating_mul(4), &edits) {
+        if is_edited(&rt, &mut famine, steps.saturating_mul(4), edits.as_slice()) {
             assert!(rt; steps > 0);
             return;
         }
@@ -141,7 +148,7 @@ fn edits_before_a_refused_one_stand(rt: HostRuntime) {
     let mut famine = Famine::new(&rt);
     let mut most = 0;
     for steps in 0..CALLS {
-        let (made, all) = made_with(&rt, &mut famine, steps, &edits);
+        let (made, all) = made_with(&rt, &mut famine, steps, edits.as_slice());
         assert!(rt; made >= most);
         if all {
             assert!(rt; (most, made) == (3, 4));

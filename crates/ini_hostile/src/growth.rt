@@ -229,21 +229,32 @@ fn is_made(
     }
 }
 
-/// Makes the call with more and more memory until it has enough, and answers how often it was refused.
+// Makes the call with more and more memory until it has enough, and answers how often it was refused and
+// the document stayed.
+fn grow(
+    rt: &(impl Abort + AllocGlobal),
+    (call, name, key): (Call, &str, &str),
+    document: &mut Ini,
+) -> usize {
+    let mut famine = Famine::new(rt);
+    for steps in 0..CALLS {
+        if is_made(rt, &mut famine, steps, (call, name, key), document) {
+            return steps;
+        }
+        expect_shown(rt, call, document, SHOWN);
+    }
+    panic!(rt; "{call:?}: never enough")
+}
+
+/// Asks that the call, with enough memory, does so, and answers how often it was refused before.
 fn expect_growth(
     rt: &(impl Abort + AllocGlobal),
     (call, name, key, want): (Call, &str, &str, &str),
 ) -> usize {
     let mut document = loaded(rt, TEXT);
-    let mut famine = Famine::new(rt);
-    for steps in 0..CALLS {
-        if is_made(rt, &mut famine, steps, (call, name, key), &mut document) {
-            expect_shown(rt, call, &document, want);
-            return steps;
-        }
-        expect_shown(rt, call, &document, SHOWN);
-    }
-    panic!(rt; "{call:?}: never enough")
+    let refused = grow(rt, (call, name, key), &mut document);
+    expect_shown(rt, call, &document, want);
+    refused
 }
 
 #[test]

@@ -1,6 +1,6 @@
 //! Each request for memory of a growing call of the multimap refused in turn.
 use crate::scarce::{CALLS, Famine};
-use crate::show::text;
+use crate::show::{expect_text, text};
 use ini_multimap::{Multimap, Refused};
 use std::fmt::Write;
 use std::process::Abort;
@@ -57,7 +57,7 @@ fn expect_pairs(rt: &(impl Abort + AllocGlobal), call: Call, map: &Map, want: &s
     for (key, value) in map {
         assert!(rt; write!(got, "<{key}|{value}>").is_ok());
     }
-    assert!(rt; got.as_str() == want, "{call:?}: {got}, and not {want}");
+    expect_text(rt, call, &got, want);
 }
 
 /// The pairs that each call is made on.
@@ -112,18 +112,25 @@ fn pairs(rt: &(impl Abort + AllocGlobal)) -> Map {
     map
 }
 
-/// Makes the call with more and more memory until it has enough, and answers how often it was refused.
-fn expect_growth(rt: &(impl Abort + AllocGlobal), (call, key, want): (Call, &str, &str)) -> usize {
-    let mut map = pairs(rt);
+// Makes the call with more and more memory until it has enough, and answers how often it was refused and
+// the multimap stayed.
+fn grow(rt: &(impl Abort + AllocGlobal), (call, key): (Call, &str), map: &mut Map) -> usize {
     let mut famine = Famine::new(rt);
     for steps in 0..CALLS {
-        if is_made(rt, &mut famine, steps, (call, key), &mut map) {
-            expect_pairs(rt, call, &map, want);
+        if is_made(rt, &mut famine, steps, (call, key), map) {
             return steps;
         }
-        expect_pairs(rt, call, &map, PAIRS);
+        expect_pairs(rt, call, map, PAIRS);
     }
     panic!(rt; "{call:?}: never enough")
+}
+
+/// Asks that the call, with enough memory, does so, and answers how often it was refused before.
+fn expect_growth(rt: &(impl Abort + AllocGlobal), (call, key, want): (Call, &str, &str)) -> usize {
+    let mut map = pairs(rt);
+    let refused = grow(rt, (call, key), &mut map);
+    expect_pairs(rt, call, &map, want);
+    refused
 }
 
 #[test]

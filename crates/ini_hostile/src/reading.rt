@@ -52,14 +52,19 @@ pub(crate) const CONTINUED: &'static str =
 pub(crate) const CONTINUED_SHOWN: &'static str =
     "general: [Foo]: <bar|u\nv> <baz|w\nx # intentional trailing whitespace below\ny\n\nz #2> <bla|a> ";
 
+/// Asks that the form reads the marked text so, by one call for each byte and one behind the last.
+fn expect_reading(rt: &(impl Abort + AllocGlobal), form: Form, want: &str) {
+    let mut device = SlowReader::new(MARKED.as_bytes());
+    let document = form.read(rt.alloc(), &mut device).expect(rt, "a document");
+    expect_shown(rt, form, &document, want);
+    let calls = MARKED.len().saturating_add(1);
+    assert!(rt; device.calls == calls, "{form:?}");
+}
+
 #[test]
 fn each_form_asks_once_behind_the_last_byte(rt: HostRuntime) {
     for (form, want) in READINGS {
-        let mut device = SlowReader::new(MARKED.as_bytes());
-        let document = form.read(rt.alloc(), &mut device).expect(&rt, "a document");
-        expect_shown(&rt, form, &document, want);
-        let calls = MARKED.len().saturating_add(1);
-        assert!(rt; device.calls == calls, "{form:?}");
+        expect_reading(&rt, form, want);
     }
 }
 

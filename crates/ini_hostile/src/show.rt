@@ -28,6 +28,11 @@ pub(crate) fn shown(rt: &(impl Abort + AllocGlobal), document: &Ini) -> String {
     out
 }
 
+/// Asks that the text is the one that is wanted, of what is named.
+pub(crate) fn expect_text(rt: &impl Abort, of: impl Debug + Drop, got: &str, want: &str) {
+    assert!(rt; got == want, "{of:?}: {got}, and not {want}");
+}
+
 /// Asks that the document is shown so, of what is named.
 pub(crate) fn expect_shown(
     rt: &(impl Abort + AllocGlobal),
@@ -35,8 +40,7 @@ pub(crate) fn expect_shown(
     document: &Ini,
     want: &str,
 ) {
-    let got = shown(rt, document);
-    assert!(rt; got.as_str() == want, "{of:?}: {got}, and not {want}");
+    expect_text(rt, of, &shown(rt, document), want);
 }
 
 /// The document of a text, with ample memory.

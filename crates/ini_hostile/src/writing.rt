@@ -72,7 +72,7 @@ fn expect_front(
     let mut device = LimitedWriter::new(rt.alloc(), limits);
     let answer = form.write(rt, document, &mut device);
     let told = limits.is_told(&answer, text) && device.has_front_of(text);
-    assert!(rt; told, "{form:?}, {limits:?}");
+    limits.expect(rt, form, told);
 }
 
 // Asks that of the document, at each room, for each fault, by bytes and by whole texts.
@@ -86,25 +86,41 @@ fn expect_fronts(rt: &(impl Abort + AllocGlobal), form: Form, document: &Ini, te
     }
 }
 
+// Asks that of the text's document, which is the same afterwards.
+fn expect_fronts_of(rt: &(impl Abort + AllocGlobal), form: Form, text: &str, written: &str) {
+    let document = loaded(rt, text);
+    let before = shown(rt, &document);
+    expect_fronts(rt, form, &document, written);
+    expect_shown(rt, form, &document, &before);
+}
+
 #[test]
 fn each_form_fails_at_each_byte(rt: HostRuntime) {
     for (form, text, written) in WRITTEN {
-        let document = loaded(&rt, text);
-        let before = shown(&rt, &document);
-        expect_fronts(&rt, form, &document, written);
-        expect_shown(&rt, form, &document, &before);
+        expect_fronts_of(&rt, form, text, written);
     }
+}
+
+// Writes the document. Whether the text goes out in so many calls.
+fn is_taken_in(
+    rt: &(impl Abort + AllocGlobal),
+    form: Form,
+    text: &str,
+    want: &str,
+    calls: usize,
+) -> bool {
+    let document = loaded(rt, text);
+    let mut device = LimitedWriter::new(rt.alloc(), Limits::NONE);
+    let answer = form.write(rt, &document, &mut device);
+    answer.is_ok() && device.has_taken(want, calls)
 }
 
 #[test]
 fn a_short_text_goes_out_in_one_call(rt: HostRuntime) {
     for (form, text, written) in WRITTEN {
-        let document = loaded(&rt, text);
-        let mut device = LimitedWriter::new(rt.alloc(), Limits::NONE);
-        let answer = form.write(&rt, &document, &mut device);
         let calls = usize::from(!written.is_empty());
-        let taken = answer.is_ok() && device.has_taken(written, calls);
-        assert!(rt; taken, "{form:?}");
+        let taken = is_taken_in(&rt, form, text, written, calls);
+        Limits::NONE.expect(&rt, form, taken);
     }
 }
 
