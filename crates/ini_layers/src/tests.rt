@@ -1,47 +1,64 @@
 //! What layers answer, and what is written of them once they are merged.
 use super::*;
-use ini::{Error, Ini};
-use std::alloc::Global;
-use std::test::Fail;
+use ini::Ini;
+use std::panic::Expect;
+use std::process::Abort;
 
 /// The documents of the texts, in order.
-fn layers_of(alloc: Global, texts: &[&'static str]) -> Result<Layers, Fail> {
-    let mut layers = Layers::new(alloc);
+fn layers_of(rt: &(impl Abort + AllocGlobal), texts: &[&'static str]) -> Layers {
+    let mut layers = Layers::new(rt.alloc());
     for text in texts {
-        let document = Ini::load_from_str(alloc, text)?;
-        layers.push(document).map_err(|_| "no room for a layer")?;
+        let document = Ini::load_from_str(rt.alloc(), text).expect(rt, "a document");
+        assert!(rt; layers.push(document).is_ok());
     }
-    Ok(layers)
+    layers
+}
+
+/// The layers as one document, with ample memory.
+fn merged_of(rt: &impl Abort, layers: &Layers) -> Ini {
+    layers.merged().expect(rt, "memory")
 }
 
 /// The text that is written of a document.
-fn written_text(alloc: Global, document: &Ini) -> Result<String, Fail> {
-    let mut taken: Vec<u8> = Vec::new(alloc);
-    document.write_to(&mut taken)?;
+fn written_text(rt: &(impl Abort + AllocGlobal), document: &Ini) -> String {
+    let mut taken: Vec<u8> = Vec::new(rt.alloc());
+    assert!(rt; document.write_to(&mut taken).is_ok());
     match String::from_utf8(taken) {
-        Ok(text) => Ok(text),
-        Err(_) => Err(Error::NotUtf8.into()),
+        Ok(text) => text,
+        Err(_) => panic!(rt; "no UTF-8"),
     }
 }
 
 const SECTIONS_OF_ONE_NAME: &[&'static str] = &["k=1\n[a]\nx=1\n", "[a]\nx=2\ny=3\n[a]\nz=9\n"];
 
 #[test]
-fn no_layers(rt: HostRuntime) -> Result<(), Fail> {
+fn no_layers(rt: HostRuntime) {
     let layers = Layers::new(rt.alloc());
     assert!(rt; layers.is_empty());
     assert!(rt; layers.len() == 0);
     assert!(rt; layers.get_from(None, "k").is_none());
-    let merged = layers.merged()?;
+    let merged = merged_of(&rt, &layers);
     assert!(rt; merged.len() == 1);
-    assert!(rt; written_text(rt.alloc(), &merged)?.as_str() == "");
-    Ok(())
+    assert!(rt; written_text(&rt, &merged).is_empty());
+}
+
+/// Asks for the value of the key.
+fn expect_value(
+    rt: &impl Abort,
+    layers: &Layers,
+    (name, key, want): (Option<&str>, &str, Option<&str>),
+) {
+    let value = layers.get_from(name, key);
+    assert!(rt;
+        value == want,
+        "{name:?} {key}: {value:?}, and not {want:?}"
+    );
 }
 
 #[test]
-fn the_last_layer_that_has_the_key_counts(rt: HostRuntime) -> Result<(), Fail> {
-    let layers = layers_of(rt.alloc(), SECTIONS_OF_ONE_NAME)?;
-    for (name, key, want) in [
+fn the_last_layer_that_has_the_key_counts(rt: HostRuntime) {
+    let layers = layers_of(&rt, SECTIONS_OF_ONE_NAME);
+    for row in [
         (Some("a"), "x", Some("2")),
         (Some("a"), "y", Some("3")),
         (Some("a"), "z", None),
@@ -49,29 +66,32 @@ fn the_last_layer_that_has_the_key_counts(rt: HostRuntime) -> Result<(), Fail> {
         (None, "k", Some("1")),
         (None, "x", None),
     ] {
-        assert!(rt; layers.get_from(name, key) == want, "at {name:?} {key}");
+        expect_value(&rt, &layers, row);
     }
-    Ok(())
 }
 
 #[test]
-fn a_first_section_without_the_key_leaves_the_layers_below(rt: HostRuntime) -> Result<(), Fail> {
-    let layers = layers_of(rt.alloc(), &["[a]\nx=1\n", "[a]\n[a]\nx=2\n"])?;
-    assert!(rt; layers.get_from(Some("a"), "x") == Some("1"));
-    Ok(())
+fn a_first_section_without_the_key_leaves_the_layers_below(rt: HostRuntime) {
+    let layers = layers_of(&rt, &["[a]\nx=1\n", "[a]\n[a]\nx=2\n"]);
+    expect_value(&rt, &layers, (Some("a"), "x", Some("1")));
 }
 
 #[test]
-fn the_first_value_of_a_repeated_key_counts(rt: HostRuntime) -> Result<(), Fail> {
-    let layers = layers_of(rt.alloc(), &["x=1\nx=2\n[e]\n"])?;
-    assert!(rt; layers.get_from(None, "x") == Some("1"));
-    let merged = layers.merged()?;
-    assert!(rt; merged.section(Some("e")).is_none());
-    Ok(())
+fn the_first_value_of_a_repeated_key_counts(rt: HostRuntime) {
+    let layers = layers_of(&rt, &["x=1\nx=2\n[e]\n"]);
+    expect_value(&rt, &layers, (None, "x", Some("1")));
+    assert!(rt; merged_of(&rt, &layers).section(Some("e")).is_none());
+}
+
+/// Asks for the text that is written of the merged layers.
+fn expect_written(rt: &(impl Abort + AllocGlobal), texts: &[&'static str], want: &str) {
+    let merged = merged_of(rt, &layers_of(rt, texts));
+    let got = written_text(rt, &merged);
+    assert!(rt; got.as_str() == want, "{texts:?}: {got}, and not {want}");
 }
 
 #[test]
-fn merged_layers_are_written(rt: HostRuntime) -> Result<(), Fail> {
+fn merged_layers_are_written(rt: HostRuntime) {
     let rows: [(&[&'static str], &'static str); 8] = [
         (&[], ""),
         (SECTIONS_OF_ONE_NAME, "k=1\n\n[a]\nx=2\ny=3\n"),
@@ -86,41 +106,38 @@ fn merged_layers_are_written(rt: HostRuntime) -> Result<(), Fail> {
         (&["[a]\nx=1\n", "k=2\n"], "k=2\n\n[a]\nx=1\n"),
     ];
     for (texts, want) in rows {
-        let merged = layers_of(rt.alloc(), texts)?.merged()?;
-        assert!(rt;
-            written_text(rt.alloc(), &merged)?.as_str() == want,
-            "at {texts:?}"
-        );
+        expect_written(&rt, texts, want);
     }
-    Ok(())
 }
 
 #[test]
-fn a_cleared_document_is_a_layer_without_values(rt: HostRuntime) -> Result<(), Fail> {
-    let mut document = Ini::load_from_str(rt.alloc(), "k=1\n[a]\nx=1\n")?;
+fn a_cleared_document_is_a_layer_without_values(rt: HostRuntime) {
+    let text = "k=1\n[a]\nx=1\n";
+    let mut document = Ini::load_from_str(rt.alloc(), text).expect(&rt, "a document");
     document.clear();
     let mut layers = Layers::new(rt.alloc());
-    layers.push(document).map_err(|_| "no room for a layer")?;
-    let merged = layers.merged()?;
+    assert!(rt; layers.push(document).is_ok());
+    let merged = layers.merged().expect(&rt, "memory");
     assert!(rt; merged.len() == 1);
     assert!(rt; merged.general_section().is_empty());
-    Ok(())
+}
+
+/// Whether the document that is there, if any, has this value.
+fn is_value(document: Option<&Ini>, want: Option<&str>) -> bool {
+    match document {
+        Some(document) => document.get_from(None, "k") == want,
+        None => want.is_none(),
+    }
 }
 
 #[test]
-fn documents_come_from_both_ends(rt: HostRuntime) -> Result<(), Fail> {
-    let layers = layers_of(rt.alloc(), &["k=1\n", "k=2\n", "k=3\n"])?;
+fn documents_come_from_both_ends(rt: HostRuntime) {
+    let layers = layers_of(&rt, &["k=1\n", "k=2\n", "k=3\n"]);
     assert!(rt; layers.len() == 3);
     assert!(rt; !layers.is_empty());
     let mut documents = layers.iter();
-    let mut ends = [None, None, None, None];
-    ends[0] = documents.next();
-    ends[1] = documents.next_back();
-    ends[2] = documents.next();
-    ends[3] = documents.next_back();
-    for (document, want) in ends.iter().zip([Some("1"), Some("3"), Some("2"), None]) {
-        let value = document.and_then(|document| document.get_from(None, "k"));
-        assert!(rt; value == want);
-    }
-    Ok(())
+    assert!(rt; is_value(documents.next(), Some("1")));
+    assert!(rt; is_value(documents.next_back(), Some("3")));
+    assert!(rt; is_value(documents.next(), Some("2")));
+    assert!(rt; is_value(documents.next_back(), None));
 }
