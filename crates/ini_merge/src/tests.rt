@@ -1,50 +1,75 @@
 //! Runs over files in the folder at hand, and over writers in memory.
 use super::*;
 use std::fs;
-use std::test::Fail;
+use std::panic::Expect;
+use std::process::Abort;
 
 // A file of that name with that text.
-fn make_file<R: Files>(rt: &R, name: &'static str, text: &'static str) -> Result<(), Fail> {
-    let mut file = fs::create(rt, Path::new(name))?;
-    file.write_all(text.as_bytes())?;
-    Ok(())
+fn make_file(rt: &(impl Abort + Files), name: &'static str, text: &'static str) {
+    let mut file = fs::create(rt, Path::new(name)).expect(rt, name);
+    assert!(rt; file.write_all(text.as_bytes()).is_ok());
 }
 
-// Takes the files away again.
-fn remove_files<R: Files>(rt: &R, names: &[&'static str]) -> Result<(), Fail> {
-    for name in names {
-        fs::remove_file(rt, Path::new(name))?;
-    }
-    Ok(())
+// Takes the file away again.
+fn remove_file(rt: &(impl Abort + Files), name: &'static str) {
+    assert!(rt; fs::remove_file(rt, Path::new(name)).is_ok());
 }
 
 // A list of words.
-fn words_of(alloc: Global, names: &[&'static str]) -> Result<Vec<String>, Fail> {
-    let mut words = Vec::new(alloc);
+fn words_of(rt: &(impl Abort + AllocGlobal), names: &[&'static str]) -> Vec<String> {
+    let mut words = Vec::new(rt.alloc());
     for name in names {
-        words.push(String::from_str(alloc, name)?)?;
+        let word = String::from_str(rt.alloc(), name).expect(rt, "memory");
+        assert!(rt; words.push(word).is_ok());
     }
-    Ok(words)
+    words
 }
 
-// The status of a run over the words, what it wrote, and what is told.
-fn run_over<R: Files>(
-    rt: &R,
-    alloc: Global,
-    names: &[&'static str],
-) -> Result<(u8, Vec<u8>, Vec<u8>), Fail> {
-    let words = words_of(alloc, names)?;
-    let mut output: Vec<u8> = Vec::new(alloc);
-    let outcome = run(rt, alloc, words.as_slice(), &mut Watched::new(&mut output));
-    let mut told: Vec<u8> = Vec::new(alloc);
+// The status of a run, what it wrote, and what is told.
+#[derive(Debug, Drop)]
+struct Ran {
+    status: u8,
+    output: Vec<u8>,
+    told: Vec<u8>,
+}
+
+impl Ran {
+    // Whether it ended so and wrote nothing.
+    fn is_refused(&self, status: u8) -> bool {
+        self.status == status && self.output.is_empty()
+    }
+}
+
+// A run over the words.
+fn run_over(rt: &(impl Abort + AllocGlobal + Files), names: &[&'static str]) -> Ran {
+    let words = words_of(rt, names);
+    let mut output: Vec<u8> = Vec::new(rt.alloc());
+    let mut writer = Watched::new(&mut output);
+    let outcome = run(rt, rt.alloc(), words.as_slice(), &mut writer);
+    let mut told: Vec<u8> = Vec::new(rt.alloc());
     tell(words.as_slice(), &outcome, &mut told);
-    Ok((status(&outcome), output, told))
+    Ran {
+        status: status(&outcome),
+        output,
+        told,
+    }
+}
+
+// Asks that a run over the words writes this and tells nothing.
+fn expect_merged(
+    rt: &(impl Abort + AllocGlobal + Files),
+    names: &[&'static str],
+    want: &'static str,
+) {
+    let ran = run_over(rt, names);
+    let merged = ran.status == 0 && ran.output.as_slice() == want.as_bytes();
+    assert!(rt; merged && ran.told.is_empty(), "{names:?}: {ran:?}");
 }
 
 #[test]
-fn files_are_merged_in_order(rt: HostRuntime) -> Result<(), Fail> {
-    make_file(&rt, "one.ini", "\u{FEFF}k=1\n[a]\nx=1\n")?;
-    make_file(&rt, "two.ini", "[a]\nx=2\ny=3\n[a]\nz=9\n")?;
+fn files_are_merged_in_order(rt: HostRuntime) {
+    make_file(&rt, "one.ini", "\u{FEFF}k=1\n[a]\nx=1\n");
+    make_file(&rt, "two.ini", "[a]\nx=2\ny=3\n[a]\nz=9\n");
     let rows: [(&[&'static str], &'static str); 4] = [
         (&["one.ini"], "k=1\n\n[a]\nx=1\n"),
         (&["one.ini", "two.ini"], "k=1\n\n[a]\nx=2\ny=3\n"),
@@ -52,53 +77,56 @@ fn files_are_merged_in_order(rt: HostRuntime) -> Result<(), Fail> {
         (&["one.ini", "two.ini", "one.ini"], "k=1\n\n[a]\nx=1\ny=3\n"),
     ];
     for (names, want) in rows {
-        let (status, output, told) = run_over(&rt, rt.alloc(), names)?;
-        assert!(rt; status == 0, "at {names:?}");
-        assert!(rt; output.as_slice() == want.as_bytes(), "at {names:?}");
-        assert!(rt; told.is_empty());
+        expect_merged(&rt, names, want);
     }
-    remove_files(&rt, &["one.ini", "two.ini"])
+    remove_file(&rt, "one.ini");
+    remove_file(&rt, "two.ini");
 }
 
 #[test]
-fn the_file_that_is_refused_is_told(rt: HostRuntime) -> Result<(), Fail> {
-    make_file(&rt, "good.ini", "k=1\n")?;
-    make_file(&rt, "bad.ini", "k=1\n=v\n")?;
-    let (status, output, told) = run_over(&rt, rt.alloc(), &["good.ini", "bad.ini"])?;
-    assert!(rt; status == 3);
-    assert!(rt; output.is_empty());
-    assert!(rt; told.as_slice() == b"ini_merge: bad.ini: 2:2 missing key\n".as_slice());
-    remove_files(&rt, &["good.ini", "bad.ini"])
+fn the_file_that_is_refused_is_told(rt: HostRuntime) {
+    make_file(&rt, "good.ini", "k=1\n");
+    make_file(&rt, "bad.ini", "k=1\n=v\n");
+    let ran = run_over(&rt, &["good.ini", "bad.ini"]);
+    assert!(rt; ran.is_refused(3));
+    let want = b"ini_merge: bad.ini: 2:2 missing key\n";
+    assert!(rt; ran.told.as_slice() == want.as_slice());
+    remove_file(&rt, "good.ini");
+    remove_file(&rt, "bad.ini");
 }
 
 #[test]
-fn a_file_that_is_not_there_is_a_fault(rt: HostRuntime) -> Result<(), Fail> {
-    let (status, output, told) = run_over(&rt, rt.alloc(), &["none.ini"])?;
-    assert!(rt; status == 4);
-    assert!(rt; output.is_empty());
-    assert!(rt; told.starts_with(b"ini_merge: none.ini: "));
-    Ok(())
+fn a_file_that_is_not_there_is_a_fault(rt: HostRuntime) {
+    let ran = run_over(&rt, &["none.ini"]);
+    assert!(rt; ran.is_refused(4));
+    assert!(rt; ran.told.starts_with(b"ini_merge: none.ini: "));
 }
 
 #[test]
-fn no_words_are_a_usage_error(rt: HostRuntime) -> Result<(), Fail> {
-    let (status, output, told) = run_over(&rt, rt.alloc(), &[])?;
-    assert!(rt; status == 2);
-    assert!(rt; output.is_empty());
-    assert!(rt; told.as_slice() == b"usage: ini_merge FILE..\n".as_slice());
-    Ok(())
+fn no_words_are_a_usage_error(rt: HostRuntime) {
+    let ran = run_over(&rt, &[]);
+    assert!(rt; ran.is_refused(2));
+    assert!(rt; ran.told.as_slice() == b"usage: ini_merge FILE..\n".as_slice());
 }
 
-#[test]
-fn a_full_writer_stalls(rt: HostRuntime) -> Result<(), Fail> {
-    make_file(&rt, "full.ini", "k=v\n")?;
-    let words = words_of(rt.alloc(), &["full.ini"])?;
+// Whether a run over the words stalls once where there is room for three bytes, which it fills with these.
+fn stalls_behind(
+    rt: &(impl Abort + AllocGlobal + Files),
+    names: &[&'static str],
+    want: [u8; 3],
+) -> bool {
+    let words = words_of(rt, names);
     let mut room = [0u8; 3];
     let mut output = room.as_mut_slice();
     let mut writer = Watched::new(&mut output);
-    let outcome = run(&rt, rt.alloc(), words.as_slice(), &mut writer);
-    assert!(rt; writer.stalls() == 1);
-    assert!(rt; status(&outcome) == 4);
-    assert!(rt; room == [b'k', b'=', b'v']);
-    remove_files(&rt, &["full.ini"])
+    let outcome = run(rt, rt.alloc(), words.as_slice(), &mut writer);
+    let stalled = writer.stalls() == 1 && status(&outcome) == 4;
+    stalled && room == want
+}
+
+#[test]
+fn a_full_writer_stalls(rt: HostRuntime) {
+    make_file(&rt, "full.ini", "k=v\n");
+    assert!(rt; stalls_behind(&rt, &["full.ini"], *b"k=v"));
+    remove_file(&rt, "full.ini");
 }
