@@ -1,6 +1,6 @@
 //! Text on its way to a string, gathered so that short parts of it are appended together. This file knows
 //! bytes, and no production.
-ghost use Rattle.std.specs.Prelude.{◌≡◌, ◌+◌, ◌++◌, ◌≤◌, [], ◌∷◌, true, length, take};
+ghost use Rattle.std.specs.Prelude.{◌≡◌, ◌+◌, ◌++◌, ◌≤◌, ◌==◌, [], ◌∷◌, true, length, take};
 ghost use Rattle.std.specs.Char.{encode_utf8};
 ghost use Rattle.ini_text.specs.declared.lanes.TheConstants.{LANES};
 ghost use Rattle.ini_text.specs.declared.parser.block.TheConstants.{LONGEST, ROOM};
@@ -33,6 +33,13 @@ impl Block {
             bytes: [0; ROOM],
             len: 0,
         }
+    }
+
+    #[inline(always)]
+    pub(crate) fn is_empty(&self) -> bool
+        ensures { result ≡ (self.now.len == 0) }
+    {
+        self.len == 0
     }
 
     /// Whether as many bytes as are tested together have room, and a character behind them.

@@ -35,6 +35,9 @@ pub(crate) fn read_short<'a>(
     }
     let mut block = Block::new();
     let rest = gather(&mut block, text, ends);
+    if block.is_empty() {
+        return Ok(text);
+    }
     match str::from_utf8(block.as_bytes()) {
         Ok(values) => {
             push_text(out, values)?;

@@ -49,8 +49,7 @@ pub(crate) fn read_string<'a>(
 {
     let mut rest = text;
     'pieces: loop {
-        let front = read_short(out, rest, escapes, ends)?;
-        let (run, stop) = split_run(front, ends);
+        let (run, stop) = split_run(rest, ends);
         push_text(out, run)?;
         let Some((c, after)) = split_first(stop) else {
             if ends.contain_text_end() {
@@ -74,6 +73,7 @@ pub(crate) fn read_string<'a>(
             push_escaped(out, d, escapes)?;
             behind
         };
+        rest = read_short(out, rest, escapes, ends)?;
     }
 }
 

@@ -1,72 +1,80 @@
-use Rattle.std.proofs.Common.{◌≡◌, ◌==◌, ◌&&◌, ◌∙◌, false, refl, sym, ap, append-nil, ne_eqb, rules, ℕ, length, length-append, arith}
+use Rattle.std.proofs.Common.{◌≡◌, ◌==◌, ◌&&◌, ◌∙◌, false, refl, sym, ap, append-nil, ne_eqb, rules, ℕ, length, length-append, arith, ◌<◌, chars}
 use Rattle.std.proofs.Math.Bool.{and-false}
 use Rattle.ini_text.specs.Grammar.CharacterKinds.{letter_x}
 use Rattle.ini_text.specs.Inside.Endpoints.{ends_of}
 use Rattle.ini_text.specs.Inside.Reading.{prepend}
+use Rattle.ini_text.specs.Inside.StringReader.{string}
 use Rattle.ini_text.specs.Parsing.Items.{string_text}
 use Rattle.ini_text.proofs.ReaderLemmas.ReaderLemmas.{and_more, and_found, and_stopped, then_found, then_stopped, passed}
 use Rattle.ini_text.proofs.ReaderLemmas.StringReaderLemmas.{string_run, string_at_end, string_at_endpoint, string_at_backslash, string_pair, string_coded, coded_shortens}
 use Rattle.ini_text.proofs.parser.string.read_string.Goals as goal
-use Rattle.ini_text.proofs.parser.string.read_string.Goals.{else-escapes-via-then-escapes+else-d-eq120, else-escapes-via-else-escapes}
+use Rattle.ini_text.proofs.parser.string.read_string.Goals.{then-escapes+then-d-eq120+in_ok-rest, else-escapes+in_ok-push_escaped, else-escapes-via-then-escapes+else-d-eq120, else-escapes-via-else-escapes}
 
 pub pieces-init : goal.pieces-init
 pieces-init c = record { text = search rules; read = refl }
 
 pub returns-then-contain_text_end : goal.returns-then-contain_text_end
 returns-then-contain_text_end c =
-    and_found _ (and_more _ _ _ (c.pieces.invariant.read ∙ c.in_ok-front.ensures.read) (string_run _ _ _ _ c.split_run.ensures.parts c.split_run.ensures.run) c.in_ok-push_text.ensures)
+    and_found _ (and_more _ _ _ c.pieces.invariant.read (string_run _ _ _ _ c.split_run.ensures.parts c.split_run.ensures.run) c.in_ok-push_text.ensures)
     (string_at_end _ _ c.in_default.ensures.characters (sym c.if-contain_text_end.true ∙ c.contain_text_end.ensures)) (sym (append-nil _))
 
 pub returns-in_default : goal.returns-in_default
 returns-in_default c =
-    rw c.new.ensures (and_stopped _ (and_more _ _ _ (c.pieces.invariant.read ∙ c.in_ok-front.ensures.read) (string_run _ _ _ _ c.split_run.ensures.parts c.split_run.ensures.run) c.in_ok-push_text.ensures)
+    rw c.new.ensures (and_stopped _ (and_more _ _ _ c.pieces.invariant.read (string_run _ _ _ _ c.split_run.ensures.parts c.split_run.ensures.run) c.in_ok-push_text.ensures)
     (string_at_end _ _ c.in_default.ensures.characters (sym c.if-contain_text_end.false ∙ c.contain_text_end.ensures)))
 
 pub returns-then-c-ne92 : goal.returns-then-c-ne92
 returns-then-c-ne92 c =
-    and_found _ (and_more _ _ _ (c.pieces.invariant.read ∙ c.in_ok-front.ensures.read) (string_run _ _ _ _ c.split_run.ensures.parts c.split_run.ensures.run) c.in_ok-push_text.ensures)
+    and_found _ (and_more _ _ _ c.pieces.invariant.read (string_run _ _ _ _ c.split_run.ensures.parts c.split_run.ensures.run) c.in_ok-push_text.ensures)
     (string_at_endpoint _ _ c.in-Some.ensures.characters c.if-c-ne92.true c.split_run.ensures.stops) (sym (append-nil _))
 
 pub returns-then-not-contain_text_end : goal.returns-then-not-contain_text_end
 returns-then-not-contain_text_end c =
-    rw c.new-then-not-contain_text_end.ensures (and_stopped _ (and_more _ _ _ (c.pieces.invariant.read ∙ c.in_ok-front.ensures.read) (string_run _ _ _ _ c.split_run.ensures.parts c.split_run.ensures.run) c.in_ok-push_text.ensures)
+    rw c.new-then-not-contain_text_end.ensures (and_stopped _ (and_more _ _ _ c.pieces.invariant.read (string_run _ _ _ _ c.split_run.ensures.parts c.split_run.ensures.run) c.in_ok-push_text.ensures)
     (string_at_backslash _ _ c.in-Some.ensures.characters c.if-c-ne92.false c.in_default-split_first.ensures.characters
     (sym c.if-not-contain_text_end.true ∙ c.contain_text_end-in_default-split_first.ensures)))
 
 pub returns-in_default-split_first : goal.returns-in_default-split_first
 returns-in_default-split_first c =
-    and_found _ (and_more _ _ _ (c.pieces.invariant.read ∙ c.in_ok-front.ensures.read) (string_run _ _ _ _ c.split_run.ensures.parts c.split_run.ensures.run) c.in_ok-push_text.ensures)
+    and_found _ (and_more _ _ _ c.pieces.invariant.read (string_run _ _ _ _ c.split_run.ensures.parts c.split_run.ensures.run) c.in_ok-push_text.ensures)
     (string_at_backslash _ _ c.in-Some.ensures.characters c.if-c-ne92.false c.in_default-split_first.ensures.characters
     (sym c.if-not-contain_text_end.false ∙ c.contain_text_end-in_default-split_first.ensures)) c.in_ok-push.ensures
 
 pub returns-in_err-rest : goal.returns-in_err-rest
 returns-in_err-rest c =
     passed _ _ _ c.from_residual-in_err-rest.ensures.1 c.in_err-rest.ensures λ r k h.
-    and_more _ _ _ (c.pieces.invariant.read ∙ c.in_ok-front.ensures.read) (string_run _ _ _ _ c.split_run.ensures.parts c.split_run.ensures.run) c.in_ok-push_text.ensures
+    and_more _ _ _ c.pieces.invariant.read (string_run _ _ _ _ c.split_run.ensures.parts c.split_run.ensures.run) c.in_ok-push_text.ensures
     ∙ ap (prepend (string_text c.push_text.new.out)) (string_coded _ _ c.in-Some.ensures.characters c.if-c-ne92.false c.in-Some-split_first.ensures.characters c.if-escapes.true c.if-d-eq120.true)
     ∙ then_stopped _ _ _ h
 
-pub pieces-preserved-in_ok-rest : goal.pieces-preserved-in_ok-rest
-pieces-preserved-in_ok-rest c = record {
-  text = search rules;
-  read = and_more _ _ _ (c.pieces.invariant.read ∙ c.in_ok-front.ensures.read) (string_run _ _ _ _ c.split_run.ensures.parts c.split_run.ensures.run) c.in_ok-push_text.ensures
-      ∙ ap (prepend (string_text c.push_text.new.out)) (string_coded _ _ c.in-Some.ensures.characters c.if-c-ne92.false c.in-Some-split_first.ensures.characters c.if-escapes.true c.if-d-eq120.true)
-      ∙ then_found _ _ _ c.in_ok-rest.ensures;
-}
-
 pub pieces-preserved : goal.pieces-preserved
 pieces-preserved c =
-    let other : (c.in-Some-split_first.d == letter_x && c.args.escapes) ≡ false = elim c.else-escapes.branch [
-      | else-escapes-via-then-escapes+else-d-eq120 w ↦ rw (ne_eqb _ 120 w.if-d-eq120.false) refl
-      | else-escapes-via-else-escapes w ↦ rw (w.if-escapes.false, and-false) refl
+    let to = ends_of c.args.ends in
+    let run = and_more _ _ _ c.pieces.invariant.read (string_run _ to _ _ c.split_run.ensures.parts c.split_run.ensures.run) c.in_ok-push_text.ensures in
+    let turned : prepend (string_text c.args.out.now) (string c.args.escapes to (chars c.args.text.now)) ≡ prepend (string_text c.if-escapes.out) (string c.args.escapes to (chars c.if-escapes.rest.now)) =
+    elim c.if-escapes.branch [
+      | then-escapes+then-d-eq120+in_ok-rest w ↦
+          rw (w.out-is, w.rest-is) (run
+          ∙ ap (prepend (string_text c.push_text.new.out)) (string_coded _ _ c.in-Some.ensures.characters c.if-c-ne92.false c.in-Some-split_first.ensures.characters w.if-escapes.true w.if-d-eq120.true)
+          ∙ then_found _ _ _ w.in_ok-rest.ensures)
+      | else-escapes+in_ok-push_escaped w ↦
+          let other : (c.in-Some-split_first.d == letter_x && c.args.escapes) ≡ false = elim w.else-escapes.branch [
+            | else-escapes-via-then-escapes+else-d-eq120 x ↦ rw (ne_eqb _ 120 x.if-d-eq120.false) refl
+            | else-escapes-via-else-escapes x ↦ rw (x.if-escapes.false, and-false) refl
+          ] in
+          rw (w.out-is, w.rest-is) (and_more _ _ _ run
+          (string_pair _ _ c.in-Some.ensures.characters c.if-c-ne92.false c.in-Some-split_first.ensures.characters other) w.in_ok-push_escaped.ensures)
     ] in
-    record {
-      text = search rules;
-      read = and_more _ _ _ (and_more _ _ _ (c.pieces.invariant.read ∙ c.in_ok-front.ensures.read) (string_run _ _ _ _ c.split_run.ensures.parts c.split_run.ensures.run) c.in_ok-push_text.ensures)
-          (string_pair _ _ c.in-Some.ensures.characters c.if-c-ne92.false c.in-Some-split_first.ensures.characters other) c.in_ok-push_escaped.ensures;
-    }
+    record { text = search rules; read = turned ∙ c.in_ok-rest-2.ensures.read }
 
-pub pieces-smaller-in_ok-rest : goal.pieces-smaller-in_ok-rest
-pieces-smaller-in_ok-rest c =
-    let shorter = coded_shortens _ (ends_of c.args.ends) _ c.in-Some.ensures.characters c.if-c-ne92.false c.in-Some-split_first.ensures.characters c.if-escapes.true c.if-d-eq120.true c.in_ok-rest.ensures in
-    omega (arith, shorter, c.in_ok-front.ensures.shorter, length-append {A = ℕ}, ap length c.split_run.ensures.parts)
+pub pieces-smaller : goal.pieces-smaller
+pieces-smaller c =
+    let parts = ap length c.split_run.ensures.parts in
+    let first = ap length c.in-Some.ensures.characters in
+    let second = ap length c.in-Some-split_first.ensures.characters in
+    let shorter : length (chars c.if-escapes.rest.now) < length (chars c.split_run.result.1.now) = elim c.if-escapes.branch [
+      | then-escapes+then-d-eq120+in_ok-rest w ↦
+          rw w.rest-is (coded_shortens _ (ends_of c.args.ends) _ c.in-Some.ensures.characters c.if-c-ne92.false c.in-Some-split_first.ensures.characters w.if-escapes.true w.if-d-eq120.true w.in_ok-rest.ensures)
+      | else-escapes+in_ok-push_escaped w ↦ rw w.rest-is (omega (arith, first, second))
+    ] in
+    omega (arith, shorter, c.in_ok-rest-2.ensures.shorter, parts, length-append {A = ℕ})
