@@ -58,10 +58,18 @@ pub fn answer(alloc: Global, question: Question) -> Result<String, Error> {
 mod tests {
     use super::answer;
     use crate::question::Question;
-    use std::test::Fail;
+    use std::panic::Expect;
+    use std::process::Abort;
+
+    // Asks that the question is answered so.
+    fn expect_answer(rt: &(impl Abort + AllocGlobal), line: &str, want: &str) {
+        let question = Question::parse(rt.alloc(), line).expect(rt, line);
+        let answer = answer(rt.alloc(), question).expect(rt, line);
+        assert!(rt; answer.as_str() == want, "{line}: {answer}, and not {want}");
+    }
 
     #[test]
-    fn answers(rt: HostRuntime) -> Result<(), Fail> {
+    fn answers(rt: HostRuntime) {
         let rows = [
             ("11000 ", "ok G"),
             ("11000 6b3d760a5b735d", "ok G 6b=76 S73"),
@@ -79,10 +87,7 @@ mod tests {
             ("Nothing CRLF 11000 3d", "err 1:2 missing key"),
         ];
         for (line, want) in rows {
-            let question = Question::parse(rt.alloc(), line)?;
-            let answer = answer(rt.alloc(), question)?;
-            assert!(rt; answer.as_str() == want, "at {line}");
+            expect_answer(&rt, line, want);
         }
-        Ok(())
     }
 }

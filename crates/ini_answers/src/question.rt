@@ -105,55 +105,63 @@ impl Question {
 #[cfg(test)]
 mod tests {
     use super::Question;
-    use ini::{EscapePolicy, LineSeparator};
-    use std::test::Fail;
+    use ini::{EscapePolicy, LineSeparator, ParseOption};
+    use std::panic::Expect;
+    use std::process::Abort;
 
-    #[test]
-    fn reads_flags_and_text(rt: HostRuntime) -> Result<(), Fail> {
-        let question = Question::parse(rt.alloc(), "10011 6b3dC3a9")?;
-        assert!(rt; question.text.as_str() == "k=é");
-        assert!(rt; question.reading.enabled_escape);
-        assert!(rt; !question.reading.enabled_quote);
-        assert!(rt; !question.reading.enabled_indented_mutiline_value);
-        assert!(rt; question.reading.enabled_preserve_key_leading_whitespace);
-        assert!(rt; question.reading.enabled_brackets_in_section_names);
-        let question = Question::parse(rt.alloc(), "01100 6b")?;
-        assert!(rt; !question.reading.enabled_escape);
-        assert!(rt; question.reading.enabled_quote);
-        assert!(rt; question.reading.enabled_indented_mutiline_value);
-        assert!(rt; !question.reading.enabled_preserve_key_leading_whitespace);
-        assert!(rt; !question.reading.enabled_brackets_in_section_names);
-        assert!(rt; question.writing.is_none());
-        Ok(())
+    // The question of the line.
+    fn parsed(rt: &(impl Abort + AllocGlobal), line: &str) -> Question {
+        Question::parse(rt.alloc(), line).expect(rt, line)
     }
 
-    #[test]
-    fn reads_policy_and_line_end(rt: HostRuntime) -> Result<(), Fail> {
-        let rows = [
-            (
-                "Nothing LF 00000 6b",
-                EscapePolicy::Nothing,
-                LineSeparator::CR,
-            ),
-            (
-                "ReservedUnicode CRLF 00000 6b",
-                EscapePolicy::ReservedUnicode,
-                LineSeparator::CRLF,
-            ),
+    // Asks for the five options, in the order of the flags.
+    fn expect_reading(rt: &impl Abort, reading: &ParseOption, want: [bool; 5]) {
+        let got = [
+            reading.enabled_escape,
+            reading.enabled_quote,
+            reading.enabled_indented_mutiline_value,
+            reading.enabled_preserve_key_leading_whitespace,
+            reading.enabled_brackets_in_section_names,
         ];
-        for (line, policy, separator) in rows {
-            let question = Question::parse(rt.alloc(), line)?;
-            assert!(rt; question.text.as_str() == "k");
-            let option = question.writing.expect(&rt, line);
-            assert!(rt; option.escape_policy == policy, "at {line}");
-            assert!(rt; option.line_separator == separator, "at {line}");
-            assert!(rt; option.kv_separator == "=", "at {line}");
-        }
-        Ok(())
+        assert!(rt; got == want, "{got:?}, and not {want:?}");
     }
 
     #[test]
-    fn refuses_other_lines(rt: HostRuntime) -> Result<(), Fail> {
+    fn reads_flags_and_text(rt: HostRuntime) {
+        let question = parsed(&rt, "10011 6b3dC3a9");
+        assert!(rt; question.text.as_str() == "k=é");
+        expect_reading(&rt, &question.reading, [true, false, false, true, true]);
+        let question = parsed(&rt, "01100 6b");
+        expect_reading(&rt, &question.reading, [false, true, true, false, false]);
+        assert!(rt; question.writing.is_none());
+    }
+
+    // Asks for what is written of the question's text k, by the options.
+    fn expect_writing(
+        rt: &(impl Abort + AllocGlobal),
+        line: &str,
+        policy: EscapePolicy,
+        separator: LineSeparator,
+    ) {
+        let question = parsed(rt, line);
+        assert!(rt; question.text.as_str() == "k");
+        let option = question.writing.expect(rt, line);
+        assert!(rt; option.escape_policy == policy, "at {line}");
+        assert!(rt; option.line_separator == separator, "at {line}");
+        assert!(rt; option.kv_separator == "=", "at {line}");
+    }
+
+    #[test]
+    fn reads_policy_and_line_end(rt: HostRuntime) {
+        let nothing = EscapePolicy::Nothing;
+        expect_writing(&rt, "Nothing LF 00000 6b", nothing, LineSeparator::CR);
+        let line = "ReservedUnicode CRLF 00000 6b";
+        let unicode = EscapePolicy::ReservedUnicode;
+        expect_writing(&rt, line, unicode, LineSeparator::CRLF);
+    }
+
+    #[test]
+    fn refuses_other_lines(rt: HostRuntime) {
         let lines = [
             "",
             "11000",
@@ -176,6 +184,5 @@ mod tests {
         for line in lines {
             assert!(rt; Question::parse(rt.alloc(), line).is_err(), "at {line}");
         }
-        Ok(())
     }
 }
