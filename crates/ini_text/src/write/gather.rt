@@ -221,6 +221,9 @@ impl Gatherer {
         ensures front { take self.old.len self.new.bytes ≡ held self.old }
         ensures longer { self.old.len ≤ self.new.len }
     {
+        if text.len() > ROOM - self.len {
+            return false;
+        }
         match policy {
             EscapePolicy::Basics => self.hold_marked(text.as_bytes(), &Basics).is_empty(),
             EscapePolicy::Reserved => self.hold_marked(text.as_bytes(), &Reserved).is_empty(),
