@@ -1,6 +1,7 @@
 //! Texts on their way to a device, gathered so that many of them reach it together. This file knows
 //! bytes and escapes, and no section, key or value.
-ghost use Rattle.std.specs.Prelude.{◌≡◌, ℕ, true, ◌+◌, ◌++◌, ◌≤◌, [], ◌∷◌, length, take, OnOk, if◌then◌else◌};
+ghost use Rattle.std.specs.Prelude.{◌≡◌, ℕ, true, ◌+◌, ◌≤◌, OnOk, if◌then◌else◌};
+ghost use Rattle.std.specs.Prelude.{[], ◌∷◌, ◌++◌, length, take};
 ghost use Rattle.ini_text.specs.Grammar.CharacterKinds.{backslash};
 ghost use Rattle.ini_text.specs.Escaping.EscapedTexts.{escape, escaped_bytes};
 ghost use Rattle.ini_text.specs.Inside.Verbatim.{marked_escaped};
@@ -203,7 +204,8 @@ impl Gatherer {
     // Holds a text back escaped, and another as it is behind it, or a front of the two.
     #[inline(always)]
     fn hold_part(&mut self, text: &str, behind: &str, policy: EscapePolicy) -> bool
-        ensures all { result ≡ true → held self.new ≡ held self.old ++ (escaped_bytes policy text.now ++ behind.now) }
+        ensures all { result ≡ true → held self.new
+            ≡ held self.old ++ (escaped_bytes policy text.now ++ behind.now) }
         ensures front { take self.old.len self.new.bytes ≡ held self.old }
         ensures longer { self.old.len ≤ self.new.len }
     {
