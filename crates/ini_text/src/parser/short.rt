@@ -1,17 +1,17 @@
 //! Short pieces of a string: a run of fewer bytes than are tested together, and an escape behind it. This
 //! file knows escapes, and nothing of lines, keys or names.
-ghost use Rattle.std.specs.Prelude.{◌≡◌, ◌∷◌, ◌≤◌, ◌<◌, [], true, chars, length, IfOk, IfSome};
+ghost use Rattle.std.specs.Prelude.{◌≡◌, ◌∷◌, ◌≤◌, [], true, chars, drop, length, IfOk, IfSome};
+ghost use Rattle.std.specs.Str.{IsCharBoundary};
 ghost use Rattle.ini_text.specs.Inside.Endpoints.{ends_of};
-ghost use Rattle.ini_text.specs.Inside.Reading.{prepend};
+ghost use Rattle.ini_text.specs.Inside.Reading.{found, prepend};
 ghost use Rattle.ini_text.specs.Inside.ShortPieces.{IsEscape, IsShort, Sees, bytes_in};
-ghost use Rattle.ini_text.specs.Inside.StringReader.{string};
+ghost use Rattle.ini_text.specs.Inside.StringReader.{coded, string};
 ghost use Rattle.ini_text.specs.Parsing.Items.{string_text};
 
 use crate::lanes::{LANES, Marks};
 use crate::parser::block::Block;
 use crate::parser::endpoints::Endpoints;
-use crate::parser::string::split_coded;
-use crate::parser::tables::letter_value;
+use crate::parser::tables::{digit, letter_value};
 use crate::text::push_text;
 use std::alloc::AllocError;
 use std::simd::prelude::*;
@@ -123,4 +123,22 @@ fn split_escape(text: &str) -> Option<(char, usize)>
     let (_, behind) = text.split_at(2);
     let (value, _) = split_coded(behind)?;
     Some((value, 6))
+}
+
+/// The character that the four characters behind `\x` spell, if they are digits, and what follows them.
+#[inline(always)]
+pub(crate) fn split_coded(text: &str) -> Option<(char, &str)>
+    ensures coded { IfSome result (λ p. coded (chars text.now) ≡ found (p.0 ∷ []) (chars p.1.now)) }
+    ensures rest { IfSome result (λ p. (p.1.now ≡ drop 4 text.now) × IsCharBoundary text.now 4) }
+{
+    let [a, b, c, d, ..] = text.as_bytes() else {
+        return None;
+    };
+    let (a, b, c, d) = (digit(*a), digit(*b), digit(*c), digit(*d));
+    if a >= 16 || b >= 16 || c >= 16 || d >= 16 {
+        return None;
+    }
+    let value = char::from_u32(a * 0x1000 + b * 0x100 + c * 0x10 + d)?;
+    let (_, rest) = text.split_at(4);
+    Some((value, rest))
 }

@@ -1,17 +1,15 @@
 //! Strings: rows of pieces up to an endpoint. This file knows escapes, and nothing of lines, keys or names.
-ghost use Rattle.std.specs.Prelude.{◌≡◌, ◌∷◌, ◌++◌, [], chars, drop, unwrap_or, Bool, IfSome, OnOk};
-ghost use Rattle.std.specs.Str.{IsCharBoundary};
+ghost use Rattle.std.specs.Prelude.{◌≡◌, ◌∷◌, ◌++◌, [], chars, unwrap_or, Bool, IfSome, OnOk};
 ghost use Rattle.ini_text.specs.Inside.Endpoints.{ends_of};
 ghost use Rattle.ini_text.specs.Grammar.EscapeSequences.{control, spelled, spelled_by};
-ghost use Rattle.ini_text.specs.Inside.Reading.{found, prepend, Appends, Gives};
+ghost use Rattle.ini_text.specs.Inside.Reading.{prepend, Appends, Gives};
 ghost use Rattle.ini_text.specs.Inside.StringReader.{ReadsRaw, coded, string, unit, value_behind_backslash};
 ghost use Rattle.ini_text.specs.Parsing.Items.{string_text};
 
 use crate::error::ParseKind;
 use crate::parser::endpoints::{Endpoints, split_run};
 use crate::parser::fault::Stop;
-use crate::parser::short::read_short;
-use crate::parser::tables::digit;
+use crate::parser::short::{read_short, split_coded};
 use crate::text::{push, push_text, split_first};
 use std::alloc::AllocError;
 
@@ -130,24 +128,6 @@ fn read_coded<'a>(out: &mut String, text: &'a str, ends: Endpoints) -> Result<&'
     };
     push(out, value)?;
     Ok(rest)
-}
-
-/// The character that the four characters behind `\x` spell, if they are digits, and what follows them.
-#[inline(always)]
-pub(crate) fn split_coded(text: &str) -> Option<(char, &str)>
-    ensures coded { IfSome result (λ p. coded (chars text.now) ≡ found (p.0 ∷ []) (chars p.1.now)) }
-    ensures rest { IfSome result (λ p. (p.1.now ≡ drop 4 text.now) × IsCharBoundary text.now 4) }
-{
-    let [a, b, c, d, ..] = text.as_bytes() else {
-        return None;
-    };
-    let (a, b, c, d) = (digit(*a), digit(*b), digit(*c), digit(*d));
-    if a >= 16 || b >= 16 || c >= 16 || d >= 16 {
-        return None;
-    }
-    let value = char::from_u32(a * 0x1000 + b * 0x100 + c * 0x10 + d)?;
-    let (_, rest) = text.split_at(4);
-    Some((value, rest))
 }
 
 // unit = character / "\" LF

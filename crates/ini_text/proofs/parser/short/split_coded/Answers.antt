@@ -2,7 +2,7 @@ use Rattle.std.proofs.Common.{◌<◌, ◌∙◌, ◌∷◌, ap, arith, chars, g
 use Rattle.ini_text.proofs.GrammarLemmas.SpellingLemmas.{digits_spell}
 use Rattle.ini_text.proofs.ReaderLemmas.ShortPieceLemmas.{begins_with_four}
 use Rattle.ini_text.proofs.ReaderLemmas.StringReaderLemmas.{coded_digits}
-use Rattle.ini_text.proofs.parser.string.split_coded.Goals as goal
+use Rattle.ini_text.proofs.parser.short.split_coded.Goals as goal
 
 pub split_at-requires : goal.split_at-requires
 split_at-requires c =
