@@ -1,34 +1,30 @@
 //! Texts on their way to a device, gathered so that many of them reach it together. This file knows
 //! bytes and escapes, and no section, key or value.
-ghost use Rattle.std.specs.Prelude.{◌≡◌, ℕ, true, ◌+◌, ◌≤◌, OnOk, if◌then◌else◌};
-ghost use Rattle.std.specs.Prelude.{[], ◌∷◌, ◌++◌, length, take};
-ghost use Rattle.ini_text.specs.Grammar.CharacterKinds.{backslash};
+ghost use Rattle.std.specs.Prelude.{◌≡◌, true, ◌+◌, ◌≤◌, OnOk, if◌then◌else◌};
+ghost use Rattle.std.specs.Prelude.{[], ◌++◌, length, take};
 ghost use Rattle.ini_text.specs.Escaping.EscapedTexts.{escape, escaped_bytes};
 ghost use Rattle.ini_text.specs.Inside.Verbatim.{marked_escaped};
 ghost use Rattle.ini_text.specs.Device.Gathering.{Sends};
 ghost use Rattle.ini_text.specs.Device.Watched.{IsClear};
-ghost use Rattle.ini_text.specs.declared.lanes.TheConstants.{LANES};
-ghost use Rattle.ini_text.specs.declared.write.gather.TheConstants.{ROOM, SHORT};
+ghost use Rattle.ini_text.specs.declared.write.gather.TheConstants.{ROOM};
 
 use crate::device::Watched;
 use crate::error::Error;
-use crate::lanes::{LANES, Marks, run_before};
+use crate::lanes::{Marks, run_before};
 use crate::text::split_first;
 use crate::write::escape::{hex_digit, letter_of};
 use crate::write::policy::EscapePolicy;
 use crate::write::verbatim::{Basics, Reserved, is_verbatim, split_verbatim};
 use crate::write::write_bytes;
 use std::io::Write;
-use std::simd::prelude::*;
+
+mod marked;
 
 // How many bytes are held back at most.
 const ROOM: usize = 4096;
 
 // How long an escape is at most: a backslash, `x` and six digits.
 const LONGEST: usize = 8;
-
-// How long an escape by one letter is.
-const SHORT: usize = 2;
 
 /// Holds bytes back on their way to a device, so that many short texts reach it in one call.
 ///
@@ -276,83 +272,6 @@ impl Gatherer {
         }
     }
 
-    // Holds back bytes at the front, each that is marked as the escape of its character, and answers those
-    // that are left: where there is no room, or at an escape by digits.
-    #[inline(never)]
-    fn hold_marked<'a, M: Marks>(&mut self, bytes: &'a [u8], marks: &M) -> &'a [u8]
-        ensures held { held self.new ++ marked_escaped (M.is_marked marks.now) result.now
-            ≡ held self.old ++ marked_escaped (M.is_marked marks.now) bytes.now }
-        ensures front { take self.old.len self.new.bytes ≡ held self.old }
-        ensures longer { self.old.len ≤ self.new.len }
-        ensures shorter { length result.now ≤ length bytes.now }
-    {
-        let rest = self.hold_lanes(bytes, marks);
-        self.hold_few(rest, marks)
-    }
-
-    // The same, sixteen bytes at a time, of which those before the first that is marked count.
-    #[inline(always)]
-    fn hold_lanes<'a, M: Marks>(&mut self, bytes: &'a [u8], marks: &M) -> &'a [u8]
-        ensures held { held self.new ++ marked_escaped (M.is_marked marks.now) result.now
-            ≡ held self.old ++ marked_escaped (M.is_marked marks.now) bytes.now }
-        ensures front { take self.old.len self.new.bytes ≡ held self.old }
-        ensures longer { self.old.len ≤ self.new.len }
-        ensures shorter { length result.now ≤ length bytes.now }
-    {
-        let mut rest = bytes;
-        let mut len = self.len;
-        'lanes: while rest.len() >= LANES && len <= ROOM - LANES - SHORT {
-            let lanes = u8x16::from_slice(rest);
-            let found = marks.find(lanes);
-            place_lanes(&mut self.bytes, len, lanes);
-            if found == 0 {
-                len += LANES;
-                rest = &rest[LANES..];
-                continue 'lanes;
-            }
-            let run = found.trailing_zeros() as usize;
-            let Some(letter) = letter_of(char::from(rest[run])) else {
-                break 'lanes;
-            };
-            place_escape(&mut self.bytes, len + run, letter);
-            len += run + SHORT;
-            rest = &rest[run + 1..];
-        }
-        self.len = len;
-        rest
-    }
-
-    // The same of fewer bytes than sixteen.
-    #[inline(always)]
-    fn hold_few<'a, M: Marks>(&mut self, bytes: &'a [u8], marks: &M) -> &'a [u8]
-        ensures held { held self.new ++ marked_escaped (M.is_marked marks.now) result.now
-            ≡ held self.old ++ marked_escaped (M.is_marked marks.now) bytes.now }
-        ensures front { take self.old.len self.new.bytes ≡ held self.old }
-        ensures longer { self.old.len ≤ self.new.len }
-        ensures shorter { length result.now ≤ length bytes.now }
-    {
-        if bytes.len() >= LANES || self.len > ROOM - SHORT * LANES {
-            return bytes;
-        }
-        let mut rest = bytes;
-        let mut len = self.len;
-        'few: while let [byte, following @ ..] = rest {
-            if marks.contain(*byte) {
-                let Some(letter) = letter_of(char::from(*byte)) else {
-                    break 'few;
-                };
-                place_escape(&mut self.bytes, len, letter);
-                len += SHORT;
-            } else {
-                self.bytes[len] = *byte;
-                len += 1;
-            }
-            rest = following;
-        }
-        self.len = len;
-        rest
-    }
-
     // Sends a text escaped, run by run.
     #[inline(never)]
     fn put_runs<W: Write>(
@@ -480,24 +399,4 @@ impl Gatherer {
         }
         self.len = end;
     }
-}
-
-// Puts sixteen bytes behind those that are held back.
-#[inline(always)]
-fn place_lanes(bytes: &mut [u8; ROOM], len: usize, lanes: u8x16)
-    requires { len + LANES ≤ ROOM }
-    ensures { (n : ℕ) → n ≤ LANES → take (len + n) bytes.new ≡ take len bytes.old ++ take n lanes }
-{
-    lanes.copy_to_slice(&mut bytes[len..]);
-}
-
-// Puts the escape by a letter behind those that are held back.
-#[inline(always)]
-fn place_escape(bytes: &mut [u8; ROOM], len: usize, letter: u8)
-    requires { len + SHORT ≤ ROOM }
-    ensures placed { take (len + SHORT) bytes.new ≡ take len bytes.old ++ backslash ∷ letter ∷ [] }
-    ensures kept { take len bytes.new ≡ take len bytes.old }
-{
-    bytes[len] = b'\\';
-    bytes[len + 1] = letter;
 }

@@ -1,7 +1,7 @@
 use Rattle.std.proofs.Common.{◌-◌, arith, drop, length-take, length-drop}
 use borrow.Rule.Slice.PartMut.{mid_of, post_of}
 use Rattle.ini_text.proofs.WriteLemmas.MarkedByteLemmas.{placed}
-use Rattle.ini_text.proofs.write.gather.place_lanes.Goals as goal
+use Rattle.ini_text.proofs.write.gather.marked.place_lanes.Goals as goal
 
 pub returns : goal.returns
 returns c n below =

@@ -1,0 +1,117 @@
+//! Bytes that are held back, each that is marked as the escape of its character, without a call of a
+//! device. This file knows bytes and their marks, and no policy.
+ghost use Rattle.std.specs.Prelude.{◌≡◌, ℕ, ◌+◌, ◌++◌, ◌≤◌, [], ◌∷◌, length, take};
+ghost use Rattle.ini_text.specs.Grammar.CharacterKinds.{backslash};
+ghost use Rattle.ini_text.specs.Inside.Verbatim.{marked_escaped};
+ghost use Rattle.ini_text.specs.declared.lanes.TheConstants.{LANES};
+ghost use Rattle.ini_text.specs.declared.write.gather.TheConstants.{ROOM};
+ghost use Rattle.ini_text.specs.declared.write.gather.marked.TheConstants.{SHORT};
+
+use crate::lanes::{LANES, Marks};
+use crate::write::escape::letter_of;
+use crate::write::gather::{Gatherer, ROOM};
+use std::simd::prelude::*;
+
+// How long an escape by one letter is.
+const SHORT: usize = 2;
+
+impl Gatherer {
+    ghost use Rattle.ini_text.specs.Device.HeldBack.{held};
+
+    // Holds back bytes at the front, each that is marked as the escape of its character, and answers those
+    // that are left: where there is no room, or at an escape by digits.
+    #[inline(never)]
+    pub(super) fn hold_marked<'a, M: Marks>(&mut self, bytes: &'a [u8], marks: &M) -> &'a [u8]
+        ensures held { held self.new ++ marked_escaped (M.is_marked marks.now) result.now
+            ≡ held self.old ++ marked_escaped (M.is_marked marks.now) bytes.now }
+        ensures front { take self.old.len self.new.bytes ≡ held self.old }
+        ensures longer { self.old.len ≤ self.new.len }
+        ensures shorter { length result.now ≤ length bytes.now }
+    {
+        let rest = self.hold_lanes(bytes, marks);
+        self.hold_few(rest, marks)
+    }
+
+    // The same, sixteen bytes at a time, of which those before the first that is marked count.
+    #[inline(always)]
+    fn hold_lanes<'a, M: Marks>(&mut self, bytes: &'a [u8], marks: &M) -> &'a [u8]
+        ensures held { held self.new ++ marked_escaped (M.is_marked marks.now) result.now
+            ≡ held self.old ++ marked_escaped (M.is_marked marks.now) bytes.now }
+        ensures front { take self.old.len self.new.bytes ≡ held self.old }
+        ensures longer { self.old.len ≤ self.new.len }
+        ensures shorter { length result.now ≤ length bytes.now }
+    {
+        let mut rest = bytes;
+        let mut len = self.len;
+        'lanes: while rest.len() >= LANES && len <= ROOM - LANES - SHORT {
+            let lanes = u8x16::from_slice(rest);
+            let found = marks.find(lanes);
+            place_lanes(&mut self.bytes, len, lanes);
+            if found == 0 {
+                len += LANES;
+                rest = &rest[LANES..];
+                continue 'lanes;
+            }
+            let run = found.trailing_zeros() as usize;
+            let Some(letter) = letter_of(char::from(rest[run])) else {
+                break 'lanes;
+            };
+            place_escape(&mut self.bytes, len + run, letter);
+            len += run + SHORT;
+            rest = &rest[run + 1..];
+        }
+        self.len = len;
+        rest
+    }
+
+    // The same of fewer bytes than sixteen.
+    #[inline(always)]
+    fn hold_few<'a, M: Marks>(&mut self, bytes: &'a [u8], marks: &M) -> &'a [u8]
+        ensures held { held self.new ++ marked_escaped (M.is_marked marks.now) result.now
+            ≡ held self.old ++ marked_escaped (M.is_marked marks.now) bytes.now }
+        ensures front { take self.old.len self.new.bytes ≡ held self.old }
+        ensures longer { self.old.len ≤ self.new.len }
+        ensures shorter { length result.now ≤ length bytes.now }
+    {
+        if bytes.len() >= LANES || self.len > ROOM - SHORT * LANES {
+            return bytes;
+        }
+        let mut rest = bytes;
+        let mut len = self.len;
+        'few: while let [byte, following @ ..] = rest {
+            if marks.contain(*byte) {
+                let Some(letter) = letter_of(char::from(*byte)) else {
+                    break 'few;
+                };
+                place_escape(&mut self.bytes, len, letter);
+                len += SHORT;
+            } else {
+                self.bytes[len] = *byte;
+                len += 1;
+            }
+            rest = following;
+        }
+        self.len = len;
+        rest
+    }
+}
+
+// Puts sixteen bytes behind those that are held back.
+#[inline(always)]
+fn place_lanes(bytes: &mut [u8; ROOM], len: usize, lanes: u8x16)
+    requires { len + LANES ≤ ROOM }
+    ensures { (n : ℕ) → n ≤ LANES → take (len + n) bytes.new ≡ take len bytes.old ++ take n lanes }
+{
+    lanes.copy_to_slice(&mut bytes[len..]);
+}
+
+// Puts the escape by a letter behind those that are held back.
+#[inline(always)]
+fn place_escape(bytes: &mut [u8; ROOM], len: usize, letter: u8)
+    requires { len + SHORT ≤ ROOM }
+    ensures placed { take (len + SHORT) bytes.new ≡ take len bytes.old ++ backslash ∷ letter ∷ [] }
+    ensures kept { take len bytes.new ≡ take len bytes.old }
+{
+    bytes[len] = b'\\';
+    bytes[len + 1] = letter;
+}
