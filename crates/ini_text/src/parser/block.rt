@@ -59,9 +59,10 @@ impl Block {
         ensures bytes { bytes_in self.new ≡ bytes_in self.old ++ take len bytes.now }
         ensures len { self.new.len ≡ self.old.len + len }
     {
-        // All of them are copied at once.
-        u8x16::from_slice(bytes).copy_to_slice(&mut self.bytes[self.len..]);
-        self.len += len;
+        // All of them are copied at once. Here and below the length is read once, before a byte is written.
+        let at = self.len;
+        u8x16::from_slice(bytes).copy_to_slice(&mut self.bytes[at..]);
+        self.len = at + len;
     }
 
     /// Holds a character.
@@ -93,8 +94,9 @@ impl Block {
         ensures bytes { bytes_in self.new ≡ bytes_in self.old ++ byte ∷ [] }
         ensures len { self.new.len ≡ self.old.len + 1 }
     {
-        self.bytes[self.len] = byte;
-        self.len += 1;
+        let at = self.len;
+        self.bytes[at] = byte;
+        self.len = at + 1;
     }
 
     /// What it holds.
