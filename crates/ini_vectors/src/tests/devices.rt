@@ -218,7 +218,7 @@ fn calls_for_nothing(alloc: Global) -> Result<u64, Error> {
 }
 
 #[test]
-fn a_run_is_not_parted(rt: HostRuntime) {
+fn a_long_run_goes_out_in_few_calls(rt: HostRuntime) {
     for (length, calls) in [(0, 1), (20, 1), (4_000, 1), (10_000, 3)] {
         assert!(rt; matches!(calls_for_a_run(rt.alloc(), length), Ok(found) if found == calls));
     }
