@@ -1,5 +1,6 @@
 -- A document: a list of sections, each a name and the pairs of the section; and the document of items.
-use Rattle.std.specs.Prelude.{List, [], ◌∷◌, ◌++◌, fold, map, Option, None, Some, IsSome, String, option_and_then}
+use Rattle.std.specs.Prelude.{List, [], ◌∷◌, ◌++◌, fold, map, Option, None, Some, IsSome, String}
+use Rattle.std.specs.Prelude.{option_and_then}
 use Rattle.std.specs.Map.{lookup, remove_entry}
 use Rattle.ini_multimap.specs.Pairs.{distinct_keys, values_at}
 use Rattle.ini_text.specs.Grammar.Elements.{Given, Header, Pair}

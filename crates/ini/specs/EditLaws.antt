@@ -10,10 +10,12 @@ values_of_found key (Some pairs) = values key pairs
 
 -- each key but this one keeps its first value, and all its values in order
 abbrev pub KeepsOtherKeys : Text → (Pairs → Pairs) → Type 0
-KeepsOtherKeys key edit = (other : Text) (pairs : Pairs) → is_text other key ≡ false → first_value other (edit pairs) ≡ first_value other pairs
+KeepsOtherKeys key edit = (other : Text) (pairs : Pairs) → is_text other key ≡ false
+    → first_value other (edit pairs) ≡ first_value other pairs
 
 abbrev pub KeepsOtherValues : Text → (Pairs → Pairs) → Type 0
-KeepsOtherValues key edit = (other : Text) (pairs : Pairs) → is_text other key ≡ false → values other (edit pairs) ≡ values other pairs
+KeepsOtherValues key edit = (other : Text) (pairs : Pairs) → is_text other key ≡ false
+    → values other (edit pairs) ≡ values other pairs
 
 -- the pairs of all keys but this one stay, in order
 abbrev pub KeepsOtherPairs : Text → (Pairs → Pairs) → Type 0
@@ -21,18 +23,22 @@ KeepsOtherPairs key edit = (pairs : Pairs) → all_removed key (edit pairs) ≡ 
 
 -- each name but this one keeps its first section, and all its sections in order
 abbrev pub KeepsOtherNames : Option Text → (Document → Document) → Type 0
-KeepsOtherNames name edit = (other : Option Text) (d : Document) → is_name other name ≡ false → first_section other (edit d) ≡ first_section other d
+KeepsOtherNames name edit = (other : Option Text) (d : Document) → is_name other name ≡ false
+    → first_section other (edit d) ≡ first_section other d
 
 abbrev pub KeepsOtherSections : Option Text → (Document → Document) → Type 0
-KeepsOtherSections name edit = (other : Option Text) (d : Document) → is_name other name ≡ false → sections_named other (edit d) ≡ sections_named other d
+KeepsOtherSections name edit = (other : Option Text) (d : Document) → is_name other name ≡ false
+    → sections_named other (edit d) ≡ sections_named other d
 
 -- in the first section of the name each key but this one keeps its first value
 abbrev pub KeepsOtherKeysIn : Option Text → Text → (Document → Document) → Type 0
-KeepsOtherKeysIn name key edit = (other : Text) (d : Document) → is_text other key ≡ false → value_in name other (edit d) ≡ value_in name other d
+KeepsOtherKeysIn name key edit = (other : Text) (d : Document) → is_text other key ≡ false
+    → value_in name other (edit d) ≡ value_in name other d
 
 -- a name that has a section keeps one
 abbrev pub KeepsNames : (Document → Document) → Type 0
-KeepsNames edit = (other : Option Text) (d : Document) → IsSome (first_section other d) → IsSome (first_section other (edit d))
+KeepsNames edit = (other : Option Text) (d : Document) → IsSome (first_section other d)
+    → IsSome (first_section other (edit d))
 
 -- the document without the pairs of the key in the sections of the name
 abbrev pub apart_from : Option Text → Text → Document → Document
@@ -40,11 +46,13 @@ apart_from name key d = map (λ s. (s.0, if is_name name s.0 then all_removed ke
 
 -- where the name has a section all stays in order but those pairs
 abbrev pub KeepsRest : Option Text → Text → (Document → Document) → Type 0
-KeepsRest name key edit = (d : Document) → IsSome (first_section name d) → apart_from name key (edit d) ≡ apart_from name key d
+KeepsRest name key edit = (d : Document) → IsSome (first_section name d)
+    → apart_from name key (edit d) ≡ apart_from name key d
 
 -- the later sections of the name stay
 abbrev pub KeepsLaterSections : Option Text → (Document → Document) → Type 0
-KeepsLaterSections name edit = (d : Document) → drop 1 (sections_named name (edit d)) ≡ drop 1 (sections_named name d)
+KeepsLaterSections name edit = (d : Document)
+    → drop 1 (sections_named name (edit d)) ≡ drop 1 (sections_named name d)
 
 -- all values of the key in the first section of the name, in order
 abbrev pub values_in : Option Text → Text → Document → List Text

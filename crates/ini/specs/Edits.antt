@@ -8,7 +8,8 @@ use Rattle.ini.specs.Documents.{Document}
 -- f at the first section of the name; where there is none, `last` comes last
 abbrev pub edit_section : Option Text → (Pairs → Pairs) → Document → Document → Document
 edit_section name f last [] = last
-edit_section name f last (s ∷ d) = if is_name name s.0 then (s.0, f s.1) ∷ d else s ∷ edit_section name f last d
+edit_section name f last (s ∷ d) =
+    if is_name name s.0 then (s.0, f s.1) ∷ d else s ∷ edit_section name f last d
 
 -- the pair is inserted in the first section of the name, or in a new last one
 abbrev pub set_in : Option Text → Text → Text → Document → Document
@@ -16,7 +17,8 @@ set_in name key value d = edit_section name (inserted key value) ((name, (key, v
 
 -- the pair is appended there
 abbrev pub add_in : Option Text → Text → Text → Document → Document
-add_in name key value d = edit_section name (λ pairs. pairs ++ (key, value) ∷ []) ((name, (key, value) ∷ []) ∷ []) d
+add_in name key value d =
+    edit_section name (λ pairs. pairs ++ (key, value) ∷ []) ((name, (key, value) ∷ []) ∷ []) d
 
 -- the first section of the name loses the first pair of the key
 abbrev pub delete_in : Option Text → Text → Document → Document

@@ -1,4 +1,5 @@
--- What properties and a document end as, once a `&mut` into them has ended: one part is what was last written there, and the rest stays.
+-- What properties and a document end as, once a `&mut` into them has ended: one part is what was last
+-- written there, and the rest stays.
 use Rattle.std.specs.Prelude.{Option, String}
 use Rattle.std.specs.Borrow.{Fml, RattleType, MutBor, Lends, LendsIf}
 use Rattle.std.specs.Map.{set_value}
@@ -23,7 +24,8 @@ lent_text r = option_map text_of (option_copied_mut r)
 
 -- the first section of the name
 abbrev pub lends_section : MutBor Document → Option Text → Option (MutBor Pairs) → Fml
-lends_section d name r = LendsIf document.the_row properties.the_row d r (set_value (is_name name) d.now) d.now
+lends_section d name r =
+    LendsIf document.the_row properties.the_row d r (set_value (is_name name) d.now) d.now
 
 -- the same, where it is there
 abbrev pub lends_found_section : MutBor Document → Option Text → MutBor Pairs → Fml
@@ -31,4 +33,5 @@ lends_found_section d name r = Lends document.the_row properties.the_row d r (se
 
 -- the first value of the key in the first section of the name
 abbrev pub lends_value_in : MutBor Document → Option Text → Text → Option (MutBor string_row.Denot) → Fml
-lends_value_in d name key r = LendsIf document.the_row string_row d r (λ w. replace_in name key (text_of w) d.now) d.now
+lends_value_in d name key r =
+    LendsIf document.the_row string_row d r (λ w. replace_in name key (text_of w) d.now) d.now

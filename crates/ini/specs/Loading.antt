@@ -1,5 +1,6 @@
 -- What loading a text or bytes answers.
-use Rattle.std.specs.Prelude.{◌≡◌, ℕ, Bool, if◌then◌else◌, nat_eq, List, [], ◌∷◌, drop, length, Option, IfSome, Result, Err, IfErr, IfOk, ⊤}
+use Rattle.std.specs.Prelude.{◌≡◌, ℕ, Bool, if◌then◌else◌, nat_eq, List, [], ◌∷◌, drop, length, Option}
+use Rattle.std.specs.Prelude.{IfSome, Result, Err, IfErr, IfOk, ⊤}
 use Rattle.std.specs.List.{starts_with}
 use Rattle.std.specs.Str.{IsUtf8, chars}
 use Rattle.std.specs.Cow.{cow_str_bytes}
@@ -58,10 +59,12 @@ IsTextWith P bytes = IsUtf8 bytes × P (chars bytes)
 
 -- the same of a reader's bytes, without a mark if it is dropped, where it is known which they are
 abbrev pub IsDocumentOfBytes : ParseOption → Bool → Option (List ℕ) → Document → Type 0
-IsDocumentOfBytes o drop_mark known d = IfSome known (λ bytes. IsTextWith (λ T. IsDocumentOf o T d) (text_bytes drop_mark bytes))
+IsDocumentOfBytes o drop_mark known d =
+    IfSome known (λ bytes. IsTextWith (λ T. IsDocumentOf o T d) (text_bytes drop_mark bytes))
 
 abbrev pub IsStopOfBytes : ParseOption → Bool → Option (List ℕ) → ParseError → Type 0
-IsStopOfBytes o drop_mark known e = IfSome known (λ bytes. IsTextWith (λ T. IsStopOf o T e) (text_bytes drop_mark bytes))
+IsStopOfBytes o drop_mark known e =
+    IfSome known (λ bytes. IsTextWith (λ T. IsStopOf o T e) (text_bytes drop_mark bytes))
 
 -- a reader's bytes are no text
 abbrev pub AreNoText : Bool → Option (List ℕ) → Type 0

@@ -29,4 +29,5 @@ setter_name s = s.name
 
 -- refused, the document stays; else it ends as what the setter that is handed on leaves
 abbrev pub rests_if_refused : {N E : Type 0} → MutBor Document → Result (SectionSetter N) E → Fml
-rests_if_refused d r = follows_if the_row the_row d.ghost_name (name_if_ok (λ s. (setter_document s).ghost_name) r) (λ w. w) d.now
+rests_if_refused d r = follows_if the_row the_row d.ghost_name
+    (name_if_ok (λ s. (setter_document s).ghost_name) r) (λ w. w) d.now

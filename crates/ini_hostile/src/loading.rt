@@ -8,7 +8,8 @@ use std::process::Abort;
 
 /// A text with each production of the grammar in it, where every option is on.
 const EACH: &'static str =
-    "; comment\n# other\r\nx=0\r[a]]\n  key = \"q\" rest\n  more\n\n  \"w\"\nk\\x0041=v\\n\n\n[]\n\tz : 1\n \n[b]\n  tail";
+    "; comment\n# other\r\nx=0\r[a]]\n  key = \"q\" rest\n  more\n\n  \"w\"\n\
+    k\\x0041=v\\n\n\n[]\n\tz : 1\n \n[b]\n  tail";
 
 /// What it loads as.
 const EACH_SHOWN: &'static str =

@@ -45,8 +45,8 @@ const READINGS: [(Form, &'static str); 5] = [
 ];
 
 /// A text whose values go on over lines, some of them empty.
-pub(crate) const CONTINUED: &'static str =
-    "\n[Foo]\nbar =\n    u\n    v\n\nbaz = w\n  x # intentional trailing whitespace below\n   y \n\n z #2\nbla = a\n";
+pub(crate) const CONTINUED: &'static str = "\n[Foo]\nbar =\n    u\n    v\n\n\
+    baz = w\n  x # intentional trailing whitespace below\n   y \n\n z #2\nbla = a\n";
 
 /// What it loads as.
 pub(crate) const CONTINUED_SHOWN: &'static str =

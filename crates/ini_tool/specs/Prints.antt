@@ -4,7 +4,8 @@ use Rattle.std.specs.Prelude.{Option, IsSome, is_some, unwrap_or, Result, Ok, Er
 use Rattle.std.specs.Borrow.{Bor}
 use Rattle.ini_text.specs.Escaping.EscapedTexts.{escaped}
 use Rattle.ini_text.specs.Device.DeviceRefusals.{failures_in, stalls_in}
-use Rattle.ini_text.specs.Device.Watched.{SameDevice, WritesAll, WritesFront, device_now, failure_count, stall_count}
+use Rattle.ini_text.specs.Device.Watched.{SameDevice, WritesAll, WritesFront, device_now, failure_count}
+use Rattle.ini_text.specs.Device.Watched.{stall_count}
 use Rattle.ini_text.specs.declared.error.Error.{Error}
 use Rattle.ini_text.specs.declared.error.Error.TheVariants.{Io, Memory, NoProgress}
 use Rattle.ini_text.specs.declared.write.policy.EscapePolicy.TheVariants.{Basics}

@@ -10,7 +10,8 @@ use Rattle.ini.specs.Edits.{add_in, delete_in, delete_in_all, set_in}
 use Rattle.ini.specs.Loading.{IsDocumentOf}
 use Rattle.ini.specs.Written.{written}
 use Rattle.ini_vectors.specs.declared.edit.Edit.{Edit}
-use Rattle.ini_vectors.specs.declared.edit.Edit.TheVariants.{Set, Add, Delete, DeleteFrom, DeleteSection, Clear}
+use Rattle.ini_vectors.specs.declared.edit.Edit.TheVariants.{Set, Add, Delete, DeleteFrom, DeleteSection}
+use Rattle.ini_vectors.specs.declared.edit.Edit.TheVariants.{Clear}
 
 -- the document after one edit
 abbrev pub edited_once : Document → Edit → Document
@@ -41,7 +42,8 @@ pub record IsCutShort (edits : List Edit) (old new : Document) : Type 0 where
   pub document : new ≡ edited old made
 
 -- these bytes are what is written, once the document of the text is edited
-pub record IsEditedText (o : ParseOption) (T : Text) (edits : List Edit) (w : WriteOption) (output : List ℕ) : Type 0 where
+pub record IsEditedText (o : ParseOption) (T : Text) (edits : List Edit) (w : WriteOption)
+    (output : List ℕ) : Type 0 where
   pub document : Document
   pub loaded : IsDocumentOf o T document
   pub is_written : output ≡ encode_utf8_all (written (edited document edits) w)

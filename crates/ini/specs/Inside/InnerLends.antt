@@ -12,12 +12,15 @@ use Rattle.ini.specs.Lends.{string_row}
 
 -- the first value of the key
 abbrev pub lends_value : MutBor Pairs → Text → Option (MutBor string_row.Denot) → Fml
-lends_value p key r = LendsIf properties.the_row string_row p r (λ w. set_value (is_text key) p.now (text_of w)) p.now
+lends_value p key r =
+    LendsIf properties.the_row string_row p r (λ w. set_value (is_text key) p.now (text_of w)) p.now
 
 -- the last section
 abbrev pub lends_last_section : MutBor Document → MutBor Pairs → Fml
-lends_last_section d r = Lends document.the_row properties.the_row d r (with_value_at d.now (length d.now - 1))
+lends_last_section d r =
+    Lends document.the_row properties.the_row d r (with_value_at d.now (length d.now - 1))
 
 -- the section that was opened last; refused, the document stays
 abbrev pub lends_new_section : {E : Type 0} → MutBor Document → Option Text → Result (MutBor Pairs) E → Fml
-lends_new_section d name r = LendsIfOk document.the_row properties.the_row d r (λ w. d.now ++ (name, w) ∷ []) d.now
+lends_new_section d name r =
+    LendsIfOk document.the_row properties.the_row d r (λ w. d.now ++ (name, w) ∷ []) d.now

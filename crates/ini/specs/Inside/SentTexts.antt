@@ -6,5 +6,6 @@ use Rattle.ini_text.specs.declared.device.Watched.{Watched}
 use Rattle.ini.specs.Texts.{Text}
 
 -- the text's bytes were sent, where `before` was held back before the call, and `after` is held back after it
-pub record SendsText {W : Type 0} (contents : W → Option (List ℕ)) (old new : Watched W) (before after : List ℕ) (result : Result (Unit {0}) Error) (text : Text) : Type 0 where
+pub record SendsText {W : Type 0} (contents : W → Option (List ℕ)) (old new : Watched W)
+    (before after : List ℕ) (result : Result (Unit {0}) Error) (text : Text) : Type 0 where
   pub sends : Sends contents old new before after result (encode_utf8_all text)

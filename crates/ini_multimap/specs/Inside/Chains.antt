@@ -1,5 +1,8 @@
--- The chains of the codes: which slots follow one another, and how links and ends say it. Private functions say it.
-use Rattle.std.specs.Prelude.{◌≡◌, ◌≢◌, ℕ, zero, suc, ◌+◌, ◌-◌, ◌<◌, ◌≤◌, Bool, cond, nat_eq, nat_lt, unwrap_or, List, length, map, Option, Some, None, MatchOption, IfSome, vec_len, vec_capacity}
+-- The chains of the codes: which slots follow one another, and how links and ends say it. Private functions
+-- say it.
+use Rattle.std.specs.Prelude.{◌≡◌, ◌≢◌, ℕ, zero, suc, ◌+◌, ◌-◌, ◌<◌, ◌≤◌, Bool, cond, nat_eq, nat_lt}
+use Rattle.std.specs.Prelude.{unwrap_or, List, length, map, Option, Some, None, MatchOption, IfSome}
+use Rattle.std.specs.Prelude.{vec_len, vec_capacity}
 use Rattle.std.specs.Option.{option_map}
 use Rattle.std.specs.Global.{Box}
 use Rattle.std.specs.HashMap.{get, spare}
@@ -9,11 +12,13 @@ use Rattle.ini_multimap.specs.declared.slots.chains.Link.{Link}
 
 -- r is the first place from i on that has the code c
 abbrev pub IsNext : (ℕ → Option ℕ) → ℕ → ℕ → Option ℕ → Type 0
-IsNext at c i r = MatchOption r ((k : ℕ) → i ≤ k → at k ≢ Some c) (λ t. (i ≤ t) × (at t ≡ Some c) × ((k : ℕ) → i ≤ k → k < t → at k ≢ Some c))
+IsNext at c i r = MatchOption r ((k : ℕ) → i ≤ k → at k ≢ Some c)
+    (λ t. (i ≤ t) × (at t ≡ Some c) × ((k : ℕ) → i ≤ k → k < t → at k ≢ Some c))
 
 -- r is the last place before i that has the code c
 abbrev pub IsPrev : (ℕ → Option ℕ) → ℕ → ℕ → Option ℕ → Type 0
-IsPrev at c i r = MatchOption r ((k : ℕ) → k < i → at k ≢ Some c) (λ t. (t < i) × (at t ≡ Some c) × ((k : ℕ) → t < k → k < i → at k ≢ Some c))
+IsPrev at c i r = MatchOption r ((k : ℕ) → k < i → at k ≢ Some c)
+    (λ t. (t < i) × (at t ≡ Some c) × ((k : ℕ) → t < k → k < i → at k ≢ Some c))
 
 -- the first and the last of a code
 abbrev pub first_of : (ℕ → Option (ℕ × ℕ)) → ℕ → Option ℕ
@@ -22,7 +27,8 @@ first_of ends c = option_map (λ e. e.0) (ends c)
 abbrev pub last_of : (ℕ → Option (ℕ × ℕ)) → ℕ → Option ℕ
 last_of ends c = option_map (λ e. e.1) (ends c)
 
--- each place is linked to the next and the last before it of its code, and `ends` has the first and the last of each code; n is past all places
+-- each place is linked to the next and the last before it of its code, and `ends` has the first and the
+-- last of each code; n is past all places
 pub record IsLinked (n : ℕ) (at next prev : ℕ → Option ℕ) (ends : ℕ → Option (ℕ × ℕ)) : Type 0 where
   pub within : (k c : ℕ) → at k ≡ Some c → k < n
   pub nexts : (k c : ℕ) → at k ≡ Some c → IsNext at c (suc k) (next k)
@@ -77,7 +83,8 @@ pub record AreClosed (old new : ℕ → Option (ℕ × ℕ)) (c : ℕ) (prev nex
 pub record AreChained {K : Type 0} (code : K → ℕ) (ks : List (Option K)) (chains : Chains) : Type 0 where
   pub few : length ks ≤ no_slot
   pub long : length chains.links.items ≡ length ks
-  pub linked : IsLinked (length ks) (code_at code ks) (next_at chains.links.items) (prev_at chains.links.items) (get nat_eq chains.ends)
+  pub linked : IsLinked (length ks) (code_at code ks) (next_at chains.links.items)
+      (prev_at chains.links.items) (get nat_eq chains.ends)
 
 -- where there are chains, they are those of the keys
 abbrev pub IsIndexed : {K : Type 0} → (K → ℕ) → List (Option K) → Option (Box Chains) → Type 0
@@ -112,8 +119,10 @@ abbrev pub IsCandidate : {K : Type 0} → Option (Box Chains) → (K → ℕ) �
 IsCandidate index code c ks s = (s < length ks) × IfSome index (λ _. code_at code ks s ≡ Some c)
 
 -- a walk from the front stands at the candidate r: `left` and the pairs that fit and that it has passed are n
-abbrev pub IsReached : {K V : Type 0} → Option (Box Chains) → (K → ℕ) → (K → Bool) → ℕ → List (Option K) → List (Option V) → ℕ → ℕ → Option ℕ → Type 0
-IsReached index code test c ks vs n left r = MatchOption r (left + fits_before test ks vs (length ks) ≡ n) (λ s. IsCandidate index code c ks s × (left + fits_before test ks vs s ≡ n))
+abbrev pub IsReached : {K V : Type 0} → Option (Box Chains) → (K → ℕ) → (K → Bool) → ℕ → List (Option K)
+    → List (Option V) → ℕ → ℕ → Option ℕ → Type 0
+IsReached index code test c ks vs n left r = MatchOption r (left + fits_before test ks vs (length ks) ≡ n)
+    (λ s. IsCandidate index code c ks s × (left + fits_before test ks vs s ≡ n))
 
 -- how far a walk has to go from here
 abbrev pub walk_left : ℕ → Option ℕ → ℕ
@@ -121,8 +130,11 @@ walk_left n None = 0
 walk_left n (Some s) = suc (n - s)
 
 -- a walk back from `at` stands at the candidate r: no pair that fits is from there up to `at`
-abbrev pub IsReachedBack : {K V : Type 0} → Option (Box Chains) → (K → ℕ) → (K → Bool) → ℕ → List (Option K) → List (Option V) → ℕ → Option ℕ → Type 0
-IsReachedBack index code test c ks vs at r = MatchOption r (fits_before test ks vs at ≡ 0) (λ s. IsCandidate index code c ks s × (s < at) × (fits_before test ks vs at ≡ fits_before test ks vs (suc s)))
+abbrev pub IsReachedBack : {K V : Type 0} → Option (Box Chains) → (K → ℕ) → (K → Bool) → ℕ → List (Option K)
+    → List (Option V) → ℕ → Option ℕ → Type 0
+IsReachedBack index code test c ks vs at r = MatchOption r (fits_before test ks vs at ≡ 0)
+    (λ s. IsCandidate index code c ks s × (s < at)
+    × (fits_before test ks vs at ≡ fits_before test ks vs (suc s)))
 
 -- how far such a walk has to go
 abbrev pub back_left : Option ℕ → ℕ

@@ -1,5 +1,6 @@
 -- Which slots hold pairs, and pairs that fit. Private functions say it.
-use Rattle.std.specs.Prelude.{◌≡◌, ℕ, zero, suc, ◌+◌, ◌-◌, ◌≤◌, Bool, true, false, cond, List, [], ◌∷◌, length, take, drop, Option, Some, None, MatchOption}
+use Rattle.std.specs.Prelude.{◌≡◌, ℕ, zero, suc, ◌+◌, ◌-◌, ◌≤◌, Bool, true, false, cond, List, [], ◌∷◌}
+use Rattle.std.specs.Prelude.{length, take, drop, Option, Some, None, MatchOption}
 use Rattle.std.specs.Option.{option_map}
 use Rattle.ini_multimap.specs.Pairs.{without, fresh}
 use Rattle.ini_multimap.specs.Slots.{with_cell, pairs_in}
@@ -80,7 +81,8 @@ module _ {K V : Type 0} where
 
   -- r is the slot of the last pair
   abbrev pub IsLastFull : List (Option K) → List (Option V) → Option ℕ → Type 0
-  IsLastFull ks vs r = MatchOption r (length (pairs_in ks vs) ≡ 0) (IsNthSlot (λ _. true) ks vs (length (pairs_in ks vs) - 1))
+  IsLastFull ks vs r =
+      MatchOption r (length (pairs_in ks vs) ≡ 0) (IsNthSlot (λ _. true) ks vs (length (pairs_in ks vs) - 1))
 
   module _ (eq : K → K → Bool) (n : ℕ) (ks : List (Option K)) (vs : List (Option V)) where
     -- the keys of the pairs after the first n slots that are equal to none before them

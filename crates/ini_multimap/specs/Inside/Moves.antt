@@ -1,5 +1,7 @@
--- What the closing of holes keeps of the slots, and chains that are made anew from the front. Private functions say it.
-use Rattle.std.specs.Prelude.{◌≡◌, ℕ, ◌<◌, ◌≤◌, cond, nat_lt, List, length, Option, Some, None, IsSome, unwrap_or}
+-- What the closing of holes keeps of the slots, and chains that are made anew from the front. Private
+-- functions say it.
+use Rattle.std.specs.Prelude.{◌≡◌, ℕ, ◌<◌, ◌≤◌, cond, nat_lt, List, length, Option, Some, None, IsSome}
+use Rattle.std.specs.Prelude.{unwrap_or}
 use Rattle.ini_multimap.specs.Inside.Fits.{code_at, value_in}
 use Rattle.ini_multimap.specs.Inside.Chains.{AreSet, first_of}
 
@@ -10,7 +12,8 @@ pub record MovesDown {K : Type 0} (ks ls : List (Option K)) : Type 0 where
   pub short : length ls ≤ length ks
 
 -- each code of the first n slots has ends, and the first end of a code is no earlier than a key of it
-pub record IsStale {K : Type 0} (n : ℕ) (code : K → ℕ) (ks : List (Option K)) (ends : ℕ → Option (ℕ × ℕ)) : Type 0 where
+pub record IsStale {K : Type 0} (n : ℕ) (code : K → ℕ) (ks : List (Option K))
+    (ends : ℕ → Option (ℕ × ℕ)) : Type 0 where
   pub there : (i c : ℕ) → i < n → code_at code ks i ≡ Some c → IsSome (ends c)
   pub early : (c : ℕ) (e : ℕ × ℕ) → ends c ≡ Some e → (i : ℕ) × (i ≤ e.0) × (code_at code ks i ≡ Some c)
 

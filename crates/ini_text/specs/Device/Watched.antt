@@ -39,7 +39,8 @@ abbrev pub WritesAll : {D : Type 0} → (D → Option (List ℕ)) → Watched D 
 WritesAll contents old new bytes = Appends (contents (device_now old)) (contents (device_now new)) bytes
 
 abbrev pub WritesFront : {D : Type 0} → (D → Option (List ℕ)) → Watched D → Watched D → List ℕ → Type 0
-WritesFront contents old new bytes = AppendsFront (contents (device_now old)) (contents (device_now new)) bytes
+WritesFront contents old new bytes =
+    AppendsFront (contents (device_now old)) (contents (device_now new)) bytes
 
 -- bytes were written: at `Ok` all of them, and else a front; a fault of the device, or a write that took no
 -- bytes, is the answer, and is counted

@@ -1,7 +1,8 @@
 -- The fault in words.
 use Rattle.std.specs.Prelude.{codes, ◌≡◌, ℕ, List, ⊤}
 use Rattle.ini_text.specs.declared.error.ParseKind.{ParseKind}
-use Rattle.ini_text.specs.declared.error.ParseKind.TheVariants.{UnknownCharacter, InlineComment, MissingKey, CrAlone}
+use Rattle.ini_text.specs.declared.error.ParseKind.TheVariants.{UnknownCharacter, InlineComment, MissingKey}
+use Rattle.ini_text.specs.declared.error.ParseKind.TheVariants.{CrAlone}
 
 -- four kinds have one fixed message; the messages of the others say what was expected
 abbrev pub HasMessage : ParseKind → List ℕ → Type 0

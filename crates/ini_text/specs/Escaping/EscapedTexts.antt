@@ -1,5 +1,6 @@
 -- The escaped text of a character and of a text.
-use Rattle.std.specs.Prelude.{ℕ, zero, suc, ◌/◌, ◌%◌, ◌^◌, ◌||◌, ◌==◌, nat_lt, if◌then◌else◌, List, [], ◌∷◌, Option, Some, None, flat_map, chars, encode_utf8_all}
+use Rattle.std.specs.Prelude.{ℕ, zero, suc, ◌/◌, ◌%◌, ◌^◌, ◌||◌, ◌==◌, nat_lt, if◌then◌else◌, List, [], ◌∷◌}
+use Rattle.std.specs.Prelude.{Option, Some, None, flat_map, chars, encode_utf8_all}
 use Rattle.std.specs.Char.{digit_char}
 use Rattle.ini_text.specs.Grammar.CharacterKinds.{backslash, letter_x}
 use Rattle.ini_text.specs.Escaping.Policies.{is_escaped, is_reserved}

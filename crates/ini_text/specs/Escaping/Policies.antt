@@ -2,7 +2,11 @@
 use Rattle.std.specs.Prelude.{ℕ, Bool, false, ◌||◌, ◌&&◌, ◌==◌, nat_lt, nat_le}
 use Rattle.ini_text.specs.Grammar.CharacterKinds.{backslash, is_comment_mark, is_separator}
 use Rattle.ini_text.specs.declared.write.policy.EscapePolicy.{EscapePolicy}
-use Rattle.ini_text.specs.declared.write.policy.EscapePolicy.TheVariants.{Nothing, Basics, BasicsUnicode, BasicsUnicodeExtended, Reserved, ReservedUnicode, ReservedUnicodeExtended, Everything}
+use Rattle.ini_text.specs.declared.write.policy.EscapePolicy.TheVariants.{Nothing, Basics, BasicsUnicode}
+use Rattle.ini_text.specs.declared.write.policy.EscapePolicy.TheVariants.{BasicsUnicodeExtended, Reserved}
+use Rattle.ini_text.specs.declared.write.policy.EscapePolicy.TheVariants.{ReservedUnicode}
+use Rattle.ini_text.specs.declared.write.policy.EscapePolicy.TheVariants.{ReservedUnicodeExtended}
+use Rattle.ini_text.specs.declared.write.policy.EscapePolicy.TheVariants.{Everything}
 
 -- a backslash, or a control character: U+0000 to U+001F, U+007F
 abbrev pub is_basic : ℕ → Bool

@@ -1,4 +1,5 @@
--- Characters by their codes, and the kinds of them that the grammar names. A text is the list of its characters.
+-- Characters by their codes, and the kinds of them that the grammar names. A text is the list of its
+-- characters.
 use Rattle.std.specs.Prelude.{◌≡◌, ℕ, Bool, true, false, not, ◌&&◌, ◌||◌, ◌==◌, List, [], ◌∷◌, ⊤}
 use Rattle.std.specs.Char.{is_whitespace}
 

@@ -2,7 +2,9 @@
 use Rattle.std.specs.Prelude.{◌≡◌, ◌≢◌, ℕ, true, false, not, List, [], ◌∷◌, ◌++◌}
 use Rattle.std.specs.Char.{is_whitespace}
 use Rattle.std.specs.List.{list_all}
-use Rattle.ini_text.specs.Grammar.CharacterKinds.{line_feed, open_bracket, close_bracket, is_line_feed, is_line_end, is_blank, is_separator, is_comment_mark, BeginsWith}
+use Rattle.ini_text.specs.Grammar.CharacterKinds.{line_feed, open_bracket, close_bracket, is_line_feed}
+use Rattle.ini_text.specs.Grammar.CharacterKinds.{is_line_end, is_blank, is_separator, is_comment_mark}
+use Rattle.ini_text.specs.Grammar.CharacterKinds.{BeginsWith}
 use Rattle.ini_text.specs.Grammar.Positions.{starts_line, is_column_one}
 use Rattle.ini_text.specs.Grammar.WhiteSpace.{trimmed}
 use Rattle.ini_text.specs.Grammar.Strings.{Str, StrStops, name_ends, bracketed_name_ends, key_ends}
@@ -10,7 +12,8 @@ use Rattle.ini_text.specs.Grammar.Values.{Value, ValueStops}
 use Rattle.ini_text.specs.Grammar.Keys.{Indentation, begins_key, begins_indented_key, KeyFront}
 use Rattle.ini_text.specs.declared.option.ParseOption.{ParseOption}
 use Rattle.ini_text.specs.declared.error.ParseKind.{ParseKind}
-use Rattle.ini_text.specs.declared.error.ParseKind.TheVariants.{EndOfText, HeaderEnd, InlineComment, MissingKey}
+use Rattle.ini_text.specs.declared.error.ParseKind.TheVariants.{EndOfText, HeaderEnd, InlineComment}
+use Rattle.ini_text.specs.declared.error.ParseKind.TheVariants.{MissingKey}
 
 -- an item that a text gives: the name of a section, or a key with its value
 pub data Given : Type 0 where
@@ -24,7 +27,8 @@ pub data Gap (b : List ℕ) : List ℕ → List ℕ → Type 0 where
   -- the blanks before a header
   before_header : {w r : List ℕ} → Indentation b w → Gap b w (open_bracket ∷ r)
   -- one white character, but for a blank where a line starts
-  white : {c : ℕ} {r : List ℕ} → is_whitespace c ≡ true → (is_blank c ≡ true → starts_line b ≡ false) → Gap b (c ∷ []) r
+  white : {c : ℕ} {r : List ℕ} → is_whitespace c ≡ true → (is_blank c ≡ true → starts_line b ≡ false)
+      → Gap b (c ∷ []) r
 
 -- the text is a name, the bracket that ends it, and perhaps blanks
 pub record IsBracketed (text name : List ℕ) : Type 0 where
@@ -36,9 +40,11 @@ pub record IsBracketed (text name : List ℕ) : Type 0 where
 pub data Element (o : ParseOption) (b : List ℕ) : List ℕ → List ℕ → List Given → Type 0 where
   gap : {s r : List ℕ} → Gap b s r → Element o b s r []
   -- a comment stands in column one and goes through the next LF, or to the text's end
-  comment : {m : ℕ} {r : List ℕ} (s : List ℕ) → is_column_one b ≡ true → is_comment_mark m ≡ true → list_all (λ c. not (is_line_feed c)) s ≡ true
+  comment : {m : ℕ} {r : List ℕ} (s : List ℕ) → is_column_one b ≡ true → is_comment_mark m ≡ true
+      → list_all (λ c. not (is_line_feed c)) s ≡ true
       → Element o b (m ∷ (s ++ line_feed ∷ [])) r []
-  last_comment : {m : ℕ} {s : List ℕ} → is_column_one b ≡ true → is_comment_mark m ≡ true → list_all (λ c. not (is_line_feed c)) s ≡ true
+  last_comment : {m : ℕ} {s : List ℕ} → is_column_one b ≡ true → is_comment_mark m ≡ true
+      → list_all (λ c. not (is_line_feed c)) s ≡ true
       → Element o b (m ∷ s) [] []
   header : {s r v : List ℕ} → o.enabled_brackets_in_section_names ≡ false
       → Str o.enabled_escape name_ends s (close_bracket ∷ r) v
@@ -47,11 +53,13 @@ pub data Element (o : ParseOption) (b : List ℕ) : List ℕ → List ℕ → Li
   bracketed_header : {s r v name : List ℕ} → o.enabled_brackets_in_section_names ≡ true
       → Str o.enabled_escape bracketed_name_ends s r v → IsBracketed v name
       → Element o b (open_bracket ∷ s) r (Header (trimmed name) ∷ [])
-  pair : {k s r key v : List ℕ} {m : ℕ} → KeyFront o b k (m ∷ (s ++ r)) key → key ≢ [] → is_separator m ≡ true → Value o s r v
+  pair : {k s r key v : List ℕ} {m : ℕ} → KeyFront o b k (m ∷ (s ++ r)) key → key ≢ []
+      → is_separator m ≡ true → Value o s r v
       → Element o b (k ++ m ∷ s) r (Pair key v ∷ [])
   -- blanks at the text's end, and an indented key that the text's end cuts short
   dropped_blanks : {w : List ℕ} → Indentation b w → Element o b w [] []
-  dropped_key : {w s : List ℕ} → Indentation b w → BeginsWith begins_indented_key s → StrStops o.enabled_escape key_ends s [] EndOfText
+  dropped_key : {w s : List ℕ} → Indentation b w → BeginsWith begins_indented_key s
+      → StrStops o.enabled_escape key_ends s [] EndOfText
       → Element o b (w ++ s) [] []
 
 -- an element's source at whose end reading stops, before r
@@ -64,12 +72,17 @@ pub data ElementStops (o : ParseOption) (b : List ℕ) : List ℕ → List ℕ �
   no_header_end : {s r v : List ℕ} {c : ℕ} → o.enabled_brackets_in_section_names ≡ true
       → Str o.enabled_escape bracketed_name_ends s (c ∷ r) v
       → ((name : List ℕ) → ¬ IsBracketed v name) → ElementStops o b (open_bracket ∷ (s ++ c ∷ [])) r HeaderEnd
-  in_key : {s r : List ℕ} {kind : ParseKind} → BeginsWith begins_key (s ++ r) → StrStops o.enabled_escape key_ends s r kind → ElementStops o b s r kind
+  in_key : {s r : List ℕ} {kind : ParseKind} → BeginsWith begins_key (s ++ r)
+      → StrStops o.enabled_escape key_ends s r kind → ElementStops o b s r kind
   -- the text's end is no fault in an indented key
-  in_indented_key : {w s r : List ℕ} {kind : ParseKind} → Indentation b w → BeginsWith begins_indented_key (s ++ r) → StrStops o.enabled_escape key_ends s r kind
+  in_indented_key : {w s r : List ℕ} {kind : ParseKind} → Indentation b w
+      → BeginsWith begins_indented_key (s ++ r) → StrStops o.enabled_escape key_ends s r kind
       → kind ≢ EndOfText → ElementStops o b (w ++ s) r kind
-  no_key : {k r : List ℕ} {m : ℕ} → KeyFront o b k (m ∷ r) [] → is_separator m ≡ true → ElementStops o b (k ++ m ∷ []) r MissingKey
-  in_value : {k s r key : List ℕ} {m : ℕ} {kind : ParseKind} → KeyFront o b k (m ∷ (s ++ r)) key → key ≢ [] → is_separator m ≡ true → ValueStops o s r kind
+  no_key : {k r : List ℕ} {m : ℕ} → KeyFront o b k (m ∷ r) [] → is_separator m ≡ true
+      → ElementStops o b (k ++ m ∷ []) r MissingKey
+  in_value : {k s r key : List ℕ} {m : ℕ} {kind : ParseKind} → KeyFront o b k (m ∷ (s ++ r)) key → key ≢ []
+      → is_separator m ≡ true → ValueStops o s r kind
       → ElementStops o b (k ++ m ∷ s) r kind
   -- a comment's mark that isn't in column one
-  late_comment : {m : ℕ} {r : List ℕ} → is_comment_mark m ≡ true → is_column_one b ≡ false → ElementStops o b (m ∷ []) r InlineComment
+  late_comment : {m : ℕ} {r : List ℕ} → is_comment_mark m ≡ true → is_column_one b ≡ false
+      → ElementStops o b (m ∷ []) r InlineComment

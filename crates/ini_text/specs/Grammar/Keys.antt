@@ -2,7 +2,8 @@
 use Rattle.std.specs.Prelude.{◌≡◌, ℕ, Bool, true, not, ◌||◌, ◌==◌, if◌then◌else◌, List, ◌++◌}
 use Rattle.std.specs.Char.{is_whitespace}
 use Rattle.std.specs.List.{list_all}
-use Rattle.ini_text.specs.Grammar.CharacterKinds.{open_bracket, is_line_end, is_blank, is_comment_mark, BeginsWith}
+use Rattle.ini_text.specs.Grammar.CharacterKinds.{open_bracket, is_line_end, is_blank, is_comment_mark}
+use Rattle.ini_text.specs.Grammar.CharacterKinds.{BeginsWith}
 use Rattle.ini_text.specs.Grammar.Positions.{starts_line}
 use Rattle.ini_text.specs.Grammar.WhiteSpace.{trimmed, end_trimmed}
 use Rattle.ini_text.specs.Grammar.Strings.{Str, key_ends}
@@ -22,9 +23,12 @@ begins_key c = not (is_whitespace c || is_comment_mark c || c == open_bracket)
 abbrev pub begins_indented_key : ℕ → Bool
 begins_indented_key c = not (is_blank c || is_line_end c || c == open_bracket)
 
--- The source of a key before r, which begins with a separator, and the key. With kept indentation white space goes at the end alone.
+-- The source of a key before r, which begins with a separator, and the key. With kept indentation white
+-- space goes at the end alone.
 pub data KeyFront (o : ParseOption) (b : List ℕ) : List ℕ → List ℕ → List ℕ → Type 0 where
   unindented : {s r v : List ℕ} → BeginsWith begins_key (s ++ r) → Str o.enabled_escape key_ends s r v
       → KeyFront o b s r (if o.enabled_preserve_key_leading_whitespace then end_trimmed v else trimmed v)
-  indented : {w s r v : List ℕ} → Indentation b w → BeginsWith begins_indented_key (s ++ r) → Str o.enabled_escape key_ends s r v
-      → KeyFront o b (w ++ s) r (if o.enabled_preserve_key_leading_whitespace then end_trimmed (w ++ v) else trimmed v)
+  indented : {w s r v : List ℕ} → Indentation b w → BeginsWith begins_indented_key (s ++ r)
+      → Str o.enabled_escape key_ends s r v
+      → KeyFront o b (w ++ s) r (if o.enabled_preserve_key_leading_whitespace then end_trimmed (w ++ v)
+      else trimmed v)

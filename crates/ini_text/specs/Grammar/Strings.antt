@@ -1,7 +1,8 @@
 -- Strings: rows of pieces up to an endpoint.
 use Rattle.std.specs.Prelude.{◌≡◌, ◌≢◌, ℕ, Bool, true, false, ◌==◌, List, [], ◌∷◌, ◌++◌}
 use Rattle.std.specs.List.{list_any}
-use Rattle.ini_text.specs.Grammar.CharacterKinds.{backslash, line_feed, carriage_return, close_bracket, equals, colon}
+use Rattle.ini_text.specs.Grammar.CharacterKinds.{backslash, line_feed, carriage_return, close_bracket}
+use Rattle.ini_text.specs.Grammar.CharacterKinds.{equals, colon}
 use Rattle.ini_text.specs.Grammar.EscapeSequences.{EscapeSequence, EscapeStops}
 use Rattle.ini_text.specs.declared.error.ParseKind.{ParseKind}
 use Rattle.ini_text.specs.declared.error.ParseKind.TheVariants.{EndOfText}
@@ -34,25 +35,32 @@ plain_ends = record { characters = line_feed ∷ carriage_return ∷ []; text = 
 abbrev pub is_endpoint : Ends → ℕ → Bool
 is_endpoint ends c = list_any (λ e. c == e) ends.characters
 
--- a row of pieces and their values joined: a raw character stands for itself, and is neither a backslash nor an endpoint
+-- a row of pieces and their values joined: a raw character stands for itself, and is neither a backslash
+-- nor an endpoint
 pub data Row (escapes : Bool) (ends : Ends) : List ℕ → List ℕ → Type 0 where
   none : Row escapes ends [] []
-  raw : {c : ℕ} {s v : List ℕ} → c ≢ backslash → is_endpoint ends c ≡ false → Row escapes ends s v → Row escapes ends (c ∷ s) (c ∷ v)
-  escape : {p w s v : List ℕ} → EscapeSequence escapes p w → Row escapes ends s v → Row escapes ends (p ++ s) (w ++ v)
+  raw : {c : ℕ} {s v : List ℕ} → c ≢ backslash → is_endpoint ends c ≡ false → Row escapes ends s v
+      → Row escapes ends (c ∷ s) (c ∷ v)
+  escape : {p w s v : List ℕ} → EscapeSequence escapes p w → Row escapes ends s v
+      → Row escapes ends (p ++ s) (w ++ v)
 
 -- what follows a string begins with an endpoint, or is the text's end where that is one
 abbrev pub Closes : Ends → List ℕ → Type 0
 Closes ends [] = ends.text ≡ true
 Closes ends (c ∷ cs) = is_endpoint ends c ≡ true
 
--- the string of source s before r, with the value v; a backslash that ends the text stands for itself where the end is an endpoint
+-- the string of source s before r, with the value v; a backslash that ends the text stands for itself where
+-- the end is an endpoint
 pub data Str (escapes : Bool) (ends : Ends) : List ℕ → List ℕ → List ℕ → Type 0 where
   closed : {s r v : List ℕ} → Row escapes ends s v → Closes ends r → Str escapes ends s r v
-  lone : {s v : List ℕ} → Row escapes ends s v → ends.text ≡ true → Str escapes ends (s ++ backslash ∷ []) [] (v ++ backslash ∷ [])
+  lone : {s v : List ℕ} → Row escapes ends s v → ends.text ≡ true
+      → Str escapes ends (s ++ backslash ∷ []) [] (v ++ backslash ∷ [])
 
 -- a string's source s, at whose end reading stops, before r
 pub data StrStops (escapes : Bool) (ends : Ends) : List ℕ → List ℕ → ParseKind → Type 0 where
   -- the text ends before an endpoint, perhaps behind a backslash
   at_end : {s v : List ℕ} → Row escapes ends s v → ends.text ≡ false → StrStops escapes ends s [] EndOfText
-  after_backslash : {s v : List ℕ} → Row escapes ends s v → ends.text ≡ false → StrStops escapes ends (s ++ backslash ∷ []) [] EndOfText
-  in_escape : {s v p r : List ℕ} {kind : ParseKind} → Row escapes ends s v → escapes ≡ true → EscapeStops p r kind → StrStops escapes ends (s ++ p) r kind
+  after_backslash : {s v : List ℕ} → Row escapes ends s v → ends.text ≡ false
+      → StrStops escapes ends (s ++ backslash ∷ []) [] EndOfText
+  in_escape : {s v p r : List ℕ} {kind : ParseKind} → Row escapes ends s v → escapes ≡ true
+      → EscapeStops p r kind → StrStops escapes ends (s ++ p) r kind

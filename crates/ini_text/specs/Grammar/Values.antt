@@ -1,6 +1,7 @@
 -- Values: a line, and in multiline values the lines with which it goes on.
 use Rattle.std.specs.Prelude.{◌≡◌, ℕ, true, false, List, [], ◌∷◌, ◌++◌}
-use Rattle.ini_text.specs.Grammar.CharacterKinds.{line_feed, carriage_return, is_blank, is_line_end, is_line_feed, BeginsWith, BeginsWithNo}
+use Rattle.ini_text.specs.Grammar.CharacterKinds.{line_feed, carriage_return, is_blank, is_line_end}
+use Rattle.ini_text.specs.Grammar.CharacterKinds.{is_line_feed, BeginsWith, BeginsWithNo}
 use Rattle.ini_text.specs.Grammar.WhiteSpace.{Lead, without_outer_line_feeds}
 use Rattle.ini_text.specs.Grammar.Lines.{Line, LineStops}
 use Rattle.ini_text.specs.declared.option.ParseOption.{ParseOption}
@@ -17,34 +18,47 @@ pub data LineEnd : List ℕ → List ℕ → Type 0 where
 pub data MoreLines (o : ParseOption) : List ℕ → List ℕ → List ℕ → Type 0 where
   done : {r : List ℕ} → BeginsWithNo is_blank r → BeginsWithNo is_line_end r → MoreLines o [] r []
   empty_lf : {t r v : List ℕ} → MoreLines o t r v → MoreLines o (line_feed ∷ t) r (line_feed ∷ v)
-  empty_cr_lf : {t r v : List ℕ} → MoreLines o t r v → MoreLines o (carriage_return ∷ line_feed ∷ t) r (line_feed ∷ v)
+  empty_cr_lf : {t r v : List ℕ} → MoreLines o t r v
+      → MoreLines o (carriage_return ∷ line_feed ∷ t) r (line_feed ∷ v)
   -- a line that begins with a blank goes on with the value
-  continued : {w l e t r u v : List ℕ} → BeginsWith is_blank w → Lead w (l ++ (e ++ (t ++ r))) → Line o false l (e ++ (t ++ r)) u → LineEnd e (t ++ r)
+  continued : {w l e t r u v : List ℕ} → BeginsWith is_blank w → Lead w (l ++ (e ++ (t ++ r)))
+      → Line o false l (e ++ (t ++ r)) u → LineEnd e (t ++ r)
       → MoreLines o t r v → MoreLines o (w ++ (l ++ (e ++ t))) r (line_feed ∷ (u ++ v))
   -- such a line may end with the text
-  last : {w l u : List ℕ} → BeginsWith is_blank w → Lead w l → Line o false l [] u → MoreLines o (w ++ l) [] (line_feed ∷ u)
+  last : {w l u : List ℕ} → BeginsWith is_blank w → Lead w l → Line o false l [] u
+      → MoreLines o (w ++ l) [] (line_feed ∷ u)
 
 -- the value of source s before r, with the text it stands for
 pub data Value (o : ParseOption) : List ℕ → List ℕ → List ℕ → Type 0 where
-  one_line : {w l r v : List ℕ} → o.enabled_indented_mutiline_value ≡ false → Lead w (l ++ r) → Line o true l r v → Value o (w ++ l) r v
+  one_line : {w l r v : List ℕ} → o.enabled_indented_mutiline_value ≡ false → Lead w (l ++ r)
+      → Line o true l r v → Value o (w ++ l) r v
   -- a multiline value whose one line ends with the text
-  to_end : {w l v : List ℕ} → o.enabled_indented_mutiline_value ≡ true → Lead w l → Line o true l [] v → Value o (w ++ l) [] (without_outer_line_feeds v)
-  lines : {w l e t r u v : List ℕ} → o.enabled_indented_mutiline_value ≡ true → Lead w (l ++ (e ++ (t ++ r))) → Line o true l (e ++ (t ++ r)) u → LineEnd e (t ++ r)
+  to_end : {w l v : List ℕ} → o.enabled_indented_mutiline_value ≡ true → Lead w l → Line o true l [] v
+      → Value o (w ++ l) [] (without_outer_line_feeds v)
+  lines : {w l e t r u v : List ℕ} → o.enabled_indented_mutiline_value ≡ true
+      → Lead w (l ++ (e ++ (t ++ r))) → Line o true l (e ++ (t ++ r)) u → LineEnd e (t ++ r)
       → MoreLines o t r v → Value o (w ++ (l ++ (e ++ t))) r (without_outer_line_feeds (u ++ v))
 
 -- the source of lines behind the first line end, at whose end reading stops, before r
 pub data MoreLinesStop (o : ParseOption) : List ℕ → List ℕ → ParseKind → Type 0 where
-  empty_lf : {t r : List ℕ} {kind : ParseKind} → MoreLinesStop o t r kind → MoreLinesStop o (line_feed ∷ t) r kind
-  empty_cr_lf : {t r : List ℕ} {kind : ParseKind} → MoreLinesStop o t r kind → MoreLinesStop o (carriage_return ∷ line_feed ∷ t) r kind
-  continued : {w l e t r u : List ℕ} {kind : ParseKind} → BeginsWith is_blank w → Lead w (l ++ (e ++ (t ++ r))) → Line o false l (e ++ (t ++ r)) u → LineEnd e (t ++ r)
+  empty_lf : {t r : List ℕ} {kind : ParseKind} → MoreLinesStop o t r kind
+      → MoreLinesStop o (line_feed ∷ t) r kind
+  empty_cr_lf : {t r : List ℕ} {kind : ParseKind} → MoreLinesStop o t r kind
+      → MoreLinesStop o (carriage_return ∷ line_feed ∷ t) r kind
+  continued : {w l e t r u : List ℕ} {kind : ParseKind} → BeginsWith is_blank w
+      → Lead w (l ++ (e ++ (t ++ r))) → Line o false l (e ++ (t ++ r)) u → LineEnd e (t ++ r)
       → MoreLinesStop o t r kind → MoreLinesStop o (w ++ (l ++ (e ++ t))) r kind
-  in_line : {w s r : List ℕ} {kind : ParseKind} → BeginsWith is_blank w → Lead w (s ++ r) → LineStops o s r kind → MoreLinesStop o (w ++ s) r kind
+  in_line : {w s r : List ℕ} {kind : ParseKind} → BeginsWith is_blank w → Lead w (s ++ r)
+      → LineStops o s r kind → MoreLinesStop o (w ++ s) r kind
   -- in an empty line's place, CR before another character than LF, or before the text's end
-  cr_alone : {c : ℕ} {r : List ℕ} → is_line_feed c ≡ false → MoreLinesStop o (carriage_return ∷ c ∷ []) r CrAlone
+  cr_alone : {c : ℕ} {r : List ℕ} → is_line_feed c ≡ false
+      → MoreLinesStop o (carriage_return ∷ c ∷ []) r CrAlone
   cr_at_end : MoreLinesStop o (carriage_return ∷ []) [] CrAlone
 
 -- a value's source at whose end reading stops, before r
 pub data ValueStops (o : ParseOption) : List ℕ → List ℕ → ParseKind → Type 0 where
-  first_line : {w s r : List ℕ} {kind : ParseKind} → Lead w (s ++ r) → LineStops o s r kind → ValueStops o (w ++ s) r kind
-  later_line : {w l e t r u : List ℕ} {kind : ParseKind} → o.enabled_indented_mutiline_value ≡ true → Lead w (l ++ (e ++ (t ++ r))) → Line o true l (e ++ (t ++ r)) u → LineEnd e (t ++ r)
+  first_line : {w s r : List ℕ} {kind : ParseKind} → Lead w (s ++ r) → LineStops o s r kind
+      → ValueStops o (w ++ s) r kind
+  later_line : {w l e t r u : List ℕ} {kind : ParseKind} → o.enabled_indented_mutiline_value ≡ true
+      → Lead w (l ++ (e ++ (t ++ r))) → Line o true l (e ++ (t ++ r)) u → LineEnd e (t ++ r)
       → MoreLinesStop o t r kind → ValueStops o (w ++ (l ++ (e ++ t))) r kind

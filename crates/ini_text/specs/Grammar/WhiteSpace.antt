@@ -23,7 +23,8 @@ skip_line_feeds (c ∷ cs) = if is_line_feed c then skip_line_feeds cs else c �
 
 abbrev pub drop_line_feeds : List ℕ → List ℕ
 drop_line_feeds [] = []
-drop_line_feeds (c ∷ cs) = if is_line_feed c && length (drop_line_feeds cs) == 0 then [] else c ∷ drop_line_feeds cs
+drop_line_feeds (c ∷ cs) =
+    if is_line_feed c && length (drop_line_feeds cs) == 0 then [] else c ∷ drop_line_feeds cs
 
 -- line feeds are taken off both ends
 abbrev pub without_outer_line_feeds : List ℕ → List ℕ

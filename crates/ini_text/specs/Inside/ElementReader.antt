@@ -1,8 +1,10 @@
 -- Reading an element by the character with which it begins.
-use Rattle.std.specs.Prelude.{ℕ, Bool, not, ◌&&◌, ◌==◌, true, if◌then◌else◌, List, [], ◌∷◌, drop, Option, Some, None}
+use Rattle.std.specs.Prelude.{ℕ, Bool, not, ◌&&◌, ◌==◌, true, if◌then◌else◌, List, [], ◌∷◌, drop, Option}
+use Rattle.std.specs.Prelude.{Some, None}
 use Rattle.std.specs.Char.{is_whitespace}
 use Rattle.std.specs.List.{list_all}
-use Rattle.ini_text.specs.Grammar.CharacterKinds.{open_bracket, close_bracket, is_line_feed, is_line_end, is_blank, is_comment_mark}
+use Rattle.ini_text.specs.Grammar.CharacterKinds.{open_bracket, close_bracket, is_line_feed, is_line_end}
+use Rattle.ini_text.specs.Grammar.CharacterKinds.{is_blank, is_comment_mark}
 use Rattle.ini_text.specs.Grammar.Elements.{Given, Header, Pair}
 use Rattle.ini_text.specs.Grammar.Positions.{starts_line, is_column_one}
 use Rattle.ini_text.specs.Grammar.Strings.{name_ends, bracketed_name_ends, key_ends}
@@ -13,7 +15,8 @@ use Rattle.ini_text.specs.Inside.StringReader.{string}
 use Rattle.ini_text.specs.Inside.ValueReader.{value}
 use Rattle.ini_text.specs.Parsing.Items.{item_of}
 use Rattle.ini_text.specs.declared.error.ParseKind.{ParseKind}
-use Rattle.ini_text.specs.declared.error.ParseKind.TheVariants.{EndOfText, HeaderEnd, InlineComment, MissingKey}
+use Rattle.ini_text.specs.declared.error.ParseKind.TheVariants.{EndOfText, HeaderEnd, InlineComment}
+use Rattle.ini_text.specs.declared.error.ParseKind.TheVariants.{MissingKey}
 use Rattle.ini_text.specs.declared.item.Item.{Item}
 use Rattle.ini_text.specs.declared.option.ParseOption.{ParseOption}
 
@@ -48,7 +51,8 @@ bracketed_header (stopped r k) = stopped r k
 -- behind an opening bracket
 abbrev pub behind_bracket : ParseOption → List ℕ → Answer Given
 behind_bracket o cs =
-    if o.enabled_brackets_in_section_names then bracketed_header (string o.enabled_escape bracketed_name_ends cs)
+    if o.enabled_brackets_in_section_names
+        then bracketed_header (string o.enabled_escape bracketed_name_ends cs)
     else header (altered (trimmed_at true) (string o.enabled_escape name_ends cs))
 
 abbrev pub paired : List ℕ → Answer ℕ → Answer Given
@@ -84,7 +88,8 @@ abbrev pub kept_blanks : ParseOption → List ℕ → List ℕ
 kept_blanks o w = if o.enabled_preserve_key_leading_whitespace then w else []
 
 abbrev pub indented : ParseOption → List ℕ → List ℕ → Answer Given
-indented o w t = indented_keyed o (trimmed_key o (prepend (kept_blanks o w) (string o.enabled_escape key_ends t)))
+indented o w t =
+    indented_keyed o (trimmed_key o (prepend (kept_blanks o w) (string o.enabled_escape key_ends t)))
 
 -- behind the blanks w at a line's start
 abbrev pub behind_blanks : ParseOption → List ℕ → List ℕ → Answer Given
@@ -102,6 +107,7 @@ element o b [] = found [] []
 element o b (c ∷ cs) =
     if is_blank c && starts_line b then behind_blanks o (run_of is_blank (c ∷ cs)) (skipped is_blank (c ∷ cs))
     else if is_whitespace c then found [] cs
-    else if is_comment_mark c then (if is_column_one b then found [] (drop 1 (skipped is_comment_part cs)) else stopped cs InlineComment)
+    else if is_comment_mark c then (if is_column_one b then found [] (drop 1 (skipped is_comment_part cs))
+        else stopped cs InlineComment)
     else if c == open_bracket then behind_bracket o cs
     else unindented o (c ∷ cs)

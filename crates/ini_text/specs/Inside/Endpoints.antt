@@ -1,6 +1,7 @@
 -- The endpoints of the code, in the grammar's words.
 use Rattle.ini_text.specs.Grammar.CharacterKinds.{double_quote, single_quote}
-use Rattle.ini_text.specs.Grammar.Strings.{Ends, name_ends, bracketed_name_ends, key_ends, quote_ends, plain_ends}
+use Rattle.ini_text.specs.Grammar.Strings.{Ends, name_ends, bracketed_name_ends, key_ends, quote_ends}
+use Rattle.ini_text.specs.Grammar.Strings.{plain_ends}
 use Rattle.ini_text.specs.declared.parser.endpoints.Endpoints.{Endpoints}
 use Rattle.ini_text.specs.declared.parser.endpoints.Endpoints.TheVariants as endpoints
 

@@ -1,5 +1,6 @@
 -- How a parser looks for its next item.
-use Rattle.std.specs.Prelude.{◌≡◌, ℕ, ◌<◌, List, [], ◌∷◌, length, ⊤, chars, Option, Result, IfSome, MatchOption, MatchResult}
+use Rattle.std.specs.Prelude.{◌≡◌, ℕ, ◌<◌, List, [], ◌∷◌, length, ⊤, chars, Option, Result, IfSome}
+use Rattle.std.specs.Prelude.{MatchOption, MatchResult}
 use Rattle.std.specs.Borrow.{Bor}
 use Rattle.ini_text.specs.Parsing.Fronts.{front_of, IsRest}
 use Rattle.ini_text.specs.Parsing.Items.{item_of}
@@ -22,8 +23,10 @@ FindsItem o T start r =
     MatchResult r
     (λ p. IsRest T (chars p.1.now) × MatchOption p.0
     (Reads o T (front_of T start) [] T × (chars p.1.now ≡ []))
-    (λ item. (length (front_of T start) < length (front_of T (chars p.1.now))) × Reads o T (front_of T start) (item_of item ∷ []) (front_of T (chars p.1.now))))
-    (λ stop. StopIsWithin T stop × ((e : Error) → Tells (refusal_of T stop) e → Refuses o T (front_of T start) e))
+    (λ item. (length (front_of T start) < length (front_of T (chars p.1.now)))
+        × Reads o T (front_of T start) (item_of item ∷ []) (front_of T (chars p.1.now))))
+    (λ stop. StopIsWithin T stop × ((e : Error) → Tells (refusal_of T stop) e
+        → Refuses o T (front_of T start) e))
 
 -- what a parser rests on: what is left is a rest of its text, and its stop stands before one
 pub record StandsIn (T rest : List ℕ) (stop : Option Stop) : Type 0 where

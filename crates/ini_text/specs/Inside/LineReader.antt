@@ -3,7 +3,8 @@ use Rattle.std.specs.Prelude.{ℕ, Bool, ◌&&◌, if◌then◌else◌, is_some,
 use Rattle.ini_text.specs.Grammar.CharacterKinds.{is_mark}
 use Rattle.ini_text.specs.Grammar.Lines.{plain_value}
 use Rattle.ini_text.specs.Grammar.Strings.{Ends, quote_ends, plain_ends}
-use Rattle.ini_text.specs.Inside.Reading.{Answer, found, stopped, altered, and_then, Step, more, ends, read_by}
+use Rattle.ini_text.specs.Inside.Reading.{Answer, found, stopped, altered, and_then, Step, more, ends}
+use Rattle.ini_text.specs.Inside.Reading.{read_by}
 use Rattle.ini_text.specs.Inside.StringReader.{string}
 use Rattle.ini_text.specs.declared.option.ParseOption.{ParseOption}
 

@@ -3,14 +3,19 @@ use Rattle.std.specs.Prelude.{ℕ, Bool, true, false, not, ◌&&◌, ◌||◌, �
 use Rattle.std.specs.Char.{is_whitespace}
 use Rattle.std.specs.List.{list_all}
 use Rattle.std.specs.Str.{bytes_eq}
-use Rattle.ini_text.specs.Grammar.CharacterKinds.{backslash, close_bracket, open_bracket, space, is_blank, is_comment_mark, is_line_end, is_mark, is_separator}
+use Rattle.ini_text.specs.Grammar.CharacterKinds.{backslash, close_bracket, open_bracket, space, is_blank}
+use Rattle.ini_text.specs.Grammar.CharacterKinds.{is_comment_mark, is_line_end, is_mark, is_separator}
 use Rattle.ini_text.specs.Laws.Plain.{has_unread_letter}
 use Rattle.ini_text.specs.Escaping.Policies.{is_escaped, is_extended}
 use Rattle.ini_text.specs.Inside.Scans.{skipped}
 use Rattle.ini_text.specs.Grammar.WhiteSpace.{trimmed, end_trimmed}
 use Rattle.ini_text.specs.declared.option.ParseOption.{ParseOption}
 use Rattle.ini_text.specs.declared.write.policy.EscapePolicy.{EscapePolicy}
-use Rattle.ini_text.specs.declared.write.policy.EscapePolicy.TheVariants.{Nothing, Basics, BasicsUnicode, BasicsUnicodeExtended, Reserved, ReservedUnicode, ReservedUnicodeExtended, Everything}
+use Rattle.ini_text.specs.declared.write.policy.EscapePolicy.TheVariants.{Nothing, Basics, BasicsUnicode}
+use Rattle.ini_text.specs.declared.write.policy.EscapePolicy.TheVariants.{BasicsUnicodeExtended, Reserved}
+use Rattle.ini_text.specs.declared.write.policy.EscapePolicy.TheVariants.{ReservedUnicode}
+use Rattle.ini_text.specs.declared.write.policy.EscapePolicy.TheVariants.{ReservedUnicodeExtended}
+use Rattle.ini_text.specs.declared.write.policy.EscapePolicy.TheVariants.{Everything}
 
 -- the text has a first character, and it passes the test
 abbrev pub begins : (ℕ → Bool) → List ℕ → Bool
@@ -66,7 +71,8 @@ has_no_close_bracket name = list_all (λ c. not (c == close_bracket)) name
 
 abbrev pub is_plain_name : ParseOption → EscapePolicy → List ℕ → Bool
 is_plain_name o policy name =
-    is_trimmed name && ((o.enabled_brackets_in_section_names || has_no_close_bracket name) && is_read_back o policy name)
+    is_trimmed name && ((o.enabled_brackets_in_section_names || has_no_close_bracket name)
+        && is_read_back o policy name)
 
 abbrev pub is_indented_by_escape : ParseOption → EscapePolicy → List ℕ → Bool
 is_indented_by_escape o policy key =

@@ -1,5 +1,7 @@
--- Readers: what one finds at the front of a text, or where it stops; and results that give what a reader answers.
-use Rattle.std.specs.Prelude.{◌≡◌, ℕ, zero, suc, List, [], ◌++◌, length, chars, Option, Some, None, IfSome, Result, MatchResult}
+-- Readers: what one finds at the front of a text, or where it stops; and results that give what a reader
+-- answers.
+use Rattle.std.specs.Prelude.{◌≡◌, ℕ, zero, suc, List, [], ◌++◌, length, chars, Option, Some, None, IfSome}
+use Rattle.std.specs.Prelude.{Result, MatchResult}
 use Rattle.std.specs.Borrow.{Bor}
 use Rattle.ini_text.specs.declared.error.ParseKind.{ParseKind}
 use Rattle.ini_text.specs.declared.parser.fault.Stop.{Stop}

@@ -1,5 +1,6 @@
 -- Short pieces of a string, which are gathered in a block.
-use Rattle.std.specs.Prelude.{◌≡◌, ◌≤◌, ◌<◌, ℕ, true, not, List, [], ◌∷◌, ◌++◌, take, drop, length, map, chars}
+use Rattle.std.specs.Prelude.{◌≡◌, ◌≤◌, ◌<◌, ℕ, true, not, List, [], ◌∷◌, ◌++◌, take, drop, length, map}
+use Rattle.std.specs.Prelude.{chars}
 use Rattle.std.specs.Simd.Lanes.{mask_l}
 use Rattle.std.specs.Str.{IsUtf8, IsCharBoundary}
 use Rattle.ini_text.specs.Grammar.Strings.{Ends}
@@ -22,10 +23,12 @@ pub record Sees (to : Ends) (bits : ℕ) (text : List ℕ) : Type 0 where
 pub record IsEscape (text : List ℕ) (v n : ℕ) : Type 0 where
   pub few : n ≤ 6
   pub cut : IsCharBoundary text n
-  pub read : (to : Ends) → string true to (chars text) ≡ prepend (v ∷ []) (string true to (chars (drop n text)))
+  pub read : (to : Ends) → string true to (chars text)
+      ≡ prepend (v ∷ []) (string true to (chars (drop n text)))
   pub shorter : length (chars (drop n text)) < length (chars text)
 
--- at the text's front: a run of n bytes, and behind it an escape that stands for the character v, before the rest
+-- at the text's front: a run of n bytes, and behind it an escape that stands for the character v, before
+-- the rest
 pub record IsShort (to : Ends) (text : List ℕ) (n v : ℕ) (rest : List ℕ) : Type 0 where
   pub within : n ≤ 16
   pub long : 16 ≤ length text

@@ -1,5 +1,6 @@
 -- Reading a string by steps that each take a piece.
-use Rattle.std.specs.Prelude.{◌≡◌, ℕ, zero, suc, ◌==◌, ◌&&◌, Bool, if◌then◌else◌, List, [], ◌∷◌, Option, Some, None, unwrap_or}
+use Rattle.std.specs.Prelude.{◌≡◌, ℕ, zero, suc, ◌==◌, ◌&&◌, Bool, if◌then◌else◌, List, [], ◌∷◌, Option}
+use Rattle.std.specs.Prelude.{Some, None, unwrap_or}
 use Rattle.ini_text.specs.Grammar.CharacterKinds.{backslash, letter_x, line_feed}
 use Rattle.ini_text.specs.Grammar.EscapeSequences.{control, spelled_by}
 use Rattle.ini_text.specs.Grammar.Strings.{Ends, is_endpoint}

@@ -3,7 +3,8 @@ use Rattle.std.specs.Prelude.{ℕ, ◌==◌, true, false, if◌then◌else◌, L
 use Rattle.ini_text.specs.Grammar.CharacterKinds.{line_feed, carriage_return, is_blank, is_inline_white}
 use Rattle.ini_text.specs.Grammar.WhiteSpace.{without_outer_line_feeds}
 use Rattle.ini_text.specs.Inside.LineReader.{line}
-use Rattle.ini_text.specs.Inside.Reading.{Answer, found, stopped, prepend, altered, Step, more, ends, go_on, read_by}
+use Rattle.ini_text.specs.Inside.Reading.{Answer, found, stopped, prepend, altered, Step, more, ends, go_on}
+use Rattle.ini_text.specs.Inside.Reading.{read_by}
 use Rattle.ini_text.specs.Inside.Scans.{skipped}
 use Rattle.ini_text.specs.Inside.StringReader.{as_step}
 use Rattle.ini_text.specs.declared.error.ParseKind.TheVariants.{CrAlone}

@@ -4,7 +4,8 @@ use Rattle.ini_text.specs.Escaping.EscapedTexts.{escape}
 use Rattle.ini_text.specs.Escaping.Policies.{is_escaped}
 use Rattle.ini_text.specs.declared.write.policy.EscapePolicy.{EscapePolicy}
 
--- below 0x80 a byte is its character; 0x80 to 0xBF begin none, 0xC0 to 0xEF those up to U+FFFF, the others those above
+-- below 0x80 a byte is its character; 0x80 to 0xBF begin none, 0xC0 to 0xEF those up to U+FFFF, the others
+-- those above
 abbrev pub begins_escaped : EscapePolicy → ℕ → Bool
 begins_escaped policy byte =
     if nat_lt byte 0x80 then is_escaped policy byte

@@ -3,7 +3,9 @@ use Rattle.std.specs.Prelude.{◌≡◌, ◌≢◌, ◌⊎◌, ℕ, Bool, true, 
 use Rattle.std.specs.Char.{is_whitespace}
 use Rattle.std.specs.List.{list_all}
 use Rattle.std.specs.Str.{all_scalars}
-use Rattle.ini_text.specs.Grammar.CharacterKinds.{backslash, close_bracket, open_bracket, space, is_blank, is_comment_mark, is_line_end, is_mark, is_separator, BeginsWith, BeginsWithNo}
+use Rattle.ini_text.specs.Grammar.CharacterKinds.{backslash, close_bracket, open_bracket, space, is_blank}
+use Rattle.ini_text.specs.Grammar.CharacterKinds.{is_comment_mark, is_line_end, is_mark, is_separator}
+use Rattle.ini_text.specs.Grammar.CharacterKinds.{BeginsWith, BeginsWithNo}
 use Rattle.ini_text.specs.Escaping.Policies.{is_escaped, is_extended}
 use Rattle.ini_text.specs.Grammar.WhiteSpace.{trimmed, end_trimmed}
 use Rattle.ini_text.specs.declared.option.ParseOption.{ParseOption}
@@ -45,9 +47,9 @@ pub record HasNoEscapes (policy : EscapePolicy) (text : List ℕ) : Type 0 where
   -- no character is a backslash, LF or CR
   pub no_backslash : list_all (λ c. not (c == backslash || is_line_end c)) text ≡ true
 
--- The characters of the text are read back, each as itself. (Of two texts the one may be so by its escapes and
--- the other for want of them; but where escapes are on and the policy isn't `Nothing`, a text that needs no
--- escapes has none that isn't read.)
+-- The characters of the text are read back, each as itself. (Of two texts the one may be so by its escapes
+-- and the other for want of them; but where escapes are on and the policy isn't `Nothing`, a text that
+-- needs no escapes has none that isn't read.)
 pub record IsReadBack (o : ParseOption) (policy : EscapePolicy) (text : List ℕ) : Type 0 where
   -- it is made of characters, as each text that a program holds is: it has no surrogates
   pub of_characters : all_scalars text ≡ true
@@ -59,7 +61,8 @@ pub record IsPlainName (o : ParseOption) (policy : EscapePolicy) (name : List �
   -- it is trimmed
   pub is_trimmed : trimmed name ≡ name
   -- it has no closing bracket, unless brackets may stand in names
-  pub no_bracket : o.enabled_brackets_in_section_names ≡ false → list_all (λ c. not (c == close_bracket)) name ≡ true
+  pub no_bracket : o.enabled_brackets_in_section_names ≡ false
+      → list_all (λ c. not (c == close_bracket)) name ≡ true
   -- its characters are read back
   pub read_back : IsReadBack o policy name
 

@@ -1,5 +1,6 @@
 -- Laws of plain names and pairs as they are written, and of a text behind another.
-use Rattle.std.specs.Prelude.{◌≡◌, ℕ, ◌+◌, Bool, true, false, List, [], ◌∷◌, ◌++◌, count_by, if◌then◌else◌, not, ◌==◌, ⊤, chars}
+use Rattle.std.specs.Prelude.{◌≡◌, ℕ, ◌+◌, Bool, true, false, List, [], ◌∷◌, ◌++◌, count_by, if◌then◌else◌}
+use Rattle.std.specs.Prelude.{not, ◌==◌, ⊤, chars}
 use Rattle.ini_text.specs.Grammar.CharacterKinds.{open_bracket, close_bracket, is_line_feed, BeginsWithNo}
 use Rattle.ini_text.specs.Grammar.Elements.{Given, Header, Pair, Gap, Element}
 use Rattle.ini_text.specs.Escaping.EscapedTexts.{escaped}
@@ -31,8 +32,8 @@ pub data AreGaps (r : List ℕ) : List ℕ → List ℕ → Type 0 where
   none : {b : List ℕ} → AreGaps r b []
   more : {b s t : List ℕ} → Gap b s (t ++ r) → AreGaps r (b ++ s) t → AreGaps r b (s ++ t)
 
--- Behind the front b the source is one element, which gives the item, and what follows it up to r are gaps. Behind
--- those column one begins.
+-- Behind the front b the source is one element, which gives the item, and what follows it up to r are gaps.
+-- Behind those column one begins.
 pub record IsElementThenGaps (o : ParseOption) (b source gaps r : List ℕ) (item : Given) : Type 0 where
   pub element : Element o b source (gaps ++ r) (item ∷ [])
   pub are_gaps : AreGaps r (b ++ source) gaps
@@ -45,7 +46,8 @@ IsHeaderLine o w twice b name r =
 
 -- a pair's written line: a pair that gives key and value; the line ends are taken by it where values are
 -- multiline, else they are gaps
-pub record IsPairLine (o : ParseOption) (w : WriteOption) (twice : Bool) (b key value r : List ℕ) : Type 0 where
+pub record IsPairLine (o : ParseOption) (w : WriteOption) (twice : Bool)
+    (b key value r : List ℕ) : Type 0 where
   pub taken : o.enabled_indented_mutiline_value ≡ true
       → IsElementThenGaps o b (pair_source w key value ++ line_ends w twice) [] r (Pair key value)
   pub left : o.enabled_indented_mutiline_value ≡ false

@@ -1,5 +1,6 @@
 -- Where a parser stands, and what one call of it does.
-use Rattle.std.specs.Prelude.{◌≡◌, ℕ, ◌<◌, List, [], ◌∷◌, ◌++◌, length, ⊤, chars, Option, Some, None, Result, Ok, Err, IsSomeAnd, MatchOption, MatchResult}
+use Rattle.std.specs.Prelude.{◌≡◌, ℕ, ◌<◌, List, [], ◌∷◌, ◌++◌, length, ⊤, chars, Option, Some, None}
+use Rattle.std.specs.Prelude.{Result, Ok, Err, IsSomeAnd, MatchOption, MatchResult}
 use Rattle.std.specs.Cow.{cow_str_bytes}
 use Rattle.ini_text.specs.Grammar.Elements.{ElementStops}
 use Rattle.ini_text.specs.Parsing.Items.{item_of}
@@ -29,10 +30,12 @@ pub record Place : Type 0 where
 -- the error tells the refusal
 abbrev pub Tells : AnsweredRefusal → Error → Type 0
 Tells memory (errors.Memory _) = ⊤
-Tells (parse kind line column message) (errors.Parse e) = (e.kind ≡ kind) × (e.line ≡ line) × (e.col ≡ column) × (cow_str_bytes e.msg ≡ message)
+Tells (parse kind line column message) (errors.Parse e) =
+    (e.kind ≡ kind) × (e.line ≡ line) × (e.col ≡ column) × (cow_str_bytes e.msg ≡ message)
 Tells _ _ = ⊥
 
--- behind the front b, elements that give nothing reach a front behind which reading stops, with this kind, line and column
+-- behind the front b, elements that give nothing reach a front behind which reading stops, with this kind,
+-- line and column
 pub record StopsBehind (o : ParseOption) (T b : List ℕ) (kind : ParseKind) (line column : ℕ) : Type 0 where
   pub front : List ℕ
   pub source : List ℕ
@@ -46,18 +49,22 @@ pub record StopsBehind (o : ParseOption) (T b : List ℕ) (kind : ParseKind) (li
 -- what the text is refused with behind the front b
 abbrev pub Refuses : ParseOption → List ℕ → List ℕ → Error → Type 0
 Refuses o T b (errors.Memory _) = ⊤
-Refuses o T b (errors.Parse e) = StopsBehind o T b e.kind e.line e.col × HasMessage e.kind (cow_str_bytes e.msg)
+Refuses o T b (errors.Parse e) =
+    StopsBehind o T b e.kind e.line e.col × HasMessage e.kind (cow_str_bytes e.msg)
 Refuses o T b _ = ⊥
 
--- from the front b to the front c of the text T: no item, only at the text's end; an item, and a longer front; or a refusal
+-- from the front b to the front c of the text T: no item, only at the text's end; an item, and a longer
+-- front; or a refusal
 abbrev pub AnswersItem : ParseOption → List ℕ → List ℕ → List ℕ → Result (Option Item) Error → Type 0
 AnswersItem o T b c r =
     MatchResult r
-    (λ found. MatchOption found ((c ≡ T) × Reads o T b [] T) (λ item. (length b < length c) × Reads o T b (item_of item ∷ []) c))
+    (λ found. MatchOption found ((c ≡ T) × Reads o T b [] T)
+        (λ item. (length b < length c) × Reads o T b (item_of item ∷ []) c))
     (Refuses o T b)
 
 -- a refusal stays, and the first one is kept
-abbrev pub KeepsRefusal : {X : Type 0} → Option AnsweredRefusal → Option AnsweredRefusal → Result X Error → Type 0
+abbrev pub KeepsRefusal : {X : Type 0} → Option AnsweredRefusal → Option AnsweredRefusal → Result X Error
+    → Type 0
 KeepsRefusal (Some refusal) new r = new ≡ Some refusal
 KeepsRefusal None new (Ok item) = new ≡ None
 KeepsRefusal None new (Err e) = IsSomeAnd new (λ refusal. Tells refusal e)
