@@ -50,11 +50,11 @@ MatchEntry (Occupied e) P Q = Q
 abbrev pub entry_lends : SectionEntry → MutBor Pairs → Fml
 entry_lends e r =
     follows document.the_row properties.the_row (entry_document e).ghost_name r.ghost_name
-        (with_section (entry_name e) (entry_now e))
+    (with_section (entry_name e) (entry_now e))
 
 -- the same, and refused the document stays
 abbrev pub entry_lends_ok : {E : Type 0} → SectionEntry → Result (MutBor Pairs) E → Fml
 entry_lends_ok e r =
     follows_if document.the_row properties.the_row (entry_document e).ghost_name
-        (name_if_ok (λ x. x.ghost_name) r)
+    (name_if_ok (λ x. x.ghost_name) r)
     (with_section (entry_name e) (entry_now e)) (entry_now e)

@@ -27,7 +27,7 @@ unfoldable pub spelled : ℕ → ℕ → ℕ → ℕ → Option ℕ
 spelled a b c d =
     let n = first_digit a * 0x1000 + digit_value b * 0x100 + digit_value c * 0x10 + digit_value d in
     if (is_digit a 16 || a == plus) && is_digit b 16 && is_digit c 16 && is_digit d 16
-        && scalar n then Some n else None
+    && scalar n then Some n else None
 
 -- a piece that begins with a backslash, and its value
 pub data EscapeSequence (escapes : Bool) : List ℕ → List ℕ → Type 0 where

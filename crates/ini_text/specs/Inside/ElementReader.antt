@@ -52,7 +52,7 @@ bracketed_header (stopped r k) = stopped r k
 abbrev pub behind_bracket : ParseOption → List ℕ → Answer Given
 behind_bracket o cs =
     if o.enabled_brackets_in_section_names
-        then bracketed_header (string o.enabled_escape bracketed_name_ends cs)
+    then bracketed_header (string o.enabled_escape bracketed_name_ends cs)
     else header (altered (trimmed_at true) (string o.enabled_escape name_ends cs))
 
 abbrev pub paired : List ℕ → Answer ℕ → Answer Given
@@ -108,6 +108,6 @@ element o b (c ∷ cs) =
     if is_blank c && starts_line b then behind_blanks o (run_of is_blank (c ∷ cs)) (skipped is_blank (c ∷ cs))
     else if is_whitespace c then found [] cs
     else if is_comment_mark c then (if is_column_one b then found [] (drop 1 (skipped is_comment_part cs))
-        else stopped cs InlineComment)
+    else stopped cs InlineComment)
     else if c == open_bracket then behind_bracket o cs
     else unindented o (c ∷ cs)

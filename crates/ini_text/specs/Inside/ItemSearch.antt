@@ -24,9 +24,9 @@ FindsItem o T start r =
     (λ p. IsRest T (chars p.1.now) × MatchOption p.0
     (Reads o T (front_of T start) [] T × (chars p.1.now ≡ []))
     (λ item. (length (front_of T start) < length (front_of T (chars p.1.now)))
-        × Reads o T (front_of T start) (item_of item ∷ []) (front_of T (chars p.1.now))))
+    × Reads o T (front_of T start) (item_of item ∷ []) (front_of T (chars p.1.now))))
     (λ stop. StopIsWithin T stop × ((e : Error) → Tells (refusal_of T stop) e
-        → Refuses o T (front_of T start) e))
+    → Refuses o T (front_of T start) e))
 
 -- what a parser rests on: what is left is a rest of its text, and its stop stands before one
 pub record StandsIn (T rest : List ℕ) (stop : Option Stop) : Type 0 where

@@ -72,7 +72,7 @@ has_no_close_bracket name = list_all (λ c. not (c == close_bracket)) name
 abbrev pub is_plain_name : ParseOption → EscapePolicy → List ℕ → Bool
 is_plain_name o policy name =
     is_trimmed name && ((o.enabled_brackets_in_section_names || has_no_close_bracket name)
-        && is_read_back o policy name)
+    && is_read_back o policy name)
 
 abbrev pub is_indented_by_escape : ParseOption → EscapePolicy → List ℕ → Bool
 is_indented_by_escape o policy key =

@@ -59,7 +59,7 @@ abbrev pub AnswersItem : ParseOption → List ℕ → List ℕ → List ℕ → 
 AnswersItem o T b c r =
     MatchResult r
     (λ found. MatchOption found ((c ≡ T) × Reads o T b [] T)
-        (λ item. (length b < length c) × Reads o T b (item_of item ∷ []) c))
+    (λ item. (length b < length c) × Reads o T b (item_of item ∷ []) c))
     (Refuses o T b)
 
 -- a refusal stays, and the first one is kept
