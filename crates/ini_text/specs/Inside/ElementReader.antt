@@ -107,7 +107,7 @@ element o b [] = found [] []
 element o b (c ∷ cs) =
     if is_blank c && starts_line b then behind_blanks o (run_of is_blank (c ∷ cs)) (skipped is_blank (c ∷ cs))
     else if is_whitespace c then found [] cs
-    else if is_comment_mark c then (if is_column_one b then found [] (drop 1 (skipped is_comment_part cs))
-    else stopped cs InlineComment)
+    else if is_comment_mark c
+    then (if is_column_one b then found [] (drop 1 (skipped is_comment_part cs)) else stopped cs InlineComment)
     else if c == open_bracket then behind_bracket o cs
     else unindented o (c ∷ cs)
