@@ -1,6 +1,6 @@
 //! Runs of bytes up to the first that is marked, sixteen bytes at a time. This file knows bytes, and no
 //! text.
-ghost use Rattle.std.specs.Prelude.{◌≡◌, ◌++◌, ◌-◌, ◌<◌, ◌≤◌, ℕ, Bool, length, map};
+ghost use Rattle.std.specs.Prelude.{◌≡◌, true, ◌++◌, ◌-◌, ◌<◌, ◌≤◌, ℕ, Bool, length, map};
 ghost use Rattle.std.specs.List.{position_or_len};
 ghost use Rattle.std.specs.Simd.Lanes.{chunk, mask_l};
 ghost use Rattle.ini_text.specs.Inside.Lanes.{is_one_of};
@@ -50,13 +50,24 @@ fn few_before<M: Marks>(bytes: &[u8], marks: &M) -> usize
     ensures len { result ≡ position_or_len (M.is_marked marks.now) bytes.now }
     ensures within { result ≤ length bytes.now }
 {
-    if bytes.len() >= HALF && marks.find(both_ends(bytes)) == 0 {
+    if has_no_mark(bytes, marks) {
         return bytes.len();
     }
     bytes
         .iter()
         .take_while(|byte| !marks.contain(**byte))
         .count()
+}
+
+/// Whether eight to sixteen bytes have no mark, by one test; of fewer or more it is not asked.
+#[inline(always)]
+pub(crate) fn has_no_mark<M: Marks>(bytes: &[u8], marks: &M) -> bool
+    ensures { result ≡ true → position_or_len (M.is_marked marks.now) bytes.now ≡ length bytes.now }
+{
+    if bytes.len() < HALF || bytes.len() > LANES {
+        return false;
+    }
+    marks.find(both_ends(bytes)) == 0
 }
 
 // The first eight bytes and the last eight, which may overlap.

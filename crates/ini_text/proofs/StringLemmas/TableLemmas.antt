@@ -7,7 +7,7 @@ use Rattle.ini_text.specs.declared.parser.tables.TheConstants.{DIGITS, LETTERS}
 use Rattle.ini_text.specs.Grammar.EscapeSequences.{control}
 
 -- a test that holds of the entry at each byte below n holds of the entry at b
-tested : (test : ℕ → ℕ → Bool) (table : List ℕ) (n b e : ℕ) → agree_below (λ k. test (get_or table k 0) k) (λ k. true) n ≡ true → b < n → e ≡ get_or table b 0 → test e b ≡ true
+pub tested : (test : ℕ → ℕ → Bool) (table : List ℕ) (n b e : ℕ) → agree_below (λ k. test (get_or table k 0) k) (λ k. true) n ≡ true → b < n → e ≡ get_or table b 0 → test e b ≡ true
 tested test table n b e all within is = ap (λ x. test x b) is ∙ agree_below_at (λ k. test (get_or table k 0) k) (λ k. true) n b all within
 
 past_not : (x y : Bool) → (not x || y) ≡ true → x ≡ true → y ≡ true

@@ -1,6 +1,8 @@
 -- The bytes of escapes, and of a text that begins with a character that is escaped.
-use Rattle.std.proofs.Common.{◌≡◌, ℕ, zero, suc, ◌<◌, true, false, not, subst, List, [], length, ◌∷◌, ◌++◌, refl, ap, arith, cond, Some, None, Option, encode_utf8_all}
+use Rattle.std.proofs.Common.{◌≡◌, ◌≢◌, ◌∙◌, sym, ℕ, zero, suc, ◌<◌, true, false, not, subst, List, [], length, ◌∷◌, ◌++◌, refl, ap, arith, eqb-true, get_or, nat_eq, cond, Some, None, Option, encode_utf8_all}
 use Rattle.std.specs.Str.{IsAscii}
+use Rattle.ini_text.specs.declared.write.escape.TheConstants.{LETTERS}
+use Rattle.ini_text.proofs.StringLemmas.TableLemmas.{tested}
 use Rattle.std.proofs.lemmas.Bool.Decides.{nat_tests}
 use Rattle.std.proofs.lemmas.Str.{chars-nil, encodes-append, encodes-IsAscii}
 use Rattle.std.proofs.lemmas.Str.Ascii.{IsAscii-nil, IsAscii-cons}
@@ -8,6 +10,33 @@ use Rattle.ini_text.specs.Escaping.EscapedTexts.{escape, escape_by, escaped, esc
 use Rattle.ini_text.specs.Escaping.Policies.{is_escaped}
 use Rattle.ini_text.specs.Grammar.CharacterKinds.{BeginsWithNo, backslash, letter_x}
 use Rattle.ini_text.specs.declared.write.policy.EscapePolicy.{EscapePolicy}
+
+-- an option as a number
+abbrev code : Option ℕ → ℕ
+code None = 0
+code (Some letter) = suc letter
+
+same_code : (a b : Option ℕ) → code a ≡ code b → a ≡ b
+same_code None None same = refl
+same_code None (Some b) same = absurd (omega arith)
+same_code (Some a) None same = absurd (omega arith)
+same_code (Some a) (Some b) same = ap Some (omega arith)
+
+-- an entry of the table of letters as an option
+abbrev unless_zero : ℕ → Option ℕ
+unless_zero zero = None
+unless_zero (suc n) = Some (suc n)
+
+nonzero : (e : ℕ) → e ≢ 0 → unless_zero e ≡ Some e
+nonzero zero some = absurd (some refl)
+nonzero (suc n) some = refl
+
+letter_found : (c e : ℕ) → c < 128 → e ≡ get_or LETTERS c 0 → unless_zero e ≡ letter_of c
+letter_found c e within is = same_code (unless_zero e) (letter_of c)
+    (eqb-true _ _ (tested (λ x k. nat_eq (code (unless_zero x)) (code (letter_of k))) LETTERS 128 c e refl within is))
+
+pub letter_is : (c e : ℕ) → c < 128 → e ≡ get_or LETTERS c 0 → e ≢ 0 → Some e ≡ letter_of c
+letter_is c e within is some = sym (nonzero e some) ∙ letter_found c e within is
 
 IsAscii-hex_digits : (n c : ℕ) → IsAscii (hex_digits n c)
 IsAscii-hex_digits zero c = IsAscii-nil

@@ -1,7 +1,7 @@
 -- Bytes of which each that is marked goes out as the escape of its character.
 use Rattle.std.proofs.Common.{◌≡◌, ℕ, zero, suc, ◌+◌, ◌<◌, ◌≤◌, Bool, true, false, not, cond, List, [], ◌∷◌, ◌++◌, length, map, take, drop, get_or, inl, inr, Some, leb, refl, ap, ap₂, ◌∙◌, sym, arith, append_assoc, append-nil, IsUtf8, chars, encode_utf8_all, add-zero}
 use lib.Utf8.{encode}
-use Rattle.std.proofs.Math.Seq.{take-append-add}
+use Rattle.std.proofs.Math.Seq.{take-append-add, take-length}
 use Rattle.std.proofs.lemmas.Bool.Decides.{nat_tests}
 use Rattle.std.proofs.lemmas.Grind.{flat_map-append}
 use Rattle.std.proofs.lemmas.Str.{encode_ascii, encodes-IsAscii, encodes-append, encodes-chars}
@@ -32,6 +32,11 @@ module _ (p : ℕ → Bool) where
   marked_escaped-run zero bytes within = refl
   marked_escaped-run (suc n) [] within = absurd (omega arith)
   marked_escaped-run (suc n) (c ∷ bytes) within = passed_first (p c) n (position_or_len p bytes) c _ _ within (marked_escaped-run n bytes)
+
+  -- and where none is in all of them
+  pub marked_escaped-none : (bytes : List ℕ) → position_or_len p bytes ≡ length bytes → marked_escaped p bytes ≡ bytes ++ marked_escaped p (drop (length bytes) bytes)
+  marked_escaped-none bytes none =
+      marked_escaped-run (length bytes) bytes (omega (arith, none)) ∙ ap (λ l. l ++ marked_escaped p (drop (length bytes) bytes)) (take-length bytes)
 
   -- a byte that is marked
   pub marked_escaped-next : (c : ℕ) (bytes rest : List ℕ) → bytes ≡ c ∷ rest → p c ≡ true → marked_escaped p bytes ≡ escape c ++ marked_escaped p rest
@@ -176,3 +181,9 @@ placed_none len before after is =
 -- what stands before a place is kept where more is
 pub kept_front : (fewer len : ℕ) (before after : List ℕ) → fewer ≤ len → take len after ≡ take len before → take fewer after ≡ take fewer before
 kept_front fewer len before after within same = sym (take-take fewer len after within) ∙ ap (take fewer) same ∙ take-take fewer len before within
+
+-- what was held before a piece is the front of what is held with it
+pub grown_front : (fewer len : ℕ) (before after piece : List ℕ) → fewer ≤ length before → fewer ≤ len → take len after ≡ take fewer before ++ piece → take fewer after ≡ take fewer before
+grown_front fewer len before after piece within more is =
+    sym (take-take fewer len after more) ∙ ap (take fewer) is
+    ∙ take-append-le fewer (take fewer before) piece (omega (arith, length-take-le fewer before within)) ∙ take-take fewer fewer before (omega arith)

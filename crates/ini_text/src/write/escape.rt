@@ -4,32 +4,26 @@ ghost use Rattle.std.specs.Prelude.{◌≡◌, ◌/◌, ◌%◌, ◌<◌};
 ghost use Rattle.std.specs.Char.{digit_char};
 ghost use Rattle.ini_text.specs.Escaping.EscapedTexts.{letter_of};
 
+// What follows the backslash for each character of ASCII, or 0 where one character isn't enough.
+static LETTERS: [u8; 128] = *b"\
+    0\0\0\0\0\0\0abtnvfr\0\0\0\0\0\0\0\0\0\0\0\0\0\0\0\0\0\0\
+    \0\0\0#\0\0\0\0\0\0\0\0\0\0\0\0\0\0\0\0\0\0\0\0\0\0:;\0=\0\0\
+    \0\0\0\0\0\0\0\0\0\0\0\0\0\0\0\0\0\0\0\0\0\0\0\0\0\0\0\0\\\0\0\0\
+    \0\0\0\0\0\0\0\0\0\0\0\0\0\0\0\0\0\0\0\0\0\0\0\0\0\0\0\0\0\0\0\0";
+
 /// The character that follows the backslash, where one is enough.
 #[inline(always)]
 pub(crate) fn letter_of(c: char) -> Option<u8>
     ensures { result ≡ letter_of c }
 {
-    if c < '\x0E' {
-        return match c {
-            '\0' => Some(b'0'),
-            '\x07' => Some(b'a'),
-            '\x08' => Some(b'b'),
-            '\t' => Some(b't'),
-            '\n' => Some(b'n'),
-            '\x0B' => Some(b'v'),
-            '\x0C' => Some(b'f'),
-            '\r' => Some(b'r'),
-            _ => None,
-        };
+    if !c.is_ascii() {
+        return None;
     }
-    match c {
-        '\\' => Some(b'\\'),
-        ';' => Some(b';'),
-        '#' => Some(b'#'),
-        '=' => Some(b'='),
-        ':' => Some(b':'),
-        _ => None,
+    let letter = LETTERS[c as usize];
+    if letter == 0 {
+        return None;
     }
+    Some(letter)
 }
 
 /// The hexadecimal digit of a number that counts this power of sixteen.

@@ -74,9 +74,6 @@ impl Gatherer {
         ensures { Sends W.contents out.old out.new (held self.old) (held self.new) result
             (escaped_bytes policy text.now) }
     {
-        if self.hold_verbatim(text, policy) {
-            return Ok(());
-        }
         match policy {
             EscapePolicy::Basics => self.put_marked(text.as_bytes(), &Basics, out),
             EscapePolicy::Reserved => self.put_marked(text.as_bytes(), &Reserved, out),
@@ -100,9 +97,7 @@ impl Gatherer {
             ((escaped_bytes policy first.now ++ between.now)
             ++ (escaped_bytes policy second.now ++ end.now)) }
     {
-        if self.hold_line(first, between, second, end, policy)
-            || self.hold_escaped_line(first, between, second, end, policy)
-        {
+        if self.hold_line(first, between, second, end, policy) {
             return Ok(());
         }
         self.put_part(first, between, policy, out)?;
@@ -126,57 +121,9 @@ impl Gatherer {
         self.put(behind, out)
     }
 
-    // Holds a line back if no character of it is escaped and there is room.
-    #[inline(always)]
-    fn hold_line(
-        &mut self,
-        first: &str,
-        between: &str,
-        second: &str,
-        end: &str,
-        policy: EscapePolicy,
-    ) -> bool
-        ensures { held self.new ≡ held self.old ++ (if result
-            then (escaped_bytes policy first.now ++ between.now)
-            ++ (escaped_bytes policy second.now ++ end.now)
-            else []) }
-    {
-        if !is_verbatim(first, policy) || !is_verbatim(second, policy) {
-            return false;
-        }
-        let room = ROOM - self.len;
-        if first.len() > room || between.len() > room - first.len() {
-            return false;
-        }
-        let room = room - first.len() - between.len();
-        if second.len() > room || end.len() > room - second.len() {
-            return false;
-        }
-        self.append(first.as_bytes());
-        self.append(between.as_bytes());
-        self.append(second.as_bytes());
-        self.append(end.as_bytes());
-        true
-    }
-
-    // Holds a text back if no character of it is escaped and there is room.
-    fn hold_verbatim(&mut self, text: &str, policy: EscapePolicy) -> bool
-        ensures { held self.new ≡ held self.old ++ (if result then escaped_bytes policy text.now else []) }
-    {
-        let (run, rest) = split_verbatim(text, policy);
-        if !rest.is_empty() {
-            return false;
-        }
-        if run.len() > ROOM - self.len {
-            return false;
-        }
-        self.append(run.as_bytes());
-        true
-    }
-
     // Holds a line back if each escape has a letter and there is room.
     #[inline(never)]
-    fn hold_escaped_line(
+    fn hold_line(
         &mut self,
         first: &str,
         between: &str,
@@ -225,8 +172,23 @@ impl Gatherer {
         match policy {
             EscapePolicy::Basics => self.hold_marked(text.as_bytes(), &Basics).is_empty(),
             EscapePolicy::Reserved => self.hold_marked(text.as_bytes(), &Reserved).is_empty(),
-            _ => false,
+            _ => self.hold_verbatim(text, policy),
         }
+    }
+
+    // Holds a text back if no character of it is escaped.
+    #[inline(always)]
+    fn hold_verbatim(&mut self, text: &str, policy: EscapePolicy) -> bool
+        requires { self.old.len + length text.now ≤ ROOM }
+        ensures all { result ≡ true → held self.new ≡ held self.old ++ escaped_bytes policy text.now }
+        ensures front { take self.old.len self.new.bytes ≡ held self.old }
+        ensures longer { self.old.len ≤ self.new.len }
+    {
+        if !is_verbatim(text, policy) {
+            return false;
+        }
+        self.append(text.as_bytes());
+        true
     }
 
     // Sends bytes, each that is marked as the escape of its character.

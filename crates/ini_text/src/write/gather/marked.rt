@@ -7,7 +7,7 @@ ghost use Rattle.ini_text.specs.declared.lanes.TheConstants.{LANES};
 ghost use Rattle.ini_text.specs.declared.write.gather.TheConstants.{ROOM};
 ghost use Rattle.ini_text.specs.declared.write.gather.marked.TheConstants.{SHORT};
 
-use crate::lanes::{LANES, Marks};
+use crate::lanes::{LANES, Marks, has_no_mark};
 use crate::write::escape::letter_of;
 use crate::write::gather::{Gatherer, ROOM};
 use std::simd::prelude::*;
@@ -75,6 +75,10 @@ impl Gatherer {
     {
         if bytes.len() >= LANES || self.len > ROOM - SHORT * LANES {
             return bytes;
+        }
+        if has_no_mark(bytes, marks) {
+            self.append(bytes);
+            return &bytes[bytes.len()..];
         }
         let mut rest = bytes;
         let mut len = self.len;

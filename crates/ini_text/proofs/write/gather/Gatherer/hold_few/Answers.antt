@@ -1,10 +1,22 @@
-use Rattle.std.proofs.Common.{◌++◌, ◌∙◌, ◌∷◌, [], length, ap, sym, arith, length-drop}
+use Rattle.std.proofs.Common.{◌++◌, ◌∙◌, ◌∷◌, [], length, ap, refl, sym, arith, length-drop}
 use Rattle.std.proofs.lemmas.List.{take_rest}
 use Rattle.ini_text.specs.Escaping.EscapedTexts.{letter_of}
 use Rattle.ini_text.specs.Grammar.CharacterKinds.{backslash}
+use Rattle.ini_text.specs.Device.HeldBack.{held}
 use Rattle.ini_text.specs.Inside.Verbatim.{marked_escaped}
-use Rattle.ini_text.proofs.WriteLemmas.MarkedByteLemmas.{held_more, kept_front, marked_escaped-letter}
+use Rattle.ini_text.proofs.WriteLemmas.MarkedByteLemmas.{grown_front, held_more, kept_front, marked_escaped-letter, marked_escaped-none}
 use Rattle.ini_text.proofs.write.gather.Gatherer.hold_few.Goals as goal
+
+pub returns-then-has_no_mark-clause-held : goal.returns-then-has_no_mark-clause-held
+returns-then-has_no_mark-clause-held g c =
+    let p = g.M.Marks.is_marked c.args.marks.now in
+    let bytes = c.args.bytes.now in
+    let next = marked_escaped-none p bytes (c.has_no_mark.ensures c.if-has_no_mark.true) in
+    held_more p (held c.args.self.now) bytes bytes _ c.append.ensures.held (next ∙ ap (λ l. bytes ++ marked_escaped p l) (sym (take_rest bytes (length bytes)))) refl
+
+pub returns-then-has_no_mark-clause-front : goal.returns-then-has_no_mark-clause-front
+returns-then-has_no_mark-clause-front g c =
+    grown_front c.args.self.now.len c.append.new.self.len c.args.self.now.bytes c.append.new.self.bytes c.args.bytes.now (omega arith) (omega (arith, c.append.ensures.len)) c.append.ensures.held
 
 pub few-preserved-in-Some : goal.few-preserved-in-Some
 few-preserved-in-Some g c =
