@@ -11,8 +11,8 @@ use std::simd::prelude::*;
 /// How many bytes are tested together.
 pub(crate) const LANES: usize = 16;
 
-// Half of them.
-const HALF: usize = 8;
+/// Half of them.
+pub(crate) const HALF: usize = 8;
 
 /// Bytes at which a run ends.
 pub(crate) trait Marks {
@@ -62,7 +62,8 @@ fn few_before<M: Marks>(bytes: &[u8], marks: &M) -> usize
 /// Whether eight to sixteen bytes have no mark, by one test; of fewer or more it is not asked.
 #[inline(always)]
 pub(crate) fn has_no_mark<M: Marks>(bytes: &[u8], marks: &M) -> bool
-    ensures { result ≡ true → position_or_len (M.is_marked marks.now) bytes.now ≡ length bytes.now }
+    ensures none { result ≡ true → position_or_len (M.is_marked marks.now) bytes.now ≡ length bytes.now }
+    ensures long { result ≡ true → HALF ≤ length bytes.now }
 {
     if bytes.len() < HALF || bytes.len() > LANES {
         return false;

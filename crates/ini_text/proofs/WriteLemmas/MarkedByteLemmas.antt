@@ -6,7 +6,7 @@ use Rattle.std.proofs.lemmas.Bool.Decides.{nat_tests}
 use Rattle.std.proofs.lemmas.Grind.{flat_map-append}
 use Rattle.std.proofs.lemmas.Str.{encode_ascii, encodes-IsAscii, encodes-append, encodes-chars}
 use Rattle.std.proofs.lemmas.Bool.{and_parts, cases_lt}
-use Rattle.std.proofs.lemmas.List.{drop_more, get_or-drop, length-drop, length-take-le, take-append-le, take-take}
+use Rattle.std.proofs.lemmas.List.{drop_more, get_or-drop, length-drop, length-take-le, take-append-le, take-append-drop, take-take, take_all}
 use Rattle.std.proofs.lemmas.List.Sums.{passes_at_first, prefix_len-le-length}
 use Rattle.std.proofs.lemmas.Simd.{length-chunk, put_chunk_is, trailing_mask_l}
 use Rattle.std.specs.List.{list_all, position_or_len}
@@ -171,6 +171,16 @@ placed_short len run letter before bytes lanes after below first second =
     let end : len + (run + 2) ≡ len + run + 2 = omega arith in
     ap (λ k. take k after) end ∙ second ∙ ap (λ l. l ++ backslash ∷ letter ∷ []) (first ∙ ap (λ l. take len before ++ l) (take-take run 16 bytes below))
     ∙ append_assoc (take len before) (take run bytes) (backslash ∷ letter ∷ [])
+
+-- eight to sixteen bytes, put by their first eight and their last
+pub placed_few : (len back : ℕ) (before bytes mid after : List ℕ) → length bytes ≡ back + 8 → back ≤ 8 → take (len + back) mid ≡ take len before ++ take back (chunk 0 8 bytes)
+    → take (len + back + 8) after ≡ take (len + back) mid ++ take 8 (chunk 0 8 (drop back bytes)) → take (len + length bytes) after ≡ take len before ++ bytes
+placed_few len back before bytes mid after long few first second =
+    let end : len + length bytes ≡ len + back + 8 = omega arith in
+    let last : take 8 (take 8 (drop back bytes)) ≡ drop back bytes =
+    take-take 8 8 (drop back bytes) (omega arith) ∙ take_all 8 (drop back bytes) (omega (arith, length-drop back bytes)) in
+    ap (λ k. take k after) end ∙ second ∙ ap₂ (λ a b. a ++ b) (first ∙ ap (λ l. take len before ++ l) (take-take back 8 bytes few)) last
+    ∙ append_assoc (take len before) (take back bytes) (drop back bytes) ∙ ap (λ l. take len before ++ l) (take-append-drop back bytes)
 
 -- lanes of which none counts
 pub placed_none : (len : ℕ) (before after : List ℕ) → take (len + 0) after ≡ take len before ++ [] → take len after ≡ take len before

@@ -3,11 +3,11 @@
 ghost use Rattle.std.specs.Prelude.{◌≡◌, ℕ, ◌+◌, ◌++◌, ◌≤◌, [], ◌∷◌, length, take};
 ghost use Rattle.ini_text.specs.Grammar.CharacterKinds.{backslash};
 ghost use Rattle.ini_text.specs.Inside.Verbatim.{marked_escaped};
-ghost use Rattle.ini_text.specs.declared.lanes.TheConstants.{LANES};
+ghost use Rattle.ini_text.specs.declared.lanes.TheConstants.{HALF, LANES};
 ghost use Rattle.ini_text.specs.declared.write.gather.TheConstants.{ROOM};
 ghost use Rattle.ini_text.specs.declared.write.gather.marked.TheConstants.{SHORT};
 
-use crate::lanes::{LANES, Marks, has_no_mark};
+use crate::lanes::{HALF, LANES, Marks, has_no_mark};
 use crate::write::escape::letter_of;
 use crate::write::gather::{Gatherer, ROOM};
 use std::simd::prelude::*;
@@ -20,7 +20,7 @@ impl Gatherer {
 
     // Holds back bytes at the front, each that is marked as the escape of its character, and answers those
     // that are left: where there is no room, or at an escape by digits.
-    #[inline(never)]
+    #[inline(always)]
     pub(super) fn hold_marked<'a, M: Marks>(&mut self, bytes: &'a [u8], marks: &M) -> &'a [u8]
         ensures held { held self.new ++ marked_escaped (M.is_marked marks.now) result.now
             ≡ held self.old ++ marked_escaped (M.is_marked marks.now) bytes.now }
@@ -77,7 +77,8 @@ impl Gatherer {
             return bytes;
         }
         if has_no_mark(bytes, marks) {
-            self.append(bytes);
+            place_few(&mut self.bytes, self.len, bytes);
+            self.len += bytes.len();
             return &bytes[bytes.len()..];
         }
         let mut rest = bytes;
@@ -107,6 +108,28 @@ fn place_lanes(bytes: &mut [u8; ROOM], len: usize, lanes: u8x16)
     ensures { (n : ℕ) → n ≤ LANES → take (len + n) bytes.new ≡ take len bytes.old ++ take n lanes }
 {
     lanes.copy_to_slice(&mut bytes[len..]);
+}
+
+// Puts eight to sixteen bytes behind those that are held back: their first eight, and their last.
+#[inline(always)]
+fn place_few(bytes: &mut [u8; ROOM], len: usize, few: &[u8])
+    requires long { HALF ≤ length few.now }
+    requires within { length few.now ≤ LANES }
+    requires room { len + LANES ≤ ROOM }
+    ensures { take (len + length few.now) bytes.new ≡ take len bytes.old ++ few.now }
+{
+    let back = few.len() - HALF;
+    place_half(bytes, len, u8x8::from_slice(few));
+    place_half(bytes, len + back, u8x8::from_slice(&few[back..]));
+}
+
+// Puts eight bytes behind those that are held back.
+#[inline(always)]
+fn place_half(bytes: &mut [u8; ROOM], len: usize, half: u8x8)
+    requires { len + HALF ≤ ROOM }
+    ensures { (n : ℕ) → n ≤ HALF → take (len + n) bytes.new ≡ take len bytes.old ++ take n half }
+{
+    half.copy_to_slice(&mut bytes[len..]);
 }
 
 // Puts the escape by a letter behind those that are held back.

@@ -1,4 +1,4 @@
-use Rattle.std.proofs.Common.{◌++◌, ◌∙◌, ◌∷◌, [], length, ap, refl, sym, arith, length-drop}
+use Rattle.std.proofs.Common.{◌+◌, ◌++◌, ◌∙◌, ◌∷◌, [], length, ap, refl, sym, arith, length-drop}
 use Rattle.std.proofs.lemmas.List.{take_rest}
 use Rattle.ini_text.specs.Escaping.EscapedTexts.{letter_of}
 use Rattle.ini_text.specs.Grammar.CharacterKinds.{backslash}
@@ -11,12 +11,12 @@ pub returns-then-has_no_mark-clause-held : goal.returns-then-has_no_mark-clause-
 returns-then-has_no_mark-clause-held g c =
     let p = g.M.Marks.is_marked c.args.marks.now in
     let bytes = c.args.bytes.now in
-    let next = marked_escaped-none p bytes (c.has_no_mark.ensures c.if-has_no_mark.true) in
-    held_more p (held c.args.self.now) bytes bytes _ c.append.ensures.held (next ∙ ap (λ l. bytes ++ marked_escaped p l) (sym (take_rest bytes (length bytes)))) refl
+    let next = marked_escaped-none p bytes (c.has_no_mark.ensures.none c.if-has_no_mark.true) in
+    held_more p (held c.args.self.now) bytes bytes _ c.place_few.ensures (next ∙ ap (λ l. bytes ++ marked_escaped p l) (sym (take_rest bytes (length bytes)))) refl
 
 pub returns-then-has_no_mark-clause-front : goal.returns-then-has_no_mark-clause-front
 returns-then-has_no_mark-clause-front g c =
-    grown_front c.args.self.now.len c.append.new.self.len c.args.self.now.bytes c.append.new.self.bytes c.args.bytes.now (omega arith) (omega (arith, c.append.ensures.len)) c.append.ensures.held
+    grown_front c.args.self.now.len (c.args.self.now.len + length c.args.bytes.now) c.args.self.now.bytes c.place_few.new.bytes c.args.bytes.now (omega arith) (omega arith) c.place_few.ensures
 
 pub few-preserved-in-Some : goal.few-preserved-in-Some
 few-preserved-in-Some g c =
