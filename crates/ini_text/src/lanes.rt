@@ -3,7 +3,7 @@
 ghost use Rattle.std.specs.Prelude.{◌≡◌, true, ◌++◌, ◌-◌, ◌<◌, ◌≤◌, ℕ, Bool, length, map};
 ghost use Rattle.std.specs.List.{position_or_len};
 ghost use Rattle.std.specs.Simd.Lanes.{chunk, mask_l};
-ghost use Rattle.ini_text.specs.Inside.Lanes.{is_one_of};
+ghost use Rattle.ini_text.specs.Inside.Lanes.{Tells, is_one_of};
 ghost use Rattle.ini_text.specs.declared.lanes.TheConstants.{HALF, LANES};
 
 use std::simd::prelude::*;
@@ -24,6 +24,20 @@ pub(crate) trait Marks {
     /// The bits of the lanes that hold a marked byte.
     fn find(&self, lanes: u8x16) -> u64
         ensures { result ≡ mask_l (map (is_marked self.now) lanes) };
+}
+
+/// The bits of the first bytes that are marked, which are looked for where none is known already.
+#[inline(always)]
+pub(crate) fn marks_ahead<M: Marks>(bytes: &[u8], known: u64, marks: &M) -> u64
+    requires long { LANES ≤ length bytes.now }
+    requires known { Tells (M.is_marked marks.now) known bytes.now }
+    ensures tells { Tells (M.is_marked marks.now) result bytes.now }
+    ensures none { result ≡ 0 → LANES ≤ position_or_len (M.is_marked marks.now) bytes.now }
+{
+    if known != 0 {
+        return known;
+    }
+    marks.find(u8x16::from_slice(bytes))
 }
 
 /// How many bytes stand before the first that is marked.

@@ -10,6 +10,7 @@ use Rattle.std.specs.List.{prefix_len, position_or_len}
 use lib.Bits.{bit_or}
 use lib.Lanes.{chunk, mask_l, top, zip2}
 use lib.Count.{count_trailing_zeros}
+use Rattle.ini_text.specs.Inside.Lanes.{Tells}
 
 -- a lane that passes a test is full
 abbrev pub full : Bool → ℕ
@@ -138,3 +139,40 @@ bits_past p (suc j) (suc k) (x ∷ xs) =
     let bits = mask_l (map p (take k xs)) in
     ap (λ n. (cond (p x) 1 0 + 2 * bits) / n) (pow-suc 2 j ∙ mul_comm (2 ^ j) 2) ∙ sym (div-div-eq-div-mul (cond (p x) 1 0 + 2 * bits) 2 (2 ^ j))
     ∙ ap (λ n. n / 2 ^ j) (halved (p x) bits) ∙ bits_past p j k xs ∙ ap (λ n. mask_l (map p (take n (drop j xs)))) (let same : k - j ≡ suc k - suc j = omega arith in same)
+
+-- What bits tell of the first bytes.
+module _ (p : ℕ → Bool) where
+  pub Tells-none : (bytes : List ℕ) → Tells p 0 bytes
+  Tells-none bytes = record { lanes = 0; few = omega arith; within = omega arith; are = refl }
+
+  pub Tells-found : (bytes : List ℕ) {bits : ℕ} → 16 ≤ length bytes → bits ≡ mask_l (map p (chunk 0 16 bytes)) → Tells p bits bytes
+  Tells-found bytes long is = record { lanes = 16; few = omega arith; within = long; are = is }
+
+  pub Tells-past : (j : ℕ) {bits : ℕ} {bytes rest : List ℕ} → Tells p bits bytes → rest ≡ drop j bytes → Tells p (bits / 2 ^ j) rest
+  Tells-past j {bytes = bytes} tells is = subst (Tells p _) (sym is) record {
+    lanes = tells.lanes - j;
+    few = omega (arith, tells.few);
+    within = omega (arith, tells.within, length-drop j bytes);
+    are = ap (λ n. n / 2 ^ j) tells.are ∙ bits_past p j tells.lanes bytes;
+  }
+
+  -- how many bytes stand before the first that is marked
+  pub record StopsAt (bytes : List ℕ) (run : ℕ) : Type 0 where
+    pub position : run ≡ position_or_len p bytes
+    pub below : run < 16
+    pub within : run < length bytes
+
+  pub stops_at : (bytes : List ℕ) {bits : ℕ} → Tells p bits bytes → 0 < bits → StopsAt bytes (count_trailing_zeros 64 bits)
+  stops_at bytes {bits} tells some =
+      let few = tells.few in
+      let within = tells.within in
+      let are = tells.are in
+      let lanes = chunk 0 tells.lanes bytes in
+      let many = length-chunk 0 tells.lanes bytes (omega arith) in
+      let first = stopped p bytes 0 tells.lanes (omega arith) (omega arith) (omega arith) ∙ ap (count_trailing_zeros 64) (sym are) in
+      let place = ap (count_trailing_zeros 64) are ∙ trailing_mask_l p 64 lanes (omega arith) (omega arith) in
+      let below : count_trailing_zeros 64 bits < tells.lanes = elim (cases_lt (position_or_len p lanes) (length lanes)) [
+        | inl below ↦ omega arith
+        | inr above ↦ absurd (omega (arith, no_bits p lanes (omega (arith, prefix_len-le-length (λ x. not (p x)) lanes))))
+      ] in
+      record { position = sym first; below = omega arith; within = omega arith }

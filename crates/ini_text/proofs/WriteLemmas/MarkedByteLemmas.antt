@@ -20,7 +20,7 @@ use Rattle.ini_text.specs.declared.write.policy.EscapePolicy.{EscapePolicy}
 use Rattle.ini_text.specs.declared.write.policy.EscapePolicy.TheVariants.{Basics, Reserved}
 use Rattle.ini_text.proofs.WriteLemmas.EscapeByteLemmas.{IsAscii-escape}
 use Rattle.ini_text.proofs.WriteLemmas.VerbatimRunLemmas.{begins-basic, begins-reserved}
-use Rattle.ini_text.proofs.StringLemmas.LaneLemmas.{no_bits, stopped}
+use Rattle.ini_text.proofs.StringLemmas.LaneLemmas.{StopsAt}
 
 module _ (p : ℕ → Bool) where
   passed_first : (b : Bool) (n left c : ℕ) (front back : List ℕ) → suc n ≤ cond (not b) (1 + left) 0 → (n ≤ left → back ≡ front) → cond b (escape c) (c ∷ []) ++ back ≡ c ∷ front
@@ -52,24 +52,6 @@ module _ (p : ℕ → Bool) where
   pub held_all : (after left : List ℕ) {whole : List ℕ} → left ≡ [] → after ++ marked_escaped p left ≡ whole → after ≡ whole
   held_all after left none all = sym (ap (λ l. after ++ marked_escaped p l) none ∙ append-nil after) ∙ all
 
-  -- sixteen bytes at the front, of which some are marked: how many stand before the first of them
-  pub record StopsAt (bytes : List ℕ) (run : ℕ) : Type 0 where
-    pub position : run ≡ position_or_len p bytes
-    pub below : run < 16
-    pub within : run < length bytes
-
-  pub stops_at : (bytes : List ℕ) (found : ℕ) → 16 ≤ length bytes → found ≡ mask_l (map p (chunk 0 16 bytes)) → 0 < found → StopsAt bytes (count_trailing_zeros 64 found)
-  stops_at bytes found long is some =
-      let first = stopped p bytes 0 16 (omega arith) (omega arith) (omega (arith, is)) ∙ ap (count_trailing_zeros 64) (sym is) in
-      let lanes = chunk 0 16 bytes in
-      let many = length-chunk 0 16 bytes long in
-      let place = ap (count_trailing_zeros 64) is ∙ trailing_mask_l p 64 lanes (omega arith) (omega (arith, is)) in
-      let below : count_trailing_zeros 64 found < 16 = elim (cases_lt (position_or_len p lanes) (length lanes)) [
-        | inl below ↦ omega arith
-        | inr above ↦ absurd (omega (arith, no_bits p lanes (omega (arith, prefix_len-le-length (λ x. not (p x)) lanes))))
-      ] in
-      record { position = sym first; below = below; within = omega arith }
-
   -- a byte that is marked, and has a letter
   pub marked_escaped-letter : (bytes : List ℕ) (at letter : ℕ) → at < length bytes → p (get_or bytes at 0) ≡ true → Some letter ≡ letter_of (get_or bytes at 0)
       → marked_escaped p (drop at bytes) ≡ (backslash ∷ letter ∷ []) ++ marked_escaped p (drop (at + 1) bytes)
@@ -79,7 +61,7 @@ module _ (p : ℕ → Bool) where
       marked_escaped-next c (drop at bytes) (drop (at + 1) bytes) (drop_more bytes at 0 within) marked ∙ ap (λ l. escape_by l c ++ marked_escaped p (drop (at + 1) bytes)) (sym is)
 
   -- the same behind bytes that are not marked
-  pub marked_escaped-short : (bytes : List ℕ) (run letter : ℕ) → StopsAt bytes run → Some letter ≡ letter_of (get_or bytes run 0)
+  pub marked_escaped-short : (bytes : List ℕ) (run letter : ℕ) → StopsAt p bytes run → Some letter ≡ letter_of (get_or bytes run 0)
       → marked_escaped p bytes ≡ (take run bytes ++ backslash ∷ letter ∷ []) ++ marked_escaped p (drop (run + 1) bytes)
   marked_escaped-short bytes run letter stops is =
       let marked : p (get_or bytes run 0) ≡ true = rw stops.position (passes_at_first p bytes 0 (rw stops.position at stops.within)) in

@@ -7,7 +7,7 @@ ghost use Rattle.ini_text.specs.declared.lanes.TheConstants.{HALF, LANES};
 ghost use Rattle.ini_text.specs.declared.write.gather.TheConstants.{ROOM};
 ghost use Rattle.ini_text.specs.declared.write.gather.marked.TheConstants.{SHORT};
 
-use crate::lanes::{HALF, LANES, Marks, has_no_mark};
+use crate::lanes::{HALF, LANES, Marks, has_no_mark, marks_ahead};
 use crate::write::escape::letter_of;
 use crate::write::gather::{Gatherer, ROOM};
 use std::simd::prelude::*;
@@ -43,22 +43,23 @@ impl Gatherer {
     {
         let mut rest = bytes;
         let mut len = self.len;
+        let mut known = 0;
         'lanes: while rest.len() >= LANES && len <= ROOM - LANES - SHORT {
-            let lanes = u8x16::from_slice(rest);
-            let found = marks.find(lanes);
-            place_lanes(&mut self.bytes, len, lanes);
-            if found == 0 {
+            known = marks_ahead(rest, known, marks);
+            place_lanes(&mut self.bytes, len, u8x16::from_slice(rest));
+            if known == 0 {
                 len += LANES;
                 rest = &rest[LANES..];
                 continue 'lanes;
             }
-            let run = found.trailing_zeros() as usize;
+            let run = known.trailing_zeros() as usize;
             let Some(letter) = letter_of(char::from(rest[run])) else {
                 break 'lanes;
             };
             place_escape(&mut self.bytes, len + run, letter);
             len += run + SHORT;
             rest = &rest[run + 1..];
+            known >>= run + 1;
         }
         self.len = len;
         rest

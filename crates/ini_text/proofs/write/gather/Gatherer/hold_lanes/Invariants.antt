@@ -1,4 +1,5 @@
 use Rattle.std.proofs.Common.{◌≡◌, ◌++◌, ◌≤◌, length, take}
+use Rattle.ini_text.specs.Inside.Lanes.{Tells}
 use Rattle.ini_text.specs.Inside.Verbatim.{marked_escaped}
 use Rattle.ini_text.specs.Device.HeldBack.{held}
 use Rattle.ini_text.proofs.write.gather.Gatherer.hold_lanes.Given as goal
@@ -9,6 +10,7 @@ invariant-lanes g l = record {
   longer : l.fn.self.len ≤ l.len;
   held : take l.len l.self.bytes ++ marked_escaped (g.M.Marks.is_marked l.marks) l.rest ≡ held l.fn.self ++ marked_escaped (g.M.Marks.is_marked l.fn.marks) l.fn.bytes;
   within : l.len ≤ 4096;
+  known : Tells (g.M.Marks.is_marked l.marks) l.known l.rest;
   shorter : length l.rest ≤ length l.fn.bytes;
 }
 
