@@ -13,6 +13,9 @@ use std::alloc::AllocError;
 // So many slots have no chains.
 const FEW: usize = 16;
 
+// So many slots have room at first.
+const FIRST: usize = 8;
+
 // The first candidate for the code that the probe has.
 pub(crate) fn first_candidate<K: MapKey, Q: Probe<K> + Copy>(
     keys: &[Option<K>],
@@ -80,8 +83,9 @@ pub(crate) fn make_room<K: MapKey, V>(
     ensures value { OnOk result (vec_len values.new < vec_capacity values.new) }
     ensures chain { OnOk result (IfSome index.new (λ chains. HasRoom chains.value)) }
 {
-    keys.reserve(1)?;
-    values.reserve(1)?;
+    let more = if keys.is_empty() { FIRST } else { 1 };
+    keys.reserve(more)?;
+    values.reserve(more)?;
     if let Some(chains) = index {
         return chains.make_room();
     }
