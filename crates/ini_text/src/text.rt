@@ -170,10 +170,22 @@ fn begins_white(text: &str) -> bool
 pub(crate) fn trimmed(text: &str, both: bool) -> &str
     ensures { chars result.now ≡ trimmed_at both (chars text.now) }
 {
-    if has_visible_ends(text) {
-        return text;
+    let front = without_space(text);
+    if has_visible_ends(front) {
+        return front;
     }
     if both { text.trim() } else { text.trim_end() }
+}
+
+// What stands before a space at a text's end; the text where none stands there.
+#[inline(always)]
+fn without_space(text: &str) -> &str
+    ensures { (both : Bool) → trimmed_at both (chars text.now) ≡ trimmed_at both (chars result.now) }
+{
+    match split_last(text) {
+        Some((front, ' ')) => front,
+        _ => text,
+    }
 }
 
 // Whether the first and the last byte of a text are seen to be no white space: marks, letters and digits
@@ -181,10 +193,11 @@ pub(crate) fn trimmed(text: &str, both: bool) -> &str
 fn has_visible_ends(text: &str) -> bool
     ensures { result ≡ true → (both : Bool) → trimmed_at both (chars text.now) ≡ chars text.now }
 {
-    match text.as_bytes() {
-        [first, .., last] => is_visible(*first) && is_visible(*last),
-        _ => false,
-    }
+    let bytes = text.as_bytes();
+    let [first, ..] = bytes else {
+        return false;
+    };
+    is_visible(*first) && is_visible(bytes[bytes.len() - 1])
 }
 
 fn is_visible(byte: u8) -> bool

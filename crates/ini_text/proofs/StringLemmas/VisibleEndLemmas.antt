@@ -1,15 +1,16 @@
 -- A text whose ends are seen to be no white space.
-use Rattle.std.proofs.Common.{◌≡◌, ℕ, suc, ◌<◌, Bool, true, false, List, [], ◌∷◌, ◌++◌, length, take, drop, get_or, refl, sym, ap, ◌∙◌, arith, subst, chars, IsUtf8, IsCharBoundary}
+use Rattle.std.proofs.Common.{◌≡◌, ℕ, suc, ◌<◌, Bool, true, false, cond, List, [], ◌∷◌, ◌++◌, length, take, drop, get_or, refl, sym, ap, ◌∙◌, arith, subst, chars, IsUtf8, IsCharBoundary}
 use Rattle.std.specs.Char.{is_whitespace}
+use Rattle.std.specs.Str.{skip_leading_whitespace}
 use Rattle.std.proofs.lemmas.Bool.Decides.{nat_tests}
 use Rattle.std.proofs.lemmas.List.{drop_all}
 use Rattle.std.proofs.lemmas.Str.{IsCharBoundary-before_ascii, IsUtf8-drop, chars_past_char, encode_ascii}
 use Rattle.std.proofs.Math.Seq.{drop-cons}
 use Rattle.ini_text.specs.Grammar.CharacterKinds.{BeginsWithNo}
 use Rattle.ini_text.specs.Inside.Scans.{is_visible, trimmed_at}
-use Rattle.ini_text.specs.Grammar.WhiteSpace.{end_trimmed}
+use Rattle.ini_text.specs.Grammar.WhiteSpace.{end_trimmed, trimmed}
 use Rattle.ini_text.proofs.StringLemmas.PushLemmas.{one_character}
-use Rattle.ini_text.proofs.PlainLemmas.PlainTrimLemmas.{end_trimmed-behind, skip_none}
+use Rattle.ini_text.proofs.PlainLemmas.PlainTrimLemmas.{end_trimmed-behind, end_trimmed-blanks, skip_none}
 use Rattle.ini_text.proofs.StringLemmas.RunLemmas.{split_chars}
 
 visible-low : (c : ℕ) → is_visible c ≡ true → c < 128
@@ -42,3 +43,17 @@ pub visible_ends : (t : List ℕ) (n first last : ℕ) → IsUtf8 t → length t
 visible_ends t n first last u long begins sees ends sees' true =
     ap end_trimmed (skip_none (chars t) (visible_first t first u (omega arith) begins sees)) ∙ visible_last t n last u long ends sees'
 visible_ends t n first last u long begins sees ends sees' false = visible_last t n last u long ends sees'
+
+-- a space at the end is trimmed
+trimmed-space : (cs : List ℕ) → trimmed (cs ++ 32 ∷ []) ≡ trimmed cs
+trimmed-space [] = refl
+trimmed-space (c ∷ cs) = at (is_whitespace c) (trimmed-space cs)
+  where
+    at : (b : Bool) → trimmed (cs ++ 32 ∷ []) ≡ trimmed cs
+        → end_trimmed (cond b (skip_leading_whitespace (cs ++ 32 ∷ [])) (c ∷ (cs ++ 32 ∷ []))) ≡ end_trimmed (cond b (skip_leading_whitespace cs) (c ∷ cs))
+    at true behind = behind
+    at false behind = end_trimmed-blanks (c ∷ cs) (32 ∷ []) refl
+
+pub trimmed_at-space : (both : Bool) (cs : List ℕ) → trimmed_at both (cs ++ 32 ∷ []) ≡ trimmed_at both cs
+trimmed_at-space true cs = trimmed-space cs
+trimmed_at-space false cs = end_trimmed-blanks cs (32 ∷ []) refl
