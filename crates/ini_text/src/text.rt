@@ -170,6 +170,9 @@ fn begins_white(text: &str) -> bool
 pub(crate) fn trimmed(text: &str, both: bool) -> &str
     ensures { chars result.now ≡ trimmed_at both (chars text.now) }
 {
+    if has_visible_ends(text) {
+        return text;
+    }
     let front = without_space(text);
     if has_visible_ends(front) {
         return front;
