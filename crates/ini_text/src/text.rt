@@ -173,6 +173,14 @@ pub(crate) fn trimmed(text: &str, both: bool) -> &str
     if has_visible_ends(text) {
         return text;
     }
+    cut_ends(text, both)
+}
+
+// The same, where an end may be white space: one space at the end is looked for first.
+#[inline(never)]
+fn cut_ends(text: &str, both: bool) -> &str
+    ensures { chars result.now ≡ trimmed_at both (chars text.now) }
+{
     let front = without_space(text);
     if has_visible_ends(front) {
         return front;
@@ -193,6 +201,7 @@ fn without_space(text: &str) -> &str
 
 // Whether the first and the last byte of a text are seen to be no white space: marks, letters and digits
 // of ASCII.
+#[inline(always)]
 fn has_visible_ends(text: &str) -> bool
     ensures { result ≡ true → (both : Bool) → trimmed_at both (chars text.now) ≡ chars text.now }
 {

@@ -1,6 +1,6 @@
 use Rattle.std.proofs.Common.{ap, chars, ◌∙◌}
 use Rattle.ini_text.proofs.StringLemmas.TrimLemmas.{chars_trim, chars_trim_end}
-use Rattle.ini_text.proofs.text.trimmed.Goals as goal
+use Rattle.ini_text.proofs.text.cut_ends.Goals as goal
 
 pub returns-then-both : goal.returns-then-both
 returns-then-both c = rw c.if-both.true (ap chars c.trim.ensures.trim ∙ chars_trim c.args.text.now c.utf8.text)
