@@ -1,5 +1,5 @@
 -- Short pieces of a string, as they are gathered.
-use Rattle.std.proofs.Common.{◌-◌, ◌/◌, ◌^◌, ◌≡◌, ◌≢◌, ℕ, ◌<◌, ◌≤◌, Bool, true, false, not, List, [], ◌∷◌, map, length, drop, take, get_or, ◌++◌, append-nil, append_assoc, length-append, length-drop, unwrap_or, refl, sym, ap, ◌∙◌, subst, arith, chars, IsUtf8, IsCharBoundary, encode_utf8, ne_eqb}
+use Rattle.std.proofs.Common.{◌+◌, ◌-◌, ◌/◌, ◌^◌, ◌≡◌, ◌≢◌, ℕ, ◌<◌, ◌≤◌, Bool, true, false, not, List, [], ◌∷◌, map, length, drop, take, get_or, ◌++◌, append-nil, append_assoc, length-append, length-drop, unwrap_or, refl, sym, ap, ◌∙◌, subst, arith, chars, IsUtf8, IsCharBoundary, encode_utf8, ne_eqb}
 use Rattle.std.proofs.lemmas.List.{drop-drop, get_or-drop}
 use Rattle.std.proofs.lemmas.List.Sums.{prefix_len-le-length}
 use Rattle.std.proofs.lemmas.Simd.{length-chunk, trailing_mask_l}
@@ -127,21 +127,24 @@ module _ (to : Ends) where
       )
 
 -- a run and an escape
-pub short_piece : (ends : Endpoints) (t stop rest : List ℕ) (n v k : ℕ) → IsUtf8 t → 16 ≤ length t → n ≤ 16 → n ≡ prefix_len (is_plain (ends_of ends)) t → stop ≡ drop n t → IsEscape stop v k → rest ≡ drop k stop
-    → IsShort (ends_of ends) t n v (chars rest)
-short_piece ends t stop rest n v k u long within is behind escape is_rest =
+pub short_piece : (ends : Endpoints) (t stop : List ℕ) (n v k : ℕ) → IsUtf8 t → 16 ≤ length t → n ≤ 16 → n ≡ prefix_len (is_plain (ends_of ends)) t → stop ≡ drop n t → IsEscape stop v k
+    → IsShort (ends_of ends) t n v k
+short_piece ends t stop n v k u long within is behind escape =
     let plain = is_plain (ends_of ends) in
     let cut : IsCharBoundary t n = subst (IsCharBoundary t) (sym is) (boundary plain t (plain_wide ends)) in
     let run = take n t in
     let parts = split_chars t run stop n u cut refl behind in
-    let read = escape.read (ends_of ends) ∙ ap (λ x. prepend (v ∷ []) (string true (ends_of ends) (chars x))) (sym is_rest) in
+    let rest : drop k stop ≡ drop (n + k) t = ap (drop k) behind ∙ drop-drop k n t in
+    let read = escape.read (ends_of ends) ∙ ap (λ x. prepend (v ∷ []) (string true (ends_of ends) (chars x))) rest in
     record {
       within = within;
+      few = escape.few;
       long = long;
       run = IsUtf8-take t n u cut;
+      cut = IsCharBoundary-from_rest t n k (omega arith) (subst (λ x. IsCharBoundary x k) behind escape.cut);
       read = string_run true (ends_of ends) (chars run) (chars stop) parts (run_chars plain t run n (plain_wide ends) u is refl)
-          ∙ ap (prepend (chars run)) read ∙ prepend-prepend (chars run) (v ∷ []) (string true (ends_of ends) (chars rest));
-      shorter = omega (arith, escape.shorter, ap (λ x. length (chars x)) is_rest, length-append (chars run) (chars stop), ap length parts);
+          ∙ ap (prepend (chars run)) read ∙ prepend-prepend (chars run) (v ∷ []) (string true (ends_of ends) (chars (drop (n + k) t)));
+      shorter = omega (arith, escape.shorter, ap (λ x. length (chars x)) rest, length-append (chars run) (chars stop), ap length parts);
     }
 
 -- what is gathered grows by a run and a character
