@@ -1,5 +1,5 @@
 -- Short pieces of a string, as they are gathered.
-use Rattle.std.proofs.Common.{◌+◌, ◌-◌, ◌/◌, ◌^◌, ◌≡◌, ◌≢◌, ℕ, ◌<◌, ◌≤◌, Bool, true, false, not, List, [], ◌∷◌, map, length, drop, take, get_or, ◌++◌, append-nil, append_assoc, length-append, length-drop, unwrap_or, refl, sym, ap, ◌∙◌, subst, arith, chars, IsUtf8, IsCharBoundary, encode_utf8, ne_eqb}
+use Rattle.std.proofs.Common.{◌+◌, ◌-◌, ◌/◌, ◌^◌, ◌≡◌, ◌≢◌, ℕ, zero, suc, ◌<◌, ◌≤◌, Bool, true, false, not, List, [], ◌∷◌, map, length, drop, take, get_or, ◌++◌, append-nil, append_assoc, length-append, length-drop, unwrap_or, refl, sym, ap, ◌∙◌, subst, arith, chars, IsUtf8, IsCharBoundary, encode_utf8, ne_eqb}
 use Rattle.std.proofs.lemmas.List.{drop-drop, get_or-drop}
 use Rattle.std.proofs.lemmas.List.Sums.{prefix_len-le-length}
 use Rattle.std.proofs.lemmas.Simd.{length-chunk, trailing_mask_l}
@@ -93,13 +93,13 @@ twice false = refl
 
 module _ (to : Ends) where
   pub Sees-none : (t : List ℕ) → Sees to 0 t
-  Sees-none t = record { lanes = 0; few = omega arith; within = omega arith; are = refl }
+  Sees-none t = record { lanes = 0; few = omega arith; within = λ some. omega arith; are = refl }
 
-  pub Sees-found : (marked : ℕ → Bool) (t : List ℕ) {bits : ℕ} → ((c : ℕ) → is_plain to c ≡ not (marked c)) → 16 ≤ length t → bits ≡ mask_l (map marked (chunk 0 16 t)) → Sees to bits t
+  pub Sees-found : (marked : ℕ → Bool) (t : List ℕ) {bits : ℕ} → ((c : ℕ) → is_plain to c ≡ not (marked c)) → 32 ≤ length t → bits ≡ mask_l (map marked (chunk 0 16 t)) → Sees to bits t
   Sees-found marked t same long is = record {
     lanes = 16;
     few = omega arith;
-    within = long;
+    within = λ some. omega (arith, long);
     are = is ∙ ap mask_l (map_same marked (λ c. not (is_plain to c)) (λ c. twice (marked c) ∙ ap not (sym (same c))) (take 16 t));
   }
 
@@ -109,20 +109,25 @@ module _ (to : Ends) where
       subst (Sees to _) (sym is) record {
         lanes = sees.lanes - j;
         few = omega (arith, sees.few);
-        within = omega (arith, sees.within, length-drop j t);
+        within = λ some. omega (arith, sees.within (omega arith), length-drop j t);
         are = ap (λ n. n / 2 ^ j) sees.are ∙ bits_past marked j sees.lanes t;
       }
 
+  some_lanes : (marked : ℕ → Bool) (lanes : ℕ) (t : List ℕ) → 0 < mask_l (map marked (take lanes t)) → 0 < lanes
+  some_lanes marked zero t some = absurd (omega (arith, some))
+  some_lanes marked (suc n) t some = omega arith
+
   -- the run before the first mark that is seen
-  pub run_seen : {bits : ℕ} {t : List ℕ} → Sees to bits t → 0 < bits → (count_trailing_zeros 64 bits ≡ prefix_len (is_plain to) t) × (count_trailing_zeros 64 bits ≤ 16)
+  pub run_seen : {bits : ℕ} {t : List ℕ} → Sees to bits t → 0 < bits → (count_trailing_zeros 64 bits ≡ prefix_len (is_plain to) t) × (count_trailing_zeros 64 bits ≤ 16) × (count_trailing_zeros 64 bits + 16 ≤ length t)
   run_seen {bits} {t} sees some =
       let marked = λ (c : ℕ). not (is_plain to c) in
       let few = sees.few in
-      let within = sees.within in
       let are = sees.are in
+      let within : sees.lanes + 16 ≤ length t = sees.within (some_lanes marked sees.lanes t (omega arith)) in
       let long = length-chunk 0 sees.lanes t (omega arith) in
       let here = trailing_mask_l marked 64 (chunk 0 sees.lanes t) (omega arith) (omega arith) in (
         ap (count_trailing_zeros 64) are ∙ sym (stopped marked t 0 sees.lanes (omega arith) (omega arith) (omega arith)) ∙ sym (same_run (is_plain to) (λ x. not (marked x)) (λ c. twice (is_plain to c)) t),
+        omega (arith, prefix_len-le-length (λ x. not (marked x)) (chunk 0 sees.lanes t), ap (count_trailing_zeros 64) are),
         omega (arith, prefix_len-le-length (λ x. not (marked x)) (chunk 0 sees.lanes t), ap (count_trailing_zeros 64) are),
       )
 

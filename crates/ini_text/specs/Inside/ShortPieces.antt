@@ -8,11 +8,11 @@ use Rattle.ini_text.specs.Inside.Reading.{prepend}
 use Rattle.ini_text.specs.Inside.Scans.{is_plain}
 use Rattle.ini_text.specs.Inside.StringReader.{string}
 
--- the bits tell which of the text's first bytes, at most sixteen, are marks
+-- the bits tell which of the text's first bytes, at most sixteen, are marks, and as many follow these
 pub record Sees (to : Ends) (bits : ℕ) (text : List ℕ) : Type 0 where
   pub lanes : ℕ
   pub few : lanes ≤ 16
-  pub within : lanes ≤ length text
+  pub within : 0 < lanes → lanes + 16 ≤ length text
   pub are : bits ≡ mask_l (map (λ c. not (is_plain to c)) (take lanes text))
 
 -- at the text's front: an escape of n bytes that stands for the character v

@@ -86,9 +86,6 @@ fn split_short(text: &str, found: u64, ends: Endpoints) -> Option<(usize, char, 
     ensures piece { IfSome result (λ p. IsShort (ends_of ends) text.now p.0 p.1 p.2) }
     ensures seen { IfSome result (λ p. Sees (ends_of ends) p.3 text.now) }
 {
-    if text.len() < LANES + LONGEST_ESCAPE {
-        return None;
-    }
     let marks = marks_ahead(text, found, ends);
     if marks == 0 {
         return None;
@@ -99,15 +96,18 @@ fn split_short(text: &str, found: u64, ends: Endpoints) -> Option<(usize, char, 
     Some((plain, value, taken, marks))
 }
 
-/// The marks among a text's first bytes, which are looked for where none is found already.
+/// The marks among a text's first bytes, which are looked for where none is found already. As many bytes
+/// follow those, so that a run and an escape need no test of length.
 #[inline(always)]
 fn marks_ahead(text: &str, found: u64, ends: Endpoints) -> u64
-    requires long { LANES ≤ length text.now }
-    requires found { Sees (ends_of ends) found text.now }
+    requires { Sees (ends_of ends) found text.now }
     ensures { Sees (ends_of ends) result text.now }
 {
     if found != 0 {
         return found;
+    }
+    if text.len() < 2 * LANES {
+        return 0;
     }
     ends.marks().find(u8x16::from_slice(text.as_bytes()))
 }

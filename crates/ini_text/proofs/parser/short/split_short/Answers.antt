@@ -15,9 +15,9 @@ split_at-requires c =
 pub split_escape-requires : goal.split_escape-requires
 split_escape-requires c =
     let run = run_seen (ends_of c.args.ends) c.marks_ahead-marks.ensures (omega arith) in
-    omega (arith, run.1, ap length c.split_at.ensures.back, length-drop (count_trailing_zeros 64 c.marks_ahead-marks.result) c.args.text.now)
+    omega (arith, run.2, ap length c.split_at.ensures.back, length-drop (count_trailing_zeros 64 c.marks_ahead-marks.result) c.args.text.now)
 
 pub returns-clause-piece : goal.returns-clause-piece
 returns-clause-piece c =
     let run = run_seen (ends_of c.args.ends) c.marks_ahead-marks.ensures (omega arith) in
-    short_piece c.args.ends c.args.text.now c.split_at.result.1.now _ c.in_ok-value.value c.in_ok-value.taken c.utf8.text (omega arith) run.1 run.0 c.split_at.ensures.back c.in_ok-value.ensures
+    short_piece c.args.ends c.args.text.now c.split_at.result.1.now _ c.in_ok-value.value c.in_ok-value.taken c.utf8.text (omega (arith, run.2)) run.1 run.0 c.split_at.ensures.back c.in_ok-value.ensures
