@@ -1,5 +1,5 @@
 -- Short pieces of a string, as they are gathered.
-use Rattle.std.proofs.Common.{◌+◌, ◌-◌, ◌/◌, ◌^◌, ◌≡◌, ◌≢◌, ℕ, zero, suc, ◌<◌, ◌≤◌, Bool, true, false, not, List, [], ◌∷◌, map, length, drop, take, get_or, ◌++◌, append-nil, append_assoc, length-append, length-drop, unwrap_or, refl, sym, ap, ◌∙◌, subst, arith, chars, IsUtf8, IsCharBoundary, encode_utf8, ne_eqb}
+use Rattle.std.proofs.Common.{◌+◌, ◌-◌, ◌/◌, ◌^◌, ◌≡◌, ◌≢◌, ℕ, zero, suc, ◌<◌, ◌≤◌, Bool, true, false, not, List, [], ◌∷◌, Option, Some, None, IfSome, map, length, drop, take, get_or, ◌++◌, append-nil, append_assoc, length-append, length-drop, unwrap_or, refl, sym, ap, ◌∙◌, subst, arith, chars, IsUtf8, IsCharBoundary, encode_utf8, ne_eqb}
 use Rattle.std.proofs.lemmas.List.{drop-drop, get_or-drop}
 use Rattle.std.proofs.lemmas.List.Sums.{prefix_len-le-length}
 use Rattle.std.proofs.lemmas.Simd.{length-chunk, trailing_mask_l}
@@ -12,7 +12,7 @@ use lib.Lanes.{chunk, mask_l}
 use lib.Count.{count_trailing_zeros}
 use Rattle.ini_text.specs.declared.parser.endpoints.Endpoints.{Endpoints}
 use Rattle.ini_text.specs.Grammar.CharacterKinds.{backslash, letter_x, line_feed}
-use Rattle.ini_text.specs.Grammar.EscapeSequences.{control}
+use Rattle.ini_text.specs.Grammar.EscapeSequences.{control, spelled}
 use Rattle.ini_text.specs.Grammar.Strings.{Ends, plain_ends}
 use Rattle.ini_text.specs.Inside.Endpoints.{ends_of}
 use Rattle.ini_text.specs.Inside.Reading.{found, prepend, and_then}
@@ -20,7 +20,7 @@ use Rattle.ini_text.specs.Inside.Scans.{is_plain}
 use Rattle.ini_text.specs.Inside.ShortPieces.{IsEscape, IsShort, Sees}
 use Rattle.ini_text.specs.Inside.StringReader.{coded, string}
 use Rattle.ini_text.proofs.ReaderLemmas.ReaderLemmas.{prepend-nil, prepend-prepend}
-use Rattle.ini_text.proofs.ReaderLemmas.StringReaderLemmas.{string_run, string_pair, string_coded, coded_shortens}
+use Rattle.ini_text.proofs.ReaderLemmas.StringReaderLemmas.{string_run, string_pair, string_coded, coded_digits, coded_shortens}
 use Rattle.ini_text.proofs.StringLemmas.LaneLemmas.{bits_past, map_same, same_run, stopped}
 use Rattle.ini_text.proofs.StringLemmas.RunLemmas.{boundary, plain_wide, split_chars, run_chars}
 
@@ -53,6 +53,12 @@ begins_with_four t bytes a b c d same u long first second third fourth low-a low
     let read : chars bytes ≡ a ∷ b ∷ c ∷ d ∷ chars (drop 4 bytes) = two.read ∙ ap (λ x. a ∷ b ∷ x) (next.read ∙ ap (λ x. c ∷ d ∷ chars x) (drop-drop 2 2 bytes)) in
     subst (λ x. (chars x ≡ a ∷ b ∷ c ∷ d ∷ chars (drop 4 x)) × IsCharBoundary x 4) same (read, cut)
 
+-- what they spell, if that is a character
+pub four_spell : (t : List ℕ) {a b c d : ℕ} (r : Option ℕ) → (chars t ≡ a ∷ b ∷ c ∷ d ∷ chars (drop 4 t)) × IsCharBoundary t 4 → r ≡ spelled a b c d
+    → IfSome r (λ v. (coded (chars t) ≡ found (v ∷ []) (chars (drop 4 t))) × IsCharBoundary t 4)
+four_spell t None four is = tt
+four_spell t (Some v) four is = (coded_digits four.0 refl refl refl (sym is), four.1)
+
 module _ (to : Ends) where
   -- a backslash and the character behind it
   pub pair_read : {t rest : List ℕ} {d v : ℕ} → t ≡ backslash ∷ d ∷ rest → d ≢ line_feed → d ≢ letter_x → v ≡ unwrap_or (control d) d
@@ -75,11 +81,10 @@ letter_escape two n m is = record {
   shorter = omega (arith, ap length two.read);
 }
 
-pub coded_escape : {t behind rest : List ℕ} {v : ℕ} → BeginsWithTwo t 92 120 → 2 ≤ length t → behind ≡ drop 2 t → coded (chars behind) ≡ found (v ∷ []) (chars rest) → rest ≡ drop 4 behind → IsCharBoundary behind 4
-    → IsEscape t v 6
-coded_escape {t} {behind} {rest} {v} two long is_behind is is_rest cut =
+pub coded_escape : {t behind : List ℕ} {v : ℕ} → BeginsWithTwo t 92 120 → 2 ≤ length t → behind ≡ drop 2 t → coded (chars behind) ≡ found (v ∷ []) (chars (drop 4 behind)) → IsCharBoundary behind 4 → IsEscape t v 6
+coded_escape {t} {behind} {v} two long is_behind is cut =
     let codes : coded (chars (drop 2 t)) ≡ found (v ∷ []) (chars (drop 6 t)) =
-    ap (λ x. coded (chars x)) (sym is_behind) ∙ is ∙ ap (λ x. found (v ∷ []) (chars x)) (is_rest ∙ ap (drop 4) is_behind ∙ drop-drop 4 2 t) in
+    ap (λ x. coded (chars x)) (sym is_behind) ∙ is ∙ ap (λ x. found (v ∷ []) (chars x)) (ap (drop 4) is_behind ∙ drop-drop 4 2 t) in
     record {
       few = omega arith;
       cut = IsCharBoundary-from_rest t 2 4 long (subst (λ x. IsCharBoundary x 4) is_behind cut);

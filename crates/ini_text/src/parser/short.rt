@@ -9,7 +9,7 @@ ghost use Rattle.ini_text.specs.Inside.StringReader.{coded, string};
 ghost use Rattle.ini_text.specs.Parsing.Items.{string_text};
 ghost use Rattle.ini_text.specs.declared.lanes.TheConstants.{LANES};
 ghost use Rattle.ini_text.specs.declared.parser.block.TheConstants.{ROOM};
-ghost use Rattle.ini_text.specs.declared.parser.short.TheConstants.{LONGEST_ESCAPE};
+ghost use Rattle.ini_text.specs.declared.parser.short.TheConstants.{CODE, LONGEST_ESCAPE};
 
 use crate::lanes::{LANES, Marks};
 use crate::parser::block::{LONGEST, ROOM, place, place_front};
@@ -21,6 +21,9 @@ use std::simd::prelude::*;
 
 // How many bytes the longest escape has that is read here.
 const LONGEST_ESCAPE: usize = 6;
+
+// How many digits a code has.
+const CODE: usize = 4;
 
 /// Appends the values of some short pieces at the front of a text, if escapes are read, and gives what
 /// follows them.
@@ -130,24 +133,39 @@ fn split_escape(text: &str) -> Option<(char, usize)>
         return None;
     }
     let (_, behind) = text.split_at(2);
-    let (value, _) = split_coded(behind)?;
+    let value = coded_value(behind)?;
     Some((value, LONGEST_ESCAPE))
 }
 
 /// The character that the four characters behind `\x` spell, if they are digits, and what follows them.
 #[inline(always)]
 pub(crate) fn split_coded(text: &str) -> Option<(char, &str)>
-    ensures coded { IfSome result (λ p. coded (chars text.now) ≡ found (p.0 ∷ []) (chars p.1.now)) }
-    ensures rest { IfSome result (λ p. (p.1.now ≡ drop 4 text.now) × IsCharBoundary text.now 4) }
+    ensures { IfSome result (λ p. coded (chars text.now) ≡ found (p.0 ∷ []) (chars p.1.now)) }
 {
-    let [a, b, c, d, ..] = text.as_bytes() else {
+    if text.len() < CODE {
         return None;
-    };
-    let (a, b, c, d) = (digit(*a), digit(*b), digit(*c), digit(*d));
+    }
+    let value = coded_value(text)?;
+    let (_, rest) = text.split_at(CODE);
+    Some((value, rest))
+}
+
+/// The character that four characters spell, if they are digits.
+#[inline(always)]
+fn coded_value(text: &str) -> Option<char>
+    requires { CODE ≤ length text.now }
+    ensures { IfSome result (λ v. (coded (chars text.now) ≡ found (v ∷ []) (chars (drop CODE text.now)))
+        × IsCharBoundary text.now CODE) }
+{
+    let bytes = text.as_bytes();
+    let (a, b, c, d) = (
+        digit(bytes[0]),
+        digit(bytes[1]),
+        digit(bytes[2]),
+        digit(bytes[3]),
+    );
     if a >= 16 || b >= 16 || c >= 16 || d >= 16 {
         return None;
     }
-    let value = char::from_u32(a * 0x1000 + b * 0x100 + c * 0x10 + d)?;
-    let (_, rest) = text.split_at(4);
-    Some((value, rest))
+    char::from_u32(a * 0x1000 + b * 0x100 + c * 0x10 + d)
 }

@@ -16,5 +16,4 @@ split_at-requires c =
 pub returns : goal.returns
 returns c =
     let two = begins_with_two c.args.text.now c.as_bytes-bytes.result.now 92 120 c.as_bytes-bytes.ensures.value c.utf8.text (omega arith) (omega arith) (omega arith) (omega arith) (omega arith) in
-    let coded = c.in_ok-value.ensures in
-    coded_escape two (omega arith) c.split_at.ensures.back coded.coded coded.rest.0 coded.rest.1
+    coded_escape two (omega arith) c.split_at.ensures.back c.in_ok-value.ensures.0 c.in_ok-value.ensures.1
