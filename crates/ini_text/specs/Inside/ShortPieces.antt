@@ -8,7 +8,7 @@ use Rattle.ini_text.specs.Inside.Reading.{prepend}
 use Rattle.ini_text.specs.Inside.Scans.{is_plain}
 use Rattle.ini_text.specs.Inside.StringReader.{string}
 
--- the bits tell which of the text's first bytes, at most sixteen, are marks, and as many follow these
+-- the bits tell which of the text's first bytes, at most sixteen, are marks; sixteen follow them
 pub record Sees (to : Ends) (bits : ℕ) (text : List ℕ) : Type 0 where
   pub lanes : ℕ
   pub few : lanes ≤ 16

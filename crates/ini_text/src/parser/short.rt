@@ -99,8 +99,8 @@ fn split_short(text: &str, found: u64, ends: Endpoints) -> Option<(usize, char, 
     Some((plain, value, taken, marks))
 }
 
-/// The marks among a text's first bytes, which are looked for where none is found already. As many bytes
-/// follow those, so that a run and an escape need no test of length.
+/// The marks among a text's first bytes, which are looked for where none is found already, if as many bytes
+/// follow: so a run and an escape need no test of length.
 #[inline(always)]
 fn marks_ahead(text: &str, found: u64, ends: Endpoints) -> u64
     requires { Sees (ends_of ends) found text.now }
