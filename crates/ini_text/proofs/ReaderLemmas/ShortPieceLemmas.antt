@@ -1,5 +1,5 @@
 -- Short pieces of a string, as they are gathered.
-use Rattle.std.proofs.Common.{◌-◌, ◌/◌, ◌^◌, ◌≡◌, ◌≢◌, ℕ, ◌<◌, ◌≤◌, Bool, true, false, not, List, [], ◌∷◌, map, length, drop, take, get_or, ◌++◌, append-nil, append_assoc, length-append, length-drop, unwrap_or, refl, sym, ap, ◌∙◌, subst, arith, chars, IsUtf8, IsCharBoundary, encode_utf8, ne_eqb}
+use Rattle.std.proofs.Common.{◌+◌, ◌-◌, ◌/◌, ◌^◌, ◌≡◌, ◌≢◌, ℕ, zero, suc, ◌<◌, ◌≤◌, Bool, true, false, not, List, [], ◌∷◌, Option, Some, None, IfSome, map, length, drop, take, get_or, ◌++◌, append-nil, append_assoc, length-append, length-drop, unwrap_or, refl, sym, ap, ◌∙◌, subst, arith, chars, IsUtf8, IsCharBoundary, encode_utf8, ne_eqb}
 use Rattle.std.proofs.lemmas.List.{drop-drop, get_or-drop}
 use Rattle.std.proofs.lemmas.List.Sums.{prefix_len-le-length}
 use Rattle.std.proofs.lemmas.Simd.{length-chunk, trailing_mask_l}
@@ -12,7 +12,7 @@ use lib.Lanes.{chunk, mask_l}
 use lib.Count.{count_trailing_zeros}
 use Rattle.ini_text.specs.declared.parser.endpoints.Endpoints.{Endpoints}
 use Rattle.ini_text.specs.Grammar.CharacterKinds.{backslash, letter_x, line_feed}
-use Rattle.ini_text.specs.Grammar.EscapeSequences.{control}
+use Rattle.ini_text.specs.Grammar.EscapeSequences.{control, spelled}
 use Rattle.ini_text.specs.Grammar.Strings.{Ends, plain_ends}
 use Rattle.ini_text.specs.Inside.Endpoints.{ends_of}
 use Rattle.ini_text.specs.Inside.Reading.{found, prepend, and_then}
@@ -20,7 +20,7 @@ use Rattle.ini_text.specs.Inside.Scans.{is_plain}
 use Rattle.ini_text.specs.Inside.ShortPieces.{IsEscape, IsShort, Sees}
 use Rattle.ini_text.specs.Inside.StringReader.{coded, string}
 use Rattle.ini_text.proofs.ReaderLemmas.ReaderLemmas.{prepend-nil, prepend-prepend}
-use Rattle.ini_text.proofs.ReaderLemmas.StringReaderLemmas.{string_run, string_pair, string_coded, coded_shortens}
+use Rattle.ini_text.proofs.ReaderLemmas.StringReaderLemmas.{string_run, string_pair, string_coded, coded_digits, coded_shortens}
 use Rattle.ini_text.proofs.StringLemmas.LaneLemmas.{bits_past, map_same, same_run, stopped}
 use Rattle.ini_text.proofs.StringLemmas.RunLemmas.{boundary, plain_wide, split_chars, run_chars}
 
@@ -53,6 +53,12 @@ begins_with_four t bytes a b c d same u long first second third fourth low-a low
     let read : chars bytes ≡ a ∷ b ∷ c ∷ d ∷ chars (drop 4 bytes) = two.read ∙ ap (λ x. a ∷ b ∷ x) (next.read ∙ ap (λ x. c ∷ d ∷ chars x) (drop-drop 2 2 bytes)) in
     subst (λ x. (chars x ≡ a ∷ b ∷ c ∷ d ∷ chars (drop 4 x)) × IsCharBoundary x 4) same (read, cut)
 
+-- what they spell, if that is a character
+pub four_spell : (t : List ℕ) {a b c d : ℕ} (r : Option ℕ) → (chars t ≡ a ∷ b ∷ c ∷ d ∷ chars (drop 4 t)) × IsCharBoundary t 4 → r ≡ spelled a b c d
+    → IfSome r (λ v. (coded (chars t) ≡ found (v ∷ []) (chars (drop 4 t))) × IsCharBoundary t 4)
+four_spell t None four is = tt
+four_spell t (Some v) four is = (coded_digits four.0 refl refl refl (sym is), four.1)
+
 module _ (to : Ends) where
   -- a backslash and the character behind it
   pub pair_read : {t rest : List ℕ} {d v : ℕ} → t ≡ backslash ∷ d ∷ rest → d ≢ line_feed → d ≢ letter_x → v ≡ unwrap_or (control d) d
@@ -75,11 +81,10 @@ letter_escape two n m is = record {
   shorter = omega (arith, ap length two.read);
 }
 
-pub coded_escape : {t behind rest : List ℕ} {v : ℕ} → BeginsWithTwo t 92 120 → 2 ≤ length t → behind ≡ drop 2 t → coded (chars behind) ≡ found (v ∷ []) (chars rest) → rest ≡ drop 4 behind → IsCharBoundary behind 4
-    → IsEscape t v 6
-coded_escape {t} {behind} {rest} {v} two long is_behind is is_rest cut =
+pub coded_escape : {t behind : List ℕ} {v : ℕ} → BeginsWithTwo t 92 120 → 2 ≤ length t → behind ≡ drop 2 t → coded (chars behind) ≡ found (v ∷ []) (chars (drop 4 behind)) → IsCharBoundary behind 4 → IsEscape t v 6
+coded_escape {t} {behind} {v} two long is_behind is cut =
     let codes : coded (chars (drop 2 t)) ≡ found (v ∷ []) (chars (drop 6 t)) =
-    ap (λ x. coded (chars x)) (sym is_behind) ∙ is ∙ ap (λ x. found (v ∷ []) (chars x)) (is_rest ∙ ap (drop 4) is_behind ∙ drop-drop 4 2 t) in
+    ap (λ x. coded (chars x)) (sym is_behind) ∙ is ∙ ap (λ x. found (v ∷ []) (chars x)) (ap (drop 4) is_behind ∙ drop-drop 4 2 t) in
     record {
       few = omega arith;
       cut = IsCharBoundary-from_rest t 2 4 long (subst (λ x. IsCharBoundary x 4) is_behind cut);
@@ -93,13 +98,13 @@ twice false = refl
 
 module _ (to : Ends) where
   pub Sees-none : (t : List ℕ) → Sees to 0 t
-  Sees-none t = record { lanes = 0; few = omega arith; within = omega arith; are = refl }
+  Sees-none t = record { lanes = 0; few = omega arith; within = λ some. omega arith; are = refl }
 
-  pub Sees-found : (marked : ℕ → Bool) (t : List ℕ) {bits : ℕ} → ((c : ℕ) → is_plain to c ≡ not (marked c)) → 16 ≤ length t → bits ≡ mask_l (map marked (chunk 0 16 t)) → Sees to bits t
+  pub Sees-found : (marked : ℕ → Bool) (t : List ℕ) {bits : ℕ} → ((c : ℕ) → is_plain to c ≡ not (marked c)) → 32 ≤ length t → bits ≡ mask_l (map marked (chunk 0 16 t)) → Sees to bits t
   Sees-found marked t same long is = record {
     lanes = 16;
     few = omega arith;
-    within = long;
+    within = λ some. omega (arith, long);
     are = is ∙ ap mask_l (map_same marked (λ c. not (is_plain to c)) (λ c. twice (marked c) ∙ ap not (sym (same c))) (take 16 t));
   }
 
@@ -109,39 +114,47 @@ module _ (to : Ends) where
       subst (Sees to _) (sym is) record {
         lanes = sees.lanes - j;
         few = omega (arith, sees.few);
-        within = omega (arith, sees.within, length-drop j t);
+        within = λ some. omega (arith, sees.within (omega arith), length-drop j t);
         are = ap (λ n. n / 2 ^ j) sees.are ∙ bits_past marked j sees.lanes t;
       }
 
+  some_lanes : (marked : ℕ → Bool) (lanes : ℕ) (t : List ℕ) → 0 < mask_l (map marked (take lanes t)) → 0 < lanes
+  some_lanes marked zero t some = absurd (omega (arith, some))
+  some_lanes marked (suc n) t some = omega arith
+
   -- the run before the first mark that is seen
-  pub run_seen : {bits : ℕ} {t : List ℕ} → Sees to bits t → 0 < bits → (count_trailing_zeros 64 bits ≡ prefix_len (is_plain to) t) × (count_trailing_zeros 64 bits ≤ 16)
+  pub run_seen : {bits : ℕ} {t : List ℕ} → Sees to bits t → 0 < bits → (count_trailing_zeros 64 bits ≡ prefix_len (is_plain to) t) × (count_trailing_zeros 64 bits ≤ 16) × (count_trailing_zeros 64 bits + 16 ≤ length t)
   run_seen {bits} {t} sees some =
       let marked = λ (c : ℕ). not (is_plain to c) in
       let few = sees.few in
-      let within = sees.within in
       let are = sees.are in
+      let within : sees.lanes + 16 ≤ length t = sees.within (some_lanes marked sees.lanes t (omega arith)) in
       let long = length-chunk 0 sees.lanes t (omega arith) in
       let here = trailing_mask_l marked 64 (chunk 0 sees.lanes t) (omega arith) (omega arith) in (
         ap (count_trailing_zeros 64) are ∙ sym (stopped marked t 0 sees.lanes (omega arith) (omega arith) (omega arith)) ∙ sym (same_run (is_plain to) (λ x. not (marked x)) (λ c. twice (is_plain to c)) t),
         omega (arith, prefix_len-le-length (λ x. not (marked x)) (chunk 0 sees.lanes t), ap (count_trailing_zeros 64) are),
+        omega (arith, prefix_len-le-length (λ x. not (marked x)) (chunk 0 sees.lanes t), ap (count_trailing_zeros 64) are),
       )
 
 -- a run and an escape
-pub short_piece : (ends : Endpoints) (t stop rest : List ℕ) (n v k : ℕ) → IsUtf8 t → 16 ≤ length t → n ≤ 16 → n ≡ prefix_len (is_plain (ends_of ends)) t → stop ≡ drop n t → IsEscape stop v k → rest ≡ drop k stop
-    → IsShort (ends_of ends) t n v (chars rest)
-short_piece ends t stop rest n v k u long within is behind escape is_rest =
+pub short_piece : (ends : Endpoints) (t stop : List ℕ) (n v k : ℕ) → IsUtf8 t → 16 ≤ length t → n ≤ 16 → n ≡ prefix_len (is_plain (ends_of ends)) t → stop ≡ drop n t → IsEscape stop v k
+    → IsShort (ends_of ends) t n v k
+short_piece ends t stop n v k u long within is behind escape =
     let plain = is_plain (ends_of ends) in
     let cut : IsCharBoundary t n = subst (IsCharBoundary t) (sym is) (boundary plain t (plain_wide ends)) in
     let run = take n t in
     let parts = split_chars t run stop n u cut refl behind in
-    let read = escape.read (ends_of ends) ∙ ap (λ x. prepend (v ∷ []) (string true (ends_of ends) (chars x))) (sym is_rest) in
+    let rest : drop k stop ≡ drop (n + k) t = ap (drop k) behind ∙ drop-drop k n t in
+    let read = escape.read (ends_of ends) ∙ ap (λ x. prepend (v ∷ []) (string true (ends_of ends) (chars x))) rest in
     record {
       within = within;
+      few = escape.few;
       long = long;
       run = IsUtf8-take t n u cut;
+      cut = IsCharBoundary-from_rest t n k (omega arith) (subst (λ x. IsCharBoundary x k) behind escape.cut);
       read = string_run true (ends_of ends) (chars run) (chars stop) parts (run_chars plain t run n (plain_wide ends) u is refl)
-          ∙ ap (prepend (chars run)) read ∙ prepend-prepend (chars run) (v ∷ []) (string true (ends_of ends) (chars rest));
-      shorter = omega (arith, escape.shorter, ap (λ x. length (chars x)) is_rest, length-append (chars run) (chars stop), ap length parts);
+          ∙ ap (prepend (chars run)) read ∙ prepend-prepend (chars run) (v ∷ []) (string true (ends_of ends) (chars (drop (n + k) t)));
+      shorter = omega (arith, escape.shorter, ap (λ x. length (chars x)) rest, length-append (chars run) (chars stop), ap length parts);
     }
 
 -- what is gathered grows by a run and a character

@@ -21,10 +21,9 @@ front_put bytes mid post source at n within room long few =
     ∙ take-append-le n front (kept ++ post) (omega arith) ∙ take-take n 16 source few)
 
 -- the two bytes of a character
-pub two_bytes : {mid new : List ℕ} (old : List ℕ) (a b c : ℕ) → mid ≡ old ++ a ∷ [] → new ≡ mid ++ b ∷ [] → a ≡ 192 + c / 64 → b ≡ 128 + c % 64 → 128 ≤ c → c < 2048
-    → new ≡ old ++ encode c
+pub two_bytes : {new : List ℕ} (old : List ℕ) (a b c : ℕ) → new ≡ old ++ a ∷ b ∷ [] → a ≡ 192 + c / 64 → b ≡ 128 + c % 64 → 128 ≤ c → c < 2048 → new ≡ old ++ encode c
 unfolding encode
-two_bytes old a b c first second is_a is_b high low =
+two_bytes old a b c is is_a is_b high low =
     let past : ltb c 128 ≡ false = grind (arith, nat_tests) in
     let below : ltb c 2048 ≡ true = grind (arith, nat_tests) in
-    second ∙ ap (λ x. x ++ b ∷ []) first ∙ append_assoc old (a ∷ []) (b ∷ []) ∙ rw (past, below) (rw (is_a, is_b) refl)
+    is ∙ rw (past, below) (rw (is_a, is_b) refl)

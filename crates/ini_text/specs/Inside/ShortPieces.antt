@@ -1,5 +1,5 @@
 -- Short pieces of a string, which are gathered in a block.
-use Rattle.std.specs.Prelude.{◌≡◌, ◌≤◌, ◌<◌, ℕ, true, not, List, [], ◌∷◌, ◌++◌, take, drop, length, map}
+use Rattle.std.specs.Prelude.{◌≡◌, ◌≤◌, ◌<◌, ◌+◌, ℕ, true, not, List, [], ◌∷◌, ◌++◌, take, drop, length, map}
 use Rattle.std.specs.Prelude.{chars}
 use Rattle.std.specs.Simd.Lanes.{mask_l}
 use Rattle.std.specs.Str.{IsUtf8, IsCharBoundary}
@@ -7,16 +7,12 @@ use Rattle.ini_text.specs.Grammar.Strings.{Ends}
 use Rattle.ini_text.specs.Inside.Reading.{prepend}
 use Rattle.ini_text.specs.Inside.Scans.{is_plain}
 use Rattle.ini_text.specs.Inside.StringReader.{string}
-use Rattle.ini_text.specs.declared.parser.block.Block.{Block}
 
-abbrev pub bytes_in : Block → List ℕ
-bytes_in block = take block.len block.bytes
-
--- the bits tell which of the text's first bytes, at most sixteen, are marks
+-- the bits tell which of the text's first bytes, at most sixteen, are marks; sixteen follow them
 pub record Sees (to : Ends) (bits : ℕ) (text : List ℕ) : Type 0 where
   pub lanes : ℕ
   pub few : lanes ≤ 16
-  pub within : lanes ≤ length text
+  pub within : 0 < lanes → lanes + 16 ≤ length text
   pub are : bits ≡ mask_l (map (λ c. not (is_plain to c)) (take lanes text))
 
 -- at the text's front: an escape of n bytes that stands for the character v
@@ -27,11 +23,13 @@ pub record IsEscape (text : List ℕ) (v n : ℕ) : Type 0 where
       ≡ prepend (v ∷ []) (string true to (chars (drop n text)))
   pub shorter : length (chars (drop n text)) < length (chars text)
 
--- at the text's front: a run of n bytes, and behind it an escape that stands for the character v, before
--- the rest
-pub record IsShort (to : Ends) (text : List ℕ) (n v : ℕ) (rest : List ℕ) : Type 0 where
+-- at the text's front: a run of n bytes, and behind it an escape of k bytes that stands for the character v
+pub record IsShort (to : Ends) (text : List ℕ) (n v k : ℕ) : Type 0 where
   pub within : n ≤ 16
+  pub few : k ≤ 6
   pub long : 16 ≤ length text
   pub run : IsUtf8 (take n text)
-  pub read : string true to (chars text) ≡ prepend (chars (take n text) ++ v ∷ []) (string true to rest)
-  pub shorter : length rest < length (chars text)
+  pub cut : IsCharBoundary text (n + k)
+  pub read : string true to (chars text)
+      ≡ prepend (chars (take n text) ++ v ∷ []) (string true to (chars (drop (n + k) text)))
+  pub shorter : length (chars (drop (n + k) text)) < length (chars text)

@@ -1,20 +1,29 @@
 //! Short pieces of a string: a run of fewer bytes than are tested together, and an escape behind it. This
 //! file knows escapes, and nothing of lines, keys or names.
-ghost use Rattle.std.specs.Prelude.{◌≡◌, ◌∷◌, ◌≤◌, [], true, chars, drop, length, IfOk, IfSome};
+ghost use Rattle.std.specs.Prelude.{◌≡◌, ◌∷◌, ◌≤◌, [], true, chars, drop, length, take, IfOk, IfSome};
 ghost use Rattle.std.specs.Str.{IsCharBoundary};
 ghost use Rattle.ini_text.specs.Inside.Endpoints.{ends_of};
 ghost use Rattle.ini_text.specs.Inside.Reading.{found, prepend};
-ghost use Rattle.ini_text.specs.Inside.ShortPieces.{IsEscape, IsShort, Sees, bytes_in};
+ghost use Rattle.ini_text.specs.Inside.ShortPieces.{IsEscape, IsShort, Sees};
 ghost use Rattle.ini_text.specs.Inside.StringReader.{coded, string};
 ghost use Rattle.ini_text.specs.Parsing.Items.{string_text};
+ghost use Rattle.ini_text.specs.declared.lanes.TheConstants.{LANES};
+ghost use Rattle.ini_text.specs.declared.parser.block.TheConstants.{ROOM};
+ghost use Rattle.ini_text.specs.declared.parser.short.TheConstants.{CODE, LONGEST_ESCAPE};
 
 use crate::lanes::{LANES, Marks};
-use crate::parser::block::Block;
+use crate::parser::block::{LONGEST, ROOM, place, place_front};
 use crate::parser::endpoints::Endpoints;
 use crate::parser::tables::{digit, letter_value};
 use crate::text::push_text;
 use std::alloc::AllocError;
 use std::simd::prelude::*;
+
+// How many bytes the longest escape has that is read here.
+const LONGEST_ESCAPE: usize = 6;
+
+// How many digits a code has.
+const CODE: usize = 4;
 
 /// Appends the values of some short pieces at the front of a text, if escapes are read, and gives what
 /// follows them.
@@ -33,12 +42,12 @@ pub(crate) fn read_short<'a>(
     if !escapes {
         return Ok(text);
     }
-    let mut block = Block::new();
-    let rest = gather(&mut block, text, ends);
-    if block.is_empty() {
+    let mut block = [0; ROOM];
+    let (len, rest) = gather(&mut block, text, ends);
+    if len == 0 {
         return Ok(text);
     }
-    match str::from_utf8(block.as_bytes()) {
+    match str::from_utf8(&block[..len]) {
         Ok(values) => {
             push_text(out, values)?;
             Ok(rest)
@@ -48,59 +57,60 @@ pub(crate) fn read_short<'a>(
     }
 }
 
-/// Gathers the values of some short pieces, and gives what follows them.
+/// Gathers the values of some short pieces, and gives how many bytes these are, and what follows the pieces.
 #[inline(always)]
-fn gather<'a>(block: &mut Block, text: &'a str, ends: Endpoints) -> &'a str
-    requires { bytes_in block.old ≡ [] }
+fn gather<'a>(block: &mut [u8; ROOM], text: &'a str, ends: Endpoints) -> (usize, &'a str)
+    ensures within { result.0 ≤ ROOM }
     ensures read { string true (ends_of ends) (chars text.now)
-        ≡ prepend (chars (bytes_in block.new)) (string true (ends_of ends) (chars result.now)) }
-    ensures shorter { length (chars result.now) ≤ length (chars text.now) }
+        ≡ prepend (chars (take result.0 block.new)) (string true (ends_of ends) (chars result.1.now)) }
+    ensures shorter { length (chars result.1.now) ≤ length (chars text.now) }
 {
+    let mut len = 0;
     let mut rest = text;
     let mut found = 0;
-    'pieces: while block.has_room() {
-        let Some((len, value, behind, left)) = split_short(rest, found, ends) else {
-            return rest;
+    'pieces: while len <= ROOM - LANES - LONGEST {
+        let Some((plain, value, taken, marks)) = split_short(rest, found, ends) else {
+            break 'pieces;
         };
-        block.push_front(rest.as_bytes(), len);
-        block.push(value);
+        place_front(block, len, rest.as_bytes());
+        len = place(block, len + plain, value);
+        let (_, behind) = rest.split_at(plain + taken);
         rest = behind;
-        found = left;
+        found = marks >> (plain + taken);
     }
-    rest
+    (len, rest)
 }
 
-/// How many bytes of a run stand before an escape, what that stands for, and what follows, with the marks
-/// that are found there already.
+/// How many bytes of a run stand before an escape, what that stands for, and how many bytes it has, with the
+/// marks that are found.
 #[inline(always)]
-fn split_short(text: &str, found: u64, ends: Endpoints) -> Option<(usize, char, &str, u64)>
+fn split_short(text: &str, found: u64, ends: Endpoints) -> Option<(usize, char, usize, u64)>
     requires { Sees (ends_of ends) found text.now }
-    ensures piece { IfSome result (λ p. IsShort (ends_of ends) text.now p.0 p.1 (chars p.2.now)) }
-    ensures left { IfSome result (λ p. Sees (ends_of ends) p.3 p.2.now) }
+    ensures piece { IfSome result (λ p. IsShort (ends_of ends) text.now p.0 p.1 p.2) }
+    ensures seen { IfSome result (λ p. Sees (ends_of ends) p.3 text.now) }
 {
-    if text.len() < LANES {
-        return None;
-    }
     let marks = marks_ahead(text, found, ends);
     if marks == 0 {
         return None;
     }
-    let len = marks.trailing_zeros() as usize;
-    let (_, stop) = text.split_at(len);
+    let plain = marks.trailing_zeros() as usize;
+    let (_, stop) = text.split_at(plain);
     let (value, taken) = split_escape(stop)?;
-    let (_, rest) = stop.split_at(taken);
-    Some((len, value, rest, marks >> (len + taken)))
+    Some((plain, value, taken, marks))
 }
 
-/// The marks among a text's first bytes, which are looked for where none is found already.
+/// The marks among a text's first bytes, which are looked for where none is found already, if as many bytes
+/// follow: so a run and an escape need no test of length.
 #[inline(always)]
 fn marks_ahead(text: &str, found: u64, ends: Endpoints) -> u64
-    requires long { LANES ≤ length text.now }
-    requires found { Sees (ends_of ends) found text.now }
+    requires { Sees (ends_of ends) found text.now }
     ensures { Sees (ends_of ends) result text.now }
 {
     if found != 0 {
         return found;
+    }
+    if text.len() < 2 * LANES {
+        return 0;
     }
     ends.marks().find(u8x16::from_slice(text.as_bytes()))
 }
@@ -108,12 +118,14 @@ fn marks_ahead(text: &str, found: u64, ends: Endpoints) -> u64
 /// What an escape stands for that is read without a look at what follows it, and how many bytes it has.
 #[inline(always)]
 fn split_escape(text: &str) -> Option<(char, usize)>
+    requires { LONGEST_ESCAPE ≤ length text.now }
     ensures { IfSome result (λ p. IsEscape text.now p.0 p.1) }
 {
-    let [b'\\', byte, ..] = text.as_bytes() else {
+    let bytes = text.as_bytes();
+    if bytes[0] != b'\\' {
         return None;
-    };
-    let letter = *byte;
+    }
+    let letter = bytes[1];
     if let Some(value) = letter_value(letter) {
         return Some((value, 2));
     }
@@ -121,24 +133,39 @@ fn split_escape(text: &str) -> Option<(char, usize)>
         return None;
     }
     let (_, behind) = text.split_at(2);
-    let (value, _) = split_coded(behind)?;
-    Some((value, 6))
+    let value = coded_value(behind)?;
+    Some((value, LONGEST_ESCAPE))
 }
 
 /// The character that the four characters behind `\x` spell, if they are digits, and what follows them.
 #[inline(always)]
 pub(crate) fn split_coded(text: &str) -> Option<(char, &str)>
-    ensures coded { IfSome result (λ p. coded (chars text.now) ≡ found (p.0 ∷ []) (chars p.1.now)) }
-    ensures rest { IfSome result (λ p. (p.1.now ≡ drop 4 text.now) × IsCharBoundary text.now 4) }
+    ensures { IfSome result (λ p. coded (chars text.now) ≡ found (p.0 ∷ []) (chars p.1.now)) }
 {
-    let [a, b, c, d, ..] = text.as_bytes() else {
+    if text.len() < CODE {
         return None;
-    };
-    let (a, b, c, d) = (digit(*a), digit(*b), digit(*c), digit(*d));
+    }
+    let value = coded_value(text)?;
+    let (_, rest) = text.split_at(CODE);
+    Some((value, rest))
+}
+
+/// The character that four characters spell, if they are digits.
+#[inline(always)]
+fn coded_value(text: &str) -> Option<char>
+    requires { CODE ≤ length text.now }
+    ensures { IfSome result (λ v. (coded (chars text.now) ≡ found (v ∷ []) (chars (drop CODE text.now)))
+        × IsCharBoundary text.now CODE) }
+{
+    let bytes = text.as_bytes();
+    let (a, b, c, d) = (
+        digit(bytes[0]),
+        digit(bytes[1]),
+        digit(bytes[2]),
+        digit(bytes[3]),
+    );
     if a >= 16 || b >= 16 || c >= 16 || d >= 16 {
         return None;
     }
-    let value = char::from_u32(a * 0x1000 + b * 0x100 + c * 0x10 + d)?;
-    let (_, rest) = text.split_at(4);
-    Some((value, rest))
+    char::from_u32(a * 0x1000 + b * 0x100 + c * 0x10 + d)
 }

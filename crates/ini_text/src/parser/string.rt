@@ -10,6 +10,7 @@ use crate::error::ParseKind;
 use crate::parser::endpoints::{Endpoints, split_run};
 use crate::parser::fault::Stop;
 use crate::parser::short::{read_short, split_coded};
+use crate::parser::tables::letter_value;
 use crate::text::{push, push_text, split_first};
 use std::alloc::AllocError;
 
@@ -94,15 +95,10 @@ fn push_escaped(out: &mut String, c: char, escapes: bool) -> Result<(), AllocErr
 fn escaped_value(c: char) -> char
     ensures { result ≡ unwrap_or (control c) c }
 {
-    match c {
-        '0' => '\0',
-        'a' => '\u{7}',
-        'b' => '\u{8}',
-        't' => '\t',
-        'r' => '\r',
-        'n' => '\n',
-        _ => c,
+    if !c.is_ascii() {
+        return c;
     }
+    letter_value(c as u8).unwrap_or(c)
 }
 
 // coded = "\x" 4unit

@@ -24,11 +24,21 @@ static DIGITS: [u8; 256] = [
     NO, NO, NO, NO, NO, NO, NO, NO, NO, NO, NO, NO, NO, NO,
 ];
 
-// What each printable character stands for behind a backslash, from the space on.
-static LETTERS: [u8; 96] = *b"\
+// What each byte stands for behind a backslash; 0xFF for LF, for the `x` of a code and from 0x80 on.
+static LETTERS: [u8; 256] = *b"\
+    \x00\x01\x02\x03\x04\x05\x06\x07\x08\x09\xFF\x0B\x0C\x0D\x0E\x0F\
+    \x10\x11\x12\x13\x14\x15\x16\x17\x18\x19\x1A\x1B\x1C\x1D\x1E\x1F\
     \x20!\"#$%&'()*+,-./\x00123456789:;<=>?\
     @ABCDEFGHIJKLMNOPQRSTUVWXYZ[\\]^_\
-    `\x07\x08cdefghijklm\x0Aopq\x0Ds\x09uvw\xFFyz{|}~\x7F";
+    `\x07\x08cdefghijklm\x0Aopq\x0Ds\x09uvw\xFFyz{|}~\x7F\
+    \xFF\xFF\xFF\xFF\xFF\xFF\xFF\xFF\xFF\xFF\xFF\xFF\xFF\xFF\xFF\xFF\
+    \xFF\xFF\xFF\xFF\xFF\xFF\xFF\xFF\xFF\xFF\xFF\xFF\xFF\xFF\xFF\xFF\
+    \xFF\xFF\xFF\xFF\xFF\xFF\xFF\xFF\xFF\xFF\xFF\xFF\xFF\xFF\xFF\xFF\
+    \xFF\xFF\xFF\xFF\xFF\xFF\xFF\xFF\xFF\xFF\xFF\xFF\xFF\xFF\xFF\xFF\
+    \xFF\xFF\xFF\xFF\xFF\xFF\xFF\xFF\xFF\xFF\xFF\xFF\xFF\xFF\xFF\xFF\
+    \xFF\xFF\xFF\xFF\xFF\xFF\xFF\xFF\xFF\xFF\xFF\xFF\xFF\xFF\xFF\xFF\
+    \xFF\xFF\xFF\xFF\xFF\xFF\xFF\xFF\xFF\xFF\xFF\xFF\xFF\xFF\xFF\xFF\
+    \xFF\xFF\xFF\xFF\xFF\xFF\xFF\xFF\xFF\xFF\xFF\xFF\xFF\xFF\xFF\xFF";
 
 /// The value of a hexadecimal digit, and 16 or more for any other byte.
 #[inline(always)]
@@ -39,16 +49,13 @@ pub(crate) fn digit(byte: u8) -> u32
     u32::from(DIGITS[usize::from(byte)])
 }
 
-/// What a backslash and a character from the space on to 0x7F stand for, other than the `x` of a code.
+/// What a backslash and a byte stand for. `None` for LF, for the `x` of a code and from 0x80 on.
 #[inline(always)]
 pub(crate) fn letter_value(byte: u8) -> Option<char>
-    ensures value { IfSome result (λ c. c ≡ unwrap_or (control byte) byte) }
+    ensures value { unwrap_or result byte ≡ unwrap_or (control byte) byte }
     ensures letter { IfSome result (λ c. (byte < 128) × (byte ≢ letter_x) × (byte ≢ line_feed)) }
 {
-    if byte < b' ' || byte >= 0x80 {
-        return None;
-    }
-    let value = LETTERS[usize::from(byte - b' ')];
+    let value = LETTERS[usize::from(byte)];
     if value >= 0x80 {
         return None;
     }

@@ -1,9 +1,8 @@
-use Rattle.std.proofs.Common.{◌+◌, ◌∙◌, IsCharBoundary, ap, arith, drop, subst, sym}
-use Rattle.std.proofs.lemmas.List.{drop-drop}
+use Rattle.std.proofs.Common.{IsCharBoundary, ap, arith, length, length-drop, subst, sym}
 use lib.Count.{count_trailing_zeros}
 use Rattle.ini_text.specs.Inside.Endpoints.{ends_of}
 use Rattle.ini_text.specs.Inside.Scans.{is_plain}
-use Rattle.ini_text.proofs.ReaderLemmas.ShortPieceLemmas.{Sees-past, run_seen, short_piece}
+use Rattle.ini_text.proofs.ReaderLemmas.ShortPieceLemmas.{run_seen, short_piece}
 use Rattle.ini_text.proofs.StringLemmas.RunLemmas.{boundary, plain_wide}
 use Rattle.ini_text.proofs.parser.short.split_short.Goals as goal
 
@@ -13,20 +12,12 @@ split_at-requires c =
     let run = run_seen (ends_of c.args.ends) c.marks_ahead-marks.ensures (omega arith) in
     subst (IsCharBoundary text) (sym run.0) (boundary (is_plain (ends_of c.args.ends)) text (plain_wide c.args.ends))
 
-pub overflow_shr-result : goal.overflow_shr-result
-overflow_shr-result c =
+pub split_escape-requires : goal.split_escape-requires
+split_escape-requires c =
     let run = run_seen (ends_of c.args.ends) c.marks_ahead-marks.ensures (omega arith) in
-    omega (arith, run.1, c.in_ok-value.ensures.few)
+    omega (arith, run.2, ap length c.split_at.ensures.back, length-drop (count_trailing_zeros 64 c.marks_ahead-marks.result) c.args.text.now)
 
 pub returns-clause-piece : goal.returns-clause-piece
 returns-clause-piece c =
     let run = run_seen (ends_of c.args.ends) c.marks_ahead-marks.ensures (omega arith) in
-    short_piece c.args.ends c.args.text.now c.split_at.result.1.now c.split_at-2.result.1.now _ c.in_ok-value.value c.in_ok-value.taken c.utf8.text (omega arith) run.1 run.0 c.split_at.ensures.back
-    c.in_ok-value.ensures c.split_at-2.ensures.back
-
-pub returns-clause-left : goal.returns-clause-left
-returns-clause-left c =
-    let text = c.args.text.now in
-    let len = count_trailing_zeros 64 c.marks_ahead-marks.result in
-    let taken = c.in_ok-value.taken in
-    Sees-past (ends_of c.args.ends) (len + taken) c.marks_ahead-marks.ensures (c.split_at-2.ensures.back ∙ ap (drop taken) c.split_at.ensures.back ∙ drop-drop taken len text)
+    short_piece c.args.ends c.args.text.now c.split_at.result.1.now _ c.in_ok-value.value c.in_ok-value.taken c.utf8.text (omega (arith, run.2)) run.1 run.0 c.split_at.ensures.back c.in_ok-value.ensures
