@@ -1,6 +1,6 @@
 //! Runs of bytes up to the first that is marked, sixteen bytes at a time. This file knows bytes, and no
 //! text.
-ghost use Rattle.std.specs.Prelude.{◌≡◌, true, ◌++◌, ◌-◌, ◌<◌, ◌≤◌, ℕ, Bool, length, map};
+ghost use Rattle.std.specs.Prelude.{◌≡◌, true, ◌+◌, ◌++◌, ◌-◌, ◌<◌, ◌≤◌, ℕ, Bool, length, map};
 ghost use Rattle.std.specs.List.{position_or_len};
 ghost use Rattle.std.specs.Simd.Lanes.{chunk, mask_l};
 ghost use Rattle.ini_text.specs.Inside.Lanes.{Tells, is_one_of};
@@ -26,16 +26,21 @@ pub(crate) trait Marks {
         ensures { result ≡ mask_l (map (is_marked self.now) lanes) };
 }
 
-/// The bits of the first bytes that are marked, which are looked for where none is known already.
+/// The bits of the first bytes that are marked, which are looked for where none is known already, if so many
+/// more bytes follow.
 #[inline(always)]
-pub(crate) fn marks_ahead<M: Marks>(bytes: &[u8], known: u64, marks: &M) -> u64
-    requires long { LANES ≤ length bytes.now }
-    requires known { Tells (M.is_marked marks.now) known bytes.now }
-    ensures tells { Tells (M.is_marked marks.now) result bytes.now }
-    ensures none { result ≡ 0 → LANES ≤ position_or_len (M.is_marked marks.now) bytes.now }
+pub(crate) fn marks_ahead<M: Marks>(bytes: &[u8], known: u64, more: usize, marks: &M) -> u64
+    requires known { Tells (M.is_marked marks.now) more known bytes.now }
+    requires few { more ≤ LANES }
+    ensures tells { Tells (M.is_marked marks.now) more result bytes.now }
+    ensures none { result ≡ 0 → LANES + more ≤ length bytes.now
+        → LANES ≤ position_or_len (M.is_marked marks.now) bytes.now }
 {
     if known != 0 {
         return known;
+    }
+    if bytes.len() < LANES + more {
+        return 0;
     }
     marks.find(u8x16::from_slice(bytes))
 }

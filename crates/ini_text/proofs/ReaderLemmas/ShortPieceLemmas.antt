@@ -1,27 +1,26 @@
 -- Short pieces of a string, as they are gathered.
-use Rattle.std.proofs.Common.{◌+◌, ◌-◌, ◌/◌, ◌^◌, ◌≡◌, ◌≢◌, ℕ, zero, suc, ◌<◌, ◌≤◌, Bool, true, false, not, List, [], ◌∷◌, Option, Some, None, IfSome, map, length, drop, take, get_or, ◌++◌, append-nil, append_assoc, length-append, length-drop, unwrap_or, refl, sym, ap, ◌∙◌, subst, arith, chars, IsUtf8, IsCharBoundary, encode_utf8, ne_eqb}
+use Rattle.std.proofs.Common.{◌+◌, ◌≡◌, ◌≢◌, ℕ, ◌<◌, ◌≤◌, Bool, true, false, not, List, [], ◌∷◌, Option, Some, None, IfSome, length, drop, take, get_or, ◌++◌, append-nil, append_assoc, length-append, length-drop, unwrap_or, refl, sym, ap, ◌∙◌, subst, arith, chars, IsUtf8, IsCharBoundary, encode_utf8, ne_eqb}
 use Rattle.std.proofs.lemmas.List.{drop-drop, get_or-drop}
-use Rattle.std.proofs.lemmas.List.Sums.{prefix_len-le-length}
-use Rattle.std.proofs.lemmas.Simd.{length-chunk, trailing_mask_l}
 use Rattle.std.proofs.lemmas.Str.{chars-append, chars-encodes, chars_past_char, encode_ascii, IsCharBoundary-after_ascii, IsCharBoundary-from_rest, IsUtf8-append, IsUtf8-drop, IsUtf8-encode, IsUtf8-past_char, IsUtf8-take}
 use Rattle.std.proofs.Math.Bool.{and-true}
 use Rattle.std.proofs.Math.Seq.{drop-cons}
 use Rattle.std.specs.Char.{IsScalar}
 use Rattle.std.specs.List.{prefix_len}
-use lib.Lanes.{chunk, mask_l}
 use lib.Count.{count_trailing_zeros}
+use Rattle.ini_text.specs.declared.lanes.Three.{Three}
 use Rattle.ini_text.specs.declared.parser.endpoints.Endpoints.{Endpoints}
 use Rattle.ini_text.specs.Grammar.CharacterKinds.{backslash, letter_x, line_feed}
 use Rattle.ini_text.specs.Grammar.EscapeSequences.{control, spelled}
 use Rattle.ini_text.specs.Grammar.Strings.{Ends, plain_ends}
 use Rattle.ini_text.specs.Inside.Endpoints.{ends_of}
+use Rattle.ini_text.specs.Inside.Lanes.{Tells, is_one_of}
 use Rattle.ini_text.specs.Inside.Reading.{found, prepend, and_then}
 use Rattle.ini_text.specs.Inside.Scans.{is_plain}
 use Rattle.ini_text.specs.Inside.ShortPieces.{IsEscape, IsShort, Sees}
 use Rattle.ini_text.specs.Inside.StringReader.{coded, string}
 use Rattle.ini_text.proofs.ReaderLemmas.ReaderLemmas.{prepend-nil, prepend-prepend}
 use Rattle.ini_text.proofs.ReaderLemmas.StringReaderLemmas.{string_run, string_pair, string_coded, coded_digits, coded_shortens}
-use Rattle.ini_text.proofs.StringLemmas.LaneLemmas.{bits_past, map_same, same_run, stopped}
+use Rattle.ini_text.proofs.StringLemmas.LaneLemmas.{Tells-same, same_run, stops_at}
 use Rattle.ini_text.proofs.StringLemmas.RunLemmas.{boundary, plain_wide, split_chars, run_chars}
 
 -- a text whose first two bytes are ASCII
@@ -96,45 +95,24 @@ twice : (b : Bool) → b ≡ not (not b)
 twice true = refl
 twice false = refl
 
-module _ (to : Ends) where
-  pub Sees-none : (t : List ℕ) → Sees to 0 t
-  Sees-none t = record { lanes = 0; few = omega arith; within = λ some. omega arith; are = refl }
+-- bits of the bytes at which a string stops
+to_marks : (ends : Endpoints) (three : Three) → ((c : ℕ) → is_plain (ends_of ends) c ≡ not (is_one_of three.0 three.1 three.2 c)) → (c : ℕ)
+    → not (is_plain (ends_of ends) c) ≡ is_one_of three.0 three.1 three.2 c
+to_marks ends three same c = ap not (same c) ∙ sym (twice (is_one_of three.0 three.1 three.2 c))
 
-  pub Sees-found : (marked : ℕ → Bool) (t : List ℕ) {bits : ℕ} → ((c : ℕ) → is_plain to c ≡ not (marked c)) → 32 ≤ length t → bits ≡ mask_l (map marked (chunk 0 16 t)) → Sees to bits t
-  Sees-found marked t same long is = record {
-    lanes = 16;
-    few = omega arith;
-    within = λ some. omega (arith, long);
-    are = is ∙ ap mask_l (map_same marked (λ c. not (is_plain to c)) (λ c. twice (marked c) ∙ ap not (sym (same c))) (take 16 t));
-  }
+pub told : (ends : Endpoints) (three : Three) {bits : ℕ} {t : List ℕ} → ((c : ℕ) → is_plain (ends_of ends) c ≡ not (is_one_of three.0 three.1 three.2 c)) → Sees (ends_of ends) bits t
+    → Tells (is_one_of three.0 three.1 three.2) 16 bits t
+told ends three same = Tells-same _ _ (to_marks ends three same)
 
-  pub Sees-past : (j : ℕ) {bits : ℕ} {t rest : List ℕ} → Sees to bits t → rest ≡ drop j t → Sees to (bits / 2 ^ j) rest
-  Sees-past j {t = t} sees is =
-      let marked = λ (c : ℕ). not (is_plain to c) in
-      subst (Sees to _) (sym is) record {
-        lanes = sees.lanes - j;
-        few = omega (arith, sees.few);
-        within = λ some. omega (arith, sees.within (omega arith), length-drop j t);
-        are = ap (λ n. n / 2 ^ j) sees.are ∙ bits_past marked j sees.lanes t;
-      }
+pub seen : (ends : Endpoints) (three : Three) {bits : ℕ} {t : List ℕ} → ((c : ℕ) → is_plain (ends_of ends) c ≡ not (is_one_of three.0 three.1 three.2 c)) → Tells (is_one_of three.0 three.1 three.2) 16 bits t
+    → Sees (ends_of ends) bits t
+seen ends three same = Tells-same _ _ (λ c. sym (to_marks ends three same c))
 
-  some_lanes : (marked : ℕ → Bool) (lanes : ℕ) (t : List ℕ) → 0 < mask_l (map marked (take lanes t)) → 0 < lanes
-  some_lanes marked zero t some = absurd (omega (arith, some))
-  some_lanes marked (suc n) t some = omega arith
-
-  -- the run before the first mark that is seen
-  pub run_seen : {bits : ℕ} {t : List ℕ} → Sees to bits t → 0 < bits → (count_trailing_zeros 64 bits ≡ prefix_len (is_plain to) t) × (count_trailing_zeros 64 bits ≤ 16) × (count_trailing_zeros 64 bits + 16 ≤ length t)
-  run_seen {bits} {t} sees some =
-      let marked = λ (c : ℕ). not (is_plain to c) in
-      let few = sees.few in
-      let are = sees.are in
-      let within : sees.lanes + 16 ≤ length t = sees.within (some_lanes marked sees.lanes t (omega arith)) in
-      let long = length-chunk 0 sees.lanes t (omega arith) in
-      let here = trailing_mask_l marked 64 (chunk 0 sees.lanes t) (omega arith) (omega arith) in (
-        ap (count_trailing_zeros 64) are ∙ sym (stopped marked t 0 sees.lanes (omega arith) (omega arith) (omega arith)) ∙ sym (same_run (is_plain to) (λ x. not (marked x)) (λ c. twice (is_plain to c)) t),
-        omega (arith, prefix_len-le-length (λ x. not (marked x)) (chunk 0 sees.lanes t), ap (count_trailing_zeros 64) are),
-        omega (arith, prefix_len-le-length (λ x. not (marked x)) (chunk 0 sees.lanes t), ap (count_trailing_zeros 64) are),
-      )
+-- the run before the first mark that is seen
+pub run_seen : (to : Ends) {bits : ℕ} {t : List ℕ} → Sees to bits t → 0 < bits → (count_trailing_zeros 64 bits ≡ prefix_len (is_plain to) t) × (count_trailing_zeros 64 bits ≤ 16) × (count_trailing_zeros 64 bits + 16 ≤ length t)
+run_seen to {bits} {t} sees some =
+    let stops = stops_at (λ c. not (is_plain to c)) t sees some in
+    (stops.position ∙ sym (same_run (is_plain to) (λ x. not (not (is_plain to x))) (λ c. twice (is_plain to c)) t), omega (arith, stops.below), omega (arith, stops.within))
 
 -- a run and an escape
 pub short_piece : (ends : Endpoints) (t stop : List ℕ) (n v k : ℕ) → IsUtf8 t → 16 ≤ length t → n ≤ 16 → n ≡ prefix_len (is_plain (ends_of ends)) t → stop ≡ drop n t → IsEscape stop v k

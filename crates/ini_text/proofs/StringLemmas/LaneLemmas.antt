@@ -140,33 +140,37 @@ bits_past p (suc j) (suc k) (x ∷ xs) =
     ap (λ n. (cond (p x) 1 0 + 2 * bits) / n) (pow-suc 2 j ∙ mul_comm (2 ^ j) 2) ∙ sym (div-div-eq-div-mul (cond (p x) 1 0 + 2 * bits) 2 (2 ^ j))
     ∙ ap (λ n. n / 2 ^ j) (halved (p x) bits) ∙ bits_past p j k xs ∙ ap (λ n. mask_l (map p (take n (drop j xs)))) (let same : k - j ≡ suc k - suc j = omega arith in same)
 
--- What bits tell of the first bytes.
+-- What bits tell of the first bytes, behind which so many more follow.
 module _ (p : ℕ → Bool) where
-  pub Tells-none : (bytes : List ℕ) → Tells p 0 bytes
-  Tells-none bytes = record { lanes = 0; few = omega arith; within = omega arith; are = refl }
+  pub Tells-none : (more : ℕ) (bytes : List ℕ) → Tells p more 0 bytes
+  Tells-none more bytes = record { lanes = 0; few = omega arith; within = λ some. omega arith; are = refl }
 
-  pub Tells-found : (bytes : List ℕ) {bits : ℕ} → 16 ≤ length bytes → bits ≡ mask_l (map p (chunk 0 16 bytes)) → Tells p bits bytes
-  Tells-found bytes long is = record { lanes = 16; few = omega arith; within = long; are = is }
+  pub Tells-found : (more : ℕ) (bytes : List ℕ) {bits : ℕ} → 16 + more ≤ length bytes → bits ≡ mask_l (map p (chunk 0 16 bytes)) → Tells p more bits bytes
+  Tells-found more bytes long is = record { lanes = 16; few = omega arith; within = λ some. long; are = is }
 
-  pub Tells-past : (j : ℕ) {bits : ℕ} {bytes rest : List ℕ} → Tells p bits bytes → rest ≡ drop j bytes → Tells p (bits / 2 ^ j) rest
-  Tells-past j {bytes = bytes} tells is = subst (Tells p _) (sym is) record {
+  pub Tells-past : {more : ℕ} (j : ℕ) {bits : ℕ} {bytes rest : List ℕ} → Tells p more bits bytes → rest ≡ drop j bytes → Tells p more (bits / 2 ^ j) rest
+  Tells-past {more} j {bytes = bytes} tells is = subst (Tells p more _) (sym is) record {
     lanes = tells.lanes - j;
     few = omega (arith, tells.few);
-    within = omega (arith, tells.within, length-drop j bytes);
+    within = λ some. omega (arith, tells.within (omega arith), length-drop j bytes);
     are = ap (λ n. n / 2 ^ j) tells.are ∙ bits_past p j tells.lanes bytes;
   }
 
+  some_lanes : (lanes : ℕ) (bytes : List ℕ) → 0 < mask_l (map p (take lanes bytes)) → 0 < lanes
+  some_lanes zero bytes some = absurd (omega (arith, some))
+  some_lanes (suc n) bytes some = omega arith
+
   -- how many bytes stand before the first that is marked
-  pub record StopsAt (bytes : List ℕ) (run : ℕ) : Type 0 where
+  pub record StopsAt (more : ℕ) (bytes : List ℕ) (run : ℕ) : Type 0 where
     pub position : run ≡ position_or_len p bytes
     pub below : run < 16
-    pub within : run < length bytes
+    pub within : run + more < length bytes
 
-  pub stops_at : (bytes : List ℕ) {bits : ℕ} → Tells p bits bytes → 0 < bits → StopsAt bytes (count_trailing_zeros 64 bits)
-  stops_at bytes {bits} tells some =
+  pub stops_at : {more : ℕ} (bytes : List ℕ) {bits : ℕ} → Tells p more bits bytes → 0 < bits → StopsAt more bytes (count_trailing_zeros 64 bits)
+  stops_at {more} bytes {bits} tells some =
       let few = tells.few in
-      let within = tells.within in
       let are = tells.are in
+      let within : tells.lanes + more ≤ length bytes = tells.within (some_lanes tells.lanes bytes (omega arith)) in
       let lanes = chunk 0 tells.lanes bytes in
       let many = length-chunk 0 tells.lanes bytes (omega arith) in
       let first = stopped p bytes 0 tells.lanes (omega arith) (omega arith) (omega arith) ∙ ap (count_trailing_zeros 64) (sym are) in
@@ -176,3 +180,12 @@ module _ (p : ℕ → Bool) where
         | inr above ↦ absurd (omega (arith, no_bits p lanes (omega (arith, prefix_len-le-length (λ x. not (p x)) lanes))))
       ] in
       record { position = sym first; below = omega arith; within = omega arith }
+
+-- the same of another test that answers alike
+pub Tells-same : (p q : ℕ → Bool) → ((c : ℕ) → p c ≡ q c) → {more bits : ℕ} {bytes : List ℕ} → Tells p more bits bytes → Tells q more bits bytes
+Tells-same p q same {bytes = bytes} tells = record {
+  lanes = tells.lanes;
+  few = tells.few;
+  within = tells.within;
+  are = tells.are ∙ ap mask_l (map_same p q same (take tells.lanes bytes));
+}

@@ -1,5 +1,5 @@
 -- Bytes of which each that is marked goes out as the escape of its character.
-use Rattle.std.proofs.Common.{◌≡◌, ℕ, zero, suc, ◌+◌, ◌<◌, ◌≤◌, Bool, true, false, not, cond, List, [], ◌∷◌, ◌++◌, length, map, take, drop, get_or, inl, inr, Some, leb, refl, ap, ap₂, ◌∙◌, sym, arith, append_assoc, append-nil, IsUtf8, chars, encode_utf8_all, add-zero}
+use Rattle.std.proofs.Common.{◌≡◌, ℕ, zero, suc, ◌+◌, ◌<◌, ◌≤◌, Bool, true, false, not, cond, List, [], ◌∷◌, ◌++◌, length, take, drop, get_or, inl, inr, Some, leb, refl, ap, ap₂, ◌∙◌, sym, arith, append_assoc, append-nil, IsUtf8, chars, encode_utf8_all, add-zero}
 use lib.Utf8.{encode}
 use Rattle.std.proofs.Math.Seq.{take-append-add, take-length}
 use Rattle.std.proofs.lemmas.Bool.Decides.{nat_tests}
@@ -7,11 +7,10 @@ use Rattle.std.proofs.lemmas.Grind.{flat_map-append}
 use Rattle.std.proofs.lemmas.Str.{encode_ascii, encodes-IsAscii, encodes-append, encodes-chars}
 use Rattle.std.proofs.lemmas.Bool.{and_parts, cases_lt}
 use Rattle.std.proofs.lemmas.List.{drop_more, get_or-drop, length-drop, length-take-le, take-append-le, take-append-drop, take-take, take_all}
-use Rattle.std.proofs.lemmas.List.Sums.{passes_at_first, prefix_len-le-length}
-use Rattle.std.proofs.lemmas.Simd.{length-chunk, put_chunk_is, trailing_mask_l}
+use Rattle.std.proofs.lemmas.List.Sums.{passes_at_first}
+use Rattle.std.proofs.lemmas.Simd.{put_chunk_is}
 use Rattle.std.specs.List.{list_all, position_or_len}
-use lib.Count.{count_trailing_zeros}
-use lib.Lanes.{chunk, mask_l, put_chunk}
+use lib.Lanes.{chunk, put_chunk}
 use Rattle.ini_text.specs.Escaping.EscapedTexts.{escape, escape_by, escaped, escaped_bytes, letter_of}
 use Rattle.ini_text.specs.Escaping.Policies.{is_escaped}
 use Rattle.ini_text.specs.Grammar.CharacterKinds.{backslash}
@@ -61,11 +60,11 @@ module _ (p : ℕ → Bool) where
       marked_escaped-next c (drop at bytes) (drop (at + 1) bytes) (drop_more bytes at 0 within) marked ∙ ap (λ l. escape_by l c ++ marked_escaped p (drop (at + 1) bytes)) (sym is)
 
   -- the same behind bytes that are not marked
-  pub marked_escaped-short : (bytes : List ℕ) (run letter : ℕ) → StopsAt p bytes run → Some letter ≡ letter_of (get_or bytes run 0)
+  pub marked_escaped-short : (bytes : List ℕ) (run letter : ℕ) → StopsAt p 0 bytes run → Some letter ≡ letter_of (get_or bytes run 0)
       → marked_escaped p bytes ≡ (take run bytes ++ backslash ∷ letter ∷ []) ++ marked_escaped p (drop (run + 1) bytes)
   marked_escaped-short bytes run letter stops is =
-      let marked : p (get_or bytes run 0) ≡ true = rw stops.position (passes_at_first p bytes 0 (rw stops.position at stops.within)) in
-      marked_escaped-run run bytes (omega (arith, stops.position)) ∙ ap (λ l. take run bytes ++ l) (marked_escaped-letter bytes run letter stops.within marked is)
+      let marked : p (get_or bytes run 0) ≡ true = rw stops.position (passes_at_first p bytes 0 (let inside = stops.within in omega (arith, inside, stops.position))) in
+      marked_escaped-run run bytes (omega (arith, stops.position)) ∙ ap (λ l. take run bytes ++ l) (marked_escaped-letter bytes run letter (omega (arith, stops.within)) marked is)
       ∙ sym (append_assoc (take run bytes) (backslash ∷ letter ∷ []) (marked_escaped p (drop (run + 1) bytes)))
 
   -- the bytes before the first that is marked, and what stands behind them

@@ -1,19 +1,16 @@
 -- Short pieces of a string, which are gathered in a block.
-use Rattle.std.specs.Prelude.{◌≡◌, ◌≤◌, ◌<◌, ◌+◌, ℕ, true, not, List, [], ◌∷◌, ◌++◌, take, drop, length, map}
+use Rattle.std.specs.Prelude.{◌≡◌, ◌≤◌, ◌<◌, ◌+◌, ℕ, true, not, List, [], ◌∷◌, ◌++◌, take, drop, length}
 use Rattle.std.specs.Prelude.{chars}
-use Rattle.std.specs.Simd.Lanes.{mask_l}
 use Rattle.std.specs.Str.{IsUtf8, IsCharBoundary}
 use Rattle.ini_text.specs.Grammar.Strings.{Ends}
+use Rattle.ini_text.specs.Inside.Lanes.{Tells}
 use Rattle.ini_text.specs.Inside.Reading.{prepend}
 use Rattle.ini_text.specs.Inside.Scans.{is_plain}
 use Rattle.ini_text.specs.Inside.StringReader.{string}
 
 -- the bits tell which of the text's first bytes, at most sixteen, are marks; sixteen follow them
-pub record Sees (to : Ends) (bits : ℕ) (text : List ℕ) : Type 0 where
-  pub lanes : ℕ
-  pub few : lanes ≤ 16
-  pub within : 0 < lanes → lanes + 16 ≤ length text
-  pub are : bits ≡ mask_l (map (λ c. not (is_plain to c)) (take lanes text))
+abbrev pub Sees : Ends → ℕ → List ℕ → Type 0
+Sees to bits text = Tells (λ c. not (is_plain to c)) 16 bits text
 
 -- at the text's front: an escape of n bytes that stands for the character v
 pub record IsEscape (text : List ℕ) (v n : ℕ) : Type 0 where

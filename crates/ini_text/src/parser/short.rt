@@ -11,7 +11,7 @@ ghost use Rattle.ini_text.specs.declared.lanes.TheConstants.{LANES};
 ghost use Rattle.ini_text.specs.declared.parser.block.TheConstants.{ROOM};
 ghost use Rattle.ini_text.specs.declared.parser.short.TheConstants.{CODE, LONGEST_ESCAPE};
 
-use crate::lanes::{LANES, Marks};
+use crate::lanes::{LANES, marks_ahead};
 use crate::parser::block::{LONGEST, ROOM, place, place_front};
 use crate::parser::endpoints::Endpoints;
 use crate::parser::tables::{digit, letter_value};
@@ -89,7 +89,8 @@ fn split_short(text: &str, found: u64, ends: Endpoints) -> Option<(usize, char, 
     ensures piece { IfSome result (λ p. IsShort (ends_of ends) text.now p.0 p.1 p.2) }
     ensures seen { IfSome result (λ p. Sees (ends_of ends) p.3 text.now) }
 {
-    let marks = marks_ahead(text, found, ends);
+    // So many bytes follow that a run and an escape need no test of length.
+    let marks = marks_ahead(text.as_bytes(), found, LANES, &ends.marks());
     if marks == 0 {
         return None;
     }
@@ -97,22 +98,6 @@ fn split_short(text: &str, found: u64, ends: Endpoints) -> Option<(usize, char, 
     let (_, stop) = text.split_at(plain);
     let (value, taken) = split_escape(stop)?;
     Some((plain, value, taken, marks))
-}
-
-/// The marks among a text's first bytes, which are looked for where none is found already, if as many bytes
-/// follow: so a run and an escape need no test of length.
-#[inline(always)]
-fn marks_ahead(text: &str, found: u64, ends: Endpoints) -> u64
-    requires { Sees (ends_of ends) found text.now }
-    ensures { Sees (ends_of ends) result text.now }
-{
-    if found != 0 {
-        return found;
-    }
-    if text.len() < 2 * LANES {
-        return 0;
-    }
-    ends.marks().find(u8x16::from_slice(text.as_bytes()))
 }
 
 /// What an escape stands for that is read without a look at what follows it, and how many bytes it has.

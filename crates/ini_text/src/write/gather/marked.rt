@@ -45,7 +45,7 @@ impl Gatherer {
         let mut len = self.len;
         let mut known = 0;
         'lanes: while rest.len() >= LANES && len <= ROOM - LANES - SHORT {
-            known = marks_ahead(rest, known, marks);
+            known = marks_ahead(rest, known, 0, marks);
             place_lanes(&mut self.bytes, len, u8x16::from_slice(rest));
             if known == 0 {
                 len += LANES;

@@ -1,13 +1,15 @@
-use Rattle.std.proofs.Common.{◌∷◌, ◌++◌, ◌∙◌, ◌+◌, [], ap, arith, chars, length, refl, rules, sym, take}
+use Rattle.std.proofs.Common.{◌∷◌, ◌++◌, ◌∙◌, ◌+◌, [], ap, arith, chars, length, not, refl, rules, sym, take}
 use Rattle.std.specs.Char.{IsScalar}
 use Rattle.std.proofs.lemmas.Str.{IsUtf8-nil}
 use Rattle.ini_text.specs.Inside.Endpoints.{ends_of}
 use Rattle.ini_text.proofs.ReaderLemmas.ReaderLemmas.{and_more, from_nothing}
-use Rattle.ini_text.proofs.ReaderLemmas.ShortPieceLemmas.{Sees-none, Sees-past, gathered}
+use Rattle.ini_text.proofs.ReaderLemmas.ShortPieceLemmas.{gathered}
+use Rattle.ini_text.proofs.StringLemmas.LaneLemmas.{Tells-none, Tells-past}
+use Rattle.ini_text.specs.Inside.Scans.{is_plain}
 use Rattle.ini_text.proofs.parser.short.gather.Goals as goal
 
 pub pieces-init : goal.pieces-init
-pieces-init c = record { text = search rules; within = omega arith; values = IsUtf8-nil; read = sym (from_nothing _ refl); seen = Sees-none (ends_of c.args.ends) c.args.text.now; shorter = omega arith }
+pieces-init c = record { text = search rules; within = omega arith; values = IsUtf8-nil; read = sym (from_nothing _ refl); seen = Tells-none (λ x. not (is_plain (ends_of c.args.ends) x)) 16 c.args.text.now; shorter = omega arith }
 
 pub split_at-requires : goal.split_at-requires
 split_at-requires c = let piece = c.in-Some.ensures.piece in piece.cut
@@ -28,6 +30,6 @@ pieces-preserved c =
       within = c.place-len.ensures.within;
       values = grown.1;
       read = and_more (chars old) (chars run ++ c.in-Some.value ∷ []) _ c.pieces.invariant.read (rw (c.split_at.ensures.back) piece.read) grown.0;
-      seen = Sees-past (ends_of c.args.ends) (c.in-Some.plain + c.in-Some.taken) c.in-Some.ensures.seen c.split_at.ensures.back;
+      seen = Tells-past (λ x. not (is_plain (ends_of c.args.ends) x)) (c.in-Some.plain + c.in-Some.taken) c.in-Some.ensures.seen c.split_at.ensures.back;
       shorter = omega (arith, piece.shorter, ap (λ x. length (chars x)) c.split_at.ensures.back);
     }

@@ -14,7 +14,7 @@ lanes-preserved-then-known-eq0 g c =
     let p = g.M.Marks.is_marked c.args.marks.now in
     let rest = c.lanes.rest.now in
     let left = take_rest rest 16 in
-    let next = marked_escaped-run p 16 rest (c.marks_ahead-known.ensures.none c.if-known-eq0.true) in
+    let next = marked_escaped-run p 16 rest (c.marks_ahead-known.ensures.none c.if-known-eq0.true (omega arith)) in
     let grown = c.place_lanes.ensures 16 (omega arith) ∙ ap (λ l. take c.lanes.len c.lanes.self.bytes ++ l) (take-take 16 16 rest (omega arith)) in
     let kept = placed_none c.lanes.len c.lanes.self.bytes c.place_lanes.new.bytes (c.place_lanes.ensures 0 (omega arith)) in
     record {
@@ -23,11 +23,11 @@ lanes-preserved-then-known-eq0 g c =
       held = held_more p _ (take 16 rest) rest _ grown (next ∙ ap (λ l. take 16 rest ++ marked_escaped p l) (sym left)) c.lanes.invariant.held;
       within = omega arith;
       shorter = omega (arith, ap length left, length-drop 16 rest, c.lanes.invariant.shorter);
-      known = rw c.if-known-eq0.true (Tells-none p _);
+      known = rw c.if-known-eq0.true (Tells-none p 0 _);
     }
 
 pub bounds-rest-run : goal.bounds-rest-run
-bounds-rest-run g c = let stops = stops_at (g.M.Marks.is_marked c.args.marks.now) c.lanes.rest.now c.marks_ahead-known.ensures.tells (omega arith) in stops.within
+bounds-rest-run g c = let stops = stops_at (g.M.Marks.is_marked c.args.marks.now) c.lanes.rest.now c.marks_ahead-known.ensures.tells (omega arith) in omega (arith, stops.within)
 
 pub overflow_shr-known : goal.overflow_shr-known
 overflow_shr-known g c = let stops = stops_at (g.M.Marks.is_marked c.args.marks.now) c.lanes.rest.now c.marks_ahead-known.ensures.tells (omega arith) in omega (arith, stops.below)

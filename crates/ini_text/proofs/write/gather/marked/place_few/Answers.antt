@@ -1,4 +1,4 @@
-use Rattle.std.proofs.Common.{◌-◌, ◌∙◌, ap, arith, length}
+use Rattle.std.proofs.Common.{◌-◌, arith, length}
 use Rattle.ini_text.proofs.WriteLemmas.MarkedByteLemmas.{placed_few}
 use Rattle.ini_text.proofs.write.gather.marked.place_few.Goals as goal
 
