@@ -1,6 +1,6 @@
 //! Runs of bytes up to the first that is marked, sixteen bytes at a time. This file knows bytes, and no
 //! text.
-ghost use Rattle.std.specs.Prelude.{◌≡◌, true, ◌+◌, ◌++◌, ◌-◌, ◌<◌, ◌≤◌, ℕ, Bool, length, map};
+ghost use Rattle.std.specs.Prelude.{◌≡◌, true, ◌+◌, ◌++◌, ◌-◌, ◌<◌, ◌≤◌, ℕ, Bool, length, map, take};
 ghost use Rattle.std.specs.List.{position_or_len};
 ghost use Rattle.std.specs.Simd.Lanes.{chunk, mask_l};
 ghost use Rattle.ini_text.specs.Inside.Lanes.{Tells, is_one_of};
@@ -120,4 +120,14 @@ impl Marks for Three {
         let third = lanes.simd_eq(u8x16::splat(self.2));
         (first | second | third).to_bitmask()
     }
+}
+
+/// Puts sixteen bytes behind the first `len`.
+#[inline(always)]
+pub(crate) fn place_lanes(bytes: &mut [u8], len: usize, lanes: u8x16)
+    requires { len + LANES ≤ length bytes.old }
+    ensures placed { (n : ℕ) → n ≤ LANES → take (len + n) bytes.new ≡ take len bytes.old ++ take n lanes }
+    ensures length { length bytes.new ≡ length bytes.old }
+{
+    lanes.copy_to_slice(&mut bytes[len..]);
 }

@@ -1,14 +1,15 @@
 -- Runs that are seen sixteen bytes at a time.
 use Rattle.std.proofs.Common.{◌≡◌, ℕ, zero, suc, ◌+◌, ◌-◌, ◌*◌, ◌/◌, ◌%◌, ◌^◌, ◌<◌, ◌≤◌, Bool, true, false, not, ◌&&◌, ◌||◌, cond, eqb, ltb, List, [], ◌∷◌, map, length, take, take_all, drop, replicate, ◌++◌, get_or, length-append, inl, inr, subst, refl, sym, ap, ap₂, ◌∙◌, arith}
-use Rattle.std.proofs.lemmas.Simd.{chunk-drop, get_or-chunk, length-chunk, leading_from_mask_l, trailing_mask_l, zip2_splat, zip2_of_maps, map-map, mask_l-mod}
-use Rattle.std.proofs.lemmas.List.{get_or_append_left, get_or-append-add, length-drop, length-map}
+use Rattle.std.proofs.lemmas.Simd.{chunk-drop, get_or-chunk, length-chunk, leading_from_mask_l, put_chunk_is, trailing_mask_l, zip2_splat, zip2_of_maps, map-map, mask_l-mod}
+use Rattle.std.proofs.lemmas.List.{get_or_append_left, get_or-append-add, length-drop, length-map, length-take-le, take-append-le}
+use Rattle.std.proofs.Math.Seq.{take-append-add}
 use Rattle.std.proofs.lemmas.List.Folds.{prefix_len-append}
 use Rattle.std.proofs.lemmas.List.Sums.{prefix_len-le-length, prefix_len_is, prefix_len_passes}
 use Rattle.std.proofs.lemmas.Bool.{cases_lt, eq-eqb, ne_eqb}
 use Rattle.std.proofs.Math.Nat.{div-div-eq-div-mul, div-one, mul_comm, pow-suc, zero-div}
 use Rattle.std.specs.List.{prefix_len, position_or_len}
 use lib.Bits.{bit_or}
-use lib.Lanes.{chunk, mask_l, top, zip2}
+use lib.Lanes.{chunk, mask_l, put_chunk, top, zip2}
 use lib.Count.{count_trailing_zeros}
 use Rattle.ini_text.specs.Inside.Lanes.{Tells}
 
@@ -189,3 +190,10 @@ Tells-same p q same {bytes = bytes} tells = record {
   within = tells.within;
   are = tells.are ∙ ap mask_l (map_same p q same (take tells.lanes bytes));
 }
+
+-- of lanes that are put behind the first bytes, so many are kept
+pub placed : (len n : ℕ) (bytes lanes : List ℕ) → len + length lanes ≤ length bytes → n ≤ length lanes → take (len + n) (put_chunk len bytes lanes) ≡ take len bytes ++ take n lanes
+placed len n bytes lanes room some =
+    let rest = drop (length lanes) (drop len bytes) in
+    ap (take (len + n)) (put_chunk_is len bytes lanes room) ∙ ap (λ k. take (k + n) (take len bytes ++ (lanes ++ rest))) (sym (length-take-le len bytes (omega arith)))
+    ∙ take-append-add (take len bytes) (lanes ++ rest) n ∙ ap (λ l. take len bytes ++ l) (take-append-le n lanes rest some)

@@ -1,16 +1,15 @@
 -- Bytes of which each that is marked goes out as the escape of its character.
 use Rattle.std.proofs.Common.{◌≡◌, ℕ, zero, suc, ◌+◌, ◌<◌, ◌≤◌, Bool, true, false, not, cond, List, [], ◌∷◌, ◌++◌, length, take, drop, get_or, inl, inr, Some, leb, refl, ap, ap₂, ◌∙◌, sym, arith, append_assoc, append-nil, IsUtf8, chars, encode_utf8_all, add-zero}
 use lib.Utf8.{encode}
-use Rattle.std.proofs.Math.Seq.{take-append-add, take-length}
+use Rattle.std.proofs.Math.Seq.{take-length}
 use Rattle.std.proofs.lemmas.Bool.Decides.{nat_tests}
 use Rattle.std.proofs.lemmas.Grind.{flat_map-append}
 use Rattle.std.proofs.lemmas.Str.{encode_ascii, encodes-IsAscii, encodes-append, encodes-chars}
 use Rattle.std.proofs.lemmas.Bool.{and_parts, cases_lt}
 use Rattle.std.proofs.lemmas.List.{drop_more, get_or-drop, length-drop, length-take-le, take-append-le, take-append-drop, take-take, take_all}
 use Rattle.std.proofs.lemmas.List.Sums.{passes_at_first}
-use Rattle.std.proofs.lemmas.Simd.{put_chunk_is}
 use Rattle.std.specs.List.{list_all, position_or_len}
-use lib.Lanes.{chunk, put_chunk}
+use lib.Lanes.{chunk}
 use Rattle.ini_text.specs.Escaping.EscapedTexts.{escape, escape_by, escaped, escaped_bytes, letter_of}
 use Rattle.ini_text.specs.Escaping.Policies.{is_escaped}
 use Rattle.ini_text.specs.Grammar.CharacterKinds.{backslash}
@@ -132,18 +131,6 @@ escaped_bytes-basics bytes is_text = escaped_bytes-marked Basics basics_ascii by
 
 pub escaped_bytes-reserved : (bytes : List ℕ) → IsUtf8 bytes → escaped_bytes Reserved bytes ≡ marked_escaped (begins_escaped Reserved) bytes
 escaped_bytes-reserved bytes is_text = escaped_bytes-marked Reserved reserved_ascii bytes is_text
-
--- lanes that are put behind the first bytes
-pub placed : (len n : ℕ) (bytes mid lanes past : List ℕ) → len ≤ length bytes → length lanes ≤ length mid → n ≤ length lanes
-    → take (len + n) (take len bytes ++ (put_chunk 0 mid lanes ++ past)) ≡ take len bytes ++ take n lanes
-placed len n bytes mid lanes past within room some =
-    let front = take len bytes in
-    let left = drop (length lanes) mid in
-    let front_len : length front ≡ len = length-take-le len bytes within in
-    let parts : put_chunk 0 mid lanes ≡ lanes ++ left = put_chunk_is 0 mid lanes (omega arith) in
-    let taken : take n ((lanes ++ left) ++ past) ≡ take n lanes = ap (take n) (append_assoc lanes left past) ∙ take-append-le n lanes (left ++ past) some in
-    ap (λ l. take (len + n) (front ++ (l ++ past))) parts ∙ ap (λ k. take (k + n) (front ++ ((lanes ++ left) ++ past))) (sym front_len)
-    ∙ take-append-add front ((lanes ++ left) ++ past) n ∙ ap (λ l. front ++ l) taken
 
 -- a run and an escape by a letter, put behind the first bytes
 pub placed_short : (len run letter : ℕ) (before bytes lanes after : List ℕ) → run ≤ 16 → take (len + run) lanes ≡ take len before ++ take run (chunk 0 16 bytes)

@@ -1,28 +1,14 @@
 //! Text on its way to a string, gathered in a block of bytes so that short parts of it are appended together.
 //! This file knows bytes, and no production.
-ghost use Rattle.std.specs.Prelude.{◌≡◌, ℕ, ◌+◌, ◌++◌, ◌≤◌, length, take};
+ghost use Rattle.std.specs.Prelude.{◌≡◌, ◌+◌, ◌++◌, ◌≤◌, take};
 ghost use Rattle.std.specs.Char.{encode_utf8};
-ghost use Rattle.ini_text.specs.declared.lanes.TheConstants.{LANES};
 ghost use Rattle.ini_text.specs.declared.parser.block.TheConstants.{LONGEST, ROOM};
-
-use crate::lanes::LANES;
-use std::simd::prelude::*;
 
 /// How many bytes a block has.
 pub(crate) const ROOM: usize = 128;
 
 /// How many bytes a character has at most.
 pub(crate) const LONGEST: usize = 4;
-
-/// Puts as many bytes as are tested together behind the first `len`.
-#[inline(always)]
-pub(crate) fn place_front(block: &mut [u8; ROOM], len: usize, bytes: &[u8])
-    requires long { LANES ≤ length bytes.now }
-    requires room { len + LANES ≤ ROOM }
-    ensures { (n : ℕ) → n ≤ LANES → take (len + n) block.new ≡ take len block.old ++ take n bytes.now }
-{
-    u8x16::from_slice(bytes).copy_to_slice(&mut block[len..]);
-}
 
 /// Puts a character behind the first `len` bytes, and gives how many they are with it.
 #[inline(always)]

@@ -11,8 +11,8 @@ ghost use Rattle.ini_text.specs.declared.lanes.TheConstants.{LANES};
 ghost use Rattle.ini_text.specs.declared.parser.block.TheConstants.{ROOM};
 ghost use Rattle.ini_text.specs.declared.parser.short.TheConstants.{CODE, LONGEST_ESCAPE};
 
-use crate::lanes::{LANES, marks_ahead};
-use crate::parser::block::{LONGEST, ROOM, place, place_front};
+use crate::lanes::{LANES, marks_ahead, place_lanes};
+use crate::parser::block::{LONGEST, ROOM, place};
 use crate::parser::endpoints::Endpoints;
 use crate::parser::tables::{digit, letter_value};
 use crate::text::push_text;
@@ -72,7 +72,7 @@ fn gather<'a>(block: &mut [u8; ROOM], text: &'a str, ends: Endpoints) -> (usize,
         let Some((plain, value, taken, marks)) = split_short(rest, found, ends) else {
             break 'pieces;
         };
-        place_front(block, len, rest.as_bytes());
+        place_lanes(block, len, u8x16::from_slice(rest.as_bytes()));
         len = place(block, len + plain, value);
         let (_, behind) = rest.split_at(plain + taken);
         rest = behind;

@@ -7,7 +7,7 @@ ghost use Rattle.ini_text.specs.declared.lanes.TheConstants.{HALF, LANES};
 ghost use Rattle.ini_text.specs.declared.write.gather.TheConstants.{ROOM};
 ghost use Rattle.ini_text.specs.declared.write.gather.marked.TheConstants.{SHORT};
 
-use crate::lanes::{HALF, LANES, Marks, has_no_mark, marks_ahead};
+use crate::lanes::{HALF, LANES, Marks, has_no_mark, marks_ahead, place_lanes};
 use crate::write::escape::letter_of;
 use crate::write::gather::{Gatherer, ROOM};
 use std::simd::prelude::*;
@@ -102,15 +102,6 @@ impl Gatherer {
     }
 }
 
-// Puts sixteen bytes behind those that are held back.
-#[inline(always)]
-fn place_lanes(bytes: &mut [u8; ROOM], len: usize, lanes: u8x16)
-    requires { len + LANES ≤ ROOM }
-    ensures { (n : ℕ) → n ≤ LANES → take (len + n) bytes.new ≡ take len bytes.old ++ take n lanes }
-{
-    lanes.copy_to_slice(&mut bytes[len..]);
-}
-
 // Puts eight to sixteen bytes behind those that are held back: their first eight, and their last.
 #[inline(always)]
 fn place_few(bytes: &mut [u8; ROOM], len: usize, few: &[u8])
@@ -126,9 +117,10 @@ fn place_few(bytes: &mut [u8; ROOM], len: usize, few: &[u8])
 
 // Puts eight bytes behind those that are held back.
 #[inline(always)]
-fn place_half(bytes: &mut [u8; ROOM], len: usize, half: u8x8)
-    requires { len + HALF ≤ ROOM }
-    ensures { (n : ℕ) → n ≤ HALF → take (len + n) bytes.new ≡ take len bytes.old ++ take n half }
+fn place_half(bytes: &mut [u8], len: usize, half: u8x8)
+    requires { len + HALF ≤ length bytes.old }
+    ensures placed { (n : ℕ) → n ≤ HALF → take (len + n) bytes.new ≡ take len bytes.old ++ take n half }
+    ensures length { length bytes.new ≡ length bytes.old }
 {
     half.copy_to_slice(&mut bytes[len..]);
 }

@@ -1,5 +1,6 @@
 use Rattle.std.proofs.Common.{◌∷◌, ◌++◌, ◌∙◌, ◌+◌, [], ap, arith, chars, length, not, refl, rules, sym, take}
 use Rattle.std.specs.Char.{IsScalar}
+use Rattle.std.proofs.lemmas.List.{take-take}
 use Rattle.std.proofs.lemmas.Str.{IsUtf8-nil}
 use Rattle.ini_text.specs.Inside.Endpoints.{ends_of}
 use Rattle.ini_text.proofs.ReaderLemmas.ReaderLemmas.{and_more, from_nothing}
@@ -23,7 +24,8 @@ pieces-preserved c =
     let run = take c.in-Some.plain c.pieces.rest.now in
     let piece = c.in-Some.ensures.piece in
     let scalar : IsScalar c.in-Some.value = search rules in
-    let front = c.place_front.ensures c.in-Some.plain piece.within ∙ ap (λ x. old ++ take c.in-Some.plain x) c.as_bytes.ensures.value in
+    let front = c.place_lanes.ensures.placed c.in-Some.plain piece.within
+    ∙ ap (λ x. old ++ x) (take-take c.in-Some.plain 16 _ piece.within ∙ ap (take c.in-Some.plain) c.as_bytes.ensures.value) in
     let grown = gathered old run c.in-Some.value c.pieces.invariant.values piece.run scalar front c.place-len.ensures.placed in
     record {
       text = search rules;
