@@ -4,7 +4,7 @@
 #     tools/wrong_bodies.sh [CRATE ..]
 #
 # It works on a copy of the files that git knows, in which crates/CRATE/wrong-bodies stands in the place of must-fail, and
-# ends with the number of those that were refused and of those that were not. By default it takes every crate: an hour and a half.
+# ends with the number of those that were refused and of those that were not. By default it takes every crate: some three hours.
 set -eu
 top=$(cd "$(dirname "$0")/.." && pwd)
 room=$(mktemp -d)

@@ -2,15 +2,15 @@
 """Measures the time, memory and instructions of `ini_tool fmt` beside other programs that do the same.
 
     speed.py inputs FOLDER MEGABYTES
-    speed.py compare FOLDER PROGRAM PROGRAM ..
-    speed.py time FOLDER PROGRAM PROGRAM ..
+    speed.py compare [--turns N] FOLDER PROGRAM PROGRAM ..
+    speed.py time [--turns N] FOLDER PROGRAM PROGRAM ..
     speed.py count FOLDER PROGRAM PROGRAM ..
 
 `inputs` writes seven settings files of about that size into FOLDER; they are the same each time.
 
-`compare` runs each PROGRAM (a command of one or more words that reads a settings file and writes it formatted) seven times
-on each file of FOLDER, in turn, and prints for each program the shortest user and system time, the peak of memory, and the
-ratios of both to the last program's. It stops where two programs write different bytes.
+`compare` runs each PROGRAM (a command of one or more words that reads a settings file and writes it formatted) on each file
+of FOLDER, in seven turns or in as many as are asked for, and prints for each program the shortest user and system time, the
+peak of memory, and the ratios of both to the last program's. It stops where two programs write different bytes.
 
 `time` does the same for programs that need not write the same, as those that parse alone. `count` prints the millions of
 instructions of one run instead, as valgrind counts them, and the ratio: they stay the same beside other work.
@@ -28,7 +28,7 @@ import sys
 
 KEYS = "name path port host user group level timeout retry cache mode color format shell editor address".split()
 VALUES = ["true", "false", "8080", "/usr/local/share/data", "a few words, unquoted", "0.25"]
-RUNS = 7
+TURNS = 7
 
 
 def settings(chance):
@@ -122,11 +122,11 @@ def compare(folder, programs):
             sys.exit(f"the programs write different bytes for {path}")
 
 
-def time(folder, programs):
+def time(folder, programs, turns):
     """Prints a line for each input: times and memory, and their ratios."""
     for path in sorted(folder.glob("*.ini")):
         best = {program: (float("inf"), 0) for program in programs}
-        for _, program in itertools.product(range(RUNS), programs):
+        for _, program in itertools.product(range(turns), programs):
             best[program] = min(best[program], run(program, path))
         last, most = best[programs[-1]]
         shown = [f"{t:.3f} s {peak:4.0f} MB x{t / last:.2f} x{peak / most:.2f}" for t, peak in best.values()]
@@ -159,6 +159,8 @@ def main():
         beside = commands.add_parser(name)
         beside.add_argument("folder", type=pathlib.Path)
         beside.add_argument("programs", nargs="+")
+        if name != "count":
+            beside.add_argument("--turns", type=int, default=TURNS)
     words = parser.parse_args()
     if words.command == "inputs":
         write_inputs(words.folder, words.megabytes)
@@ -168,7 +170,7 @@ def main():
     if words.command == "count":
         count(words.folder, words.programs)
     else:
-        time(words.folder, words.programs)
+        time(words.folder, words.programs, words.turns)
 
 
 if __name__ == "__main__":
