@@ -4,8 +4,9 @@
 //! The files below, from the least part to the greatest: `tables`, `endpoints`, `block`, `short`, `string`,
 //! `trimmed`, `line`, `value`, `pair` and `header`, `element`. Beside them `fault` has why reading stops,
 //! and `position` where.
-ghost use Rattle.std.specs.Prelude.{◌≡◌, chars, [], None, Some, Ok, IfSome, IsOkAnd, IsErrAnd, OnErr};
-ghost use Rattle.ini_text.specs.Parsing.Fronts.{IsRest};
+ghost use Rattle.std.specs.Prelude.{◌≡◌, ◌++◌, chars, [], None, Some, Ok, IfSome, IsOkAnd, IsErrAnd, OnErr};
+ghost use Rattle.std.specs.Str.{IsUtf8};
+ghost use Rattle.ini_text.specs.Parsing.Fronts.{IsRest, front_of};
 ghost use Rattle.ini_text.specs.Parsing.Parser.{AnswersItem, KeepsRefusal, Tells, refusal_of};
 ghost use Rattle.ini_text.specs.Inside.ItemSearch.{FindsItem, StopIsWithin};
 
@@ -75,14 +76,34 @@ impl<'a> Parser<'a> {
         ensures front { result.front ≡ [] }
         ensures refusal { result.refusal ≡ None }
     {
+        Parser::behind(alloc, text, text, opt)
+    }
+
+    /// A parser at the rest of a text, which must be one. It takes no memory.
+    pub fn behind(alloc: Global, text: &'a str, rest: &'a str, opt: ParseOption) -> Self
+        requires { IsRest (chars text.now) (chars rest.now) }
+        ensures option { result.option ≡ opt }
+        ensures text { result.text ≡ chars text.now }
+        ensures front { result.front ≡ front_of (chars text.now) (chars rest.now) }
+        ensures refusal { result.refusal ≡ None }
+    {
         Parser {
             alloc,
             text,
-            rest: text,
+            rest,
             option: opt,
             refusal: None,
             scratch: String::new(alloc),
         }
+    }
+
+    /// What is left of the text.
+    #[inline(always)]
+    pub fn rest(&self) -> &'a str
+        ensures rest { self.now.front ++ chars result.now ≡ self.now.text }
+        ensures utf8 { IsUtf8 result.now }
+    {
+        self.rest
     }
 
     /// The next item, and `None` at the text's end.

@@ -1,5 +1,5 @@
 -- A text behind another one: what is read of it stays, and its places move down.
-use Rattle.std.proofs.Common.{◌≡◌, ℕ, ◌+◌, Bool, true, cond, List, [], ◌∷◌, ◌++◌, refl, sym, ap, ◌∙◌, subst, append_assoc, append-nil, length, length-append, arith, eqb, eqb-true}
+use Rattle.std.proofs.Common.{◌≡◌, ℕ, ◌+◌, Bool, true, cond, List, [], ◌∷◌, ◌++◌, refl, sym, ap, ◌∙◌, subst, append_assoc, append-nil, length, length-append, arith, count_by, eqb, eqb-true}
 use Rattle.std.proofs.lemmas.Bool.{cond-true, or_right, or_left, false≢true, not-false}
 use Rattle.std.specs.Char.{is_whitespace}
 use Rattle.std.proofs.lemmas.List.Sums.{sum_by-append}
@@ -7,10 +7,11 @@ use Rattle.std.specs.List.{list_any}
 use Rattle.ini_text.specs.declared.option.ParseOption.{ParseOption}
 use Rattle.ini_text.specs.declared.error.ParseKind.{ParseKind}
 use Rattle.ini_text.specs.Grammar.CharacterKinds.{line_feed, open_bracket, is_blank, is_comment_mark, is_line_feed, is_line_end, BeginsWith}
-use Rattle.ini_text.specs.Grammar.Positions.{last_or, starts_line, is_column_one, last_line}
+use Rattle.ini_text.specs.Grammar.Positions.{column_of, last_or, line_of, starts_line, is_column_one, last_line}
 use Rattle.ini_text.specs.Grammar.Keys.{Indentation, KeyFront, begins_key}
 use Rattle.ini_text.specs.Grammar.Elements.{Given, Gap, Element, ElementStops}
 use Rattle.ini_text.specs.Grammar.Texts.{Reads, Derives, Stops}
+use Rattle.ini_text.specs.Parsing.Parser.{StopsBehind}
 use Rattle.ini_text.specs.Laws.PlainLaws.{BeginsWithHeader, IsEmptyOrHeader, IsMoved}
 use Rattle.ini_text.proofs.GrammarLemmas.ItemLemmas.{element-some, reads-append}
 
@@ -29,7 +30,7 @@ module _ (W : List ℕ) (one : is_column_one W ≡ true) where
   starts_line-behind [] = rw (append-nil W) (line_feed_ends_line (last_or line_feed W) one)
   starts_line-behind (c ∷ b) = ap is_line_end (last_or-behind line_feed c W b)
 
-  is_column_one-behind : (b : List ℕ) → is_column_one (W ++ b) ≡ is_column_one b
+  pub is_column_one-behind : (b : List ℕ) → is_column_one (W ++ b) ≡ is_column_one b
   is_column_one-behind [] = rw (append-nil W) one
   is_column_one-behind (c ∷ b) = ap is_line_feed (last_or-behind line_feed c W b)
 
@@ -75,7 +76,7 @@ module _ (W : List ℕ) (one : is_column_one W ≡ true) where
     ElementStops-behind {b} (ElementStops.late_comment mark late) =
         ElementStops.late_comment mark (is_column_one-behind b ∙ late)
 
-    Reads-behind : {Y b c : List ℕ} {items : List Given} → Reads o Y b items c
+    pub Reads-behind : {Y b c : List ℕ} {items : List Given} → Reads o Y b items c
         → Reads o (W ++ Y) (W ++ b) items (W ++ c)
     Reads-behind {b = b} (Reads.stay r h) = Reads.stay r (whole-behind W b r h)
     Reads-behind {Y} {b} {c} (Reads.step {s = s} {r = r} {items = items} h e reads) =
@@ -116,13 +117,41 @@ last_line-behind (c ∷ W) f one = at W f one (last_line-behind W f)
         cond-true (list_any is_line_feed (c ∷ (x ∷ (W ++ f)))) (last_line (x ∷ (W ++ f)))
         (c ∷ (x ∷ (W ++ f))) (some_line_feed c (x ∷ W) f h) ∙ more h
 
+pub line_of-behind : (W f : List ℕ) → line_of (W ++ f) ≡ line_of f + count_by is_line_feed W
+line_of-behind W f =
+    ap (λ n. 1 + n) (sum_by-append (λ x. cond (is_line_feed x) 1 0) W f) ∙ omega arith
+
+pub column_of-behind : (W f : List ℕ) → is_column_one W ≡ true → column_of (W ++ f) ≡ column_of f
+column_of-behind W f one = ap (λ l. 1 + length l) (last_line-behind W f one)
+
+-- where reading stops behind a front
+pub StopsBehind-behind : {o : ParseOption} {Y b : List ℕ} {kind : ParseKind} {line column : ℕ} (W : List ℕ)
+    → is_column_one W ≡ true → StopsBehind o Y b kind line column
+    → StopsBehind o (W ++ Y) (W ++ b) kind (line + count_by is_line_feed W) column
+StopsBehind-behind W one stop =
+    let f = stop.front ++ stop.source in
+    record {
+      front = W ++ stop.front;
+      source = stop.source;
+      rest = stop.rest;
+      reads = Reads-behind W one stop.reads;
+      whole = whole-behind W stop.front (stop.source ++ stop.rest) stop.whole;
+      stops = ElementStops-behind W one stop.stops;
+      line_is =
+          ap (λ n. n + count_by is_line_feed W) stop.line_is ∙ sym (line_of-behind W f)
+          ∙ ap line_of (sym (append_assoc W stop.front stop.source));
+      column_is =
+          stop.column_is ∙ sym (column_of-behind W f one)
+          ∙ ap column_of (sym (append_assoc W stop.front stop.source));
+    }
+
 pub moved : (o : ParseOption) (W Y : List ℕ) (before : List Given) → is_column_one W ≡ true
     → Reads o (W ++ Y) [] before W → IsMoved o W Y before
 moved o W Y before one first = record {
   derives = Reads-then W one first;
   stops = Stops-behind W one first;
-  line = λ f. ap (λ n. 1 + n) (sum_by-append (λ x. cond (is_line_feed x) 1 0) W f) ∙ omega arith;
-  column = λ f. ap (λ l. 1 + length l) (last_line-behind W f one);
+  line = line_of-behind W;
+  column = λ f. column_of-behind W f one;
 }
 
 -- A text that begins with an opening bracket begins with a header.

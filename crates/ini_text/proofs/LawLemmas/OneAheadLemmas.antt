@@ -1,5 +1,5 @@
 -- Reading looks one character ahead: an element stands before each text that begins with the character that followed it.
-use Rattle.std.proofs.Common.{◌≤◌, ◌≡◌, ℕ, Bool, List, [], ◌∷◌, ◌++◌, length, sym, ap, ◌∙◌, subst, append_assoc, append-nil, arith}
+use Rattle.std.proofs.Common.{◌≤◌, ◌≡◌, ℕ, Bool, List, [], ◌∷◌, ◌++◌, length, refl, sym, ap, ◌∙◌, subst, append_assoc, append-nil, arith}
 use Rattle.std.proofs.lemmas.List.{append_cancel_left}
 use Rattle.ini_text.specs.declared.option.ParseOption.{ParseOption}
 use Rattle.ini_text.specs.Grammar.CharacterKinds.{is_blank, is_inline_white, is_line_end, is_line_feed, is_mark, BeginsWith, BeginsWithNo}
@@ -103,3 +103,8 @@ module _ {o : ParseOption} where
       let whole : c ++ x ≡ b ++ (s ++ (m ++ x)) = ap (λ z. z ++ x) (sym front.1) ∙ append_assoc (b ++ s) m x ∙ append_assoc b s (m ++ x) in
       subst (λ z. Reads o (c ++ x) b z d) (sym (append_assoc gives items others))
       (Reads.step whole (Element-alike (Alike-behind m a) (subst (λ z. Element o b s z gives) behind e)) (Reads-alike a h reads rest))
+
+  -- elements up to the front c stand there whatever follows its next character
+  pub Reads-before : {b c : List ℕ} {items : List Given} (x : ℕ) (r more : List ℕ) → Reads o (c ++ x ∷ r) b items c → Reads o (c ++ x ∷ more) b items c
+  Reads-before {b} {c} {items} x r more reads =
+      subst (λ l. Reads o (c ++ x ∷ more) b l c) (append-nil items) (Reads-alike Alike.same refl reads (Reads.stay (x ∷ more) refl))
