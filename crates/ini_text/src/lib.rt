@@ -18,6 +18,7 @@ pub use item::Item;
 pub use option::ParseOption;
 pub use parser::Parser;
 pub use plain::{is_plain_name, is_plain_pair, is_plain_separator};
+pub use text::front_before;
 pub use write::gather::Gatherer;
 pub use write::option::{LineSeparator, WriteOption};
 pub use write::policy::EscapePolicy;

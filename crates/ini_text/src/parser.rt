@@ -5,7 +5,6 @@
 //! `trimmed`, `line`, `value`, `pair` and `header`, `element`. Beside them `fault` has why reading stops,
 //! and `position` where.
 ghost use Rattle.std.specs.Prelude.{◌≡◌, ◌++◌, chars, [], None, Some, Ok, IfSome, IsOkAnd, IsErrAnd, OnErr};
-ghost use Rattle.std.specs.Str.{IsUtf8};
 ghost use Rattle.ini_text.specs.Parsing.Fronts.{IsRest, front_of};
 ghost use Rattle.ini_text.specs.Parsing.Parser.{AnswersItem, KeepsRefusal, Tells, refusal_of};
 ghost use Rattle.ini_text.specs.Inside.ItemSearch.{FindsItem, StopIsWithin};
@@ -100,8 +99,7 @@ impl<'a> Parser<'a> {
     /// What is left of the text.
     #[inline(always)]
     pub fn rest(&self) -> &'a str
-        ensures rest { self.now.front ++ chars result.now ≡ self.now.text }
-        ensures utf8 { IsUtf8 result.now }
+        ensures { self.now.front ++ chars result.now ≡ self.now.text }
     {
         self.rest
     }
