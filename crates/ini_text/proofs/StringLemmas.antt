@@ -8,6 +8,7 @@ pub mod PushLemmas
 pub mod BlockLemmas
 pub mod TableLemmas
 pub mod LineFeedLemmas
+pub mod LineCountLemmas
 pub mod PositionLemmas
 pub mod SameTextLemmas
 pub mod VisibleEndLemmas
