@@ -7,12 +7,13 @@ pub mod InversionLemmas
 pub mod KeepingLemmas
 pub mod LastSectionLemmas
 pub mod ListLemmas
-pub mod MarkLemmas
+pub mod PassingLemmas
 pub mod PlainPartLemmas
 pub mod PlainSamples
 pub mod PlainTextLemmas
 pub mod PropertyLemmas
 pub mod ReadingLemmas
 pub mod SectionLemmas
+pub mod StreamLemmas
 pub mod TextLemmas
 pub mod WritingLemmas

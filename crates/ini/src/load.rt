@@ -2,20 +2,19 @@
 //! characters it knows the mark alone that may stand before a text.
 ghost use Rattle.std.specs.Prelude.{◌≡◌, ◌<◌, ◌↔◌, length, chars, false, true, alloc_error};
 ghost use Rattle.std.specs.Prelude.{IfOk, IfErr, IfSome, IsOkUnless, OnOk};
-ghost use Rattle.std.specs.Io.KnownBytes.{IsAtEnd};
 ghost use Rattle.ini_text.specs.Device.DeviceRefusals.{IsIo, failures_in};
-ghost use Rattle.ini_text.specs.Parsing.Items.{item_of};
 ghost use Rattle.ini_text.specs.Options.ReadOptions.{default_parse_option, without_escapes};
 ghost use Rattle.ini_text.specs.Device.Watched.{IsClear, SameDevice, device_now, failure_count, stall_count};
-ghost use Rattle.ini.specs.Documents.{HasGeneral, with_item};
+ghost use Rattle.ini.specs.Documents.{HasGeneral};
 ghost use Rattle.ini.specs.Loading.{IfParse, IsDocumentOf, IsParseOrMemory, IsStopOf, ReadsDocument};
-ghost use Rattle.ini.specs.Loading.{without_mark};
-ghost use Rattle.ini.specs.Inside.ReadBytes.{IsIoOrMemory};
+ghost use Rattle.ini.specs.Loading.{text_bytes};
+ghost use Rattle.ini.specs.Inside.ReadBytes.{HasRead, IsFilled, IsIoOrMemory};
 
 use crate::document::Ini;
-use crate::properties::Properties;
-use ini_text::{Error, Item, ParseOption, Parser, Watched};
-use std::alloc::Global;
+use crate::items::push_items;
+use crate::passing::{Passing, drop_front};
+use ini_text::{Error, ParseOption, Watched};
+use std::alloc::{AllocError, Global};
 use std::io::Read;
 
 impl Ini {
@@ -52,10 +51,7 @@ impl Ini {
         ensures only { IfErr result IsParseOrMemory }
     {
         let mut document = Ini::new(alloc)?;
-        let mut parser = Parser::new(alloc, text, opt);
-        'items: while let Some(item) = parser.next_item()? {
-            push_item(alloc, &mut document, item)?;
-        }
+        push_items(alloc, &mut document, text, text, opt)?;
         Ok(document)
     }
 
@@ -122,16 +118,23 @@ impl Ini {
         ensures stalls { stall_count reader.new ≡ 0 }
         ensures io { IsIo result ↔ (failure_count reader.old < failure_count reader.new) }
     {
-        let bytes = read_to_end(alloc, reader)?;
-        let Ok(text) = String::from_utf8(bytes) else {
-            return Err(Error::NotUtf8);
-        };
-        let text = if drop_mark {
-            without_mark(text.as_str())
-        } else {
-            text.as_str()
-        };
-        Ini::load_from_str_opt(alloc, text, opt)
+        let mut piece = [0; PIECE];
+        let mut bytes = Vec::new(alloc);
+        let mut is_all = fill(reader, &mut piece, &mut bytes, PIECE)?;
+        drop_front_mark(&mut bytes, drop_mark);
+        let mut passing = Passing::new(alloc)?;
+        // No line is greater.
+        let mut last_line = 1 + bytes.len();
+        'pieces: while !is_all {
+            passing.take_items(alloc, &mut bytes, opt)?;
+            let kept = bytes.len();
+            is_all = fill(reader, &mut piece, &mut bytes, kept + kept.max(PIECE))?;
+            let Some(next_line) = last_line.checked_add(bytes.len() - kept) else {
+                return Err(Error::Memory(AllocError));
+            };
+            last_line = next_line;
+        }
+        passing.finish(alloc, bytes.as_slice(), opt)
     }
 }
 
@@ -145,47 +148,44 @@ pub(crate) fn without_escapes() -> ParseOption
     }
 }
 
+// A mark at a text's front: the character U+FEFF.
+const MARK: [u8; 3] = [0xEF, 0xBB, 0xBF];
+
 // How many bytes are asked for at a time.
 const PIECE: usize = 0x1_0000;
 
-// All bytes up to the first read that gives none.
-fn read_to_end<R: Read>(alloc: Global, reader: &mut Watched<'_, R>) -> Result<Vec<u8>, Error>
+// Reads behind the bytes until they are as many as are wanted, or the reader is at its end, and tells which.
+fn fill<R: Read>(
+    reader: &mut Watched<'_, R>,
+    piece: &mut [u8; PIECE],
+    bytes: &mut Vec<u8>,
+    wanted: usize,
+) -> Result<bool, Error>
     requires { IsClear reader.old }
     ensures same_device { SameDevice reader.old reader.new }
-    ensures bytes { IfOk result
-        (λ read. IfSome (R.remaining (device_now reader.old)) (λ bytes. read.items ≡ bytes)) }
-    ensures end { OnOk result (IsAtEnd (R.remaining (device_now reader.new))) }
+    ensures bytes { OnOk result (HasRead (R.remaining (device_now reader.old))
+        (R.remaining (device_now reader.new)) bytes.old.items bytes.new.items) }
+    ensures filled { IfOk result
+        (IsFilled wanted bytes.new.items (R.remaining (device_now reader.new))) }
     ensures failures { failure_count reader.new ≡ failures_in result }
     ensures stalls { stall_count reader.new ≡ 0 }
     ensures only { IfErr result IsIoOrMemory }
 {
-    let mut bytes = Vec::new(alloc);
-    let mut piece = [0; PIECE];
-    'pieces: loop {
-        let count = reader.read(&mut piece)?;
+    'pieces: while bytes.len() < wanted {
+        let count = reader.read(piece)?;
         if count == 0 {
-            return Ok(bytes);
+            return Ok(true);
         }
         bytes.extend_from_slice(&piece[..count])?;
     }
+    Ok(false)
 }
 
-// The text without one mark at its front.
-fn without_mark(text: &str) -> &str
-    ensures { result.now ≡ without_mark text.now }
+// Drops one mark at the front of bytes, if it is to be dropped.
+fn drop_front_mark(bytes: &mut Vec<u8>, drop_mark: bool)
+    ensures { bytes.new.items ≡ text_bytes drop_mark bytes.old.items }
 {
-    text.strip_prefix('\u{FEFF}').unwrap_or(text)
-}
-
-// A header opens a section last, a pair goes last in the last section.
-#[inline(always)]
-fn push_item(alloc: Global, document: &mut Ini, item: Item) -> Result<(), Error>
-    requires { 0 < length document.old }
-    ensures pushed { OnOk result (document.new ≡ with_item document.old (item_of item)) }
-    ensures only_memory { IsOkUnless result (Error.Memory alloc_error) }
-{
-    match item {
-        Item::Header(name) => document.push_section(Some(name), Properties::new(alloc)),
-        Item::Pair(key, value) => document.push_pair(key, value),
+    if drop_mark && bytes.starts_with(&MARK) {
+        drop_front(bytes, MARK.len());
     }
 }
