@@ -78,12 +78,13 @@ fn put_last(ends: &mut HashMap<u64, (u32, u32)>, code: u64, at: u32) -> Option<u
     ensures last { result ≡ last_of (get nat_eq ends.old) code }
     ensures ends { IsPutLast (get nat_eq ends.old) (get nat_eq ends.new) code at }
 {
+    if let Some(both) = ends.get_mut(&code) {
+        let last = both.1;
+        both.1 = at;
+        return Some(last);
+    }
     match ends.insert(code, (at, at)) {
-        Ok(None) => None,
-        Ok(Some((first, last))) => {
-            replace_ends(ends, code, (first, at));
-            Some(last)
-        }
+        Ok(_) => None,
         Err(_) => unreachable!(),
     }
 }
