@@ -21,7 +21,7 @@ use std::io::Write;
 mod marked;
 
 // How many bytes are held back at most.
-const ROOM: usize = 4096;
+const ROOM: usize = 16384;
 
 // How long an escape is at most: a backslash, `x` and six digits.
 const LONGEST: usize = 8;

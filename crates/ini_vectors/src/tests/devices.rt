@@ -178,7 +178,7 @@ fn a_device_takes_what_it_has_room_for(rt: HostRuntime) {
 
 // How often a device is called for a text with escapes at its end, and whether it took the escaped text.
 fn calls_for_runs_and_escapes(alloc: Global) -> Result<(u64, bool), Error> {
-    let mut text = "plain é 字 ".repeat(alloc, 1000)?;
+    let mut text = "plain é 字 ".repeat(alloc, 4000)?;
     let mut escaped = text.clone()?;
     text.push_str("\x1B".repeat(alloc, 25)?.as_str())?;
     escaped.push_str(r"\x001b".repeat(alloc, 25)?.as_str())?;
@@ -219,7 +219,7 @@ fn calls_for_nothing(alloc: Global) -> Result<u64, Error> {
 
 #[test]
 fn a_long_run_goes_out_in_few_calls(rt: HostRuntime) {
-    for (length, calls) in [(0, 1), (20, 1), (4_000, 1), (10_000, 3)] {
+    for (length, calls) in [(0, 1), (20, 1), (16_000, 1), (40_000, 3)] {
         assert!(rt; matches!(calls_for_a_run(rt.alloc(), length), Ok(found) if found == calls));
     }
     assert!(rt; matches!(calls_for_nothing(rt.alloc()), Ok(0)));
