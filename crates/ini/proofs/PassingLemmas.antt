@@ -1,11 +1,10 @@
 -- Bytes of which whole lines went by, and what reading the others makes of the document.
-use Rattle.std.proofs.Common.{◌≡◌, ◌∙◌, ◌<◌, ◌≤◌, ◌+◌, ◌-◌, ℕ, true, cond, List, [], ◌∷◌, ◌++◌, length, take, drop, chars, count_by, IsUtf8, ap, sym, subst, refl, None, arith, append_assoc, append-nil, length-append}
-use Rattle.std.proofs.lemmas.List.{length-take-le, take-append-drop, take-append-le}
+use Rattle.std.proofs.Common.{◌≡◌, ◌∙◌, ◌≤◌, ◌+◌, ◌-◌, ℕ, true, cond, List, [], ◌∷◌, ◌++◌, length, take, drop, chars, count_by, IsUtf8, ap, sym, subst, refl, None, arith, append_assoc, append-nil, length-append}
+use Rattle.std.proofs.lemmas.List.{take-append-drop, take-append-le}
 use Rattle.std.proofs.lemmas.List.Sums.{count_by-le-length, sum_by-append}
 use Rattle.std.proofs.lemmas.Str.{IsCharBoundary-from_take, IsUtf8-append, IsUtf8-drop, IsUtf8-nil, chars-append, chars-nil, encodes-append, encodes-chars, length-le-encodes}
 use Rattle.std.proofs.Math.Seq.{drop-append_seam, take-append_seam}
 use Rattle.ini_text.specs.Grammar.CharacterKinds.{is_line_feed}
-use Rattle.ini_text.specs.Grammar.Elements.{Given}
 use Rattle.ini_text.specs.Grammar.Positions.{is_column_one}
 use Rattle.ini_text.specs.Grammar.Texts.{Reads}
 use Rattle.ini_text.specs.Parsing.Fronts.{front_of, IsRest}
@@ -14,7 +13,7 @@ use Rattle.ini_text.specs.declared.error.ParseError.{ParseError}
 use Rattle.ini_text.specs.declared.option.ParseOption.{ParseOption}
 use Rattle.ini_text.proofs.LawLemmas.ExportedLemmas.{Reads-behind, StopsBehind-behind, front_is, is_column_one-behind}
 use Rattle.ini.specs.Texts.{Text}
-use Rattle.ini.specs.Documents.{Document, document_of}
+use Rattle.ini.specs.Documents.{Document}
 use Rattle.ini.specs.Loading.{IsDocumentOf, IsStopOf}
 use Rattle.ini.specs.Inside.Passing.{GoesBy, HasFront, IsPassing, Makes, Settles, StopsLater, with_items}
 use Rattle.ini.specs.declared.passing.Passing.{Passing}
@@ -51,8 +50,16 @@ line_fits t gone utf8 stops =
     let stop = stops.stop in
     let front = stop.front ++ stop.source in
     let whole : chars t ≡ front ++ stop.rest = stop.whole ∙ sym (append_assoc stop.front stop.source stop.rest) in
-    omega (arith, stops.moved, stop.line_is, count_by-le-length is_line_feed front, ap length whole, length-append front stop.rest,
-    length-le-encodes (chars t), ap length (encodes-chars t utf8))
+    omega (
+      arith,
+      stops.moved,
+      stop.line_is,
+      count_by-le-length is_line_feed front,
+      ap length whole,
+      length-append front stop.rest,
+      length-le-encodes (chars t),
+      ap length (encodes-chars t utf8),
+    )
 
 -- a refusal that is told further down
 pub StopsLater-down : {o : ParseOption} {T b : Text} {e f : ParseError} (n : ℕ) → StopsLater o T b 0 e → f.line ≡ e.line + n → f.col ≡ e.col → f.msg ≡ e.msg → f.kind ≡ e.kind

@@ -71,7 +71,7 @@ length-with_pair key value (s ∷ []) = refl
 length-with_pair key value (s ∷ t ∷ d) = omega (arith, length-with_pair key value (t ∷ d))
 
 -- a document with further items has a section
-with_item-some : (d : Document) (item : Given) → 0 < length d → 0 < length (with_item d item)
+pub with_item-some : (d : Document) (item : Given) → 0 < length d → 0 < length (with_item d item)
 with_item-some d (Header name) h = omega (arith, length-append d ((Some name, []) ∷ []))
 with_item-some d (Pair key value) h = omega (arith, length-with_pair key value d)
 

@@ -63,12 +63,7 @@ impl Passing {
     }
 
     /// The document with the items of what is left of the bytes, which are the last.
-    pub(crate) fn finish(
-        self,
-        alloc: Global,
-        bytes: &[u8],
-        opt: ParseOption,
-    ) -> Result<Ini, Error>
+    pub(crate) fn finish(self, alloc: Global, bytes: &[u8], opt: ParseOption) -> Result<Ini, Error>
         requires some { 0 < length self.document }
         requires front { HasFront self bytes.now }
         requires countable { self.lines + length bytes.now + 1 < 2 ^ 64 }
