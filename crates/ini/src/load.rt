@@ -1,5 +1,5 @@
-//! Documents from texts, and from the bytes of a reader. This file folds the items of a text; of
-//! characters it knows the mark alone that may stand before a text.
+//! Documents from texts, and from the bytes of a reader, which is read piece by piece. Of characters this
+//! file knows the mark alone that may stand before a text.
 ghost use Rattle.std.specs.Prelude.{◌≡◌, ◌<◌, ◌↔◌, length, chars, false, true, alloc_error};
 ghost use Rattle.std.specs.Prelude.{IfOk, IfErr, IfSome, IsOkUnless, OnOk};
 ghost use Rattle.ini_text.specs.Device.DeviceRefusals.{IsIo, failures_in};
@@ -97,13 +97,14 @@ impl Ini {
 
     /// The document of a watched reader's bytes, which are read to the end: to the first read that gives
     /// none. With `drop_mark` one mark (the bytes EF BB BF) at their front is left out, and places count
-    /// from behind it.
+    /// from behind it. The text goes by while it is read: of a long one only the last lines are kept.
     ///
     /// # Errors
     ///
     /// `Io` where the reader answers a fault, at once and with nothing more asked of it; `NotUtf8` where
     /// the bytes are not UTF-8; `Parse` where reading their text stops; `Memory` where memory is
-    /// refused. All bytes are read before they are tested, and tested before their text is read.
+    /// refused. All bytes are read before `NotUtf8` or `Parse` is told, and `NotUtf8` goes before `Parse`,
+    /// whichever comes first in the bytes.
     pub fn read_watched<R: Read>(
         alloc: Global,
         reader: &mut Watched<'_, R>,
