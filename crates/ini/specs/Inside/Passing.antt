@@ -66,7 +66,8 @@ pub record GoesBy (o : ParseOption) (old new : Passing) (b c : List ℕ) : Type 
 -- what the last bytes make of the document
 pub record Ends (o : ParseOption) (p : Passing) (bytes : List ℕ) (result : Result Document Error) : Type 0 where
   pub utf8 : IfOk result (λ d. IsUtf8 bytes)
-  pub document : IfOk result (Makes o (chars bytes) (chars (take p.front bytes)) (chars bytes) p.document)
+  pub document : IfOk result
+      (Makes o (chars bytes) (chars (take p.front bytes)) (chars bytes) p.document)
   pub fault : IfParse result
       (λ e. IsUtf8 bytes × StopsLater o (chars bytes) (chars (take p.front bytes)) p.lines e)
 
