@@ -16,6 +16,8 @@ mod layers;
 #[cfg(test)]
 mod loading;
 #[cfg(test)]
+mod long_texts;
+#[cfg(test)]
 mod multimap;
 #[cfg(test)]
 mod no_memory;

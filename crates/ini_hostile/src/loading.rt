@@ -16,7 +16,7 @@ const EACH_SHOWN: &'static str =
     "general: <x|0> [a]]: <  key|q rest\nmore\n\nw> <kA|v> []: <\tz|1> [b]: ";
 
 /// Every option.
-fn all_on() -> ParseOption {
+pub(crate) fn all_on() -> ParseOption {
     ParseOption {
         enabled_quote: true,
         enabled_escape: true,
