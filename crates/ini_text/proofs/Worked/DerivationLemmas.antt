@@ -1,7 +1,7 @@
 -- Derivations of written-out texts, put together from the front to the end. What the grammar asks of a plain part of a
 -- text, one without backslashes and quotes, is one test here, which computes.
 use Rattle.std.proofs.Common.{◌≡◌, ◌≢◌, inl, inr, ℕ, Bool, true, false, not, ◌&&◌, List, [], ◌∷◌, ◌++◌, refl, sym, ◌∙◌, append_assoc, subst}
-use Rattle.std.specs.Prelude.{if◌then◌else◌, ◌==◌, Option, Some, map}
+use Rattle.std.specs.Prelude.{◌==◌, if◌then◌else◌, Option, Some, map}
 use Rattle.std.specs.Char.{is_whitespace}
 use Rattle.std.specs.List.{list_all}
 use Rattle.std.proofs.lemmas.List.{append-nil}
