@@ -23,4 +23,6 @@ last_bracket_ends_a_name = derives (give (plain_bracketed_header (codes "a]") []
 
 -- Behind the last bracket stands something else than a blank, which is told at the line end.
 pub text_behind_a_header : StopsAt with_brackets (codes "[a]x\n") HeaderEnd 2 1
-text_behind_a_header = stops_at (stop (ElementStops.no_header_end refl (raw_string (codes "a]x") refl) (no_name (codes "a]x") refl))) refl refl
+text_behind_a_header = stops_at
+    (stop (ElementStops.no_header_end refl (raw_string (codes "a]x") refl) (no_name (codes "a]x") refl)))
+    refl refl

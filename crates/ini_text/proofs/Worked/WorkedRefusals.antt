@@ -21,7 +21,8 @@ use Rattle.ini_text.proofs.Worked.WorkedTexts.{with_multiline_values}
 abbrev pub StopsAt : ParseOption → List ℕ → ParseKind → ℕ → ℕ → Type 0
 StopsAt o T kind line column = (front : List ℕ) × Stops o T kind front × (line_of front ≡ line) × (column_of front ≡ column)
 
-pub stops_at : {o : ParseOption} {T f : List ℕ} {kind : ParseKind} {line column : ℕ} → RestStops o [] T kind f → line_of f ≡ line → column_of f ≡ column
+pub stops_at : {o : ParseOption} {T f : List ℕ} {kind : ParseKind} {line column : ℕ}
+    → RestStops o [] T kind f → line_of f ≡ line → column_of f ≡ column
     → StopsAt o T kind line column
 stops_at {f = f} rest at_line at_column = (f, stops rest, at_line, at_column)
 
@@ -33,17 +34,24 @@ end_in_quotes = stops_at (stop (stops_in_value_of (codes "k") refl refl (ValueSt
 -- Among an escape's units a backslash stands before a character other than LF.
 pub broken_escape : StopsAt default_parse_option (codes "k=\\x00\\z") BrokenEscape 1 9
 broken_escape = stops_at (stop (stops_in_value_of (codes "k") refl refl (ValueStops.first_line {w = []} (lead _ _ refl)
-    (LineStops.in_plain Quoted.none (λ _. refl) (StrStops.in_escape Row.none refl (EscapeStops.broken (units_before (codes "00") refl Units.none) (omega arith) (differs refl))))))) refl refl
+    (LineStops.in_plain Quoted.none (λ _. refl)
+    (StrStops.in_escape Row.none refl
+    (EscapeStops.broken (units_before (codes "00") refl Units.none) (omega arith) (differs refl)))))))
+    refl refl
 
 -- A surrogate is no character.
 pub surrogate : StopsAt default_parse_option (codes "k=\\xD800") UnknownCharacter 1 9
 unfolding spelled
 surrogate = stops_at (stop (stops_in_value_of (codes "k") refl refl (ValueStops.first_line {w = []} (lead _ _ refl)
-    (LineStops.in_plain Quoted.none (λ _. refl) (StrStops.in_escape Row.none refl (EscapeStops.unknown (units_before (codes "D800") refl Units.none) refl refl)))))) refl refl
+    (LineStops.in_plain Quoted.none (λ _. refl)
+    (StrStops.in_escape Row.none refl
+    (EscapeStops.unknown (units_before (codes "D800") refl Units.none) refl refl)))))) refl refl
 
 -- A comment's mark behind CR isn't in column one.
 pub comment_behind_cr : StopsAt default_parse_option (codes "k=v\r# c\n") InlineComment 1 6
-comment_behind_cr = stops_at (past (plain_pair (codes "k") (codes "v") refl) (past (white refl) (stop (ElementStops.late_comment refl refl)))) refl refl
+comment_behind_cr = stops_at
+    (past (plain_pair (codes "k") (codes "v") refl)
+    (past (white refl) (stop (ElementStops.late_comment refl refl)))) refl refl
 
 -- A separator stands without a key.
 pub missing_key : StopsAt default_parse_option (codes "=v") MissingKey 1 2

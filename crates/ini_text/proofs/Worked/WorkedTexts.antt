@@ -31,14 +31,16 @@ without_quotes = record default_parse_option { enabled_quote = false }
 named : {ends : Ends} {c v : ℕ} {s w : List ℕ} → control c ≡ Some v → Row true ends s w → Row true ends (backslash ∷ c ∷ s) (v ∷ w)
 named e row = Row.escape (EscapeSequence.named refl e) row
 
-itself : {ends : Ends} {c : ℕ} {s w : List ℕ} → (c == line_feed || c == letter_x) ≡ false → control c ≡ None → Row true ends s w → Row true ends (backslash ∷ c ∷ s) (c ∷ w)
+itself : {ends : Ends} {c : ℕ} {s w : List ℕ} → (c == line_feed || c == letter_x) ≡ false
+    → control c ≡ None → Row true ends s w → Row true ends (backslash ∷ c ∷ s) (c ∷ w)
 itself {c = c} h e row =
     let parts = or_parts (c == line_feed) (c == letter_x) h in
     Row.escape (EscapeSequence.itself refl (differs parts.0) (differs parts.1) e) row
 
 -- These characters are white space.
 pub white_space : list_all is_whitespace
-    (0x09 ∷ 0x0A ∷ 0x0B ∷ 0x0C ∷ 0x0D ∷ 0x20 ∷ 0x85 ∷ 0xA0 ∷ 0x1680 ∷ 0x2000 ∷ 0x2001 ∷ 0x2002 ∷ 0x2003 ∷ 0x2004 ∷ 0x2005 ∷ 0x2006 ∷ 0x2007 ∷ 0x2008
+    (0x09 ∷ 0x0A ∷ 0x0B ∷ 0x0C ∷ 0x0D ∷ 0x20 ∷ 0x85 ∷ 0xA0 ∷ 0x1680 ∷ 0x2000 ∷ 0x2001 ∷ 0x2002 ∷ 0x2003
+    ∷ 0x2004 ∷ 0x2005 ∷ 0x2006 ∷ 0x2007 ∷ 0x2008
     ∷ 0x2009 ∷ 0x200A ∷ 0x2028 ∷ 0x2029 ∷ 0x202F ∷ 0x205F ∷ 0x3000 ∷ []) ≡ true
 white_space = refl
 
@@ -48,7 +50,8 @@ no_white_space = refl
 
 -- A text of two sections. Line ends between the items are gaps, and an item may follow a header on its line.
 pub two_sections : Derives default_parse_option (codes "[sec1]\nkey1=val1\nkey2=377\n[sec2]foo=bar\n")
-    (Header (codes "sec1") ∷ Pair (codes "key1") (codes "val1") ∷ Pair (codes "key2") (codes "377") ∷ Header (codes "sec2") ∷ Pair (codes "foo") (codes "bar") ∷ [])
+    (Header (codes "sec1") ∷ Pair (codes "key1") (codes "val1") ∷ Pair (codes "key2") (codes "377")
+    ∷ Header (codes "sec2") ∷ Pair (codes "foo") (codes "bar") ∷ [])
 two_sections = derives (
     give (plain_header (codes "sec1") refl) (skip (white refl) (
     give (plain_pair (codes "key1") (codes "val1") refl) (skip (white refl) (
@@ -63,7 +66,8 @@ trimmed_keys_and_values = derives (
     give (pair_of (codes "k ") refl refl (Value.one_line {w = codes " "} refl (lead _ _ refl) (plain_line (codes "v") refl))) (
     skip (white refl) (skip (Element.comment (codes " c") refl refl refl) (
     give (plain_header (codes "a") refl) (skip (white refl) (
-    give (Element.pair {k = codes "x"} {s = codes " y"} (plain_key (codes "x") refl) (not_empty refl) refl (Value.one_line {w = codes " "} refl (lead _ _ refl) (plain_line (codes "y") refl))) whole))))))
+    give (Element.pair {k = codes "x"} {s = codes " y"} (plain_key (codes "x") refl) (not_empty refl) refl
+    (Value.one_line {w = codes " "} refl (lead _ _ refl) (plain_line (codes "y") refl))) whole))))))
 
 -- Quoted parts and the plain part behind them join. The plain part then keeps the white space that it begins with.
 pub quoted_and_plain_parts : Derives default_parse_option (codes "k=\"a\"\"b\" c") (Pair (codes "k") (codes "ab c") ∷ [])
@@ -71,9 +75,12 @@ quoted_and_plain_parts = derives (give (pair_of (codes "k") refl refl (one_line 
     (quoted (codes "a") refl refl (quoted (codes "b") refl refl Quoted.none)) (λ _. refl) (raw_string (codes " c") refl)))) whole)
 
 -- The six escapes of one letter or digit. Before any other character the backslash goes, and before another backslash one stays.
-pub escapes_by_name : Derives default_parse_option (codes "k=\\0\\a\\b\\t\\r\\n\\f\\v\\\\") (Pair (codes "k") (0x00 ∷ 0x07 ∷ 0x08 ∷ 0x09 ∷ 0x0D ∷ 0x0A ∷ codes "fv\\") ∷ [])
+pub escapes_by_name : Derives default_parse_option (codes "k=\\0\\a\\b\\t\\r\\n\\f\\v\\\\")
+    (Pair (codes "k") (0x00 ∷ 0x07 ∷ 0x08 ∷ 0x09 ∷ 0x0D ∷ 0x0A ∷ codes "fv\\") ∷ [])
 escapes_by_name = derives (give (pair_of (codes "k") refl refl (one_line refl refl (unquoted_line refl
-    (named refl (named refl (named refl (named refl (named refl (named refl (itself refl refl (itself refl refl (itself refl refl Row.none))))))))) refl))) whole)
+    (named refl (named refl (named refl
+    (named refl (named refl (named refl
+    (itself refl refl (itself refl refl (itself refl refl Row.none))))))))) refl))) whole)
 
 -- A backslash before LF goes with it, escapes on or off, and the value goes on.
 pub continued_line : Derives without_escapes (codes "k=a\\\nb") (Pair (codes "k") (codes "ab") ∷ [])
@@ -87,11 +94,15 @@ key_with_kept_indentation = derives (skip (Element.comment (codes " c") refl ref
 
 -- An indented key without a separator is dropped.
 pub dropped_key : Derives default_parse_option (codes "  k") []
-dropped_key = derives (skip (Element.dropped_key {w = codes "  "} (indentation _ _ refl) refl (StrStops.at_end (raws (codes "k") refl) refl)) whole)
+dropped_key = derives (skip
+    (Element.dropped_key {w = codes "  "} (indentation _ _ refl) refl
+    (StrStops.at_end (raws (codes "k") refl) refl)) whole)
 
 -- In a multiline value CR LF is one line end.
 pub cr_lf_in_a_value : Derives with_multiline_values (codes "k=v\r\n  w\r\n") (Pair (codes "k") (codes "v\nw") ∷ [])
-cr_lf_in_a_value = derives (give (pair_of (codes "k") refl refl (Value.lines {w = []} refl (lead _ _ refl) (plain_line (codes "v") refl) LineEnd.cr_lf
+cr_lf_in_a_value = derives
+    (give (pair_of (codes "k") refl refl
+    (Value.lines {w = []} refl (lead _ _ refl) (plain_line (codes "v") refl) LineEnd.cr_lf
     (MoreLines.continued {w = codes "  "} refl (lead _ _ refl) (plain_line (codes "w") refl) LineEnd.cr_lf (MoreLines.done tt tt)))) whole)
 
 -- CR doesn't end a comment, and the text's end does.
@@ -106,7 +117,9 @@ marks_without_quotes = derives (give (pair_of (codes "k") refl refl (one_line re
 -- Multiline values among other items. The lines are trimmed. Empty lines stay within a value, and go at its ends.
 pub multiline_values : Derives with_multiline_values
     (codes "\n[Foo]\nbar =\n    u\n    v\n\nbaz = w\n  x # intentional trailing whitespace below\n   y \n\n z #2\nbla = a\n")
-    (Header (codes "Foo") ∷ Pair (codes "bar") (codes "u\nv") ∷ Pair (codes "baz") (codes "w\nx # intentional trailing whitespace below\ny\n\nz #2") ∷ Pair (codes "bla") (codes "a") ∷ [])
+    (Header (codes "Foo") ∷ Pair (codes "bar") (codes "u\nv") ∷ Pair (codes "baz")
+    (codes "w\nx # intentional trailing whitespace below\ny\n\nz #2") ∷ Pair (codes "bla") (codes "a")
+    ∷ [])
 multiline_values = derives (
     skip (white refl) (give (plain_header (codes "Foo") refl) (skip (white refl) (
     give (pair_of (codes "bar ") refl refl (Value.lines {w = []} refl (lead _ _ refl) (plain_line [] refl) LineEnd.lf
@@ -114,8 +127,11 @@ multiline_values = derives (
     MoreLines.continued {w = codes "    "} refl (lead _ _ refl) (plain_line (codes "v") refl) LineEnd.lf (
     MoreLines.empty_lf (MoreLines.done refl refl)))))) (
     give (pair_of (codes "baz ") refl refl (Value.lines {w = codes " "} refl (lead _ _ refl) (plain_line (codes "w") refl) LineEnd.lf
-    (MoreLines.continued {w = codes "  "} refl (lead _ _ refl) (plain_line (codes "x # intentional trailing whitespace below") refl) LineEnd.lf (
+    (MoreLines.continued {w = codes "  "} refl (lead _ _ refl)
+    (plain_line (codes "x # intentional trailing whitespace below") refl) LineEnd.lf (
     MoreLines.continued {w = codes "   "} refl (lead _ _ refl) (plain_line (codes "y ") refl) LineEnd.lf (
     MoreLines.empty_lf (
     MoreLines.continued {w = codes " "} refl (lead _ _ refl) (plain_line (codes "z #2") refl) LineEnd.lf (MoreLines.done refl refl))))))) (
-    give (pair_of (codes "bla ") refl refl (Value.lines {w = codes " "} refl (lead _ _ refl) (plain_line (codes "a") refl) LineEnd.lf (MoreLines.done tt tt))) whole))))))
+    give (pair_of (codes "bla ") refl refl
+    (Value.lines {w = codes " "} refl (lead _ _ refl) (plain_line (codes "a") refl) LineEnd.lf
+    (MoreLines.done tt tt))) whole))))))
