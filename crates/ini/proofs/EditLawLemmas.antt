@@ -103,7 +103,15 @@ pub ruleset pairs = (others-inserted, others-appended, others-removed)
 
 pub ruleset names = (set-names, add-names, first-deleted, delete_from-names, first-section_removed, first-section_set, entry-names)
 
-pub ruleset sections = (set-sections, add-sections, named-deleted, delete_from-sections, named-section_removed, named-section_set, entry-sections)
+pub ruleset sections = (
+  set-sections,
+  add-sections,
+  named-deleted,
+  delete_from-sections,
+  named-section_removed,
+  named-section_set,
+  entry-sections,
+)
 
 pub ruleset keys_in = (set-keys, add-keys, value-deleted, delete_from-keys)
 

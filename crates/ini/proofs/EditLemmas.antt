@@ -9,7 +9,8 @@ use Rattle.ini.specs.Edits.{add_in, delete_in, edit_section, replace_in, set_in}
 
 module _ (name : Option Text) (f : Pairs → Pairs) (last : Document) where
   -- where it is there
-  pub edit_section-there : (d : Document) (pairs : Pairs) → first_section name d ≡ Some pairs → edit_section name f last d ≡ set_value (is_name name) d (f pairs)
+  pub edit_section-there : (d : Document) (pairs : Pairs) → first_section name d ≡ Some pairs
+      → edit_section name f last d ≡ set_value (is_name name) d (f pairs)
   edit_section-there [] pairs e =
       let none : ⊥ = cc in
       absurd none
@@ -21,12 +22,14 @@ module _ (name : Option Text) (f : Pairs → Pairs) (last : Document) where
   edit_section-last (s ∷ d) e = grind (arith, edit_section-last d)
 
 -- putting back what is there
-pub set_section-same : (name : Option Text) (d : Document) (pairs : Pairs) → first_section name d ≡ Some pairs → set_value (is_name name) d pairs ≡ d
+pub set_section-same : (name : Option Text) (d : Document) (pairs : Pairs)
+    → first_section name d ≡ Some pairs → set_value (is_name name) d pairs ≡ d
 set_section-same name [] pairs e = refl
 set_section-same name (s ∷ d) pairs e = grind (arith, set_section-same name d pairs)
 
 -- nothing is put where no section has the name
-pub set_section-none : (name : Option Text) (d : Document) (pairs : Pairs) → first_section name d ≡ None → set_value (is_name name) d pairs ≡ d
+pub set_section-none : (name : Option Text) (d : Document) (pairs : Pairs) → first_section name d ≡ None
+    → set_value (is_name name) d pairs ≡ d
 set_section-none name [] pairs e = refl
 set_section-none name (s ∷ d) pairs e = grind (arith, set_section-none name d pairs)
 
@@ -63,8 +66,11 @@ first_section-append : (name : Option Text) (d e : Document) → IsSome (first_s
 first_section-append name [] e there = absurd (false≢true there)
 first_section-append name (s ∷ d) e there = grind (arith, first_section-append name d e)
 
-pub stays_there : {X E : Type 0} (r : Result X E) (name : Option Text) (d e new : Document) → OnOk r (new ≡ d ++ e) → OnErr r (new ≡ d) → IsSome (first_section name d) → IsSome (first_section name new)
-stays_there (Ok x) name d e new appended unchanged there = subst (λ l. IsSome (first_section name l)) (sym appended) (first_section-append name d e there)
+pub stays_there : {X E : Type 0} (r : Result X E) (name : Option Text) (d e new : Document)
+    → OnOk r (new ≡ d ++ e) → OnErr r (new ≡ d) → IsSome (first_section name d)
+    → IsSome (first_section name new)
+stays_there (Ok x) name d e new appended unchanged there =
+    subst (λ l. IsSome (first_section name l)) (sym appended) (first_section-append name d e there)
 stays_there (Err x) name d e new appended unchanged there = subst (λ l. IsSome (first_section name l)) (sym unchanged) there
 
 pub ruleset edits = (set_in-there, add_in-there, delete_in-there, edit_section-last, set_section-same, append-nil)

@@ -26,7 +26,9 @@ module _ {K V : Type 0} (test : K → Bool) (f : V → V) where
   edited-zero (p ∷ ps) = refl
 
   -- one more
-  pub edited-more : (n : ℕ) (ps : List (K × V)) (v : V) → slice_get (values_at test (edited n ps)) n ≡ Some v → set_nth_value test (edited n ps) n (f v) ≡ edited (suc n) ps
+  pub edited-more : (n : ℕ) (ps : List (K × V)) (v : V)
+      → slice_get (values_at test (edited n ps)) n ≡ Some v
+      → set_nth_value test (edited n ps) n (f v) ≡ edited (suc n) ps
   edited-more n [] v e = refl
   edited-more zero (p ∷ ps) v e = grind (arith, edited-more zero ps v, edited-zero ps)
   edited-more (suc n) (p ∷ ps) v e = grind (arith, edited-more n ps v, edited-more (suc n) ps v)

@@ -83,47 +83,57 @@ others-inserted key value (p ∷ ps) = grind (arith, others-inserted key value p
 
 -- edits of the first section of a name, with `last` where there is none
 module _ (name : Option Text) (f : Pairs → Pairs) (last : Document) where
-  pub first-edited : (other : Option Text) → first_section other last ≡ None → is_name other name ≡ false → (d : Document) → first_section other (edit_section name f last d) ≡ first_section other d
+  pub first-edited : (other : Option Text) → first_section other last ≡ None → is_name other name ≡ false
+      → (d : Document) → first_section other (edit_section name f last d) ≡ first_section other d
   first-edited other none apart [] = none
   first-edited other none apart (s ∷ d) = grind (arith, first-edited other none apart d, names_equal name s.0, apart)
 
-  pub named-edited : (other : Option Text) → sections_named other last ≡ [] → is_name other name ≡ false → (d : Document) → sections_named other (edit_section name f last d) ≡ sections_named other d
+  pub named-edited : (other : Option Text) → sections_named other last ≡ [] → is_name other name ≡ false
+      → (d : Document) → sections_named other (edit_section name f last d) ≡ sections_named other d
   named-edited other none apart [] = none
   named-edited other none apart (s ∷ d) = grind (arith, named-edited other none apart d, names_equal name s.0, apart)
 
-  pub there-edited : (other : Option Text) (d : Document) → IsSome (first_section other d) → IsSome (first_section other (edit_section name f last d))
+  pub there-edited : (other : Option Text) (d : Document) → IsSome (first_section other d)
+      → IsSome (first_section other (edit_section name f last d))
   there-edited other [] there = absurd (false≢true there)
   there-edited other (s ∷ d) there = grind (arith, there-edited other d)
 
-  pub value-edited : (other : Text) → value_in name other last ≡ None → ((ps : Pairs) → first_value other (f ps) ≡ first_value other ps) → (d : Document)
+  pub value-edited : (other : Text) → value_in name other last ≡ None
+      → ((ps : Pairs) → first_value other (f ps) ≡ first_value other ps) → (d : Document)
       → value_in name other (edit_section name f last d) ≡ value_in name other d
   value-edited other none same [] = none
   value-edited other none same (s ∷ d) = grind (arith, value-edited other none same d, same s.1)
 
-  pub rest-edited : (key : Text) → ((ps : Pairs) → all_removed key (f ps) ≡ all_removed key ps) → (d : Document) → IsSome (first_section name d)
+  pub rest-edited : (key : Text) → ((ps : Pairs) → all_removed key (f ps) ≡ all_removed key ps)
+      → (d : Document) → IsSome (first_section name d)
       → apart_from name key (edit_section name f last d) ≡ apart_from name key d
   rest-edited key same [] there = absurd (false≢true there)
   rest-edited key same (s ∷ d) there = grind (arith, rest-edited key same d, same s.1)
 
-  pub later-edited : (d : Document) → drop 1 (sections_named name last) ≡ [] → drop 1 (sections_named name (edit_section name f last d)) ≡ drop 1 (sections_named name d)
+  pub later-edited : (d : Document) → drop 1 (sections_named name last) ≡ []
+      → drop 1 (sections_named name (edit_section name f last d)) ≡ drop 1 (sections_named name d)
   later-edited [] none = none
   later-edited (s ∷ d) none = grind (arith, later-edited d none)
 
 -- edits of every section of a name
 module _ (name : Option Text) (key : Text) where
-  pub first-deleted : (other : Option Text) → is_name other name ≡ false → (d : Document) → first_section other (delete_in_all name key d) ≡ first_section other d
+  pub first-deleted : (other : Option Text) → is_name other name ≡ false → (d : Document)
+      → first_section other (delete_in_all name key d) ≡ first_section other d
   first-deleted other apart [] = refl
   first-deleted other apart (s ∷ d) = grind (arith, first-deleted other apart d, names_equal name s.0, apart)
 
-  pub named-deleted : (other : Option Text) → is_name other name ≡ false → (d : Document) → sections_named other (delete_in_all name key d) ≡ sections_named other d
+  pub named-deleted : (other : Option Text) → is_name other name ≡ false → (d : Document)
+      → sections_named other (delete_in_all name key d) ≡ sections_named other d
   named-deleted other apart [] = refl
   named-deleted other apart (s ∷ d) = grind (arith, named-deleted other apart d, names_equal name s.0, apart)
 
-  pub there-deleted : (other : Option Text) (d : Document) → IsSome (first_section other d) → IsSome (first_section other (delete_in_all name key d))
+  pub there-deleted : (other : Option Text) (d : Document) → IsSome (first_section other d)
+      → IsSome (first_section other (delete_in_all name key d))
   there-deleted other [] there = absurd (false≢true there)
   there-deleted other (s ∷ d) there = grind (arith, there-deleted other d)
 
-  pub value-deleted : (other : Text) → is_text other key ≡ false → (d : Document) → value_in name other (delete_in_all name key d) ≡ value_in name other d
+  pub value-deleted : (other : Text) → is_text other key ≡ false → (d : Document)
+      → value_in name other (delete_in_all name key d) ≡ value_in name other d
   value-deleted other apart [] = refl
   value-deleted other apart (s ∷ d) = grind (arith, value-deleted other apart d, first-removed key other apart s.1)
 
@@ -149,7 +159,8 @@ module _ (name other : Option Text) (apart : is_name other name ≡ false) where
   named-section_set pairs [] = refl
   named-section_set pairs (s ∷ d) = grind (arith, named-section_set pairs d, names_equal name s.0, apart)
 
-pub there-section_set : (name other : Option Text) (pairs : Pairs) (d : Document) → IsSome (first_section other d) → IsSome (first_section other (section_set name pairs d))
+pub there-section_set : (name other : Option Text) (pairs : Pairs) (d : Document)
+    → IsSome (first_section other d) → IsSome (first_section other (section_set name pairs d))
 there-section_set name other pairs [] there = absurd (false≢true there)
 there-section_set name other pairs (s ∷ d) there = grind (arith, there-section_set name other pairs d)
 
@@ -158,7 +169,8 @@ pub set-there : (name : Option Text) (key value : Text) (d : Document) → value
 set-there name key value [] = grind (arith, name_refl name, text_refl key)
 set-there name key value (s ∷ d) = grind (arith, set-there name key value d, inserted-there key value s.1)
 
-pub lent-there : (name : Option Text) (pairs : Pairs) (d : Document) → IsSome (first_section name d) → first_section name (section_set name pairs d) ≡ Some pairs
+pub lent-there : (name : Option Text) (pairs : Pairs) (d : Document) → IsSome (first_section name d)
+    → first_section name (section_set name pairs d) ≡ Some pairs
 lent-there name pairs [] there = absurd (false≢true there)
 lent-there name pairs (s ∷ d) there = grind (arith, lent-there name pairs d)
 
@@ -175,10 +187,12 @@ removed-last : (key : Text) (ps : Pairs) → length (values key ps) ≤ 1 → fi
 removed-last key [] h = refl
 removed-last key (p ∷ ps) h = grind (arith, removed-last key ps, none-of key ps)
 
-pub deleted-last : (name : Option Text) (key : Text) (d : Document) → length (values_in name key d) ≤ 1 → value_in name key (delete_in_all name key d) ≡ None
+pub deleted-last : (name : Option Text) (key : Text) (d : Document) → length (values_in name key d) ≤ 1
+    → value_in name key (delete_in_all name key d) ≡ None
 deleted-last name key [] h = refl
 deleted-last name key (s ∷ d) h = grind (arith, deleted-last name key d, removed-last key s.1)
 
-pub deleted_from-last : (name : Option Text) (key : Text) (d : Document) → length (values_in name key d) ≤ 1 → value_in name key (delete_in name key d) ≡ None
+pub deleted_from-last : (name : Option Text) (key : Text) (d : Document)
+    → length (values_in name key d) ≤ 1 → value_in name key (delete_in name key d) ≡ None
 deleted_from-last name key [] h = refl
 deleted_from-last name key (s ∷ d) h = grind (arith, deleted_from-last name key d, removed-last key s.1)

@@ -38,7 +38,8 @@ module _ {K V : Type 0} where
   last_is_there (p ∷ q ∷ ps) h = rw less_one (last_is_there (q ∷ ps) (omega arith))
 
   -- the last pair stays
-  pub with_value_at-last : (v : V) (ps : List (K × V)) → slice_get (values_of ps) (length ps - 1) ≡ Some v → with_value_at ps (length ps - 1) v ≡ ps
+  pub with_value_at-last : (v : V) (ps : List (K × V)) → slice_get (values_of ps) (length ps - 1) ≡ Some v
+      → with_value_at ps (length ps - 1) v ≡ ps
   with_value_at-last v [] h = refl
   with_value_at-last v (p ∷ []) h =
       let same : p.1 ≡ v = cc in
@@ -46,7 +47,8 @@ module _ {K V : Type 0} where
   with_value_at-last v (p ∷ q ∷ ps) h = rw less_one (ap (λ l. p ∷ l) (with_value_at-last v (q ∷ ps) (rw less_one at h)))
 
   -- the pair that was pushed
-  set_pushed : (k : K) (v w : V) (ps : List (K × V)) → with_value_at (ps ++ (k, v) ∷ []) (length (ps ++ (k, v) ∷ []) - 1) w ≡ ps ++ (k, w) ∷ []
+  set_pushed : (k : K) (v w : V) (ps : List (K × V))
+      → with_value_at (ps ++ (k, v) ∷ []) (length (ps ++ (k, v) ∷ []) - 1) w ≡ ps ++ (k, w) ∷ []
   set_pushed k v w [] = refl
   set_pushed k v w (p ∷ []) = refl
   set_pushed k v w (p ∷ q ∷ ps) = rw less_one (ap (λ l. p ∷ l) (set_pushed k v w (q ∷ ps)))

@@ -22,10 +22,12 @@ use lib.Utf8.{encodes}
 
 -- a text that is cut behind n bytes
 pub front_cut : (t : List ℕ) (n : ℕ) → IsUtf8 (take n t) → front_of (chars t) (chars (drop n t)) ≡ chars (take n t)
-front_cut t n utf8 = front_is (chars (take n t)) (chars (drop n t)) (chars t) (sym (chars-append (take n t) (drop n t) utf8) ∙ ap chars (take-append-drop n t))
+front_cut t n utf8 = front_is (chars (take n t)) (chars (drop n t)) (chars t)
+    (sym (chars-append (take n t) (drop n t) utf8) ∙ ap chars (take-append-drop n t))
 
 pub rest_cut : (t : List ℕ) (n : ℕ) → IsUtf8 (take n t) → IsRest (chars t) (chars (drop n t))
-rest_cut t n utf8 = ap (λ f. f ++ chars (drop n t)) (front_cut t n utf8) ∙ sym (chars-append (take n t) (drop n t) utf8) ∙ ap chars (take-append-drop n t)
+rest_cut t n utf8 = ap (λ f. f ++ chars (drop n t)) (front_cut t n utf8)
+    ∙ sym (chars-append (take n t) (drop n t) utf8) ∙ ap chars (take-append-drop n t)
 
 -- texts whose characters are those of a third, one behind the other, are its bytes
 pub text_parts : (t f r : List ℕ) → IsUtf8 t → IsUtf8 f → IsUtf8 r → chars t ≡ chars f ++ chars r → t ≡ f ++ r
@@ -45,7 +47,8 @@ pub feeds_fit : (t : List ℕ) → IsUtf8 t → count_by is_line_feed (chars t) 
 feeds_fit t utf8 = omega (arith, count_by-le-length is_line_feed (chars t), length-le-encodes (chars t), ap length (encodes-chars t utf8))
 
 -- the line at which a text of some bytes stops
-pub line_fits : {o : ParseOption} {b : Text} {e : ParseError} (t : List ℕ) (gone : ℕ) → IsUtf8 t → StopsLater o (chars t) b gone e → e.line ≤ 1 + length t + gone
+pub line_fits : {o : ParseOption} {b : Text} {e : ParseError} (t : List ℕ) (gone : ℕ) → IsUtf8 t
+    → StopsLater o (chars t) b gone e → e.line ≤ 1 + length t + gone
 line_fits t gone utf8 stops =
     let stop = stops.stop in
     let front = stop.front ++ stop.source in
@@ -62,7 +65,8 @@ line_fits t gone utf8 stops =
     )
 
 -- a refusal that is told further down
-pub StopsLater-down : {o : ParseOption} {T b : Text} {e f : ParseError} (n : ℕ) → StopsLater o T b 0 e → f.line ≡ e.line + n → f.col ≡ e.col → f.msg ≡ e.msg → f.kind ≡ e.kind
+pub StopsLater-down : {o : ParseOption} {T b : Text} {e f : ParseError} (n : ℕ) → StopsLater o T b 0 e
+    → f.line ≡ e.line + n → f.col ≡ e.col → f.msg ≡ e.msg → f.kind ≡ e.kind
     → StopsLater o T b n f
 StopsLater-down n stops line column message kind = record {
   front = stops.front;
@@ -87,7 +91,9 @@ GoesBy-nothing o p b has = record {
   reads = λ more.
       let n = p.front in
       let whole : chars (b ++ more) ≡ chars (take n b) ++ chars (drop n b ++ more) =
-      ap (λ x. chars (x ++ more)) (sym (take-append-drop n b)) ∙ ap chars (append_assoc (take n b) (drop n b) more) ∙ chars-append (take n b) (drop n b ++ more) has.utf8 in
+      ap (λ x. chars (x ++ more)) (sym (take-append-drop n b))
+      ∙ ap chars (append_assoc (take n b) (drop n b) more)
+      ∙ chars-append (take n b) (drop n b ++ more) has.utf8 in
       rw chars-nil (Reads.stay (chars (drop n b ++ more)) whole);
   document = refl;
 }
@@ -100,7 +106,8 @@ module _ (whole line left tail : List ℕ) (uw : IsUtf8 whole) (ul : IsUtf8 line
   abbrev kept : List ℕ
   kept = line ++ (left ++ tail)
 
-  GoesBy-lines : {o : ParseOption} (old new : Passing) → is_column_one (chars whole) ≡ true → new.lines ≡ old.lines + count_by is_line_feed (chars whole)
+  GoesBy-lines : {o : ParseOption} (old new : Passing) → is_column_one (chars whole) ≡ true
+      → new.lines ≡ old.lines + count_by is_line_feed (chars whole)
       → new.front ≡ length line → IsUtf8 (take old.front text) → old.front ≤ length text
       → Settles o (chars text) (chars (drop old.front text)) (chars left) old.document new.document
       → GoesBy o old new (text ++ tail) kept
@@ -133,11 +140,14 @@ module _ (whole line left tail : List ℕ) (uw : IsUtf8 whole) (ul : IsUtf8 line
 -- a text at the front of bytes begins as they do
 pub front_text : (b text : List ℕ) (n : ℕ) → text ≡ take (length text) b → n ≤ length text → take n b ≡ take n text
 front_text b text n at within =
-    ap (take n) (sym (take-append-drop (length text) b) ∙ ap (λ x. x ++ drop (length text) b) (sym at)) ∙ take-append-le n text (drop (length text) b) within
+    ap (take n) (sym (take-append-drop (length text) b) ∙ ap (λ x. x ++ drop (length text) b) (sym at))
+    ∙ take-append-le n text (drop (length text) b) within
 
 -- the front of the bytes b that is a text is read up to its front `front`, whose lines `whole` go by
-module _ (b text left front whole : List ℕ) (at : text ≡ take (length text) b) (ut : IsUtf8 text) (ul : IsUtf8 left) (uf : IsUtf8 front) (uw : IsUtf8 whole)
-    (begins : whole ≡ take (length whole) front) (is_rest : IsRest (chars text) (chars left)) (front_at : chars front ≡ front_of (chars text) (chars left)) where
+module _ (b text left front whole : List ℕ) (at : text ≡ take (length text) b) (ut : IsUtf8 text)
+    (ul : IsUtf8 left) (uf : IsUtf8 front) (uw : IsUtf8 whole)
+    (begins : whole ≡ take (length whole) front) (is_rest : IsRest (chars text) (chars left))
+    (front_at : chars front ≡ front_of (chars text) (chars left)) where
   abbrev line : List ℕ
   line = drop (length whole) front
 
@@ -148,7 +158,8 @@ module _ (b text left front whole : List ℕ) (at : text ≡ take (length text) 
   front_is_cut = sym (take-append-drop (length whole) front) ∙ ap (λ x. x ++ line) (sym begins)
 
   text_is_cut : text ≡ (whole ++ line) ++ left
-  text_is_cut = text_parts text front left ut uf ul (sym is_rest ∙ ap (λ x. x ++ chars left) (sym front_at)) ∙ ap (λ x. x ++ left) front_is_cut
+  text_is_cut = text_parts text front left ut uf ul
+      (sym is_rest ∙ ap (λ x. x ++ chars left) (sym front_at)) ∙ ap (λ x. x ++ left) front_is_cut
 
   bytes_are_cut : b ≡ ((whole ++ line) ++ left) ++ tail
   bytes_are_cut = sym (take-append-drop (length text) b) ∙ ap (λ x. x ++ tail) (sym at ∙ text_is_cut)
@@ -159,14 +170,16 @@ module _ (b text left front whole : List ℕ) (at : text ≡ take (length text) 
   pub whole_within : length whole ≤ length b
   whole_within = omega (arith, ap length kept_are, length-append whole (line ++ (left ++ tail)))
 
-  pub GoesBy-cut : {o : ParseOption} (old new : Passing) → is_column_one (chars whole) ≡ true → new.lines ≡ old.lines + count_by is_line_feed (chars whole)
+  pub GoesBy-cut : {o : ParseOption} (old new : Passing) → is_column_one (chars whole) ≡ true
+      → new.lines ≡ old.lines + count_by is_line_feed (chars whole)
       → new.front ≡ length front - length whole → IsUtf8 (take old.front b) → old.front ≤ length text
       → Settles o (chars text) (chars (drop old.front text)) (chars left) old.document new.document
       → GoesBy o old new b (drop (length whole) b)
   GoesBy-cut {o} old new one lines new_front utf8 within settles =
       let n = old.front in
       let begun : take n b ≡ take n ((whole ++ line) ++ left) = front_text b text n at within ∙ ap (take n) text_is_cut in
-      let dropped : drop (length whole) b ≡ line ++ (left ++ tail) = ap (drop (length whole)) kept_are ∙ drop-append_seam whole (line ++ (left ++ tail)) in
+      let dropped : drop (length whole) b ≡ line ++ (left ++ tail) = ap (drop (length whole)) kept_are
+      ∙ drop-append_seam whole (line ++ (left ++ tail)) in
       let size : new.front ≡ length line = omega (arith, new_front, ap length front_is_cut, length-append whole line) in
       let by = GoesBy-lines whole line left tail uw (IsUtf8-behind whole line uw (subst IsUtf8 front_is_cut uf)) ul
       old new one lines size (subst IsUtf8 begun utf8) (omega (arith, within, ap length text_is_cut))
@@ -174,7 +187,8 @@ module _ (b text left front whole : List ℕ) (at : text ≡ take (length text) 
       rw dropped (subst (λ x. GoesBy o old new x (line ++ (left ++ tail))) (sym bytes_are_cut) by)
 
 -- nothing was read yet
-pub IsPassing-starts : (o : ParseOption) (bytes : List ℕ) (p : Passing) → p.document ≡ (None, []) ∷ [] → p.front ≡ 0 → p.lines ≡ 0 → IsPassing o bytes bytes p
+pub IsPassing-starts : (o : ParseOption) (bytes : List ℕ) (p : Passing) → p.document ≡ (None, []) ∷ []
+    → p.front ≡ 0 → p.lines ≡ 0 → IsPassing o bytes bytes p
 IsPassing-starts o bytes p new front lines = record {
   gone = [];
   items = [];
@@ -202,7 +216,11 @@ module _ {o : ParseOption} {all b : List ℕ} {p : Passing} (passing : IsPassing
         utf8 = passing.utf8;
         line_start = passing.line_start;
         lines = passing.lines;
-        front = record { within = omega (arith, passing.front.within, length-append b read); utf8 = subst IsUtf8 (sym same) passing.front.utf8 };
+        front = record {
+          within = omega (arith, passing.front.within, length-append b read);
+          utf8 =
+              subst IsUtf8 (sym same) passing.front.utf8;
+        };
         reads = λ more. rw (same, append_assoc b read more) (passing.reads (read ++ more));
         document = passing.document;
       }
@@ -217,17 +235,26 @@ module _ {o : ParseOption} {all b : List ℕ} {p : Passing} (passing : IsPassing
         whole = passing.whole ∙ ap (λ x. gone ++ x) by.bytes ∙ sym (append_assoc gone by.gone c);
         utf8 = IsUtf8-append gone by.gone passing.utf8 by.utf8;
         line_start = rw both (is_column_one-behind (chars gone) passing.line_start (chars by.gone) ∙ by.line_start);
-        lines = rw both (omega (arith, by.lines, passing.lines, sum_by-append (λ x. cond (is_line_feed x) 1 0) (chars gone) (chars by.gone)));
+        lines = rw both (omega (
+          arith,
+          by.lines,
+          passing.lines,
+          sum_by-append
+              (λ x. cond (is_line_feed x) 1 0) (chars gone) (chars by.gone),
+        ));
         front = by.front;
         reads = λ more.
             let kept : chars (b ++ more) ≡ chars by.gone ++ chars (c ++ more) =
             ap (λ x. chars (x ++ more)) by.bytes ∙ ap chars (append_assoc by.gone c more) ∙ chars-append by.gone (c ++ more) by.utf8 in
             let text : chars (gone ++ by.gone) ++ chars (c ++ more) ≡ chars gone ++ chars (b ++ more) =
-            ap (λ x. x ++ chars (c ++ more)) both ∙ append_assoc (chars gone) (chars by.gone) (chars (c ++ more)) ∙ ap (λ x. chars gone ++ x) (sym kept) in
+            ap (λ x. x ++ chars (c ++ more)) both
+            ∙ append_assoc (chars gone) (chars by.gone) (chars (c ++ more))
+            ∙ ap (λ x. chars gone ++ x) (sym kept) in
             let end : chars (gone ++ by.gone) ++ chars (take q.front c) ≡ chars gone ++ (chars by.gone ++ chars (take q.front c)) =
             ap (λ x. x ++ chars (take q.front c)) both ∙ append_assoc (chars gone) (chars by.gone) (chars (take q.front c)) in
             rw (text, end) (Reads-append (passing.reads more) (Reads-behind (chars gone) passing.line_start (by.reads more)));
-        document = by.document ∙ ap (λ d. with_items d by.items) passing.document ∙ sym (with_items-append ((None, []) ∷ []) passing.items by.items);
+        document = by.document ∙ ap (λ d. with_items d by.items) passing.document
+            ∙ sym (with_items-append ((None, []) ∷ []) passing.items by.items);
       }
 
   -- all bytes are read
@@ -235,7 +262,8 @@ module _ {o : ParseOption} {all b : List ℕ} {p : Passing} (passing : IsPassing
   all_chars = ap chars passing.whole ∙ chars-append gone b passing.utf8
 
   so_far : Reads o (chars gone ++ chars b) [] passing.items (chars gone ++ chars (take p.front b))
-  so_far = subst (λ x. Reads o (chars gone ++ chars x) [] passing.items (chars gone ++ chars (take p.front b))) (append-nil b) (passing.reads [])
+  so_far = subst (λ x. Reads o (chars gone ++ chars x) [] passing.items
+      (chars gone ++ chars (take p.front b))) (append-nil b) (passing.reads [])
 
   pub IsUtf8-all : IsUtf8 b → IsUtf8 all
   IsUtf8-all u = subst IsUtf8 (sym passing.whole) (IsUtf8-append gone b passing.utf8 u)
@@ -247,12 +275,14 @@ module _ {o : ParseOption} {all b : List ℕ} {p : Passing} (passing : IsPassing
   IsDocumentOf-all made = record {
     items = passing.items ++ made.items;
     derives = rw all_chars (Reads-append so_far (Reads-behind (chars gone) passing.line_start made.reads));
-    document = made.document ∙ ap (λ d. with_items d made.items) passing.document ∙ sym (with_items-append ((None, []) ∷ []) passing.items made.items);
+    document = made.document ∙ ap (λ d. with_items d made.items) passing.document
+        ∙ sym (with_items-append ((None, []) ∷ []) passing.items made.items);
   }
 
   pub IsStopOf-all : {e : ParseError} → StopsLater o (chars b) (chars (take p.front b)) p.lines e → IsStopOf o (chars all) e
   IsStopOf-all {e} stops =
       let one = passing.line_start in
       let line : e.line ≡ stops.line + count_by is_line_feed (chars gone) = stops.moved ∙ ap (λ n. stops.line + n) passing.lines in
-      let stop : StopsBehind o (chars gone ++ chars b) (chars gone ++ stops.front) e.kind e.line e.col = rw line (StopsBehind-behind (chars gone) one stops.stop) in
+      let stop : StopsBehind o (chars gone ++ chars b) (chars gone ++ stops.front) e.kind e.line e.col =
+      rw line (StopsBehind-behind (chars gone) one stops.stop) in
       rw all_chars (IsStopOf-behind e (Reads-append so_far (Reads-behind (chars gone) one stops.reads)) stop stops.message)

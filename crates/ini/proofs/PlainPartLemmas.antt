@@ -9,8 +9,10 @@ use Rattle.ini.specs.Plain.{IsPlain}
 use Rattle.ini.specs.Inside.PlainSections.{ArePlainPairs, HasPlainName, IsPlainSection}
 use Rattle.ini.specs.Properties.{Pairs}
 
-module _ (d : Document) (w : WriteOption) (o : ParseOption) (general : Pairs) (rest : Document) (sections : d ≡ (None, general) ∷ rest) where
-  pub plain_from_parts : IsPlainSeparator (chars w.kv_separator.now) → ArePlainPairs o w.escape_policy general → All (IsPlainSection o w.escape_policy) rest → IsPlain d w o
+module _ (d : Document) (w : WriteOption) (o : ParseOption) (general : Pairs) (rest : Document)
+    (sections : d ≡ (None, general) ∷ rest) where
+  pub plain_from_parts : IsPlainSeparator (chars w.kv_separator.now)
+      → ArePlainPairs o w.escape_policy general → All (IsPlainSection o w.escape_policy) rest → IsPlain d w o
   plain_from_parts separator first others = record {
     general = general;
     named = rest;
@@ -34,5 +36,6 @@ module _ (d : Document) (w : WriteOption) (o : ParseOption) (general : Pairs) (r
   others_of p =
       let same : (None, p.general) ∷ p.named ≡ (None, general) ∷ rest = sym p.sections ∙ sections in
       let named : p.named ≡ rest = cc in
-      let names : All (λ s. HasPlainName o w.escape_policy s.0) rest = subst (λ e. All (λ s. HasPlainName o w.escape_policy s.0) e) named p.names in
+      let names : All (λ s. HasPlainName o w.escape_policy s.0) rest =
+      subst (λ e. All (λ s. HasPlainName o w.escape_policy s.0) e) named p.names in
       λ k x l. record { name = names k x l; pairs = each p (suc k) x (omega arith) }

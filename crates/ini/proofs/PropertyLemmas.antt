@@ -35,16 +35,29 @@ module _ {Z : Type 0} (ps : List (String Z × String Z)) where
     pub all_removed-pairs : all_removed (chars u) (pairs_of ps) ≡ pairs_of (without (λ k. bytes_eq u (string_bytes k)) ps)
     all_removed-pairs = without-both text_of text_of _ (is_text (chars u)) (same_key u utf8) ps
 
-    pub set-pairs : (v : String Z) → set_value (is_text (chars u)) (pairs_of ps) (text_of v) ≡ pairs_of (set_value (λ k. bytes_eq u (string_bytes k)) ps v)
+    pub set-pairs : (v : String Z)
+        → set_value (is_text (chars u)) (pairs_of ps) (text_of v)
+        ≡ pairs_of (set_value (λ k. bytes_eq u (string_bytes k)) ps v)
     set-pairs v = set_value-both text_of text_of _ (is_text (chars u)) (same_key u utf8) ps v
     -- clones show the same
 
 module _ {Z : Type 0} where
   -- clones show the same
-  pub pairs_of-clones : (ps qs : List (String Z × String Z)) → AllZip (λ p q. (string_bytes q.0 ≡ string_bytes p.0) × (string_bytes q.1 ≡ string_bytes p.1)) ps qs → pairs_of qs ≡ pairs_of ps
+  pub pairs_of-clones : (ps qs : List (String Z × String Z))
+      → AllZip (λ p q. (string_bytes q.0 ≡ string_bytes p.0) × (string_bytes q.1 ≡ string_bytes p.1)) ps qs
+      → pairs_of qs ≡ pairs_of ps
   pairs_of-clones [] [] e = refl
   pairs_of-clones [] (q ∷ qs) e = absurd e
   pairs_of-clones (p ∷ ps) [] e = absurd e
   pairs_of-clones (p ∷ ps) (q ∷ qs) e = λ i. (chars (e.0.0 i), chars (e.0.1 i)) ∷ pairs_of-clones ps qs e.1 i
 
-pub ruleset reads = (first_value-owned, length-distinct-pairs, inserted-pairs, first_value-pairs, values-pairs, removed-pairs, all_removed-pairs, pairs_of-clones)
+pub ruleset reads = (
+  first_value-owned,
+  length-distinct-pairs,
+  inserted-pairs,
+  first_value-pairs,
+  values-pairs,
+  removed-pairs,
+  all_removed-pairs,
+  pairs_of-clones,
+)

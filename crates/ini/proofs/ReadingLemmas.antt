@@ -34,7 +34,8 @@ module _ {o : ParseOption} {T : Text} where
   Reads-within (Reads.step e x rest) = Reads-within rest
 
   -- where reading stops behind what was read
-  pub IsStopOf-behind : {b : Text} {items : List Given} (e : ParseError) → Reads o T [] items b → StopsBehind o T b e.kind e.line e.col → HasMessage e.kind (cow_str_bytes e.msg) → IsStopOf o T e
+  pub IsStopOf-behind : {b : Text} {items : List Given} (e : ParseError) → Reads o T [] items b
+      → StopsBehind o T b e.kind e.line e.col → HasMessage e.kind (cow_str_bytes e.msg) → IsStopOf o T e
   IsStopOf-behind e reads stop message = record {
     front = stop.front ++ stop.source;
     stops = Stops.stops (Reads-append reads stop.reads) stop.whole stop.stops;
@@ -44,7 +45,8 @@ module _ {o : ParseOption} {T : Text} where
   }
 
 -- where reading stops that began at the front of the text
-pub IsStopOf-first : (o : ParseOption) (T : Text) {b : Text} (e : Error) → b ≡ [] → IfParse {X = Document} (Err e) (StopsLater o T b 0) → IfParse {X = Document} (Err e) (IsStopOf o T)
+pub IsStopOf-first : (o : ParseOption) (T : Text) {b : Text} (e : Error) → b ≡ []
+    → IfParse {X = Document} (Err e) (StopsLater o T b 0) → IfParse {X = Document} (Err e) (IsStopOf o T)
 IsStopOf-first o T (Parse e) first stops =
     let stop : StopsBehind o T stops.front e.kind e.line e.col = rw (stops.moved, add-zero stops.line) stops.stop in
     IsStopOf-behind e (subst (λ x. Reads o T x stops.items stops.front) first stops.reads) stop stops.message
@@ -59,7 +61,8 @@ chars-some bytes utf8 some = at (chars bytes) refl
     at (c ∷ cs) is = omega arith
 
 -- one item more, and more of them
-with_items-push : (d : Document) (items : List Given) (item : Given) → with_items d (items ++ item ∷ []) ≡ with_item (with_items d items) item
+with_items-push : (d : Document) (items : List Given) (item : Given)
+    → with_items d (items ++ item ∷ []) ≡ with_item (with_items d items) item
 with_items-push d items item = fold-append with_item d items (item ∷ [])
 
 pub with_items-append : (d : Document) (xs ys : List Given) → with_items d (xs ++ ys) ≡ with_items (with_items d xs) ys
@@ -91,7 +94,8 @@ pub record Loaded (o : ParseOption) (T b : Text) (p : Place) (d e : Document) : 
   pub made : Makes o T b p.front d e
   pub some : 0 < length e
 
-pub Loaded-starts : {o : ParseOption} {T b : Text} {p : Place} {d : Document} (r : Text) → b ++ r ≡ T → IsReading o T p → p.front ≡ b → 0 < length d → Loaded o T b p d d
+pub Loaded-starts : {o : ParseOption} {T b : Text} {p : Place} {d : Document} (r : Text) → b ++ r ≡ T
+    → IsReading o T p → p.front ≡ b → 0 < length d → Loaded o T b p d d
 Loaded-starts {o} {T} {b} r whole reading front some = record {
   reading = reading;
   made = record { items = []; reads = subst (Reads o T b []) (sym front) (Reads.stay r (sym whole)); document = refl };
@@ -105,7 +109,8 @@ pub record Settling (o : ParseOption) (T rest left : Text) (p : Place) (d e : Do
   pub settles : Settles o T rest left d e
   pub some : 0 < length e
 
-pub Settling-starts : {o : ParseOption} {T rest : Text} {p : Place} {d : Document} → IsRest T rest → IsReading o T p → p.front ≡ front_of T rest → 0 < length d → Settling o T rest rest p d d
+pub Settling-starts : {o : ParseOption} {T rest : Text} {p : Place} {d : Document} → IsRest T rest
+    → IsReading o T p → p.front ≡ front_of T rest → 0 < length d → Settling o T rest rest p d d
 Settling-starts {o} {T} {rest} whole reading front some = record {
   reading = reading;
   front = front;
@@ -133,7 +138,8 @@ module _ {o : ParseOption} {T : Text} {p : Place} (reading : IsReading o T p) (q
       let one = answered (Ok (Some item)) is in
       omega (arith, one.0, Reads-within one.1)
 
-  pub IsReading-goes_on : {found : Option Item} → q.option ≡ p.option → q.text ≡ p.text → KeepsRefusal p.refusal q.refusal answer → answer ≡ Ok found → IsReading o T q
+  pub IsReading-goes_on : {found : Option Item} → q.option ≡ p.option → q.text ≡ p.text
+      → KeepsRefusal p.refusal q.refusal answer → answer ≡ Ok found → IsReading o T q
   IsReading-goes_on option text refusal is = record {
     option = option ∙ reading.option;
     text = text ∙ reading.text;
@@ -166,7 +172,8 @@ module _ {o : ParseOption} {T : Text} {p : Place} (reading : IsReading o T p) (q
       }
 
   -- where the parser refuses the text, reading stops
-  pub Loaded-stops : {b : Text} {d e : Document} {fault : Error} → Loaded o T b p d e → answer ≡ Err fault → IfParse {X = Document} (Err fault) (StopsLater o T b 0)
+  pub Loaded-stops : {b : Text} {d e : Document} {fault : Error} → Loaded o T b p d e → answer ≡ Err fault
+      → IfParse {X = Document} (Err fault) (StopsLater o T b 0)
   Loaded-stops {b} {fault = fault} loaded is = at fault (answered (Err fault) is)
     where
       at : (e : Error) → Refuses o T p.front e → IfParse {X = Document} (Err e) (StopsLater o T b 0)
@@ -183,7 +190,8 @@ module _ {o : ParseOption} {T : Text} {p : Place} (reading : IsReading o T p) (q
 
   -- an item that something follows is settled
   pub Settling-item : {rest left behind : Text} {item : Item} {d e f : Document} → Settling o T rest left p d e → IsReading o T q
-      → answer ≡ Ok (Some item) → 0 < length behind → q.front ++ behind ≡ T → f ≡ with_item e (item_of item) → Settling o T rest behind q d f
+      → answer ≡ Ok (Some item) → 0 < length behind → q.front ++ behind ≡ T
+      → f ≡ with_item e (item_of item) → Settling o T rest behind q d f
   Settling-item {behind = []} settling goes_on is some whole with = absurd (omega arith)
   Settling-item {rest} {left} {behind = c ∷ r} {item} {d} {e} settling goes_on is some whole with =
       let front : front_of T (c ∷ r) ≡ q.front = front_is q.front (c ∷ r) T whole in

@@ -34,7 +34,9 @@ module _ {Z : Type 0} (ss : List (Option (String Z) × Pairs)) where
     pub sections_named-sections : sections_named (str_name name) (sections_of ss) ≡ values_at (name_fits name) ss
     sections_named-sections = values_at-both name_of (λ ps. ps) _ (is_name (str_name name)) (same_name name text) ss ∙ map-id _
 
-    pub set-sections : (ps : Pairs) → set_value (is_name (str_name name)) (sections_of ss) ps ≡ sections_of (set_value (name_fits name) ss ps)
+    pub set-sections : (ps : Pairs)
+        → set_value (is_name (str_name name)) (sections_of ss) ps
+        ≡ sections_of (set_value (name_fits name) ss ps)
     set-sections ps = set_value-both name_of (λ qs. qs) _ (is_name (str_name name)) (same_name name text) ss ps
 
 -- clones show the same
@@ -47,7 +49,8 @@ module _ {Z : Type 0} (IsClone : Option (String Z) → Option (String Z) → Typ
   name_of-clone (Some s) None h = absurd (some s h)
   name_of-clone (Some s) (Some t) h = ap (λ bs. Some (chars bs)) (both s t h)
 
-  pub sections_of-clones : (ss ts : List (Option (String Z) × Pairs)) → AllZip (λ s t. IsClone s.0 t.0 × (t.1 ≡ s.1)) ss ts → sections_of ts ≡ sections_of ss
+  pub sections_of-clones : (ss ts : List (Option (String Z) × Pairs))
+      → AllZip (λ s t. IsClone s.0 t.0 × (t.1 ≡ s.1)) ss ts → sections_of ts ≡ sections_of ss
   sections_of-clones [] [] e = refl
   sections_of-clones [] (t ∷ ts) e = absurd e
   sections_of-clones (s ∷ ss) [] e = absurd e

@@ -16,7 +16,8 @@ use Rattle.ini.proofs.PassingLemmas.{IsDocumentOf-all, IsPassing-goes_by, IsPass
 use Rattle.ini.proofs.ReadingLemmas.{with_items-some}
 
 -- behind three bytes no mark is sought
-text_bytes-append : (drop_mark : Bool) (read left : List ℕ) → 3 ≤ length read → text_bytes drop_mark (read ++ left) ≡ text_bytes drop_mark read ++ left
+text_bytes-append : (drop_mark : Bool) (read left : List ℕ) → 3 ≤ length read
+    → text_bytes drop_mark (read ++ left) ≡ text_bytes drop_mark read ++ left
 text_bytes-append false read left long = refl
 text_bytes-append true [] left long = absurd (omega arith)
 text_bytes-append true (a ∷ []) left long = absurd (omega arith)
@@ -33,48 +34,60 @@ Follows drop_mark None after all = Unit {0}
 Follows drop_mark (Some whole) None all = ⊥
 Follows drop_mark (Some whole) (Some left) all = text_bytes drop_mark whole ≡ all ++ left
 
-Follows-starts : (drop_mark : Bool) (before after : Option (List ℕ)) (wanted : ℕ) (read : List ℕ) (is_all : Bool) → 3 ≤ wanted → Consumes before after read → IsFilled wanted read after is_all
+Follows-starts : (drop_mark : Bool) (before after : Option (List ℕ)) (wanted : ℕ) (read : List ℕ)
+    (is_all : Bool) → 3 ≤ wanted → Consumes before after read → IsFilled wanted read after is_all
     → Follows drop_mark before after (text_bytes drop_mark read)
 Follows-starts drop_mark None after wanted read is_all long consumed filled = tt
 Follows-starts drop_mark (Some whole) None wanted read is_all long consumed filled = consumed
 Follows-starts drop_mark (Some whole) (Some left) wanted read false long consumed filled =
     ap (text_bytes drop_mark) consumed ∙ text_bytes-append drop_mark read left (omega (arith, long, filled))
 Follows-starts drop_mark (Some whole) (Some left) wanted read true long consumed filled =
-    ap (text_bytes drop_mark) (consumed ∙ ap (λ x. read ++ x) filled ∙ append-nil read) ∙ sym (append-nil (text_bytes drop_mark read)) ∙ ap (λ x. text_bytes drop_mark read ++ x) (sym filled)
+    ap (text_bytes drop_mark) (consumed ∙ ap (λ x. read ++ x) filled ∙ append-nil read)
+    ∙ sym (append-nil (text_bytes drop_mark read)) ∙ ap (λ x. text_bytes drop_mark read ++ x) (sym filled)
 
-Follows-reads : (drop_mark : Bool) (before mid after : Option (List ℕ)) (all read : List ℕ) → Follows drop_mark before mid all → Consumes mid after read → Follows drop_mark before after (all ++ read)
+Follows-reads : (drop_mark : Bool) (before mid after : Option (List ℕ)) (all read : List ℕ)
+    → Follows drop_mark before mid all → Consumes mid after read
+    → Follows drop_mark before after (all ++ read)
 Follows-reads drop_mark None mid after all read follows consumed = tt
 Follows-reads drop_mark (Some whole) None after all read follows consumed = absurd follows
 Follows-reads drop_mark (Some whole) (Some left) None all read follows consumed = consumed
-Follows-reads drop_mark (Some whole) (Some left) (Some more) all read follows consumed = follows ∙ ap (λ x. all ++ x) consumed ∙ sym (append_assoc all read more)
+Follows-reads drop_mark (Some whole) (Some left) (Some more) all read follows consumed = follows
+    ∙ ap (λ x. all ++ x) consumed ∙ sym (append_assoc all read more)
 
 -- at the device's end the known bytes are those that were read
-Follows-ends : (P : List ℕ → Type 0) (drop_mark : Bool) (before after : Option (List ℕ)) (all : List ℕ) → Follows drop_mark before after all → IsAtEnd after → P all
+Follows-ends : (P : List ℕ → Type 0) (drop_mark : Bool) (before after : Option (List ℕ)) (all : List ℕ)
+    → Follows drop_mark before after all → IsAtEnd after → P all
     → IfSome before (λ bytes. P (text_bytes drop_mark bytes))
 Follows-ends P drop_mark None after all follows end holds = tt
 Follows-ends P drop_mark (Some whole) None all follows end holds = absurd follows
-Follows-ends P drop_mark (Some whole) (Some left) all follows end holds = subst P (sym (follows ∙ ap (λ x. all ++ x) end ∙ append-nil all)) holds
+Follows-ends P drop_mark (Some whole) (Some left) all follows end holds =
+    subst P (sym (follows ∙ ap (λ x. all ++ x) end ∙ append-nil all)) holds
 
 -- the bytes that were read pass, and no line is greater than `last_line`
-pub record IsStreamed (o : ParseOption) (drop_mark : Bool) (before after : Option (List ℕ)) (bytes : List ℕ) (p : Passing) (last_line : ℕ) (is_all : Bool) : Type 0 where
+pub record IsStreamed (o : ParseOption) (drop_mark : Bool) (before after : Option (List ℕ))
+    (bytes : List ℕ) (p : Passing) (last_line : ℕ) (is_all : Bool) : Type 0 where
   pub all : List ℕ
   pub follows : Follows drop_mark before after all
   pub passing : IsPassing o all bytes p
   pub countable : length all + 1 ≤ last_line
   pub ended : is_all ≡ true → IsAtEnd after
 
-ended_if : (wanted : ℕ) (bytes : List ℕ) (after : Option (List ℕ)) (is_all : Bool) → IsFilled wanted bytes after is_all → is_all ≡ true → IsAtEnd after
+ended_if : (wanted : ℕ) (bytes : List ℕ) (after : Option (List ℕ)) (is_all : Bool)
+    → IsFilled wanted bytes after is_all → is_all ≡ true → IsAtEnd after
 ended_if wanted bytes after true filled is = filled
 ended_if wanted bytes after false filled is = absurd (false≢true is)
 
-pub IsStreamed-starts : {o : ParseOption} {drop_mark : Bool} {before after : Option (List ℕ)} {read bytes : List ℕ} {p : Passing} {last_line : ℕ} {is_all : Bool} (wanted : ℕ) → 3 ≤ wanted
+pub IsStreamed-starts : {o : ParseOption} {drop_mark : Bool} {before after : Option (List ℕ)}
+    {read bytes : List ℕ} {p : Passing} {last_line : ℕ} {is_all : Bool} (wanted : ℕ) → 3 ≤ wanted
     → HasRead before after [] read → IsFilled wanted read after is_all → bytes ≡ text_bytes drop_mark read → last_line ≡ 1 + length bytes
     → p.document ≡ (None, []) ∷ [] → p.front ≡ 0 → p.lines ≡ 0 → IsStreamed o drop_mark before after bytes p last_line is_all
-IsStreamed-starts {o} {drop_mark} {before} {after} {read} {bytes} {p} {is_all = is_all} wanted long has filled cut lines document front line =
+IsStreamed-starts {o} {drop_mark} {before} {after} {read} {bytes} {p} {is_all = is_all} wanted long has
+    filled cut lines document front line =
     let consumed : Consumes before after read = subst (Consumes before after) (sym has.bytes) has.consumed in
     record {
       all = bytes;
-      follows = subst (Follows drop_mark before after) (sym cut) (Follows-starts drop_mark before after wanted read is_all long consumed filled);
+      follows = subst (Follows drop_mark before after) (sym cut)
+          (Follows-starts drop_mark before after wanted read is_all long consumed filled);
       passing = IsPassing-starts o bytes p document front line;
       countable = omega (arith, lines);
       ended = ended_if wanted read after is_all filled;
@@ -86,33 +99,48 @@ module _ {o : ParseOption} {drop_mark : Bool} {before mid : Option (List ℕ)} {
   pub IsStreamed-fits : p.lines + length bytes + 1 ≤ last_line
   IsStreamed-fits =
       let passing = streamed.passing in
-      omega (arith, streamed.countable, passing.lines, feeds_fit passing.gone passing.utf8, ap length passing.whole, length-append passing.gone bytes)
+      omega (
+        arith,
+        streamed.countable,
+        passing.lines,
+        feeds_fit passing.gone passing.utf8,
+        ap length
+            passing.whole,
+        length-append passing.gone bytes,
+      )
 
   pub IsStreamed-some : 0 < length p.document
-  IsStreamed-some = subst (λ d. 0 < length d) (sym streamed.passing.document) (with_items-some ((None, []) ∷ []) streamed.passing.items (omega arith))
+  IsStreamed-some = subst (λ d. 0 < length d) (sym streamed.passing.document)
+      (with_items-some ((None, []) ∷ []) streamed.passing.items (omega arith))
 
   -- lines go by, and further bytes are read
-  pub IsStreamed-goes_on : {after : Option (List ℕ)} {c new : List ℕ} {q : Passing} {next_line : ℕ} {is_all : Bool} (wanted : ℕ) → GoesBy o p q bytes c
-      → HasRead mid after c new → IsFilled wanted new after is_all → next_line ≡ last_line + (length new - length c) → IsStreamed o drop_mark before after new q next_line is_all
+  pub IsStreamed-goes_on : {after : Option (List ℕ)} {c new : List ℕ} {q : Passing} {next_line : ℕ}
+      {is_all : Bool} (wanted : ℕ) → GoesBy o p q bytes c
+      → HasRead mid after c new → IsFilled wanted new after is_all
+      → next_line ≡ last_line + (length new - length c)
+      → IsStreamed o drop_mark before after new q next_line is_all
   IsStreamed-goes_on {after} {c} {new} {q} {is_all = is_all} wanted by has filled next =
       let all = streamed.all in
       record {
         all = all ++ has.read;
         follows = Follows-reads drop_mark before mid after all has.read streamed.follows has.consumed;
-        passing = subst (λ b. IsPassing o (all ++ has.read) b q) (sym has.bytes) (IsPassing-reads (IsPassing-goes_by streamed.passing by) has.read);
+        passing = subst (λ b. IsPassing o (all ++ has.read) b q) (sym has.bytes)
+            (IsPassing-reads (IsPassing-goes_by streamed.passing by) has.read);
         countable = omega (arith, next, streamed.countable, ap length has.bytes, length-append c has.read, length-append all has.read);
         ended = ended_if wanted new after is_all filled;
       }
 
   -- the document of all bytes, or their refusal
-  pub IsStreamed-ends : {R : Type 0} {remaining : R → Option (List ℕ)} (old new : R) → remaining old ≡ before → remaining new ≡ mid → was_all ≡ true
+  pub IsStreamed-ends : {R : Type 0} {remaining : R → Option (List ℕ)} (old new : R)
+      → remaining old ≡ before → remaining new ≡ mid → was_all ≡ true
       → (result : Result Document Error) → Ends o p bytes result → (IsNotUtf8 result → ¬ (IsUtf8 bytes)) → IfErr result IsTextRefusal
       → ReadsDocument remaining old new o drop_mark result
   IsStreamed-ends {remaining = remaining} old new from to is (Ok d) ends refused only =
       let passing = streamed.passing in
       let whole = IsDocumentOf-all passing ends.document in
       record {
-        document = rw from (Follows-ends (λ b. IsTextWith (λ T. IsDocumentOf o T d) b) drop_mark before mid streamed.all streamed.follows (streamed.ended is) (IsUtf8-all passing ends.utf8, whole));
+        document = rw from (Follows-ends (λ b. IsTextWith (λ T. IsDocumentOf o T d) b) drop_mark before mid
+            streamed.all streamed.follows (streamed.ended is) (IsUtf8-all passing ends.utf8, whole));
         general = subst HasGeneral (sym whole.document) (has_general whole.items);
         fault = tt;
         not_utf8 = λ h. absurd h;
@@ -124,7 +152,9 @@ module _ {o : ParseOption} {drop_mark : Bool} {before mid : Option (List ℕ)} {
       record {
         document = tt;
         general = tt;
-        fault = rw from (Follows-ends (λ b. IsTextWith (λ T. IsStopOf o T e) b) drop_mark before mid streamed.all streamed.follows (streamed.ended is) (IsUtf8-all passing ends.fault.0, IsStopOf-all passing ends.fault.1));
+        fault = rw from (Follows-ends (λ b. IsTextWith (λ T. IsStopOf o T e) b) drop_mark before mid
+            streamed.all streamed.follows (streamed.ended is)
+            (IsUtf8-all passing ends.fault.0, IsStopOf-all passing ends.fault.1));
         not_utf8 = λ h. absurd h;
         end = rw to (streamed.ended is);
         only = tt;
@@ -133,7 +163,8 @@ module _ {o : ParseOption} {drop_mark : Bool} {before mid : Option (List ℕ)} {
     document = tt;
     general = tt;
     fault = tt;
-    not_utf8 = λ _. rw from (Follows-ends (λ b. ¬ (IsUtf8 b)) drop_mark before mid streamed.all streamed.follows (streamed.ended is) (λ u. refused tt (IsUtf8-kept streamed.passing u)));
+    not_utf8 = λ _. rw from (Follows-ends (λ b. ¬ (IsUtf8 b)) drop_mark before mid streamed.all
+        streamed.follows (streamed.ended is) (λ u. refused tt (IsUtf8-kept streamed.passing u)));
     end = rw to (streamed.ended is);
     only = tt;
   }

@@ -1,5 +1,5 @@
-//! Whether a document is plain: its text loads back as the document. This file knows the order of sections,
-//! and leaves names, pairs and the separator to `ini_text`.
+//! Whether a document is plain, so that its text loads back as the document. This file knows the order of
+//! sections, and leaves names, pairs and the separator to `ini_text`.
 ghost use Rattle.std.specs.Prelude.{◌↔◌, All, IsTrue};
 ghost use Rattle.ini.specs.Plain.{IsPlain};
 ghost use Rattle.ini.specs.Inside.PlainSections.{ArePlainPairs, HasPlainName, IsPlainSection};
@@ -13,10 +13,10 @@ use ini_text::{
 };
 
 impl Ini {
-    /// Whether the document, written by `write`, loads by `read` as just this document: to be asked before
-    /// it is saved.
+    /// Whether the document is plain: to be asked before it is saved. A plain document, written by `write`,
+    /// loads by `read` as just this document; some that aren't plain do so too.
     ///
-    /// It is so where one general section stands at the front and each section behind it has a name, the
+    /// It is plain where one general section stands at the front and each section behind it has a name, the
     /// names and pairs are plain (`is_plain_name`, `is_plain_pair`), and so is what stands between keys and
     /// values (`is_plain_separator`). Nothing is written for the answer: it takes no memory, and time
     /// linear in the document.

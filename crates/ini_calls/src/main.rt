@@ -1,6 +1,8 @@
-//! Many calls of one kind on one document, for a measurement beside another program.
+//! Many calls of one kind on one document, or the parsing of one text, for a measurement beside another
+//! program.
 //!
-//! A line of standard input is `CALL SHAPE N TIMES`. The document has N keys in one section where SHAPE is
+//! With the word `items` standard input is a text, and the answer is the number of its items. Else a line of
+//! standard input is `CALL SHAPE N TIMES`. The document has N keys in one section where SHAPE is
 //! `keys`, and N sections of one key where it is `sections`. The call is made so many times, each time with
 //! the next key or section, and the answer is a line: the number of pairs that are left, and a sum over the
 //! lengths of what the calls answered.
@@ -10,10 +12,13 @@
 #![tactic(auto)]
 
 mod calls;
+mod items;
 
 use crate::calls::Names;
+use crate::items::items;
 use ini::{Error, Ini};
 use std::alloc::Global;
+use std::env;
 use std::io::{self, ErrorKind};
 
 // How many pairs the document has.
@@ -65,7 +70,19 @@ fn answer(alloc: Global, line: &str) -> Result<String, Error> {
     Ok(format!(in alloc; "{line}: {pairs} {sum}")?)
 }
 
+// Whether the first word after the program's name is `items`.
+fn is_items(rt: &HostRuntime) -> Result<bool, Error> {
+    let word = env::args(rt)?.nth(1);
+    Ok(word.is_some_and(|word| word.as_str() == "items"))
+}
+
 fn main(rt: HostRuntime) -> Result<(), Error> {
+    if is_items(&rt)? {
+        let text = io::read_to_string(rt.alloc(), rt.stdin())?;
+        let items = items(rt.alloc(), text.as_str())?;
+        println!(rt; "{items}")?;
+        return Ok(());
+    }
     for line in rt.lines(rt.alloc()) {
         let answer = answer(rt.alloc(), line?.as_str())?;
         println!(rt; "{answer}")?;

@@ -20,7 +20,8 @@ module _ {K V : Type 0} where
   few_pairs (Some k ∷ ks) (None ∷ vs) = omega (arith, few_pairs ks vs)
   few_pairs (Some k ∷ ks) (Some v ∷ vs) = omega (arith, few_pairs ks vs)
 
-  pub paired_value : (ks : List (Option K)) (vs : List (Option V)) (s : ℕ) → length vs ≡ length ks → ArePaired ks vs → IsSome (value_in ks s) → IsSome (value_in vs s)
+  pub paired_value : (ks : List (Option K)) (vs : List (Option V)) (s : ℕ) → length vs ≡ length ks
+      → ArePaired ks vs → IsSome (value_in ks s) → IsSome (value_in vs s)
   paired_value [] vs s l p h = absurd (true≢false (sym h))
   paired_value (k ∷ ks) [] s l p h = absurd (omega (arith, l))
   paired_value (None ∷ ks) (v ∷ vs) zero l p h = absurd (true≢false (sym h))
@@ -29,10 +30,22 @@ module _ {K V : Type 0} where
   paired_value (None ∷ ks) (v ∷ vs) (suc s) l p h = paired_value ks vs s (omega (arith, l)) (omega (arith, p)) h
   paired_value (Some k ∷ ks) (Some v ∷ vs) (suc s) l p h = paired_value ks vs s (omega (arith, l)) (omega (arith, p)) h
 
-  pub paired_push : (ks : List (Option K)) (vs : List (Option V)) (k : K) (v : V) → length vs ≡ length ks → ArePaired ks vs → ArePaired (ks ++ Some k ∷ []) (vs ++ Some v ∷ [])
-  paired_push ks vs k v l p = omega (arith, p, holes_push ks k, ap length (pairs_last ks vs (Some k) (Some v) l), length-append (pairs_in ks vs) ((k, v) ∷ []), length-append ks (Some k ∷ []))
+  pub paired_push : (ks : List (Option K)) (vs : List (Option V)) (k : K) (v : V) → length vs ≡ length ks
+      → ArePaired ks vs → ArePaired (ks ++ Some k ∷ []) (vs ++ Some v ∷ [])
+  paired_push ks vs k v l p =
+      omega (
+        arith,
+        p,
+        holes_push ks k,
+        ap length (pairs_last ks vs (Some k) (Some v) l),
+        length-append
+            (pairs_in ks vs) ((k, v) ∷ []),
+        length-append ks (Some k ∷ []),
+      )
 
-  fewer_pairs : (ks : List (Option K)) (vs : List (Option V)) (s : ℕ) → IsSome (value_in ks s) → IsSome (value_in vs s) → suc (length (pairs_in (set ks s None) (set vs s None))) ≡ length (pairs_in ks vs)
+  fewer_pairs : (ks : List (Option K)) (vs : List (Option V)) (s : ℕ) → IsSome (value_in ks s)
+      → IsSome (value_in vs s)
+      → suc (length (pairs_in (set ks s None) (set vs s None))) ≡ length (pairs_in ks vs)
   fewer_pairs [] vs s h f = absurd (true≢false (sym h))
   fewer_pairs (k ∷ ks) [] s h f = absurd (true≢false (sym f))
   fewer_pairs (None ∷ ks) (v ∷ vs) zero h f = absurd (true≢false (sym h))
@@ -42,10 +55,12 @@ module _ {K V : Type 0} where
   fewer_pairs (Some k ∷ ks) (None ∷ vs) (suc s) h f = fewer_pairs ks vs s h f
   fewer_pairs (Some k ∷ ks) (Some v ∷ vs) (suc s) h f = ap suc (fewer_pairs ks vs s h f)
 
-  pub paired_without : (ks : List (Option K)) (vs : List (Option V)) (s : ℕ) → IsSome (value_in ks s) → IsSome (value_in vs s) → ArePaired ks vs → ArePaired (set ks s None) (set vs s None)
+  pub paired_without : (ks : List (Option K)) (vs : List (Option V)) (s : ℕ) → IsSome (value_in ks s)
+      → IsSome (value_in vs s) → ArePaired ks vs → ArePaired (set ks s None) (set vs s None)
   paired_without ks vs s h f p = omega (arith, p, holes_set ks s h, fewer_pairs ks vs s h f, length-set ks s None)
 
-  same_pairs : (ks : List (Option K)) (vs : List (Option V)) (s : ℕ) (w : V) → IsSome (value_in vs s) → length (pairs_in ks (set vs s (Some w))) ≡ length (pairs_in ks vs)
+  same_pairs : (ks : List (Option K)) (vs : List (Option V)) (s : ℕ) (w : V) → IsSome (value_in vs s)
+      → length (pairs_in ks (set vs s (Some w))) ≡ length (pairs_in ks vs)
   same_pairs [] vs s w h = refl
   same_pairs (k ∷ ks) [] s w h = refl
   same_pairs (None ∷ ks) (v ∷ vs) zero w h = refl
@@ -55,11 +70,14 @@ module _ {K V : Type 0} where
   same_pairs (Some k ∷ ks) (None ∷ vs) (suc s) w h = same_pairs ks vs s w h
   same_pairs (Some k ∷ ks) (Some v ∷ vs) (suc s) w h = ap suc (same_pairs ks vs s w h)
 
-  paired_set : (ks : List (Option K)) (vs : List (Option V)) (s : ℕ) (w : V) → IsSome (value_in vs s) → ArePaired ks vs → ArePaired ks (set vs s (Some w))
+  paired_set : (ks : List (Option K)) (vs : List (Option V)) (s : ℕ) (w : V) → IsSome (value_in vs s)
+      → ArePaired ks vs → ArePaired ks (set vs s (Some w))
   paired_set ks vs s w h p = omega (arith, p, same_pairs ks vs s w h)
 
   -- a value that is written where one was
-  pub filled_set : (code : K → ℕ) (ks : List (Option K)) (vs : List (Option V)) (index : Option (Box Chains)) (holes : ℕ) (b : Bool) (s : ℕ) (w : V) → IsSome (value_in vs s) → AreFilled code ks vs index holes b → AreFilled code ks (set vs s (Some w)) index holes b
+  pub filled_set : (code : K → ℕ) (ks : List (Option K)) (vs : List (Option V))
+      (index : Option (Box Chains)) (holes : ℕ) (b : Bool) (s : ℕ) (w : V) → IsSome (value_in vs s)
+      → AreFilled code ks vs index holes b → AreFilled code ks (set vs s (Some w)) index holes b
   filled_set code ks vs index holes b s w h filled = record {
     long = length-set vs s (Some w) ∙ filled.long;
     indexed = filled.indexed;
@@ -85,6 +103,8 @@ module _ {K V : Type 0} where
   no_value_there k None h = refl
   no_value_there k (Some v) h = absurd (true≢false h)
 
-  pub fresh_pair : (eq : K → K → Bool) (seen : List (K × V)) (k : Option K) (v : Option V) (x : K) → Some x ≡ pair_key k v → fresh eq seen (with_cell k v []) ≡ cond (list_any (λ s. eq s.0 x) seen) [] (x ∷ [])
+  pub fresh_pair : (eq : K → K → Bool) (seen : List (K × V)) (k : Option K) (v : Option V) (x : K)
+      → Some x ≡ pair_key k v → fresh eq seen (with_cell k v []) ≡ cond (list_any (λ s. eq s.0 x) seen) []
+      (x ∷ [])
   fresh_pair eq seen k None x e = absurd (none_is_some (sym e))
   fresh_pair eq seen k (Some v) x e = ap (λ o. fresh eq seen (with_cell o (Some v) [])) (sym e)

@@ -28,23 +28,30 @@ module _ {A : Type 0} where
   taken_last zero (suc b) (y ∷ xs) x e h = ap (λ l. y ∷ l) (taken_last zero b xs x e (omega arith))
   taken_last (suc a) (suc b) (y ∷ xs) x e h = taken_last a b xs x e (omega arith)
 
-module _ {K V : Type 0} (code : K → ℕ) (test : K → Bool) (c : ℕ) (class : (p : K) → test p ≡ true → code p ≡ c) (index : Option (Box Chains)) (ks : List (Option K)) (vs : List (Option V)) (indexed : IsIndexed code ks index) where
+module _ {K V : Type 0} (code : K → ℕ) (test : K → Bool) (c : ℕ) (class : (p : K) → test p ≡ true
+    → code p ≡ c) (index : Option (Box Chains)) (ks : List (Option K)) (vs : List (Option V))
+    (indexed : IsIndexed code ks index) where
   abbrev before : ℕ → ℕ
   before s = fits_before test ks vs s
 
   abbrev all : List V
   all = values_at test (pairs_in ks vs)
 
-  from_ahead : (i e : ℕ) (r : Option ℕ) → i ≤ suc e → e < length ks → IsAhead index code c ks i r → values_from test ks vs r (Some e) ≡ drop (before i) (take (before (suc e)) all)
-  from_ahead i e None h within f = let same = no_more code test c class index ks vs i (suc e) h (omega arith) f in sym (none_left (before i) (before (suc e)) all (omega arith))
+  from_ahead : (i e : ℕ) (r : Option ℕ) → i ≤ suc e → e < length ks → IsAhead index code c ks i r
+      → values_from test ks vs r (Some e) ≡ drop (before i) (take (before (suc e)) all)
+  from_ahead i e None h within f = let same =
+      no_more code test c class index ks vs i (suc e) h (omega arith) f in
+      sym (none_left (before i) (before (suc e)) all (omega arith))
   from_ahead i e (Some t) h within f = ap (λ n. drop n (take (before (suc e)) all)) (none_ahead code test c class index ks vs i t f)
 
-  to_behind : (s i : ℕ) (r : Option ℕ) → IsBehind index code c ks i r → values_from test ks vs (Some s) r ≡ drop (before s) (take (before i) all)
+  to_behind : (s i : ℕ) (r : Option ℕ) → IsBehind index code c ks i r
+      → values_from test ks vs (Some s) r ≡ drop (before s) (take (before i) all)
   to_behind s i None f = let none = none_before code test c class index ks vs i f in sym (none_left (before s) (before i) all (omega arith))
   to_behind s i (Some t) f = ap (λ n. drop (before s) (take n all)) (sym (none_behind code test c class index ks vs i t f))
 
   pub all_from : values_from test ks vs (first_in index (length ks) c) (last_in index (length ks) c) ≡ all
-  all_from = both (first_in index (length ks) c) (last_in index (length ks) c) (first_is code c ks index indexed) (last_is code c ks index indexed)
+  all_from = both (first_in index (length ks) c) (last_in index (length ks) c)
+      (first_is code c ks index indexed) (last_is code c ks index indexed)
     where
       whole : take (before (length ks)) all ≡ all
       whole = take_all (before (length ks)) all (omega (arith, fits_count test ks vs))
@@ -54,7 +61,9 @@ module _ {K V : Type 0} (code : K → ℕ) (test : K → Bool) (c : ℕ) (class 
           let none = no_more code test c class index ks vs 0 (length ks) (omega arith) (omega arith) f in
           sym (sym whole ∙ none_left 0 (before (length ks)) all (omega (arith, none, before_zero test ks vs)))
       both (Some s) t f h =
-          to_behind s (length ks) t h ∙ ap (λ n. drop n (take (before (length ks)) all)) (none_ahead code test c class index ks vs 0 s f ∙ before_zero test ks vs) ∙ whole
+          to_behind s (length ks) t h
+          ∙ ap (λ n. drop n (take (before (length ks)) all))
+          (none_ahead code test c class index ks vs 0 s f ∙ before_zero test ks vs) ∙ whole
 
   ahead_candidate : (i : ℕ) (r : Option ℕ) → IsAhead index code c ks i r → IfSome r (IsCandidate index code c ks)
   ahead_candidate i None f = tt
@@ -64,7 +73,8 @@ module _ {K V : Type 0} (code : K → ℕ) (test : K → Bool) (c : ℕ) (class 
   behind_candidate i None f = tt
   behind_candidate i (Some t) f = f.1
 
-  module _ (first last : Option ℕ) (s e : ℕ) (slots : AreBetween code c ks vs index first last) (at_first : first ≡ Some s) (at_last : last ≡ Some e) where
+  module _ (first last : Option ℕ) (s e : ℕ) (slots : AreBetween code c ks vs index first last)
+      (at_first : first ≡ Some s) (at_last : last ≡ Some e) where
     here : IsCandidate index code c ks s
     here = rw at_first at slots.first_is
 
@@ -94,7 +104,8 @@ module _ {K V : Type 0} (code : K → ℕ) (test : K → Bool) (c : ℕ) (class 
       pub front_misses : fits_at test ks vs s ≡ false → values_from test ks vs first last ≡ values_from test ks vs r last
       front_misses miss = both_ends ∙ sym (after ∙ ap (λ n. drop n (take (before (suc e)) all)) (before_miss test ks vs s miss))
 
-      pub front_fits : (v : V) → fits_at test ks vs s ≡ true → value_in vs s ≡ Some v → values_from test ks vs first last ≡ v ∷ values_from test ks vs r last
+      pub front_fits : (v : V) → fits_at test ks vs s ≡ true → value_in vs s ≡ Some v
+          → values_from test ks vs first last ≡ v ∷ values_from test ks vs r last
       front_fits v hit is =
           let one = before_hit test ks vs s hit in
           let more = before_more test ks vs (suc s) (suc e) (omega arith) in
@@ -119,7 +130,8 @@ module _ {K V : Type 0} (code : K → ℕ) (test : K → Bool) (c : ℕ) (class 
       pub back_misses : fits_at test ks vs e ≡ false → values_from test ks vs first last ≡ values_from test ks vs first r
       back_misses miss = both_ends ∙ sym (behind ∙ ap (λ n. drop (before s) (take n all)) (sym (before_miss test ks vs e miss)))
 
-      pub back_fits : (v : V) → fits_at test ks vs e ≡ true → value_in vs e ≡ Some v → values_from test ks vs first last ≡ values_from test ks vs first r ++ v ∷ []
+      pub back_fits : (v : V) → fits_at test ks vs e ≡ true → value_in vs e ≡ Some v
+          → values_from test ks vs first last ≡ values_from test ks vs first r ++ v ∷ []
       back_fits v hit is =
           both_ends
           ∙ ap (λ n. drop (before s) (take n all)) (before_hit test ks vs e hit)

@@ -18,8 +18,8 @@ use crate::option::ParseOption;
 use crate::text::{Class, is_comment_mark, is_line_end, skip, split_first};
 use crate::write::policy::EscapePolicy;
 
-/// Whether the text, written between keys and their values, is read as that alone: one `=` or `:` with no
-/// more than spaces and tabs around it.
+/// Whether the text is a plain separator: one `=` or `:` with no more than spaces and tabs around it. Written
+/// between a key and its value it is read as that alone; so are some that aren't plain.
 pub fn is_plain_separator(text: &str) -> bool
     ensures { IsTrue result ↔ IsPlainSeparator (chars text.now) }
 {
@@ -29,9 +29,9 @@ pub fn is_plain_separator(text: &str) -> bool
     }
 }
 
-/// Whether a section's name, written by the policy, is read back by the options just as it was: it is
-/// trimmed, without `]` unless brackets may stand in names, and what is written for its characters is
-/// read as those.
+/// Whether a section's name is plain: it is trimmed, without `]` unless brackets may stand in names, and what
+/// the policy writes for its characters is read by the options as those. A plain name is read back just as
+/// it was; so are some that aren't plain.
 pub fn is_plain_name(name: &str, policy: EscapePolicy, read: ParseOption) -> bool
     ensures { IsTrue result ↔ IsPlainName read policy (chars name.now) }
 {
@@ -40,10 +40,10 @@ pub fn is_plain_name(name: &str, policy: EscapePolicy, read: ParseOption) -> boo
         && is_read_back(name, policy, read)
 }
 
-/// Whether a key and its value, written by the policy with a plain separator, are read back by the options
-/// just as they were.
+/// Whether a key and its value are plain: written by the policy with a plain separator, they are read back by
+/// the options just as they were. Some that aren't plain are read back too.
 ///
-/// The key is then not empty, trimmed, without `[` at its front, and with `=` and `:`, and `;` and `#` at
+/// The key is not empty, trimmed, without `[` at its front, and with `=` and `:`, and `;` and `#` at
 /// its front, only where the policy escapes them; where keys keep their indentation it may begin with white
 /// space that the policy escapes, and where besides values aren't multiline, with spaces. The value is
 /// trimmed, and where quotes are read it doesn't begin with one. What is written for the characters of both

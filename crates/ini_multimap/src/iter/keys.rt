@@ -1,4 +1,4 @@
-//! The walk over the distinct keys. This file knows keys by `==`, and no values.
+//! The iterator over the distinct keys. This file knows keys by `==`, and of a value whether it is there.
 ghost use Rattle.std.specs.Prelude.{◌≡◌, ◌<◌, Some, take, length, IfSome};
 ghost use Rattle.std.specs.Option.{option_copied, option_to_list};
 ghost use Rattle.std.specs.Iterator.{item_count, YieldsFirstRef, YieldsLastRef};

@@ -21,7 +21,8 @@ use Rattle.ini_text.proofs.ReaderLemmas.ElementReaderLemmas.{element-says}
 use Rattle.ini_text.proofs.ReaderLemmas.RunReaderLemmas.{BeginsWith-some}
 
 -- two rows of elements joined
-pub reads-append : {o : ParseOption} {T b c d : List ℕ} {xs ys : List Given} → Reads o T b xs c → Reads o T c ys d → Reads o T b (xs ++ ys) d
+pub reads-append : {o : ParseOption} {T b c d : List ℕ} {xs ys : List Given} → Reads o T b xs c
+    → Reads o T c ys d → Reads o T b (xs ++ ys) d
 reads-append (Reads.stay r e) more = more
 reads-append {o} {T} {d = d} {ys = ys} (Reads.step {b = b} {s = s} {r = r} {c = c} {gives = gives} {items = items} e x rest) more =
     subst (λ l. Reads o T b l d) (sym (append_assoc gives items ys)) (Reads.step e x (reads-append rest more))
@@ -49,14 +50,18 @@ pub record Moved (o : ParseOption) (T b rest after : List ℕ) (gives : List Giv
   pub shorter : length after < length rest
   pub longer : length (front_of T rest) < length (front_of T after)
 
-pub moved : {o : ParseOption} {T b rest front after cs : List ℕ} {c : ℕ} {gives items : List Given} → IsRest T rest → Reads o T b [] (front_of T rest) → rest ≡ c ∷ cs
+pub moved : {o : ParseOption} {T b rest front after cs : List ℕ} {c : ℕ} {gives items : List Given}
+    → IsRest T rest → Reads o T b [] (front_of T rest) → rest ≡ c ∷ cs
     → front ≡ front_of T rest → gives ≡ items → element o front rest ≡ found gives after → Moved o T b rest after items
 moved {o} {T} {b} {rest} {after = after} {items = items} within reads is at same read =
-    let c = front_of T rest in let (s, holds, whole) = element-says o c is (subst₂ (λ f g. element o f rest ≡ found g after) at same read) in
+    let c = front_of T rest in let (s, holds, whole) =
+    element-says o c is (subst₂ (λ f g. element o f rest ≡ found g after) at same read) in
     let grown = front_grows T rest s after within (sym whole) in
     let some : 1 ≤ length s = element-some holds in
     let all : T ≡ c ++ (s ++ after) = sym (ap (λ x. c ++ x) whole ∙ within) in
-    let one : Reads o T c items (c ++ s) = subst (λ x. Reads o T c x (c ++ s)) (append-nil items) (Reads.step all holds (Reads.stay after (all ∙ sym (append_assoc c s after)))) in
+    let one : Reads o T c items (c ++ s) =
+    subst (λ x. Reads o T c x (c ++ s)) (append-nil items)
+    (Reads.step all holds (Reads.stay after (all ∙ sym (append_assoc c s after)))) in
     record {
       reads = subst (Reads o T b items) (sym grown.0) (reads-append reads one);
       within = grown.1;
@@ -73,7 +78,9 @@ module _ (o : ParseOption) (T b : List ℕ) where
   tells_memory errors.NotUtf8 t = absurd t
   tells_memory errors.NoProgress t = absurd t
 
-  tells_parse : {kind : ParseKind} {line column : ℕ} (message : List ℕ) → StopsBehind o T b kind line column → HasMessage kind message → (e : Error) → Tells (parse kind line column message) e → Refuses o T b e
+  tells_parse : {kind : ParseKind} {line column : ℕ} (message : List ℕ)
+      → StopsBehind o T b kind line column → HasMessage kind message → (e : Error)
+      → Tells (parse kind line column message) e → Refuses o T b e
   tells_parse message stop m (errors.Memory x) t = absurd t
   tells_parse message stop m (errors.Io x) t = absurd t
   tells_parse message stop m (errors.Parse x) (kind, line, column, text) = (
@@ -93,7 +100,8 @@ module _ (o : ParseOption) (T b : List ℕ) where
   tells_parse message stop m errors.NoProgress t = absurd t
 
   -- reading stops in an element
-  pub refuses : (rest : List ℕ) {front cs : List ℕ} {c : ℕ} (stop : Stop) → IsRest T rest → Reads o T b [] (front_of T rest) → rest ≡ c ∷ cs → front ≡ front_of T rest
+  pub refuses : (rest : List ℕ) {front cs : List ℕ} {c : ℕ} (stop : Stop) → IsRest T rest
+      → Reads o T b [] (front_of T rest) → rest ≡ c ∷ cs → front ≡ front_of T rest
       → StopsBy (element o front rest) stop → StopIsWithin T stop × ((e : Error) → Tells (refusal_of T stop) e → Refuses o T b e)
   refuses rest stops.Memory within reads is at read = (tt, tells_memory)
   refuses rest (stops.Fault fault) within reads is at read =

@@ -49,12 +49,14 @@ Gap-alike a (Gap.white h n) = Gap.white h n
 
 module _ {o : ParseOption} where
   pub Line-alike : {first : Bool} {s r v x : List ℕ} → Alike r x → Line o first s r v → Line o first s x v
-  Line-alike a (Line.line {p = p} k plain str) = Line.line k (λ on. BeginsWithNo-alike is_mark (Alike-behind p a) (plain on)) (Str-alike a str)
+  Line-alike a (Line.line {p = p} k plain str) =
+      Line.line k (λ on. BeginsWithNo-alike is_mark (Alike-behind p a) (plain on)) (Str-alike a str)
 
   -- a line before its line end stands before each text before which the line end does
   pub EndedLine-before : {first : Bool} {w l e r x u : List ℕ} → LineEnd e x → EndedLine o first w l e r u → EndedLine o first w l e x u
   EndedLine-before {l = l} {e} {r} {x} end n =
-      let a = Alike-some e r x (line_end-some end) in record { lead = Lead-alike (Alike-behind l a) n.lead; line = Line-alike a n.line; end = end }
+      let a = Alike-some e r x (line_end-some end) in
+      record { lead = Lead-alike (Alike-behind l a) n.lead; line = Line-alike a n.line; end = end }
 
   MoreLines-alike : {s r v x : List ℕ} → Alike r x → MoreLines o s r v → MoreLines o s x v
   MoreLines-alike a (MoreLines.done n m) = MoreLines.done (BeginsWithNo-alike is_blank a n) (BeginsWithNo-alike is_line_end a m)
@@ -73,7 +75,8 @@ module _ {o : ParseOption} where
       Value.lines on n.lead n.line n.end (MoreLines-alike a m)
 
   pub KeyFront-alike : {b s r v x : List ℕ} → Alike r x → KeyFront o b s r v → KeyFront o b s x v
-  KeyFront-alike a (KeyFront.unindented {s} begins str) = KeyFront.unindented (BeginsWith-alike begins_key (Alike-behind s a) begins) (Str-alike a str)
+  KeyFront-alike a (KeyFront.unindented {s} begins str) =
+      KeyFront.unindented (BeginsWith-alike begins_key (Alike-behind s a) begins) (Str-alike a str)
   KeyFront-alike a (KeyFront.indented {s = s} ind begins str) =
       KeyFront.indented ind (BeginsWith-alike begins_indented_key (Alike-behind s a) begins) (Str-alike a str)
 
@@ -92,7 +95,8 @@ module _ {o : ParseOption} where
   Reads-front {b = b} (Reads.step {s = s} h e reads) = let x = Reads-front reads in (s ++ x.0, sym (append_assoc b s x.0) ∙ x.1)
 
   -- elements up to the front c, before x in place of r, and then further elements
-  pub Reads-alike : {T b c d r x : List ℕ} {items others : List Given} → Alike r x → T ≡ c ++ r → Reads o T b items c → Reads o (c ++ x) c others d
+  pub Reads-alike : {T b c d r x : List ℕ} {items others : List Given} → Alike r x → T ≡ c ++ r
+      → Reads o T b items c → Reads o (c ++ x) c others d
       → Reads o (c ++ x) b (items ++ others) d
   Reads-alike a h (Reads.stay y q) rest = rest
   Reads-alike {b = b} {c} {d} {r} {x} {others = others} a h (Reads.step {s = s} {r = y} {gives = gives} {items} q e reads) rest =
@@ -105,6 +109,7 @@ module _ {o : ParseOption} where
       (Reads.step whole (Element-alike (Alike-behind m a) (subst (λ z. Element o b s z gives) behind e)) (Reads-alike a h reads rest))
 
   -- elements up to the front c stand there whatever follows its next character
-  pub Reads-before : {b c : List ℕ} {items : List Given} (x : ℕ) (r more : List ℕ) → Reads o (c ++ x ∷ r) b items c → Reads o (c ++ x ∷ more) b items c
+  pub Reads-before : {b c : List ℕ} {items : List Given} (x : ℕ) (r more : List ℕ)
+      → Reads o (c ++ x ∷ r) b items c → Reads o (c ++ x ∷ more) b items c
   Reads-before {b} {c} {items} x r more reads =
       subst (λ l. Reads o (c ++ x ∷ more) b l c) (append-nil items) (Reads-alike Alike.same refl reads (Reads.stay (x ∷ more) refl))

@@ -17,7 +17,8 @@ module _ (o : ParseOption) (T : List ℕ) where
   data Gives : List ℕ → Answer Given → Type 0 where
     over : {b : List ℕ} → T ≡ b → Gives b (found [] [])
     halts : {b s r : List ℕ} {k : ParseKind} → T ≡ b ++ (s ++ r) → ElementStops o b s r k → Gives b (stopped r k)
-    then : {b s r : List ℕ} {gives : List Given} {a : Answer Given} → T ≡ b ++ (s ++ r) → Element o b s r gives → Gives (b ++ s) a → Gives b (prepend gives a)
+    then : {b s r : List ℕ} {gives : List Given} {a : Answer Given} → T ≡ b ++ (s ++ r)
+        → Element o b s r gives → Gives (b ++ s) a → Gives b (prepend gives a)
 
   Gives-behind : {b c : List ℕ} {items : List Given} {a : Answer Given} → Reads o T b items c → Gives c a → Gives b (prepend items a)
   Gives-behind {a = a} (Reads.stay r h) g = subst (Gives _) (sym (prepend-nil a)) g
@@ -27,7 +28,8 @@ module _ (o : ParseOption) (T : List ℕ) where
   -- the outcome behind the front b, as the grammar has it
   abbrev OutcomeAt : List ℕ → Answer Given → Type 0
   OutcomeAt b (found items r) = Reads o T b items T
-  OutcomeAt b (stopped r k) = (items : List Given) × (c : List ℕ) × (s : List ℕ) × Reads o T b items c × (T ≡ c ++ (s ++ r)) × ElementStops o c s r k
+  OutcomeAt b (stopped r k) = (items : List Given) × (c : List ℕ) × (s : List ℕ) × Reads o T b items c
+      × (T ≡ c ++ (s ++ r)) × ElementStops o c s r k
 
   outcome_at : {b : List ℕ} {a : Answer Given} → Gives b a → OutcomeAt b a
   outcome_at {b} (Gives.over h) = subst (Reads o T b []) (sym h) (Reads.stay [] (h ∙ sym (append-nil b)))
@@ -37,7 +39,8 @@ module _ (o : ParseOption) (T : List ℕ) where
       behind : {b s r : List ℕ} {gives : List Given} (a : Answer Given) → T ≡ b ++ (s ++ r) → Element o b s r gives → OutcomeAt (b ++ s) a
           → OutcomeAt b (prepend gives a)
       behind (found items x) h e reads = Reads.step h e reads
-      behind {gives = gives} (stopped x k) h e (items, c, s, reads, whole, stops) = (gives ++ items, c, s, Reads.step h e reads, whole, stops)
+      behind {gives = gives} (stopped x k) h e (items, c, s, reads, whole, stops) =
+          (gives ++ items, c, s, Reads.step h e reads, whole, stops)
 
   -- reading behind the front b, by as many elements as there are characters
   abbrev onward : (List ℕ → List ℕ → Answer Given) → List ℕ → List ℕ → Answer Given → Answer Given
@@ -57,12 +60,14 @@ module _ (o : ParseOption) (T : List ℕ) where
   walk-sound (suc n) b [] l h = Gives.over (h ∙ append-nil b)
   walk-sound (suc n) b (c ∷ cs) l h = by (element o b (c ∷ cs)) (element-sound o b c cs) (walk-sound n)
     where
-      by : (a : Answer Given) → Says (Element o b) (ElementStops o b) (c ∷ cs) a → ((b t : List ℕ) → length t < n → T ≡ b ++ t → Gives b (walk n b t))
+      by : (a : Answer Given) → Says (Element o b) (ElementStops o b) (c ∷ cs) a
+          → ((b t : List ℕ) → length t < n → T ≡ b ++ t → Gives b (walk n b t))
           → Gives b (onward (walk n) b (c ∷ cs) a)
       by (found gives r) (s, e, q) rest =
           let whole : T ≡ b ++ (s ++ r) = h ∙ ap (λ y. b ++ y) (sym q) in
           let shorter : length r < n = omega (arith, element-some e, length-append s r, ap length q) in
-          subst (λ y. Gives b (onward (walk n) b y (found gives r))) q (rw source (Gives.then whole e (rest (b ++ s) r shorter (whole ∙ sym (append_assoc b s r)))))
+          subst (λ y. Gives b (onward (walk n) b y (found gives r))) q
+          (rw source (Gives.then whole e (rest (b ++ s) r shorter (whole ∙ sym (append_assoc b s r)))))
       by (stopped r k) (s, stops, q) rest = Gives.halts (h ∙ ap (λ y. b ++ y) (sym q)) stops
 
   walk-stopped : (n : ℕ) (b t : List ℕ) {r : List ℕ} {k : ParseKind} → element o b t ≡ stopped r k → walk (suc n) b t ≡ stopped r k
@@ -78,7 +83,8 @@ module _ (o : ParseOption) (T : List ℕ) where
   walk-finds g zero t l h = absurd (omega arith)
   walk-finds {b} (Gives.over q) (suc n) t l h = rw (append_cancel_left b t [] (sym h ∙ q ∙ sym (append-nil b)))
   walk-finds {b} (Gives.halts {s = s} {r} {k} q stops) (suc n) t l h =
-      let same : t ≡ s ++ r = append_cancel_left b t (s ++ r) (sym h ∙ q) in walk-stopped n b t (ap (element o b) same ∙ element-stops o b stops)
+      let same : t ≡ s ++ r = append_cancel_left b t (s ++ r) (sym h ∙ q) in
+      walk-stopped n b t (ap (element o b) same ∙ element-stops o b stops)
   walk-finds {b} (Gives.then {s = s} {r} {gives} {a} q e rest) (suc n) t l h =
       let same : t ≡ s ++ r = append_cancel_left b t (s ++ r) (sym h ∙ q) in
       let some = element-some e in
@@ -111,8 +117,11 @@ module _ (o : ParseOption) (T : List ℕ) where
           alone = λ other elsewhere h.
               let x = Stops-gives h in
               let same : stopped x.0 other ≡ stopped r kind = one _ _ x.1 g in
-              let same_rest : x.0 ≡ r = cc in
-              (cc, append_cancel_right elsewhere (b ++ s) r (ap (λ y. elsewhere ++ y) (sym same_rest) ∙ sym x.2 ∙ whole ∙ sym (append_assoc b s r)));
+              let same_rest : x.0 ≡ r = cc in (
+                cc,
+                append_cancel_right elsewhere (b ++ s) r (ap (λ y. elsewhere ++ y) (sym same_rest)
+                    ∙ sym x.2 ∙ whole ∙ sym (append_assoc b s r)),
+              );
           derives_nothing = λ items d. let same : found items [] ≡ stopped r kind = one _ _ (Derives-gives d) g in cc;
         },
       )

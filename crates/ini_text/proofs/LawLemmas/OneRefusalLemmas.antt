@@ -51,7 +51,8 @@ record IsCut {A : Type 0} (P : Rule A) (s r : List ℕ) (k : ParseKind) : Type 0
   whole : P before [] value
 
 IsCut-behind : {A B : Type 0} {P : Rule A} {Q : Rule B} {s r y : List ℕ} {k : ParseKind} (p : List ℕ) → p ++ s ≡ y
-    → ((t : List ℕ) (v : List A) → s ≡ t ++ carriage_return ∷ [] → P t [] v → (w : List B) × Q (p ++ t) [] w) → IsCut P s r k → IsCut Q y r k
+    → ((t : List ℕ) (v : List A) → s ≡ t ++ carriage_return ∷ [] → P t [] v
+    → (w : List B) × Q (p ++ t) [] w) → IsCut P s r k → IsCut Q y r k
 IsCut-behind p e grows c =
     let x = grows c.before c.value c.source c.whole in
     record {
@@ -72,7 +73,8 @@ module _ (o : ParseOption) where
       (omega (arith, length-append q s, y.0), LineStops.in_plain k (λ on. BeginsWithNo-alike is_mark (Alike-some s r x y.0) (plain on)) y.1)
 
   -- before a last CR too
-  EndedLine-cut : {first : Bool} {w l e t u : List ℕ} (r before : List ℕ) → t ≡ before ++ carriage_return ∷ [] → EndedLine o first w l e (t ++ r) u
+  EndedLine-cut : {first : Bool} {w l e t u : List ℕ} (r before : List ℕ)
+      → t ≡ before ++ carriage_return ∷ [] → EndedLine o first w l e (t ++ r) u
       → EndedLine o first w l e (before ++ []) u
   EndedLine-cut r before h n = EndedLine-before (LineEnd-cut before r (ap (λ y. y ++ r) h) n.end) n
 
@@ -86,8 +88,10 @@ module _ (o : ParseOption) where
       (omega arith, MoreLinesStop.empty_cr_lf (MoreLinesStop-stands x n (λ c. uncut (cut c)) m).1)
   MoreLinesStop-stands {k = k} x n uncut (MoreLinesStop.continued {w} {l} {e} {t} {r} {u} b lead ln end m) =
       let line : EndedLine o false w l e (t ++ r) u = record { lead = lead; line = ln; end = end } in
-      let cut : IsCut (MoreLines o) t r k → IsCut (MoreLines o) (w ++ (l ++ (e ++ t))) r k = IsCut-behind (w ++ (l ++ e)) (simp append_assoc) (λ before v h more.
-      let c = EndedLine-cut r before h line in (line_feed ∷ (u ++ v), simp append_assoc (MoreLines.continued b c.lead c.line c.end more))) in
+      let cut : IsCut (MoreLines o) t r k → IsCut (MoreLines o) (w ++ (l ++ (e ++ t))) r k =
+      IsCut-behind (w ++ (l ++ e)) (simp append_assoc) (λ before v h more.
+      let c = EndedLine-cut r before h line in
+      (line_feed ∷ (u ++ v), simp append_assoc (MoreLines.continued b c.lead c.line c.end more))) in
       let y = MoreLinesStop-stands x n (λ c. uncut (cut c)) m in
       let z = EndedLine-before (LineEnd-alike (Alike-some t r x y.0) end) line in
       (omega (arith, BeginsWith-some is_blank w b, length-append w (l ++ (e ++ t))), MoreLinesStop.continued b z.lead z.line z.end y.1)
@@ -105,11 +109,15 @@ module _ (o : ParseOption) where
       (omega (arith, length-append w s, y.0), ValueStops.first_line (Lead-alike (Alike-some s r x y.0) lead) y.1)
   ValueStops-stands {k = k} x n uncut (ValueStops.later_line {w} {l} {e} {t} {r} {u} on lead ln end m) =
       let line : EndedLine o true w l e (t ++ r) u = record { lead = lead; line = ln; end = end } in
-      let cut : IsCut (MoreLines o) t r k → IsCut (Value o) (w ++ (l ++ (e ++ t))) r k = IsCut-behind (w ++ (l ++ e)) (simp append_assoc) (λ before v h more.
-      let c = EndedLine-cut r before h line in (without_outer_line_feeds (u ++ v), simp append_assoc (Value.lines on c.lead c.line c.end more))) in
+      let cut : IsCut (MoreLines o) t r k → IsCut (Value o) (w ++ (l ++ (e ++ t))) r k =
+      IsCut-behind (w ++ (l ++ e)) (simp append_assoc) (λ before v h more.
+      let c = EndedLine-cut r before h line in
+      (without_outer_line_feeds (u ++ v), simp append_assoc (Value.lines on c.lead c.line c.end more))) in
       let y = MoreLinesStop-stands x n (λ c. uncut (cut c)) m in
-      let z = EndedLine-before (LineEnd-alike (Alike-some t r x y.0) end) line in
-      (omega (arith, y.0, length-append w (l ++ (e ++ t)), length-append l (e ++ t), length-append e t), ValueStops.later_line on z.lead z.line z.end y.1)
+      let z = EndedLine-before (LineEnd-alike (Alike-some t r x y.0) end) line in (
+        omega (arith, y.0, length-append w (l ++ (e ++ t)), length-append l (e ++ t), length-append e t),
+        ValueStops.later_line on z.lead z.line z.end y.1,
+      )
 
   ElementStops-stands : {b s r : List ℕ} {k : ParseKind} (x : List ℕ) → k ≢ EndOfText → ¬ IsCut (Element o b) s r k → ElementStops o b s r k
       → (1 ≤ length s) × ElementStops o b s x k
@@ -121,32 +129,48 @@ module _ (o : ParseOption) where
   ElementStops-stands x n uncut (ElementStops.in_key {s} {r} begins stops) =
       let y = StrStops-stands x n stops in (y.0, ElementStops.in_key (BeginsWith-alike begins_key (Alike-some s r x y.0) begins) y.1)
   ElementStops-stands x n uncut (ElementStops.in_indented_key {w} {s} {r} ind begins stops m) =
-      let y = StrStops-stands x n stops in
-      (omega (arith, length-append w s, y.0), ElementStops.in_indented_key ind (BeginsWith-alike begins_indented_key (Alike-some s r x y.0) begins) y.1 m)
+      let y = StrStops-stands x n stops in (
+        omega (arith, length-append w s, y.0),
+        ElementStops.in_indented_key ind
+            (BeginsWith-alike begins_indented_key (Alike-some s r x y.0) begins) y.1 m,
+      )
   ElementStops-stands x n uncut (ElementStops.no_key {k} {m = m} front sep) =
       (omega (arith, length-append k (m ∷ [])), ElementStops.no_key (KeyFront-alike Alike.same front) sep)
   ElementStops-stands {b = b} {k = kind} x n uncut (ElementStops.in_value {k} {s} {r} {key} {m} front some sep stops) =
-      let cut : IsCut (Value o) s r kind → IsCut (Element o b) (k ++ m ∷ s) r kind = IsCut-behind (k ++ m ∷ []) (append_assoc k (m ∷ []) s) (λ before v h given.
-      (Pair key v ∷ [], rw (append_assoc k (m ∷ []) before) (Element.pair (KeyFront-alike Alike.same front) some sep given))) in
-      (omega (arith, length-append k (m ∷ s)), ElementStops.in_value (KeyFront-alike Alike.same front) some sep (ValueStops-stands x n (λ c. uncut (cut c)) stops).1)
+      let cut : IsCut (Value o) s r kind → IsCut (Element o b) (k ++ m ∷ s) r kind =
+      IsCut-behind (k ++ m ∷ []) (append_assoc k (m ∷ []) s) (λ before v h given.
+      (Pair key v ∷ [], rw (append_assoc k (m ∷ []) before) (Element.pair (KeyFront-alike Alike.same front) some sep given))) in (
+        omega (arith, length-append k (m ∷ s)),
+        ElementStops.in_value (KeyFront-alike Alike.same front) some
+            sep (ValueStops-stands x n (λ c. uncut (cut c)) stops).1,
+      )
   ElementStops-stands x n uncut (ElementStops.late_comment mark late) = (omega arith, ElementStops.late_comment mark late)
 
   -- a whole element and a CR behind a front: the text is whole but for the CR
-  IsWholeBeforeCr-behind : {T b s r : List ℕ} {items : List Given} {k : ParseKind} → Reads o T [] items b → T ≡ b ++ (s ++ r) → IsCut (Element o b) s r k
+  IsWholeBeforeCr-behind : {T b s r : List ℕ} {items : List Given} {k : ParseKind} → Reads o T [] items b
+      → T ≡ b ++ (s ++ r) → IsCut (Element o b) s r k
       → IsWholeBeforeCr o (b ++ s)
   IsWholeBeforeCr-behind {b = b} {s} {r} {items} reads h c =
       let t = c.before in
-      let begun : Alike (t ++ carriage_return ∷ r) t = rw (append-nil t) at (Alike-some t (carriage_return ∷ r) [] (element-some c.whole)) in
+      let begun : Alike (t ++ carriage_return ∷ r) t =
+      rw (append-nil t) at (Alike-some t (carriage_return ∷ r) [] (element-some c.whole)) in
       let ahead : Alike (s ++ r) t = rw (c.source, append_assoc t) begun in
       let last : Reads o (b ++ t) b (c.value ++ []) (b ++ t) =
-      Reads.step (ap (λ y. b ++ y) (sym (append-nil t))) c.whole (Reads.stay [] (sym (append-nil (b ++ t)))) in
-      (b ++ t, items ++ (c.value ++ []), ap (λ y. b ++ y) c.source ∙ sym (append_assoc b t (carriage_return ∷ [])), Reads-alike ahead h reads last)
+      Reads.step (ap (λ y. b ++ y) (sym (append-nil t))) c.whole (Reads.stay [] (sym (append-nil (b ++ t)))) in (
+        b ++ t,
+        items ++ (c.value ++ []),
+        ap (λ y. b ++ y) c.source
+            ∙ sym (append_assoc b t (carriage_return ∷ [])),
+        Reads-alike ahead h reads last,
+      )
 
-  stands : {T front : List ℕ} {kind : ParseKind} (follows other : List ℕ) → Stops o T kind front → T ≡ front ++ follows → IsAtCharacter o front follows kind
+  stands : {T front : List ℕ} {kind : ParseKind} (follows other : List ℕ) → Stops o T kind front
+      → T ≡ front ++ follows → IsAtCharacter o front follows kind
       → Stops o (front ++ other) kind front
   stands follows other (Stops.stops {b} {s} {r} reads h e) q seen =
       let same : follows ≡ r = append_cancel_left (b ++ s) follows r (sym q ∙ h ∙ sym (append_assoc b s r)) in
-      let y = ElementStops-stands other seen.not_cut_short (λ c. seen.no_last_cr c.kind (same ∙ c.last) (IsWholeBeforeCr-behind reads h c)) e in
+      let y = ElementStops-stands other seen.not_cut_short
+      (λ c. seen.no_last_cr c.kind (same ∙ c.last) (IsWholeBeforeCr-behind reads h c)) e in
       rw (append_assoc b s other) (Stops.stops (Reads-alike (Alike-some s r other y.0) h reads (Reads.stay (s ++ other) refl)) refl y.1)
 
 pub refusal_stands : (o : ParseOption) (front follows other : List ℕ) (kind : ParseKind) → Stops o (front ++ follows) kind front

@@ -114,7 +114,9 @@ module _ (o : ParseOption) (policy : EscapePolicy) where
       (Decides-and _ _ (itself o.enabled_escape) (Decides-and _ _ (Decides-not _ (nothing_decides policy)) (all_and _ _ text)))
 
   no_escapes_decides : (text : List ℕ) → Decides (has_no_escapes policy text) (HasNoEscapes policy text)
-  no_escapes_decides text = Decides-like _ (λ e. record { no_escaped = e.0; no_backslash = e.1 }) (λ n. (n.no_escaped, n.no_backslash)) (all_and _ _ text)
+  no_escapes_decides text =
+      Decides-like _ (λ e. record { no_escaped = e.0; no_backslash = e.1 })
+      (λ n. (n.no_escaped, n.no_backslash)) (all_and _ _ text)
 
   -- of a text that is made of characters
   read_back_decides : (text : List ℕ) → all_scalars text ≡ true → Decides (is_read_back o policy text) (IsReadBack o policy text)
@@ -122,7 +124,9 @@ module _ (o : ParseOption) (policy : EscapePolicy) where
       Decides-like _ (λ e. record { of_characters = valid; is_read = e }) (λ r. r.is_read)
       (Decides-or _ _ (read_escapes_decides text) (no_escapes_decides text))
 
-  no_bracket_decides : (name : List ℕ) → Decides (o.enabled_brackets_in_section_names || has_no_close_bracket name) (o.enabled_brackets_in_section_names ≡ false → has_no_close_bracket name ≡ true)
+  no_bracket_decides : (name : List ℕ)
+      → Decides (o.enabled_brackets_in_section_names || has_no_close_bracket name)
+      (o.enabled_brackets_in_section_names ≡ false → has_no_close_bracket name ≡ true)
   no_bracket_decides name = at o.enabled_brackets_in_section_names
     where
       at : (b : Bool) → Decides (b || has_no_close_bracket name) (b ≡ false → has_no_close_bracket name ≡ true)
@@ -131,11 +135,14 @@ module _ (o : ParseOption) (policy : EscapePolicy) where
 
   pub name_decides : (name : List ℕ) → all_scalars name ≡ true → Decides (is_plain_name o policy name) (IsPlainName o policy name)
   name_decides name valid =
-      Decides-like _ (λ e. record { is_trimmed = e.0; no_bracket = e.1.0; read_back = e.1.1 }) (λ n. (n.is_trimmed, (n.no_bracket, n.read_back)))
+      Decides-like _ (λ e. record { is_trimmed = e.0; no_bracket = e.1.0; read_back = e.1.1 })
+      (λ n. (n.is_trimmed, (n.no_bracket, n.read_back)))
       (Decides-and _ _ (trimmed_decides name) (Decides-and _ _ (no_bracket_decides name) (read_back_decides name valid)))
 
   -- values
-  no_mark_decides : (value : List ℕ) → Decides (not o.enabled_quote || not (begins is_mark value)) (o.enabled_quote ≡ true → BeginsWithNo is_mark value)
+  no_mark_decides : (value : List ℕ)
+      → Decides (not o.enabled_quote || not (begins is_mark value)) (o.enabled_quote ≡ true
+      → BeginsWithNo is_mark value)
   no_mark_decides value = at o.enabled_quote
     where
       at : (b : Bool) → Decides (not b || not (begins is_mark value)) (b ≡ true → BeginsWithNo is_mark value)
@@ -154,7 +161,9 @@ module _ (o : ParseOption) (policy : EscapePolicy) where
       (Decides-and _ _ (itself _) (Decides-and _ _ (begins_decides _ key) (bytes_decides (end_trimmed key) key)))
 
   begins_bare : List ℕ → Type 0
-  begins_bare key = (key ≢ []) × (BeginsWithNo (λ c. eqb c open_bracket) key × BeginsWithNo (λ c. is_comment_mark c && not (is_escaped policy c)) key)
+  begins_bare key = (key ≢ [])
+      × (BeginsWithNo (λ c. eqb c open_bracket) key
+      × BeginsWithNo (λ c. is_comment_mark c && not (is_escaped policy c)) key)
 
   escaped_mark : (a b : Bool) → Decides (not a || b) ((a && not b) ≡ false)
   escaped_mark true true = (λ e. refl, λ e. refl)
@@ -178,17 +187,26 @@ module _ (o : ParseOption) (policy : EscapePolicy) where
   -- no policy escapes a space, so a bare key doesn't begin with one
   no_space : (key : List ℕ) → (trimmed key ≡ key) ⊎ IsIndentedByEscape o policy key → BeginsWithNo (λ c. eqb c space) key
   no_space [] h = tt
-  no_space (c ∷ cs) (inl t) = false_from_ne_true (eqb c space) (λ e. both_ways (is_whitespace c) (trimmed_begins (c ∷ cs) t) (ap is_whitespace (eqb-true c space e)))
-  no_space (c ∷ cs) (inr i) = false_from_ne_true (eqb c space) (λ e. both_ways (is_escaped policy c) (ap (is_escaped policy) (eqb-true c space e) ∙ space_raw policy) (and_parts (is_whitespace c) (is_escaped policy c) i.white).1)
+  no_space (c ∷ cs) (inl t) =
+      false_from_ne_true (eqb c space)
+      (λ e. both_ways (is_whitespace c) (trimmed_begins (c ∷ cs) t) (ap is_whitespace (eqb-true c space e)))
+  no_space (c ∷ cs) (inr i) =
+      false_from_ne_true (eqb c space)
+      (λ e. both_ways (is_escaped policy c) (ap (is_escaped policy) (eqb-true c space e)
+      ∙ space_raw policy) (and_parts (is_whitespace c) (is_escaped policy c) i.white).1)
 
   key_found : (key : List ℕ) → is_plain_key o policy key ≡ true → IsPlainKey o policy key
   key_found key e = at (may_indent o) refl e
     where
-      at : (b : Bool) → may_indent o ≡ b → is_bare_key o policy (cond b (skipped (λ c. eqb c space) key) key) ≡ true → IsPlainKey o policy key
+      at : (b : Bool) → may_indent o ≡ b
+          → is_bare_key o policy (cond b (skipped (λ c. eqb c space) key) key) ≡ true
+          → IsPlainKey o policy key
       at true b h =
           let on = and_parts o.enabled_preserve_key_leading_whitespace (not o.enabled_indented_mutiline_value) b in
           subst (IsPlainKey o policy) (run-sound (λ c. eqb c space) key).whole
-          (IsPlainKey.behind_spaces (run_of (λ c. eqb c space) key) on.0 (not-true o.enabled_indented_mutiline_value on.1) ((run-sound (λ c. eqb c space) key).all) ((bare_decides _).0 h))
+          (IsPlainKey.behind_spaces (run_of (λ c. eqb c space) key) on.0
+          (not-true o.enabled_indented_mutiline_value on.1) ((run-sound (λ c. eqb c space) key).all)
+          ((bare_decides _).0 h))
       at false b h = IsPlainKey.bare ((bare_decides key).0 h)
 
   bare_stays : (key : List ℕ) → IsBareKey o policy key → is_bare_key o policy (skipped (λ c. eqb c space) key) ≡ true
@@ -196,16 +214,21 @@ module _ (o : ParseOption) (policy : EscapePolicy) where
 
   key_tested : {key : List ℕ} → IsPlainKey o policy key → is_plain_key o policy key ≡ true
   key_tested (IsPlainKey.bare {key} k) =
-      cond_both (may_indent o) (skipped (λ c. eqb c space) key) key (λ l. is_bare_key o policy l ≡ true) (λ _. bare_stays key k) (λ _. (bare_decides key).1 k)
+      cond_both (may_indent o) (skipped (λ c. eqb c space) key) key (λ l. is_bare_key o policy l ≡ true)
+      (λ _. bare_stays key k) (λ _. (bare_decides key).1 k)
   key_tested (IsPlainKey.behind_spaces {key} spaces on off all k) =
       ap (is_bare_key o policy)
-      (cond-true (may_indent o) (skipped (λ c. eqb c space) (spaces ++ key)) (spaces ++ key) (and_from o.enabled_preserve_key_leading_whitespace (not o.enabled_indented_mutiline_value) on (ap not off))
+      (cond-true (may_indent o) (skipped (λ c. eqb c space) (spaces ++ key)) (spaces ++ key)
+      (and_from o.enabled_preserve_key_leading_whitespace (not o.enabled_indented_mutiline_value) on
+      (ap not off))
       ∙ skipped-behind (λ c. eqb c space) spaces key all) ∙ bare_stays key k
 
   key_decides : (key : List ℕ) → Decides (is_plain_key o policy key) (IsPlainKey o policy key)
   key_decides key = (key_found key, key_tested)
 
-  pub pair_decides : (key value : List ℕ) → all_scalars key ≡ true → all_scalars value ≡ true → Decides (is_plain_pair o policy key value) (IsPlainPair o policy key value)
+  pub pair_decides : (key value : List ℕ) → all_scalars key ≡ true → all_scalars value ≡ true
+      → Decides (is_plain_pair o policy key value) (IsPlainPair o policy key value)
   pair_decides key value key_valid value_valid =
-      Decides-like _ (λ e. record { plain_key = e.0; key_read_back = e.1.0; plain_value = e.1.1 }) (λ p. (p.plain_key, (p.key_read_back, p.plain_value)))
+      Decides-like _ (λ e. record { plain_key = e.0; key_read_back = e.1.0; plain_value = e.1.1 })
+      (λ p. (p.plain_key, (p.key_read_back, p.plain_value)))
       (Decides-and _ _ (key_decides key) (Decides-and _ _ (read_back_decides key key_valid) (value_decides value value_valid)))

@@ -31,7 +31,8 @@ use Rattle.ini_text.proofs.ReaderLemmas.ValueReaderLemmas.{value-reads}
 use Rattle.ini_text.proofs.StringLemmas.FrontLemmas.{front_is}
 
 -- what follows a string that the text's end doesn't end begins with an endpoint
-endpoint_follows : {e : Bool} {ends : Ends} {s r v : List ℕ} → Str e ends s r v → ends.text ≡ false → (c : ℕ) × (t : List ℕ) × (r ≡ c ∷ t) × (is_endpoint ends c ≡ true)
+endpoint_follows : {e : Bool} {ends : Ends} {s r v : List ℕ} → Str e ends s r v → ends.text ≡ false
+    → (c : ℕ) × (t : List ℕ) × (r ≡ c ∷ t) × (is_endpoint ends c ≡ true)
 endpoint_follows {r = []} (Str.closed row h) n = let z : true ≡ false = sym h ∙ n in cc
 endpoint_follows {r = c ∷ t} (Str.closed row h) n = (c, t, refl, h)
 endpoint_follows (Str.lone row h) n = let z : true ≡ false = sym h ∙ n in cc
@@ -53,7 +54,9 @@ key_value : (kept : Bool) (v : List ℕ) → trimmed_at (not kept) v ≡ (if kep
 key_value true v = refl
 key_value false v = refl
 
-indented_value : (kept : Bool) (w v : List ℕ) → trimmed_at (not kept) ((if kept then w else []) ++ v) ≡ (if kept then end_trimmed (w ++ v) else trimmed v)
+indented_value : (kept : Bool) (w v : List ℕ)
+    → trimmed_at (not kept) ((if kept then w else []) ++ v)
+    ≡ (if kept then end_trimmed (w ++ v) else trimmed v)
 indented_value true w v = refl
 indented_value false w v = refl
 
@@ -62,7 +65,8 @@ pub behind_key : (o : ParseOption) (key r : List ℕ) → key ≢ [] → behind_
 behind_key o [] r some = absurd (some refl)
 behind_key o (c ∷ key) r some = refl
 
-pub key_at : (o : ParseOption) (w : List ℕ) {t cs : List ℕ} {c : ℕ} → t ≡ c ∷ cs → is_line_end c ≡ false → c ≢ open_bracket → behind_blanks o w t ≡ indented o w t
+pub key_at : (o : ParseOption) (w : List ℕ) {t cs : List ℕ} {c : ℕ} → t ≡ c ∷ cs → is_line_end c ≡ false
+    → c ≢ open_bracket → behind_blanks o w t ≡ indented o w t
 key_at o w {c = c} is end bracket = rw is (rw (end, ne_eqb c 91 bracket))
 
 module _ (o : ParseOption) (b : List ℕ) where
@@ -82,7 +86,8 @@ module _ (o : ParseOption) (b : List ℕ) where
   key-reads : IsReader (Str o.enabled_escape key_ends) (StrStops o.enabled_escape key_ends) (string o.enabled_escape key_ends)
   key-reads = string-reads o.enabled_escape key_ends refl
 
-  line-reads : IsReader (Str o.enabled_escape bracketed_name_ends) (StrStops o.enabled_escape bracketed_name_ends) (string o.enabled_escape bracketed_name_ends)
+  line-reads : IsReader (Str o.enabled_escape bracketed_name_ends)
+      (StrStops o.enabled_escape bracketed_name_ends) (string o.enabled_escape bracketed_name_ends)
   line-reads = string-reads o.enabled_escape bracketed_name_ends refl
 
   -- what follows a string begins with an endpoint
@@ -109,7 +114,8 @@ module _ (o : ParseOption) (b : List ℕ) where
           let before = subst (λ y. KeyFront o b k (m ∷ y) (c ∷ key)) (sym h) front in
           (k ++ m ∷ s, ElementStops.in_value before (λ q. cc) sep stops, simp (append_assoc, h))
 
-  keyed-sound : (w : List ℕ) {s r v t : List ℕ} (key : List ℕ) → ((x : List ℕ) → s ++ x ≡ t → Str o.enabled_escape key_ends s x v → KeyFront o b (w ++ s) x key)
+  keyed-sound : (w : List ℕ) {s r v t : List ℕ} (key : List ℕ)
+      → ((x : List ℕ) → s ++ x ≡ t → Str o.enabled_escape key_ends s x v → KeyFront o b (w ++ s) x key)
       → Str o.enabled_escape key_ends s r v → s ++ r ≡ t → ElementSays (w ++ t) (behind_separator o key (drop 1 r))
   keyed-sound w {s} {r} {v} {t} key front str h =
       let x = key-separator str in
@@ -117,26 +123,31 @@ module _ (o : ParseOption) (b : List ℕ) where
       rw x.2 (subst (λ y. ElementSays y (behind_separator o key x.1)) (append_assoc w s (x.0 ∷ x.1) ∙ ap (λ y. w ++ y) whole)
       (behind_separator-sound key (front (x.0 ∷ x.1) whole (subst (λ y. Str o.enabled_escape key_ends s y v) x.2 str)) x.3))
 
-  unindented-sound : (t : List ℕ) → BeginsWith begins_key t → (a : Answer ℕ) → StringSays o.enabled_escape key_ends t a → ElementSays t (keyed o (trimmed_key o a))
+  unindented-sound : (t : List ℕ) → BeginsWith begins_key t → (a : Answer ℕ)
+      → StringSays o.enabled_escape key_ends t a → ElementSays t (keyed o (trimmed_key o a))
   unindented-sound t begins (found v r) (s, str, h) =
       subst (λ k. ElementSays t (behind_separator o k (drop 1 r))) (sym (key_value o.enabled_preserve_key_leading_whitespace v))
       (keyed-sound [] _ (λ x q k. KeyFront.unindented (subst (BeginsWith begins_key) (sym q) begins) k) str h)
   unindented-sound t begins (stopped r k) (s, stops, h) = (s, ElementStops.in_key (subst (BeginsWith begins_key) (sym h) begins) stops, h)
 
-  indented-sound : (w t : List ℕ) → Indentation b w → BeginsWith begins_indented_key t → (a : Answer ℕ) → StringSays o.enabled_escape key_ends t a
+  indented-sound : (w t : List ℕ) → Indentation b w → BeginsWith begins_indented_key t → (a : Answer ℕ)
+      → StringSays o.enabled_escape key_ends t a
       → ElementSays (w ++ t) (indented_keyed o (trimmed_key o (prepend (kept_blanks o w) a)))
   indented-sound w t ind begins (found v r) (s, str, h) =
-      subst (λ k. ElementSays (w ++ t) (behind_separator o k (drop 1 r))) (sym (indented_value o.enabled_preserve_key_leading_whitespace w v))
+      subst (λ k. ElementSays (w ++ t) (behind_separator o k (drop 1 r)))
+      (sym (indented_value o.enabled_preserve_key_leading_whitespace w v))
       (keyed-sound w _ (λ x q k. KeyFront.indented ind (subst (BeginsWith begins_indented_key) (sym q) begins) k) str h)
   indented-sound w t ind begins (stopped r k) (s, stops, h) = by k stops (subst (BeginsWith begins_indented_key) (sym h) begins)
     where
       whole : (w ++ s) ++ r ≡ w ++ t
       whole = append_assoc w s r ∙ ap (λ y. w ++ y) h
 
-      by : (k : ParseKind) → StrStops o.enabled_escape key_ends s r k → BeginsWith begins_indented_key (s ++ r) → ElementSays (w ++ t) (dropped r k)
+      by : (k : ParseKind) → StrStops o.enabled_escape key_ends s r k
+          → BeginsWith begins_indented_key (s ++ r) → ElementSays (w ++ t) (dropped r k)
       by EndOfText stops begins =
           let none : r ≡ [] = stopped_at_end stops refl in
-          let key = Element.dropped_key ind (rw (none, append-nil s) at begins) (subst (λ y. StrStops o.enabled_escape key_ends s y EndOfText) none stops) in
+          let key = Element.dropped_key ind (rw (none, append-nil s) at begins)
+          (subst (λ y. StrStops o.enabled_escape key_ends s y EndOfText) none stops) in
           (w ++ s, subst (λ y. Element o b (w ++ s) y []) (sym none) key, whole)
       by k stops begins = (w ++ s, ElementStops.in_indented_key ind begins stops (λ q. cc), whole)
 
@@ -146,7 +157,8 @@ module _ (o : ParseOption) (b : List ℕ) where
     | inl h ↦ rw h (w ++ c ∷ [], Element.gap (Gap.blank_line c ind h), append_assoc w (c ∷ []) cs)
     | inr n ↦ elim (cases_Bool (c == open_bracket)) [
       | inl q ↦ rw (eqb-true c 91 q) (w, Element.gap (Gap.before_header ind), refl)
-      | inr m ↦ rw (n, m) (indented-sound w (c ∷ cs) ind (rw (other, n, m) refl) (string o.enabled_escape key_ends (c ∷ cs)) (key-reads.sound (c ∷ cs)))
+      | inr m ↦ rw (n, m) (indented-sound w (c ∷ cs) ind (rw (other, n, m) refl)
+          (string o.enabled_escape key_ends (c ∷ cs)) (key-reads.sound (c ∷ cs)))
     ]
   ]
 
@@ -162,7 +174,8 @@ module _ (o : ParseOption) (b : List ℕ) where
       )
 
   named-sound : {s r v t : List ℕ} → o.enabled_brackets_in_section_names ≡ true
-      → Str o.enabled_escape bracketed_name_ends s r v → s ++ r ≡ t → (name : Option (List ℕ)) → name_in v ≡ name → ElementSays (open_bracket ∷ t) (named name r)
+      → Str o.enabled_escape bracketed_name_ends s r v → s ++ r ≡ t → (name : Option (List ℕ))
+      → name_in v ≡ name → ElementSays (open_bracket ∷ t) (named name r)
   named-sound {s} {r} {v} on str h (Some name) e =
       (open_bracket ∷ s, Element.bracketed_header on str (name_found v name e), ap (λ y. open_bracket ∷ y) h)
   named-sound {s} {r} {v} on str h None e =
@@ -201,7 +214,8 @@ module _ (o : ParseOption) (b : List ℕ) where
     | inl one ↦
         let split = run-sound is_comment_part cs in
         let rest = skipped is_comment_part cs in
-        rw one (subst (λ y. ElementSays (c ∷ y) (found [] (drop 1 rest))) split.whole (comment-sound c (run_of is_comment_part cs) rest one mark split.all split.ends))
+        rw one (subst (λ y. ElementSays (c ∷ y) (found [] (drop 1 rest))) split.whole
+        (comment-sound c (run_of is_comment_part cs) rest one mark split.all split.ends))
     | inr late ↦ rw late (c ∷ [], ElementStops.late_comment mark late, refl)
   ]
 
@@ -224,7 +238,9 @@ module _ (o : ParseOption) (b : List ℕ) where
         | inl m ↦ rw (n, x, m) (mark-sound c cs m)
         | inr m ↦ elim (cases_Bool (c == open_bracket)) [
           | inl q ↦ rw (eqb-true c 91 q) (behind_bracket-sound cs)
-          | inr k ↦ rw (n, x, m, k) (unindented-sound (c ∷ cs) (rw (x, m, k) refl) (string o.enabled_escape key_ends (c ∷ cs)) (key-reads.sound (c ∷ cs)))
+          | inr k ↦ rw (n, x, m, k)
+              (unindented-sound (c ∷ cs) (rw (x, m, k) refl) (string o.enabled_escape key_ends (c ∷ cs))
+              (key-reads.sound (c ∷ cs)))
         ]
       ]
     ]
@@ -254,9 +270,11 @@ module _ (o : ParseOption) (b : List ℕ) where
       let y = or_parts (is_whitespace c) (is_comment_mark c) x.0 in
       rw (no_white_no_blank c y.0, y.0, y.1, x.1)
 
-  element-key : {k x key : List ℕ} {m : ℕ} → KeyFront o b k (m ∷ x) key → is_separator m ≡ true → element o b (k ++ m ∷ x) ≡ behind_separator o key x
+  element-key : {k x key : List ℕ} {m : ℕ} → KeyFront o b k (m ∷ x) key → is_separator m ≡ true
+      → element o b (k ++ m ∷ x) ≡ behind_separator o key x
   element-key {x = x} {m = m} (KeyFront.unindented {s} {v = v} begins str) sep =
-      rw (element-unindented (s ++ m ∷ x) begins, key-reads.finds str) (ap (λ k. behind_separator o k x) (key_value o.enabled_preserve_key_leading_whitespace v))
+      rw (element-unindented (s ++ m ∷ x) begins, key-reads.finds str)
+      (ap (λ k. behind_separator o k x) (key_value o.enabled_preserve_key_leading_whitespace v))
   element-key {x = x} {m = m} (KeyFront.indented {w} {s} {v = v} ind begins str) sep =
       rw (append_assoc w s (m ∷ x), element-indented (s ++ m ∷ x) ind begins, key-reads.finds str)
       (ap (λ k. behind_separator o k x) (indented_value o.enabled_preserve_key_leading_whitespace w v))
@@ -277,7 +295,8 @@ module _ (o : ParseOption) (b : List ℕ) where
   pub element-finds : {s r : List ℕ} {gives : List Given} → Element o b s r gives → element o b (s ++ r) ≡ found gives r
   unfolding element
   element-finds (Element.gap g) = element-gap g
-  element-finds {r = r} (Element.comment {m} s one mark all) = rw (append_assoc s (line_feed ∷ []) r) (element-comment m s (line_feed ∷ r) one mark all refl)
+  element-finds {r = r} (Element.comment {m} s one mark all) =
+      rw (append_assoc s (line_feed ∷ []) r) (element-comment m s (line_feed ∷ r) one mark all refl)
   element-finds (Element.last_comment {m} {s} one mark all) = element-comment m s [] one mark all tt
   element-finds {r = r} (Element.header {s} off str) = rw (off, append_assoc s (close_bracket ∷ []) r, name-reads.finds str)
   element-finds (Element.bracketed_header on str i) = rw (on, line-reads.finds str, finds_name i)

@@ -15,10 +15,12 @@ use Rattle.ini_text.proofs.ReaderLemmas.ReaderLemmas.{and_found, and_stopped, pr
 use Rattle.ini_text.proofs.ReaderLemmas.StringReaderLemmas.{StringSays, string-reads}
 
 -- what follows a string in quotes begins with their mark, and the string ends so before any text
-closed_by_mark : {e : Bool} {m : ℕ} {s r v : List ℕ} → Str e (quote_ends m) s r v → (t : List ℕ) × (r ≡ m ∷ t) × Str e (quote_ends m) s (m ∷ []) v
+closed_by_mark : {e : Bool} {m : ℕ} {s r v : List ℕ} → Str e (quote_ends m) s r v
+    → (t : List ℕ) × (r ≡ m ∷ t) × Str e (quote_ends m) s (m ∷ []) v
 closed_by_mark {r = []} (Str.closed row h) = cc
 closed_by_mark {e} {m = m} {s = s} {r = d ∷ r} {v = v} (Str.closed row h) =
-    let same : d ≡ m = eqb-true d m (rw or-false at h) in (r, ap (λ x. x ∷ r) same, subst (λ x. Str e (quote_ends m) s (x ∷ []) v) same (Str.closed row h))
+    let same : d ≡ m = eqb-true d m (rw or-false at h) in
+    (r, ap (λ x. x ∷ r) same, subst (λ x. Str e (quote_ends m) s (x ∷ []) v) same (Str.closed row h))
 closed_by_mark (Str.lone row h) = cc
 
 -- a string before its mark
@@ -31,7 +33,8 @@ LineSays o first t a = Says (Line o first) (LineStops o) t a
 module _ (o : ParseOption) where
   quote-reads : (m : ℕ) → is_mark m ≡ true
       → IsReader (Str o.enabled_escape (quote_ends m)) (StrStops o.enabled_escape (quote_ends m)) (string o.enabled_escape (quote_ends m))
-  quote-reads m h = string-reads o.enabled_escape (quote_ends m) (rw (ne_eqb 92 m (λ q. let z = subst (λ x. is_mark x ≡ true) (sym q) h in cc)) refl)
+  quote-reads m h = string-reads o.enabled_escape (quote_ends m)
+      (rw (ne_eqb 92 m (λ q. let z = subst (λ x. is_mark x ≡ true) (sym q) h in cc)) refl)
 
   plain-reads : IsReader (Str o.enabled_escape plain_ends) (StrStops o.enabled_escape plain_ends) (string o.enabled_escape plain_ends)
   plain-reads = string-reads o.enabled_escape plain_ends refl
@@ -55,13 +58,21 @@ module _ (o : ParseOption) where
   behind : {m : ℕ} {s v : List ℕ} → o.enabled_quote ≡ true → is_mark m ≡ true → Str o.enabled_escape (quote_ends m) s (m ∷ []) v
       → (r : List ℕ) (a : Answer ℕ) → Says Parts PartsStop r a → Says Parts PartsStop (m ∷ (s ++ m ∷ r)) (prepend v a)
   behind {m} {s} {v} on mark str r (found w x) (q, (quoted, plain), h) =
-      let opens : opens_quote o ((m ∷ (s ++ m ∷ q)) ++ x) ≡ true = rw (on, mark) refl in
-      (m ∷ (s ++ m ∷ q), (subst (Quoted o (m ∷ (s ++ m ∷ q)) (v ++ w)) (sym opens) (Quoted.part on mark str quoted), plain), simp (append_assoc, h))
+      let opens : opens_quote o ((m ∷ (s ++ m ∷ q)) ++ x) ≡ true = rw (on, mark) refl in (
+        m ∷ (s ++ m ∷ q),
+        (
+          subst (Quoted o (m ∷ (s ++ m ∷ q)) (v ++ w)) (sym opens)
+              (Quoted.part on mark str quoted),
+          plain,
+        ),
+        simp (append_assoc, h),
+      )
   behind {m} {s} {v} on mark str r (stopped x k) (_, PartsStop.stop {q} {w} {s = p} {m = n} quoted on' mark' stops, h) =
       let whole : q ++ n ∷ (p ++ x) ≡ r = simp append_assoc at h in
       ((m ∷ (s ++ m ∷ q)) ++ n ∷ p, PartsStop.stop (Quoted.part on mark str quoted) on' mark' stops, simp (append_assoc, whole))
 
-  behind-sound : (m : ℕ) (t : List ℕ) → o.enabled_quote ≡ true → is_mark m ≡ true → (a : Answer ℕ) → StringSays o.enabled_escape (quote_ends m) t a
+  behind-sound : (m : ℕ) (t : List ℕ) → o.enabled_quote ≡ true → is_mark m ≡ true → (a : Answer ℕ)
+      → StringSays o.enabled_escape (quote_ends m) t a
       → PartSays (m ∷ t) (behind_mark a)
   behind-sound m t on mark (stopped r k) (s, stops, h) = (m ∷ s, PartsStop.stop Quoted.none on mark stops, ap (λ y. m ∷ y) h)
   behind-sound m t on mark (found v r) (s, str, h) =
@@ -98,10 +109,12 @@ module _ (o : ParseOption) where
     part-turn : parts o t ≡ and_then (λ r. parts o (drop 1 r)) (string o.enabled_escape to after)
     part-turn = parts-turn t ∙ rw opens (behind-mark (string o.enabled_escape to after))
 
-    pub one_part : {v r : List ℕ} → prepend w (string o.enabled_escape to after) ≡ found v r → prepend w (parts o t) ≡ prepend v (parts o (drop 1 r))
+    pub one_part : {v r : List ℕ} → prepend w (string o.enabled_escape to after) ≡ found v r
+        → prepend w (parts o t) ≡ prepend v (parts o (drop 1 r))
     one_part h = ap (prepend w) part-turn ∙ then_found _ w _ h
 
-    pub part_stops : {r : List ℕ} {k : ParseKind} → prepend w (string o.enabled_escape to after) ≡ stopped r k → prepend w (parts o t) ≡ stopped r k
+    pub part_stops : {r : List ℕ} {k : ParseKind}
+        → prepend w (string o.enabled_escape to after) ≡ stopped r k → prepend w (parts o t) ≡ stopped r k
     part_stops h = ap (prepend w) part-turn ∙ then_stopped _ w _ h
 
     pub part_shortens : {v r : List ℕ} → prepend w (string o.enabled_escape to after) ≡ found v r → length (drop 1 r) < length t
@@ -120,7 +133,8 @@ module _ (o : ParseOption) where
       let whole : (m ∷ (s ++ m ∷ q)) ++ r ≡ m ∷ (s ++ m ∷ (q ++ r)) = ap (λ y. m ∷ y) (append_assoc s (m ∷ q) r) in
       let opens : quote_at o (m ∷ (s ++ m ∷ (q ++ r))) ≡ Some (quote_ends m, s ++ m ∷ (q ++ r)) = rw (on, mark) refl in
       let read = (quote-reads m mark).finds (Str-before (q ++ r) str) in
-      ap (parts o) whole ∙ part-turn _ w opens ∙ ap (and_then (λ x. parts o (drop 1 x))) read ∙ ap (prepend v) (Quoted-read k r) ∙ prepend-prepend v w (parts o r)
+      ap (parts o) whole ∙ part-turn _ w opens ∙ ap (and_then (λ x. parts o (drop 1 x))) read
+      ∙ ap (prepend v) (Quoted-read k r) ∙ prepend-prepend v w (parts o r)
 
   Quoted-opens : {q w : List ℕ} {quoted : Bool} → Quoted o q w quoted → (r : List ℕ) → BeginsPlain o r → opens_quote o (q ++ r) ≡ quoted
   Quoted-opens Quoted.none r plain = rw (opens_none r plain)
@@ -135,11 +149,13 @@ module _ (o : ParseOption) where
     plained-sound {q} quoted r plain (stopped x k) (p, stops, h) =
         (q ++ p, LineStops.in_plain quoted (subst (BeginsPlain o) (sym h) plain) stops, append_assoc q p x ∙ ap (λ y. q ++ y) h)
 
-    line-by : (t : List ℕ) (a : Answer ℕ) → Says Parts PartsStop t a → LineSays o first t (and_then (plain_part o first (opens_quote o t)) a)
+    line-by : (t : List ℕ) (a : Answer ℕ) → Says Parts PartsStop t a
+        → LineSays o first t (and_then (plain_part o first (opens_quote o t)) a)
     line-by t (found w r) (q, (quoted, plain), h) =
         subst (λ y. LineSays o first y (and_then (plain_part o first (opens_quote o y)) (found w r))) h
         (plained-sound quoted r plain (string o.enabled_escape plain_ends r) (plain-reads.sound r))
-    line-by t (stopped r k) (_, PartsStop.stop {q} {s} {m} quoted on mark stops, h) = (q ++ m ∷ s, LineStops.in_quotes quoted on mark stops, h)
+    line-by t (stopped r k) (_, PartsStop.stop {q} {s} {m} quoted on mark stops, h) =
+        (q ++ m ∷ s, LineStops.in_quotes quoted on mark stops, h)
 
     pub line-reads : IsReader (Line o first) (LineStops o) (line o first)
     unfolding line
@@ -165,15 +181,21 @@ module _ (o : ParseOption) where
             rw (append_assoc q, part_found k (s ++ r) plain, plain-reads.stops str)
 
   -- the plain part behind the quoted parts
-  module _ (first : Bool) (t rest old out : List ℕ) (read : prepend old (parts o t) ≡ prepend out (parts o rest)) (none : quote_at o rest ≡ None) where
-    line-parts : (quoted : Bool) → prepend old (and_then (plain_part o first quoted) (parts o t)) ≡ prepend out (plain_part o first quoted rest)
+  module _ (first : Bool) (t rest old out : List ℕ)
+      (read : prepend old (parts o t) ≡ prepend out (parts o rest)) (none : quote_at o rest ≡ None) where
+    line-parts : (quoted : Bool)
+        → prepend old (and_then (plain_part o first quoted) (parts o t))
+        ≡ prepend out (plain_part o first quoted rest)
     line-parts quoted = then_found _ old _ (read ∙ ap (prepend out) (parts_end rest none)) ∙ rw (append-nil out)
 
-    pub line_stops : {r : List ℕ} {k : ParseKind} → prepend out (string o.enabled_escape plain_ends rest) ≡ stopped r k → prepend old (line o first t) ≡ stopped r k
+    pub line_stops : {r : List ℕ} {k : ParseKind}
+        → prepend out (string o.enabled_escape plain_ends rest) ≡ stopped r k
+        → prepend old (line o first t) ≡ stopped r k
     unfolding line
     line_stops h = line-parts (opens_quote o t) ∙ rw (stopped_behind out (string o.enabled_escape plain_ends rest) h)
 
-    pub line_read : {new end v : List ℕ} (quoted : Bool) → opens_quote o t ≡ (quoted || opens_quote o rest) → string o.enabled_escape plain_ends rest ≡ found v end
+    pub line_read : {new end v : List ℕ} (quoted : Bool) → opens_quote o t ≡ (quoted || opens_quote o rest)
+        → string o.enabled_escape plain_ends rest ≡ found v end
         → new ≡ out ++ trimmed_at (first && not quoted) v → prepend old (line o first t) ≡ found new end
     unfolding line
     line_read {end = end} quoted opens h grown =

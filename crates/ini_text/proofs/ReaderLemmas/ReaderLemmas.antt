@@ -59,7 +59,9 @@ module _ {A : Type 0} (P : Rule A) (Q : StopRule) (step : List ℕ → Step A) (
       by (ends a) h = refl
       by (more w r) h = ap (prepend w) (enough (length t) (suc (length r)) r h.0 (omega arith))
 
-  says_by : (t : List ℕ) (x : Step A) → StepSays P Q t x → ((r : List ℕ) → length r < length t → Says P Q r (read_by step r)) → Says P Q t (go_on (read_by step) x)
+  says_by : (t : List ℕ) (x : Step A) → StepSays P Q t x
+      → ((r : List ℕ) → length r < length t → Says P Q r (read_by step r))
+      → Says P Q t (go_on (read_by step) x)
   says_by t (ends a) h rest = h
   says_by t (more w r) h rest = h.1 (read_by step r) (rest r h.0)
 
@@ -79,17 +81,21 @@ prepend-prepend w v (found u r) = ap (λ x. found x r) (sym (append_assoc w v u)
 prepend-prepend w v (stopped r k) = refl
 
 -- where what was read is as much as `old`, and then `v` is read, it is as much as both
-pub and_more : {A : Type 0} {new : List A} {whole a : Answer A} (old v : List A) (b : Answer A) → whole ≡ prepend old a → a ≡ prepend v b → new ≡ old ++ v → whole ≡ prepend new b
+pub and_more : {A : Type 0} {new : List A} {whole a : Answer A} (old v : List A) (b : Answer A)
+    → whole ≡ prepend old a → a ≡ prepend v b → new ≡ old ++ v → whole ≡ prepend new b
 and_more old v b h e grown = h ∙ ap (prepend old) e ∙ prepend-prepend old v b ∙ ap (λ x. prepend x b) (sym grown)
 
-pub and_found : {A : Type 0} {new v : List A} {whole a : Answer A} {r : List ℕ} (old : List A) → whole ≡ prepend old a → a ≡ found v r → new ≡ old ++ v → whole ≡ found new r
+pub and_found : {A : Type 0} {new v : List A} {whole a : Answer A} {r : List ℕ} (old : List A)
+    → whole ≡ prepend old a → a ≡ found v r → new ≡ old ++ v → whole ≡ found new r
 and_found {r = r} old h e grown = h ∙ ap (prepend old) e ∙ ap (λ x. found x r) (sym grown)
 
-pub and_stopped : {A : Type 0} {whole a : Answer A} {r : List ℕ} {k : ParseKind} (old : List A) → whole ≡ prepend old a → a ≡ stopped r k → whole ≡ stopped r k
+pub and_stopped : {A : Type 0} {whole a : Answer A} {r : List ℕ} {k : ParseKind} (old : List A)
+    → whole ≡ prepend old a → a ≡ stopped r k → whole ≡ stopped r k
 and_stopped old h e = h ∙ ap (prepend old) e
 
 -- what was read behind w
-pub read_behind : {A : Type 0} {v : List A} {r : List ℕ} (w : List A) (a : Answer A) → prepend w a ≡ found v r → (u : List A) × (a ≡ found u r) × (v ≡ w ++ u)
+pub read_behind : {A : Type 0} {v : List A} {r : List ℕ} (w : List A) (a : Answer A)
+    → prepend w a ≡ found v r → (u : List A) × (a ≡ found u r) × (v ≡ w ++ u)
 read_behind w (found u x) h = (u, cc, cc)
 read_behind w (stopped x k) h = cc
 
@@ -98,12 +104,14 @@ stopped_behind w (found u x) h = cc
 stopped_behind w (stopped x k) h = h
 
 -- and more behind that
-pub then_found : {A : Type 0} {v : List A} {r : List ℕ} (next : List ℕ → Answer A) (w : List A) (a : Answer A) → prepend w a ≡ found v r → prepend w (and_then next a) ≡ prepend v (next r)
+pub then_found : {A : Type 0} {v : List A} {r : List ℕ} (next : List ℕ → Answer A) (w : List A)
+    (a : Answer A) → prepend w a ≡ found v r → prepend w (and_then next a) ≡ prepend v (next r)
 then_found {v = v} {r} next w a h =
     let (u, is, grown) = read_behind w a h in
     ap (λ x. prepend w (and_then next x)) is ∙ prepend-prepend w u (next r) ∙ ap (λ x. prepend x (next r)) (sym grown)
 
-pub then_stopped : {A : Type 0} {r : List ℕ} {k : ParseKind} (next : List ℕ → Answer A) (w : List A) (a : Answer A) → prepend w a ≡ stopped r k → prepend w (and_then next a) ≡ stopped r k
+pub then_stopped : {A : Type 0} {r : List ℕ} {k : ParseKind} (next : List ℕ → Answer A) (w : List A)
+    (a : Answer A) → prepend w a ≡ stopped r k → prepend w (and_then next a) ≡ stopped r k
 then_stopped next w a h = ap (λ x. prepend w (and_then next x)) (stopped_behind w a h)
 
 -- a string that is empty when reading begins
@@ -111,11 +119,13 @@ pub from_nothing : {bytes : List ℕ} (a : Answer ℕ) → bytes ≡ [] → prep
 from_nothing a none = ap (λ x. prepend x a) (ap chars none ∙ chars-nil) ∙ prepend-nil a
 
 -- a stop that a `?` passes on
-pub stays : {A B : Type 0} {a : Answer A} {b : Answer B} (stop : Stop) → StopsBy a stop → ((r : List ℕ) (k : ParseKind) → a ≡ stopped r k → b ≡ stopped r k) → StopsBy b stop
+pub stays : {A B : Type 0} {a : Answer A} {b : Answer B} (stop : Stop) → StopsBy a stop
+    → ((r : List ℕ) (k : ParseKind) → a ≡ stopped r k → b ≡ stopped r k) → StopsBy b stop
 stays stops.Memory s passes = tt
 stays (stops.Fault fault) s passes = passes (chars fault.rest.now) fault.kind s
 
-pub passed : {A B R : Type 0} {a : Answer A} {b : Answer B} (P : R → Type 0) (stop : Stop) (r : Result R Stop) → IsErrAnd r (λ e. e ≡ stop) → StopsBy a stop
+pub passed : {A B R : Type 0} {a : Answer A} {b : Answer B} (P : R → Type 0) (stop : Stop)
+    (r : Result R Stop) → IsErrAnd r (λ e. e ≡ stop) → StopsBy a stop
     → ((x : List ℕ) (k : ParseKind) → a ≡ stopped x k → b ≡ stopped x k) → MatchResult r P (StopsBy b)
 passed P stop (Ok x) h s passes = absurd h
 passed {b = b} P stop (Err e) h s passes = subst (StopsBy b) (sym h) (stays stop s passes)

@@ -27,6 +27,7 @@ pub run-sound : (test : ℕ → Bool) (t : List ℕ) → IsRun test t (run_of te
 run-sound test [] = record { all = refl; ends = tt; whole = refl }
 run-sound test (c ∷ cs) =
     elim (cases_Bool (test c)) [
-      | inl h ↦ let tail = run-sound test cs in rw h record { all = rw (h, tail.all) refl; ends = tail.ends; whole = ap (λ x. c ∷ x) tail.whole }
+      | inl h ↦ let tail = run-sound test cs in
+          rw h record { all = rw (h, tail.all) refl; ends = tail.ends; whole = ap (λ x. c ∷ x) tail.whole }
       | inr h ↦ rw h record { all = refl; ends = h; whole = refl }
     ]

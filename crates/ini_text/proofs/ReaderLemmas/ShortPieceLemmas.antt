@@ -32,28 +32,39 @@ past_ascii : (t rest : List ℕ) (c : ℕ) → IsUtf8 t → t ≡ c ∷ rest →
 past_ascii t rest c u is low =
     let whole = is ∙ ap (λ x. x ++ rest) (sym (encode_ascii c low)) in (chars_past_char t rest c u whole, IsUtf8-past_char t rest c u whole)
 
-pub begins_with_two : (t bytes : List ℕ) (a b : ℕ) → bytes ≡ t → IsUtf8 t → 2 ≤ length bytes → get_or bytes 0 0 ≡ a → get_or bytes 1 0 ≡ b → a < 128 → b < 128 → BeginsWithTwo t a b
+pub begins_with_two : (t bytes : List ℕ) (a b : ℕ) → bytes ≡ t → IsUtf8 t → 2 ≤ length bytes
+    → get_or bytes 0 0 ≡ a → get_or bytes 1 0 ≡ b → a < 128 → b < 128 → BeginsWithTwo t a b
 begins_with_two t bytes a b same u long first second low-a low-b =
     let text : IsUtf8 bytes = subst IsUtf8 (sym same) u in
     let begins = past_ascii bytes (drop 1 bytes) a text (drop-cons bytes 0 0 (omega arith) ∙ ap (λ x. x ∷ drop 1 bytes) first) low-a in
-    let next = past_ascii (drop 1 bytes) (drop 2 bytes) b begins.1 (drop-cons bytes 1 0 (omega arith) ∙ ap (λ x. x ∷ drop 2 bytes) second) low-b in
-    let two : BeginsWithTwo bytes a b = record { read = begins.0 ∙ ap (λ x. a ∷ x) next.0; cut = IsCharBoundary-after_ascii bytes 1 text (omega arith) (omega arith) } in
+    let next = past_ascii (drop 1 bytes) (drop 2 bytes) b begins.1 (drop-cons bytes 1 0 (omega arith)
+    ∙ ap (λ x. x ∷ drop 2 bytes) second) low-b in
+    let two : BeginsWithTwo bytes a b =
+    record {
+      read = begins.0 ∙ ap (λ x. a ∷ x) next.0;
+      cut =
+          IsCharBoundary-after_ascii bytes 1 text (omega arith) (omega arith);
+    } in
     subst (λ x. BeginsWithTwo x a b) same two
 
 -- and one whose first four are
-pub begins_with_four : (t bytes : List ℕ) (a b c d : ℕ) → bytes ≡ t → IsUtf8 t → 4 ≤ length bytes → get_or bytes 0 0 ≡ a → get_or bytes 1 0 ≡ b → get_or bytes 2 0 ≡ c → get_or bytes 3 0 ≡ d
+pub begins_with_four : (t bytes : List ℕ) (a b c d : ℕ) → bytes ≡ t → IsUtf8 t → 4 ≤ length bytes
+    → get_or bytes 0 0 ≡ a → get_or bytes 1 0 ≡ b → get_or bytes 2 0 ≡ c → get_or bytes 3 0 ≡ d
     → a < 128 → b < 128 → c < 128 → d < 128 → (chars t ≡ a ∷ b ∷ c ∷ d ∷ chars (drop 4 t)) × IsCharBoundary t 4
 begins_with_four t bytes a b c d same u long first second third fourth low-a low-b low-c low-d =
     let text : IsUtf8 bytes = subst IsUtf8 (sym same) u in
     let two = begins_with_two bytes bytes a b refl text (omega arith) first second low-a low-b in
-    let next = begins_with_two (drop 2 bytes) (drop 2 bytes) c d refl (IsUtf8-drop bytes 2 text two.cut) (omega (arith, length-drop 2 bytes))
+    let next = begins_with_two (drop 2 bytes) (drop 2 bytes) c d refl (IsUtf8-drop bytes 2 text two.cut)
+    (omega (arith, length-drop 2 bytes))
     (get_or-drop 2 bytes 0 0 ∙ third) (get_or-drop 2 bytes 1 0 ∙ fourth) low-c low-d in
     let cut : IsCharBoundary bytes 4 = IsCharBoundary-after_ascii bytes 3 text (omega arith) (omega arith) in
-    let read : chars bytes ≡ a ∷ b ∷ c ∷ d ∷ chars (drop 4 bytes) = two.read ∙ ap (λ x. a ∷ b ∷ x) (next.read ∙ ap (λ x. c ∷ d ∷ chars x) (drop-drop 2 2 bytes)) in
+    let read : chars bytes ≡ a ∷ b ∷ c ∷ d ∷ chars (drop 4 bytes) = two.read
+    ∙ ap (λ x. a ∷ b ∷ x) (next.read ∙ ap (λ x. c ∷ d ∷ chars x) (drop-drop 2 2 bytes)) in
     subst (λ x. (chars x ≡ a ∷ b ∷ c ∷ d ∷ chars (drop 4 x)) × IsCharBoundary x 4) same (read, cut)
 
 -- what they spell, if that is a character
-pub four_spell : (t : List ℕ) {a b c d : ℕ} (r : Option ℕ) → (chars t ≡ a ∷ b ∷ c ∷ d ∷ chars (drop 4 t)) × IsCharBoundary t 4 → r ≡ spelled a b c d
+pub four_spell : (t : List ℕ) {a b c d : ℕ} (r : Option ℕ)
+    → (chars t ≡ a ∷ b ∷ c ∷ d ∷ chars (drop 4 t)) × IsCharBoundary t 4 → r ≡ spelled a b c d
     → IfSome r (λ v. (coded (chars t) ≡ found (v ∷ []) (chars (drop 4 t))) × IsCharBoundary t 4)
 four_spell t None four is = tt
 four_spell t (Some v) four is = (coded_digits four.0 refl refl refl (sym is), four.1)
@@ -66,13 +77,15 @@ module _ (to : Ends) where
       string_pair true to two refl refl (rw (ne_eqb d 120 m) refl) ∙ rw (ne_eqb d 10 n, is) refl
 
   -- a code
-  pub coded_read : {t ds rest : List ℕ} {v : ℕ} → t ≡ backslash ∷ letter_x ∷ ds → coded ds ≡ found (v ∷ []) rest → string true to t ≡ prepend (v ∷ []) (string true to rest)
+  pub coded_read : {t ds rest : List ℕ} {v : ℕ} → t ≡ backslash ∷ letter_x ∷ ds
+      → coded ds ≡ found (v ∷ []) rest → string true to t ≡ prepend (v ∷ []) (string true to rest)
   coded_read two is = string_coded true to two refl refl refl refl ∙ ap (and_then (string true to)) is
 
 pub coded_shorter : {t ds rest v : List ℕ} → t ≡ backslash ∷ letter_x ∷ ds → coded ds ≡ found v rest → length rest < length t
 coded_shorter {ds = ds} two is = coded_shortens true plain_ends [] two refl refl refl refl (prepend-nil (coded ds) ∙ is)
 
-pub letter_escape : {t : List ℕ} {d v : ℕ} → BeginsWithTwo t 92 d → d ≢ line_feed → d ≢ letter_x → v ≡ unwrap_or (control d) d → IsEscape t v 2
+pub letter_escape : {t : List ℕ} {d v : ℕ} → BeginsWithTwo t 92 d → d ≢ line_feed → d ≢ letter_x
+    → v ≡ unwrap_or (control d) d → IsEscape t v 2
 letter_escape two n m is = record {
   few = omega arith;
   cut = two.cut;
@@ -80,7 +93,8 @@ letter_escape two n m is = record {
   shorter = omega (arith, ap length two.read);
 }
 
-pub coded_escape : {t behind : List ℕ} {v : ℕ} → BeginsWithTwo t 92 120 → 2 ≤ length t → behind ≡ drop 2 t → coded (chars behind) ≡ found (v ∷ []) (chars (drop 4 behind)) → IsCharBoundary behind 4 → IsEscape t v 6
+pub coded_escape : {t behind : List ℕ} {v : ℕ} → BeginsWithTwo t 92 120 → 2 ≤ length t → behind ≡ drop 2 t
+    → coded (chars behind) ≡ found (v ∷ []) (chars (drop 4 behind)) → IsCharBoundary behind 4 → IsEscape t v 6
 coded_escape {t} {behind} {v} two long is_behind is cut =
     let codes : coded (chars (drop 2 t)) ≡ found (v ∷ []) (chars (drop 6 t)) =
     ap (λ x. coded (chars x)) (sym is_behind) ∙ is ∙ ap (λ x. found (v ∷ []) (chars x)) (ap (drop 4) is_behind ∙ drop-drop 4 2 t) in
@@ -100,22 +114,33 @@ to_marks : (ends : Endpoints) (three : Three) → ((c : ℕ) → is_plain (ends_
     → not (is_plain (ends_of ends) c) ≡ is_one_of three.0 three.1 three.2 c
 to_marks ends three same c = ap not (same c) ∙ sym (twice (is_one_of three.0 three.1 three.2 c))
 
-pub told : (ends : Endpoints) (three : Three) {bits : ℕ} {t : List ℕ} → ((c : ℕ) → is_plain (ends_of ends) c ≡ not (is_one_of three.0 three.1 three.2 c)) → Sees (ends_of ends) bits t
+pub told : (ends : Endpoints) (three : Three) {bits : ℕ} {t : List ℕ}
+    → ((c : ℕ) → is_plain (ends_of ends) c ≡ not (is_one_of three.0 three.1 three.2 c))
+    → Sees (ends_of ends) bits t
     → Tells (is_one_of three.0 three.1 three.2) 16 bits t
 told ends three same = Tells-same _ _ (to_marks ends three same)
 
-pub seen : (ends : Endpoints) (three : Three) {bits : ℕ} {t : List ℕ} → ((c : ℕ) → is_plain (ends_of ends) c ≡ not (is_one_of three.0 three.1 three.2 c)) → Tells (is_one_of three.0 three.1 three.2) 16 bits t
+pub seen : (ends : Endpoints) (three : Three) {bits : ℕ} {t : List ℕ}
+    → ((c : ℕ) → is_plain (ends_of ends) c ≡ not (is_one_of three.0 three.1 three.2 c))
+    → Tells (is_one_of three.0 three.1 three.2) 16 bits t
     → Sees (ends_of ends) bits t
 seen ends three same = Tells-same _ _ (λ c. sym (to_marks ends three same c))
 
 -- the run before the first mark that is seen
-pub run_seen : (to : Ends) {bits : ℕ} {t : List ℕ} → Sees to bits t → 0 < bits → (count_trailing_zeros 64 bits ≡ prefix_len (is_plain to) t) × (count_trailing_zeros 64 bits ≤ 16) × (count_trailing_zeros 64 bits + 16 ≤ length t)
+pub run_seen : (to : Ends) {bits : ℕ} {t : List ℕ} → Sees to bits t → 0 < bits
+    → (count_trailing_zeros 64 bits ≡ prefix_len (is_plain to) t) × (count_trailing_zeros 64 bits ≤ 16)
+    × (count_trailing_zeros 64 bits + 16 ≤ length t)
 run_seen to {bits} {t} sees some =
-    let stops = stops_at (λ c. not (is_plain to c)) t sees some in
-    (stops.position ∙ sym (same_run (is_plain to) (λ x. not (not (is_plain to x))) (λ c. twice (is_plain to c)) t), omega (arith, stops.below), omega (arith, stops.within))
+    let stops = stops_at (λ c. not (is_plain to c)) t sees some in (
+      stops.position ∙ sym (same_run (is_plain to) (λ x. not (not (is_plain to x)))
+          (λ c. twice (is_plain to c)) t),
+      omega (arith, stops.below),
+      omega (arith, stops.within),
+    )
 
 -- a run and an escape
-pub short_piece : (ends : Endpoints) (t stop : List ℕ) (n v k : ℕ) → IsUtf8 t → 16 ≤ length t → n ≤ 16 → n ≡ prefix_len (is_plain (ends_of ends)) t → stop ≡ drop n t → IsEscape stop v k
+pub short_piece : (ends : Endpoints) (t stop : List ℕ) (n v k : ℕ) → IsUtf8 t → 16 ≤ length t → n ≤ 16
+    → n ≡ prefix_len (is_plain (ends_of ends)) t → stop ≡ drop n t → IsEscape stop v k
     → IsShort (ends_of ends) t n v k
 short_piece ends t stop n v k u long within is behind escape =
     let plain = is_plain (ends_of ends) in
@@ -136,7 +161,8 @@ short_piece ends t stop n v k u long within is behind escape =
     }
 
 -- what is gathered grows by a run and a character
-pub gathered : {mid new : List ℕ} (old run : List ℕ) (v : ℕ) → IsUtf8 old → IsUtf8 run → IsScalar v → mid ≡ old ++ run → new ≡ mid ++ encode_utf8 v
+pub gathered : {mid new : List ℕ} (old run : List ℕ) (v : ℕ) → IsUtf8 old → IsUtf8 run → IsScalar v
+    → mid ≡ old ++ run → new ≡ mid ++ encode_utf8 v
     → (chars new ≡ chars old ++ (chars run ++ v ∷ [])) × IsUtf8 new
 gathered old run v u w is first second =
     let one : chars (encode_utf8 v) ≡ v ∷ [] = ap chars (sym (append-nil (encode_utf8 v))) ∙ chars-encodes (v ∷ []) (and-true _ ∙ is) in

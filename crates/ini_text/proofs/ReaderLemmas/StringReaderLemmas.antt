@@ -36,7 +36,8 @@ units-append Units.none other = other
 units-append (Units.character n rest) other = Units.character n (units-append rest other)
 units-append (Units.folded rest) other = Units.folded (units-append rest other)
 
-units-found : {u : List ℕ} {us : List (Option ℕ)} → Units u us → (k j : ℕ) (r : List ℕ) → k ≡ length us + j → units k (u ++ r) ≡ prepend us (units j r)
+units-found : {u : List ℕ} {us : List (Option ℕ)} → Units u us → (k j : ℕ) (r : List ℕ) → k ≡ length us + j
+    → units k (u ++ r) ≡ prepend us (units j r)
 units-found Units.none k j r h = let same : k ≡ j = omega arith in rw same (sym (prepend-nil (units j r)))
 units-found (Units.character n u) zero j r h = absurd (omega arith)
 units-found (Units.character {c} {us = us} n u) (suc k) j r h =
@@ -48,19 +49,22 @@ abbrev UnitsSay : List ℕ → Answer (Option ℕ) → Type 0
 UnitsSay t (found us r) = (u : List ℕ) × Units u us × (length us ≡ 4) × (u ++ r ≡ t)
 UnitsSay t (stopped r k) = (u : List ℕ) × EscapeStops (backslash ∷ letter_x ∷ u) r k × (u ++ r ≡ t)
 
-one-more : (u p t : List ℕ) (us : List (Option ℕ)) (o : Option ℕ) (a : Answer (Option ℕ)) → UnitsSay ((u ++ p) ++ t) (prepend (us ++ o ∷ []) a)
+one-more : (u p t : List ℕ) (us : List (Option ℕ)) (o : Option ℕ) (a : Answer (Option ℕ))
+    → UnitsSay ((u ++ p) ++ t) (prepend (us ++ o ∷ []) a)
     → UnitsSay (u ++ (p ++ t)) (prepend us (prepend (o ∷ []) a))
 one-more u p t us o a h = subst₂ UnitsSay (append_assoc u p t) (sym (prepend-prepend us (o ∷ []) a)) h
 
 mutual
-  units-sound : (k : ℕ) {u : List ℕ} {us : List (Option ℕ)} → Units u us → length us + k ≡ 4 → (t : List ℕ) → UnitsSay (u ++ t) (prepend us (units k t))
+  units-sound : (k : ℕ) {u : List ℕ} {us : List (Option ℕ)} → Units u us → length us + k ≡ 4 → (t : List ℕ)
+      → UnitsSay (u ++ t) (prepend us (units k t))
   units-sound zero {u} {us} x four t = (u, subst (Units u) (sym (append-nil us)) x, omega (arith, length-append us []), refl)
   units-sound (suc k) {u} {us} x four [] = (u, EscapeStops.cut_short x (omega arith), refl)
   units-sound (suc k) {u} {us} x four (c ∷ cs) = elim (cases_Bool (c == backslash)) [
     | inl q ↦ rw (eqb-true c 92 q) (folded-sound k x four cs)
     | inr n ↦
         let one : Units (c ∷ []) (Some c ∷ []) = Units.character (eqb-false c 92 n) Units.none in
-        rw n (one-more u (c ∷ []) cs us (Some c) (units k cs) (units-sound k (units-append x one) (omega (arith, length-append us (Some c ∷ []))) cs))
+        rw n (one-more u (c ∷ []) cs us (Some c) (units k cs)
+        (units-sound k (units-append x one) (omega (arith, length-append us (Some c ∷ []))) cs))
   ]
 
   folded-sound : (k : ℕ) {u : List ℕ} {us : List (Option ℕ)} → Units u us → length us + suc k ≡ 4 → (t : List ℕ)
@@ -74,16 +78,21 @@ mutual
     | inr n ↦ rw n (u ++ backslash ∷ c ∷ [], EscapeStops.broken x (omega arith) (eqb-false c 10 n), append_assoc u (backslash ∷ c ∷ []) cs)
   ]
 
-spelled-EscapeSequence : {u : List ℕ} {us : List (Option ℕ)} → Units u us → (v : ℕ) → spelled_by us ≡ Some v → EscapeSequence true (backslash ∷ letter_x ∷ u) (v ∷ [])
-spelled-EscapeSequence (Units.character a (Units.character b (Units.character c (Units.character d Units.none)))) v h = EscapeSequence.coded refl h
+spelled-EscapeSequence : {u : List ℕ} {us : List (Option ℕ)} → Units u us → (v : ℕ)
+    → spelled_by us ≡ Some v → EscapeSequence true (backslash ∷ letter_x ∷ u) (v ∷ [])
+spelled-EscapeSequence (Units.character a
+    (Units.character b (Units.character c (Units.character d Units.none)))) v h = EscapeSequence.coded refl h
 spelled-EscapeSequence _ v h = cc
 
-pub coded_digits : {t x y z rest : List ℕ} {a b c d v : ℕ} → t ≡ a ∷ x → x ≡ b ∷ y → y ≡ c ∷ z → z ≡ d ∷ rest → spelled a b c d ≡ Some v → coded t ≡ found (v ∷ []) rest
+pub coded_digits : {t x y z rest : List ℕ} {a b c d v : ℕ} → t ≡ a ∷ x → x ≡ b ∷ y → y ≡ c ∷ z
+    → z ≡ d ∷ rest → spelled a b c d ≡ Some v → coded t ≡ found (v ∷ []) rest
 unfolding coded
-coded_digits {rest = rest} {a} {b} {c} {d} {v} p q r s h = rw (p, q, r, s) (rw (units-found (spelled-Units a b c d v h) 4 0 rest (omega arith), h))
+coded_digits {rest = rest} {a} {b} {c} {d} {v} p q r s h =
+    rw (p, q, r, s) (rw (units-found (spelled-Units a b c d v h) 4 0 rest (omega arith), h))
 
 -- a named escape, or the character itself
-value_of : (c : ℕ) (named : Option ℕ) → control c ≡ named → c ≢ line_feed → c ≢ letter_x → EscapeSequence true (backslash ∷ c ∷ []) (unwrap_or named c ∷ [])
+value_of : (c : ℕ) (named : Option ℕ) → control c ≡ named → c ≢ line_feed → c ≢ letter_x
+    → EscapeSequence true (backslash ∷ c ∷ []) (unwrap_or named c ∷ [])
 value_of c (Some v) h a b = EscapeSequence.named refl h
 value_of c None h a b = EscapeSequence.itself refl a b h
 
@@ -94,7 +103,9 @@ escape_of e c other = elim (cases_Bool (c == line_feed)) [
   | inr n ↦ rw n (by e (eqb-false c 10 n) other)
 ]
   where
-    by : (e : Bool) → c ≢ line_feed → (c == letter_x && e) ≡ false → EscapeSequence e (backslash ∷ c ∷ []) (if e then unwrap_or (control c) c ∷ [] else backslash ∷ c ∷ [])
+    by : (e : Bool) → c ≢ line_feed → (c == letter_x && e) ≡ false
+        → EscapeSequence e (backslash ∷ c ∷ [])
+        (if e then unwrap_or (control c) c ∷ [] else backslash ∷ c ∷ [])
     by true n other = value_of c (control c) refl n (λ same. let z : true ≡ false = rw (eq-eqb c 120 same) at other in cc)
     by false n other = EscapeSequence.kept refl n
 
@@ -102,7 +113,8 @@ abbrev pub StringSays : Bool → Ends → List ℕ → Answer ℕ → Type 0
 StringSays e to t a = Says (Str e to) (StrStops e to) t a
 
 plain_parts : (to : Ends) (c : ℕ) → is_plain to c ≡ true → (c ≢ backslash) × (is_endpoint to c ≡ false)
-plain_parts to c h = let two = and_parts (not (c == backslash)) (not (is_endpoint to c)) h in (eqb-false c 92 (not-true (c == backslash) two.0), not-true (is_endpoint to c) two.1)
+plain_parts to c h = let two = and_parts (not (c == backslash)) (not (is_endpoint to c)) h in
+    (eqb-false c 92 (not-true (c == backslash) two.0), not-true (is_endpoint to c) two.1)
 
 module _ (e : Bool) (to : Ends) where
   no_control : (c x v : ℕ) → control x ≡ None → control c ≡ Some v → c ≢ x
@@ -111,7 +123,8 @@ module _ (e : Bool) (to : Ends) where
   piece-escape : {p w : List ℕ} → EscapeSequence e p w → (t : List ℕ) → piece e to (p ++ t) ≡ more w t
   unfolding coded
   piece-escape EscapeSequence.folded t = refl
-  piece-escape (EscapeSequence.named {c} {v} on h) t = rw (ne_eqb c 120 (no_control c 120 v refl h), ne_eqb c 10 (no_control c 10 v refl h), on, h)
+  piece-escape (EscapeSequence.named {c} {v} on h) t =
+      rw (ne_eqb c 120 (no_control c 120 v refl h), ne_eqb c 10 (no_control c 10 v refl h), on, h)
   piece-escape (EscapeSequence.coded {a} {b} {c} {d} {v} on h) t = rw (on, units-found (spelled-Units a b c d v h) 4 0 t (omega arith), h)
   piece-escape (EscapeSequence.itself {c} on n m h) t = rw (ne_eqb c 120 m, ne_eqb c 10 n, on, h)
   piece-escape (EscapeSequence.kept {c} off n) t = rw (ne_eqb c 10 n, off, and-false)
@@ -119,7 +132,8 @@ module _ (e : Bool) (to : Ends) where
   piece-stops : {p r : List ℕ} {k : ParseKind} → e ≡ true → EscapeStops p r k → piece e to (p ++ r) ≡ ends (stopped r k)
   unfolding coded
   piece-stops on (EscapeStops.cut_short {us = us} x l) = rw (on, units-found x 4 (suc (3 - length us)) [] (omega arith))
-  piece-stops on (EscapeStops.cut_in_unit {u} {us} x l) = rw (append_assoc u, on, units-found x 4 (suc (3 - length us)) (backslash ∷ []) (omega arith))
+  piece-stops on (EscapeStops.cut_in_unit {u} {us} x l) =
+      rw (append_assoc u, on, units-found x 4 (suc (3 - length us)) (backslash ∷ []) (omega arith))
   piece-stops on (EscapeStops.broken {u} {r} {us} {c} x l n) =
       rw (append_assoc u, on, units-found x 4 (suc (3 - length us)) (backslash ∷ c ∷ r) (omega arith), ne_eqb c 10 n)
   piece-stops on (EscapeStops.unknown {u} {r} {us} x four h) = rw (on, units-found x 4 0 r (omega arith), append-nil us, h)
@@ -151,32 +165,39 @@ module _ (e : Bool) (to : Ends) where
   escaped : {p w : List ℕ} (r : List ℕ) → EscapeSequence e p w → length r < length (p ++ r) → PieceSays (p ++ r) (more w r)
   escaped {p} {w} r k l = (l, behind (subst₂ (Row e to) (append-nil p) (append-nil w) (Row.escape k Row.none)) r)
 
-  character-sound : {u : List ℕ} {us : List (Option ℕ)} (r : List ℕ) → e ≡ true → Units u us → length us ≡ 4 → (o : Option ℕ) → spelled_by us ≡ o
+  character-sound : {u : List ℕ} {us : List (Option ℕ)} (r : List ℕ) → e ≡ true → Units u us
+      → length us ≡ 4 → (o : Option ℕ) → spelled_by us ≡ o
       → PieceSays (backslash ∷ letter_x ∷ (u ++ r)) (as_step (character o r))
   character-sound {u} r on x four (Some v) q =
-      escaped r (subst (λ b. EscapeSequence b (backslash ∷ letter_x ∷ u) (v ∷ [])) (sym on) (spelled-EscapeSequence x v q)) (omega (arith, length-append u r))
+      escaped r (subst (λ b. EscapeSequence b (backslash ∷ letter_x ∷ u) (v ∷ [])) (sym on)
+      (spelled-EscapeSequence x v q)) (omega (arith, length-append u r))
   character-sound {u} r on x four None q = (backslash ∷ letter_x ∷ u, StrStops.in_escape Row.none on (EscapeStops.unknown x four q), refl)
 
   spelt-sound : e ≡ true → (t : List ℕ) (a : Answer (Option ℕ)) → UnitsSay t a → PieceSays (backslash ∷ letter_x ∷ t) (as_step (spelt a))
   spelt-sound on t (found us r) (u, x, four, h) =
       subst (λ y. PieceSays (backslash ∷ letter_x ∷ y) (as_step (spelt (found us r)))) h (character-sound r on x four (spelled_by us) refl)
-  spelt-sound on t (stopped r k) (u, x, h) = (backslash ∷ letter_x ∷ u, StrStops.in_escape Row.none on x, ap (λ y. backslash ∷ letter_x ∷ y) h)
+  spelt-sound on t (stopped r k) (u, x, h) =
+      (backslash ∷ letter_x ∷ u, StrStops.in_escape Row.none on x, ap (λ y. backslash ∷ letter_x ∷ y) h)
 
   escape-sound : (t : List ℕ) → PieceSays (backslash ∷ t) (escape e to t)
   unfolding coded
-  escape-sound [] = cond_both to.text _ _ (λ a. PieceSays t (ends a)) (λ h. (t, Str.lone Row.none h, refl)) (λ h. (t, StrStops.after_backslash Row.none h, refl))
+  escape-sound [] = cond_both to.text _ _ (λ a. PieceSays t (ends a)) (λ h. (t, Str.lone Row.none h, refl))
+      (λ h. (t, StrStops.after_backslash Row.none h, refl))
     where
       t : List ℕ
       t = backslash ∷ []
   escape-sound (c ∷ cs) = elim (cases_Bool (c == letter_x && e)) [
     | inl q ↦
         let two = and_parts (c == letter_x) e q in
-        rw (q, eqb-true c 120 two.0) (spelt-sound two.1 cs (units 4 cs) (subst (UnitsSay cs) (prepend-nil (units 4 cs)) (units-sound 4 Units.none refl cs)))
+        rw (q, eqb-true c 120 two.0)
+        (spelt-sound two.1 cs (units 4 cs)
+        (subst (UnitsSay cs) (prepend-nil (units 4 cs)) (units-sound 4 Units.none refl cs)))
     | inr n ↦ rw n (escaped cs (escape_of e c n) (omega arith))
   ]
 
   piece-sound : (t : List ℕ) → PieceSays t (piece e to t)
-  piece-sound [] = cond_both to.text _ _ (λ a. PieceSays [] (ends a)) (λ h. ([], Str.closed Row.none h, refl)) (λ h. ([], StrStops.at_end Row.none h, refl))
+  piece-sound [] = cond_both to.text _ _ (λ a. PieceSays [] (ends a))
+      (λ h. ([], Str.closed Row.none h, refl)) (λ h. ([], StrStops.at_end Row.none h, refl))
   piece-sound (c ∷ cs) = elim (cases_Bool (c == backslash)) [
     | inl q ↦ rw (eqb-true c 92 q) (escape-sound cs)
     | inr n ↦ elim (cases_Bool (is_endpoint to c)) [
@@ -201,13 +222,16 @@ module _ (e : Bool) (to : Ends) where
   run_row : (run : List ℕ) → list_all (is_plain to) run ≡ true → Row e to run run
   run_row [] h = Row.none
   run_row (c ∷ run) h =
-      let two = and_parts (is_plain to c) (list_all (is_plain to) run) h in let plain = plain_parts to c two.0 in Row.raw plain.0 plain.1 (run_row run two.1)
+      let two = and_parts (is_plain to c) (list_all (is_plain to) run) h in let plain =
+      plain_parts to c two.0 in Row.raw plain.0 plain.1 (run_row run two.1)
 
   -- characters that stand for themselves
-  pub string_run : {t : List ℕ} (run rest : List ℕ) → t ≡ run ++ rest → list_all (is_plain to) run ≡ true → string e to t ≡ prepend run (string e to rest)
+  pub string_run : {t : List ℕ} (run rest : List ℕ) → t ≡ run ++ rest → list_all (is_plain to) run ≡ true
+      → string e to t ≡ prepend run (string e to rest)
   string_run run rest whole h = ap (string e to) whole ∙ Row-read (run_row run h) rest
 
-  pub string_at_end : {t : List ℕ} {text : Bool} → t ≡ [] → text ≡ to.text → string e to t ≡ (if text then found [] t else stopped t EndOfText)
+  pub string_at_end : {t : List ℕ} {text : Bool} → t ≡ [] → text ≡ to.text
+      → string e to t ≡ (if text then found [] t else stopped t EndOfText)
   string_at_end none is = rw (none, is) (string-turn [])
 
   pub string_at_endpoint : {t cs : List ℕ} {c : ℕ} → t ≡ c ∷ cs → c ≢ backslash → BeginsWithNo (is_plain to) t → string e to t ≡ found [] t
@@ -251,10 +275,14 @@ module _ (e : Bool) (to : Ends) where
       where
         finds : {s r v : List ℕ} → Str e to s r v → string e to (s ++ r) ≡ found v r
         finds {r = r} (Str.closed {v = v} x h) = and_found v (Row-read x r) (closed r h) (sym (append-nil v))
-        finds (Str.lone {s} {v} x h) = rw (append_assoc s) (and_found v (Row-read x (backslash ∷ [])) (string_at_backslash refl refl refl (sym h)) refl)
+        finds (Str.lone {s} {v} x h) =
+            rw (append_assoc s) (and_found v (Row-read x (backslash ∷ []))
+            (string_at_backslash refl refl refl (sym h)) refl)
 
         stops : {s r : List ℕ} {k : ParseKind} → StrStops e to s r k → string e to (s ++ r) ≡ stopped r k
         stops (StrStops.at_end {v = v} x h) = and_stopped v (Row-read x []) (string_at_end refl (sym h))
-        stops (StrStops.after_backslash {s} {v} x h) = rw (append_assoc s) (and_stopped v (Row-read x (backslash ∷ [])) (string_at_backslash refl refl refl (sym h)))
+        stops (StrStops.after_backslash {s} {v} x h) =
+            rw (append_assoc s) (and_stopped v (Row-read x (backslash ∷ []))
+            (string_at_backslash refl refl refl (sym h)))
         stops (StrStops.in_escape {s} {v} {p} {r} x on h) =
             rw (append_assoc s) (and_stopped v (Row-read x (p ++ r)) (string-turn (p ++ r) ∙ ap (go_on (string e to)) (piece-stops on h)))

@@ -65,13 +65,23 @@ pub record EndedLine (o : ParseOption) (first : Bool) (w l e r u : List ℕ) : T
 
 -- where a line is read and the text goes on, stands a line end
 ended : {o : ParseOption} {first : Bool} {w x u : List ℕ} (c : ℕ) (r : List ℕ) → Lead w x → LineSays o first x (found u (c ∷ r))
-    → (n : List ℕ) × (after_end (c ∷ r) ≡ Some n) × (l : List ℕ) × (e : List ℕ) × EndedLine o first w l e n u × (w ++ (l ++ (e ++ n)) ≡ w ++ x)
+    → (n : List ℕ) × (after_end (c ∷ r) ≡ Some n) × (l : List ℕ) × (e : List ℕ) × EndedLine o first w l e n
+    u × (w ++ (l ++ (e ++ n)) ≡ w ++ x)
 ended {o} {first} {w} {x} {u} c r lead (l, ln, h) = by (after_end (c ∷ r)) refl (after_end-sound (c ∷ r))
   where
     by : (n : Option (List ℕ)) → after_end (c ∷ r) ≡ n → EndSays (c ∷ r) n
-        → (n : List ℕ) × (after_end (c ∷ r) ≡ Some n) × (l : List ℕ) × (e : List ℕ) × EndedLine o first w l e n u × (w ++ (l ++ (e ++ n)) ≡ w ++ x)
+        → (n : List ℕ) × (after_end (c ∷ r) ≡ Some n) × (l : List ℕ) × (e : List ℕ) × EndedLine o first w l
+        e n u × (w ++ (l ++ (e ++ n)) ≡ w ++ x)
     by None is none = let z : true ≡ false = sym (rw or-false at (Line-closes ln)) ∙ none in cc
-    by (Some n) is (e, end, q) = (n, is, l, e, record { lead = rw (q, h) lead; line = rw q ln; end = end }, ap (λ y. w ++ y) (ap (λ y. l ++ y) q ∙ h))
+    by (Some n) is (e, end, q) = (
+      n,
+      is,
+      l,
+      e,
+      record { lead = rw (q, h) lead; line = rw q ln; end = end },
+      ap (λ y. w ++ y)
+          (ap (λ y. l ++ y) q ∙ h),
+    )
 
 -- a blank is inline white and ends no line
 blank-apart : (c x : ℕ) → is_blank x ≡ false → is_blank c ≡ true → c ≢ x
@@ -90,9 +100,11 @@ module _ (o : ParseOption) where
   continued : {w l e n u : List ℕ} → BeginsWith is_blank w → EndedLine o false w l e n u → (a : Answer ℕ) → LinesSay n a
       → LinesSay (w ++ (l ++ (e ++ n))) (prepend (line_feed ∷ u) a)
   continued {w} {l} {e} {u = u} b ln (found v r) (s, m, h) =
-      let x = subst (λ y. EndedLine o false w l e y u) (sym h) ln in (w ++ (l ++ (e ++ s)), MoreLines.continued b x.lead x.line x.end m, simp (append_assoc, h))
+      let x = subst (λ y. EndedLine o false w l e y u) (sym h) ln in
+      (w ++ (l ++ (e ++ s)), MoreLines.continued b x.lead x.line x.end m, simp (append_assoc, h))
   continued {w} {l} {e} {u = u} b ln (stopped r k) (s, m, h) =
-      let x = subst (λ y. EndedLine o false w l e y u) (sym h) ln in (w ++ (l ++ (e ++ s)), MoreLinesStop.continued b x.lead x.line x.end m, simp (append_assoc, h))
+      let x = subst (λ y. EndedLine o false w l e y u) (sym h) ln in
+      (w ++ (l ++ (e ++ s)), MoreLinesStop.continued b x.lead x.line x.end m, simp (append_assoc, h))
 
   abbrev goes_on : Answer ℕ → Step ℕ
   goes_on a = behind_line (prepend (line_feed ∷ []) a)
@@ -102,7 +114,16 @@ module _ (o : ParseOption) where
       (w ++ l, MoreLines.last b (subst (Lead w) (sym h ∙ append-nil l) lead) ln, append_assoc w l [] ∙ ap (λ y. w ++ y) h)
   goes_on-sound w x b lead (found u (c ∷ r)) said =
       let (n, is, l, e, ln, whole) = ended c r lead said in
-      rw (is, ← whole) (omega (arith, BeginsWith-some is_blank w b, length-append w (l ++ (e ++ n)), length-append l (e ++ n), length-append e n), continued b ln)
+      rw (is, ← whole) (
+        omega (
+          arith,
+          BeginsWith-some is_blank w b,
+          length-append w (l ++ (e ++ n)),
+          length-append l (e ++ n),
+          length-append e n,
+        ),
+        continued b ln,
+      )
   goes_on-sound w x b lead (stopped r k) (l, stops, h) =
       (w ++ l, MoreLinesStop.in_line b (subst (Lead w) (sym h) lead) stops, append_assoc w l r ∙ ap (λ y. w ++ y) h)
 
@@ -127,7 +148,11 @@ module _ (o : ParseOption) where
         | inl q ↦
             let shorter : length ds < length (carriage_return ∷ line_feed ∷ ds) = omega arith in
             let crlf = carriage_return ∷ line_feed ∷ [] in
-            rw (eqb-true d 10 q) (shorter, prefixed crlf (line_feed ∷ []) ds (λ s r v m. MoreLines.empty_cr_lf m) (λ s r k m. MoreLinesStop.empty_cr_lf m))
+            rw (eqb-true d 10 q) (
+              shorter,
+              prefixed crlf (line_feed ∷ []) ds
+                  (λ s r v m. MoreLines.empty_cr_lf m) (λ s r k m. MoreLinesStop.empty_cr_lf m),
+            )
         | inr n ↦ rw n (carriage_return ∷ d ∷ [], MoreLinesStop.cr_alone n, refl)
       ]
 
@@ -135,7 +160,8 @@ module _ (o : ParseOption) where
       at_blank b =
           let split = run-sound is_inline_white cs in
           let rest = skipped is_inline_white cs in
-          let lead : Lead (c ∷ run_of is_inline_white cs) rest = record { white = rw (blank_inline c b, split.all) refl; ends = split.ends } in
+          let lead : Lead (c ∷ run_of is_inline_white cs) rest =
+          record { white = rw (blank_inline c b, split.all) refl; ends = split.ends } in
           subst (λ y. RowSays (c ∷ y) (goes_on (line o false rest))) split.whole
           (goes_on-sound (c ∷ run_of is_inline_white cs) rest b lead (line o false rest) ((line-reads o false).sound rest))
 
@@ -153,9 +179,16 @@ module _ (o : ParseOption) where
   row-blank {w = []} b lead = cc
   row-blank {w = c ∷ w} {x} b lead =
       let white : list_all is_inline_white w ≡ true = (and_parts (is_inline_white c) _ lead.white).1 in
-      rw (ne_eqb c 10 (blank-apart c 10 refl b), ne_eqb c 13 (blank-apart c 13 refl b), b, behind_lead {w = w} (record { white = white; ends = lead.ends }))
+      rw (
+        ne_eqb c 10 (blank-apart c 10 refl b),
+        ne_eqb c 13 (blank-apart c 13 refl b),
+        b,
+        behind_lead
+            {w = w} (record { white = white; ends = lead.ends }),
+      )
 
-  row-continued : {w l e n u : List ℕ} → BeginsWith is_blank w → EndedLine o false w l e n u → row o (w ++ (l ++ (e ++ n))) ≡ more (line_feed ∷ u) n
+  row-continued : {w l e n u : List ℕ} → BeginsWith is_blank w → EndedLine o false w l e n u
+      → row o (w ++ (l ++ (e ++ n))) ≡ more (line_feed ∷ u) n
   row-continued b ln = rw (row-blank b ln.lead, (line-reads o false).finds ln.line, after_end-finds ln.end)
 
   row-done : (r : List ℕ) → BeginsWithNo is_blank r → BeginsWithNo is_line_end r → row o r ≡ ends (found [] r)
@@ -178,7 +211,8 @@ module _ (o : ParseOption) where
   MoreLinesStop-finds _ r k (MoreLinesStop.continued {t = t} b lead ln end m) =
       simp append_assoc (then _ (row-continued b (record { lead = lead; line = ln; end = end })) (MoreLinesStop-finds t r k m))
   MoreLinesStop-finds _ r k (MoreLinesStop.in_line {w} {s} b lead stops) =
-      let step : row o (w ++ (s ++ r)) ≡ ends (stopped r k) = rw (row-blank b lead, (line-reads o false).stops stops) in rw (append_assoc w s r) (last _ step)
+      let step : row o (w ++ (s ++ r)) ≡ ends (stopped r k) =
+      rw (row-blank b lead, (line-reads o false).stops stops) in rw (append_assoc w s r) (last _ step)
   MoreLinesStop-finds _ r _ (MoreLinesStop.cr_alone {c} n) = last _ (rw n)
   MoreLinesStop-finds _ _ _ MoreLinesStop.cr_at_end = last _ refl
 
@@ -196,18 +230,28 @@ module _ (o : ParseOption) where
   abbrev ValueSays : List ℕ → Answer ℕ → Type 0
   ValueSays t a = Says (Value o) (ValueStops o) t a
 
-  joined-sound : {w l e n u : List ℕ} → o.enabled_indented_mutiline_value ≡ true → EndedLine o true w l e n u → (a : Answer ℕ) → LinesSay n a
+  joined-sound : {w l e n u : List ℕ} → o.enabled_indented_mutiline_value ≡ true
+      → EndedLine o true w l e n u → (a : Answer ℕ) → LinesSay n a
       → ValueSays (w ++ (l ++ (e ++ n))) (joined u a)
   joined-sound {w} {l} {e} {u = u} on ln (found v r) (s, m, h) =
-      let x = subst (λ y. EndedLine o true w l e y u) (sym h) ln in (w ++ (l ++ (e ++ s)), Value.lines on x.lead x.line x.end m, simp (append_assoc, h))
+      let x = subst (λ y. EndedLine o true w l e y u) (sym h) ln in
+      (w ++ (l ++ (e ++ s)), Value.lines on x.lead x.line x.end m, simp (append_assoc, h))
   joined-sound {w} {l} {e} {u = u} on ln (stopped r k) (s, m, h) =
-      let x = subst (λ y. EndedLine o true w l e y u) (sym h) ln in (w ++ (l ++ (e ++ s)), ValueStops.later_line on x.lead x.line x.end m, simp (append_assoc, h))
+      let x = subst (λ y. EndedLine o true w l e y u) (sym h) ln in
+      (w ++ (l ++ (e ++ s)), ValueStops.later_line on x.lead x.line x.end m, simp (append_assoc, h))
 
   first_line-stops : {w x r : List ℕ} {k : ParseKind} → Lead w x → LineSays o true x (stopped r k) → ValueSays (w ++ x) (stopped r k)
-  first_line-stops {w} {r = r} lead (l, stops, h) = (w ++ l, ValueStops.first_line (subst (Lead w) (sym h) lead) stops, append_assoc w l r ∙ ap (λ y. w ++ y) h)
+  first_line-stops {w} {r = r} lead (l, stops, h) = (
+    w ++ l,
+    ValueStops.first_line (subst (Lead w) (sym h) lead) stops,
+    append_assoc w l r
+        ∙ ap (λ y. w ++ y) h,
+  )
 
-  one_line-sound : {w x : List ℕ} → o.enabled_indented_mutiline_value ≡ false → Lead w x → (a : Answer ℕ) → LineSays o true x a → ValueSays (w ++ x) a
-  one_line-sound {w} off lead (found v r) (l, ln, h) = (w ++ l, Value.one_line off (subst (Lead w) (sym h) lead) ln, append_assoc w l r ∙ ap (λ y. w ++ y) h)
+  one_line-sound : {w x : List ℕ} → o.enabled_indented_mutiline_value ≡ false → Lead w x → (a : Answer ℕ)
+      → LineSays o true x a → ValueSays (w ++ x) a
+  one_line-sound {w} off lead (found v r) (l, ln, h) =
+      (w ++ l, Value.one_line off (subst (Lead w) (sym h) lead) ln, append_assoc w l r ∙ ap (λ y. w ++ y) h)
   one_line-sound off lead (stopped r k) said = first_line-stops lead said
 
   multiline-sound : {w x : List ℕ} → o.enabled_indented_mutiline_value ≡ true → Lead w x → (a : Answer ℕ) → LineSays o true x a
@@ -215,7 +259,8 @@ module _ (o : ParseOption) where
   multiline-sound {w} on lead (found u []) (l, ln, h) =
       (w ++ l, Value.to_end on (subst (Lead w) (sym h ∙ append-nil l) lead) ln, append_assoc w l [] ∙ ap (λ y. w ++ y) h)
   multiline-sound on lead (found u (c ∷ r)) said =
-      let (n, is, l, e, ln, whole) = ended c r lead said in rw (is, ← whole) (joined-sound on ln (more_lines o n) (more_lines-reads.sound n))
+      let (n, is, l, e, ln, whole) = ended c r lead said in
+      rw (is, ← whole) (joined-sound on ln (more_lines o n) (more_lines-reads.sound n))
   multiline-sound on lead (stopped r k) said = first_line-stops lead said
 
   value-lines : {w l e n u : List ℕ} → o.enabled_indented_mutiline_value ≡ true → EndedLine o true w l e n u
@@ -236,12 +281,15 @@ module _ (o : ParseOption) where
           let said = (line-reads o true).sound rest in
           let multi = λ (on : o.enabled_indented_mutiline_value ≡ true). multiline-sound on lead (line o true rest) said in
           let one = λ (off : o.enabled_indented_mutiline_value ≡ false). one_line-sound off lead (line o true rest) said in
-          subst (λ y. ValueSays y (value o t)) split.whole (cond_both o.enabled_indented_mutiline_value _ _ (ValueSays (run_of is_inline_white t ++ rest)) multi one)
+          subst (λ y. ValueSays y (value o t)) split.whole
+          (cond_both o.enabled_indented_mutiline_value _ _
+          (ValueSays (run_of is_inline_white t ++ rest)) multi one)
 
       finds : {s r v : List ℕ} → Value o s r v → value o (s ++ r) ≡ found v r
       finds {r = r} (Value.one_line {w} {l} off lead ln) = rw (append_assoc w l r, behind_lead lead, (line-reads o true).finds ln, off)
       finds (Value.to_end {w} {l} {v} on lead ln) =
-          let reads : line o true l ≡ found v [] = rw (append-nil l) at ((line-reads o true).finds ln) in rw (append-nil (w ++ l), behind_lead lead, reads, on)
+          let reads : line o true l ≡ found v [] = rw (append-nil l) at ((line-reads o true).finds ln) in
+          rw (append-nil (w ++ l), behind_lead lead, reads, on)
       finds (Value.lines {u = u} on lead ln end m) =
           simp append_assoc (value-lines on (record { lead = lead; line = ln; end = end }) ∙ ap (joined u) (more_lines-reads.finds m))
 
@@ -256,23 +304,28 @@ module _ (o : ParseOption) where
   pub no_lines : {t : List ℕ} → t ≡ [] → more_lines o t ≡ found [] t
   no_lines none = rw none (lines-turn [])
 
-  pub no_more_lines : {t cs : List ℕ} {c : ℕ} → t ≡ c ∷ cs → c ≢ line_feed → c ≢ carriage_return → is_blank c ≡ false → more_lines o t ≡ found [] t
+  pub no_more_lines : {t cs : List ℕ} {c : ℕ} → t ≡ c ∷ cs → c ≢ line_feed → c ≢ carriage_return
+      → is_blank c ≡ false → more_lines o t ≡ found [] t
   no_more_lines {cs = cs} {c} is n m b = rw is (lines-turn (c ∷ cs) ∙ rw (ne_eqb c 10 n, ne_eqb c 13 m, b))
 
   pub empty_line : {t cs : List ℕ} {c : ℕ} → t ≡ c ∷ cs → c ≡ line_feed → more_lines o t ≡ prepend (line_feed ∷ []) (more_lines o cs)
   empty_line {cs = cs} is q = rw (is, q) (lines-turn (line_feed ∷ cs))
 
-  pub empty_cr_line : {t cs r : List ℕ} {c : ℕ} → t ≡ c ∷ cs → c ≡ carriage_return → empty_cr cs ≡ found [] r → more_lines o t ≡ prepend (line_feed ∷ []) (more_lines o r)
+  pub empty_cr_line : {t cs r : List ℕ} {c : ℕ} → t ≡ c ∷ cs → c ≡ carriage_return
+      → empty_cr cs ≡ found [] r → more_lines o t ≡ prepend (line_feed ∷ []) (more_lines o r)
   empty_cr_line {cs = cs} is q h = rw (is, q) (lines-turn (carriage_return ∷ cs) ∙ rw h)
 
-  pub empty_cr_stops : {t cs r : List ℕ} {k : ParseKind} {c : ℕ} → t ≡ c ∷ cs → c ≡ carriage_return → empty_cr cs ≡ stopped r k → more_lines o t ≡ stopped r k
+  pub empty_cr_stops : {t cs r : List ℕ} {k : ParseKind} {c : ℕ} → t ≡ c ∷ cs → c ≡ carriage_return
+      → empty_cr cs ≡ stopped r k → more_lines o t ≡ stopped r k
   empty_cr_stops {cs = cs} is q h = rw (is, q) (lines-turn (carriage_return ∷ cs) ∙ rw h)
 
   -- a line that begins with a blank, behind what was read, `old`, and a line feed
-  module _ {t cs start : List ℕ} {c : ℕ} (old pushed : List ℕ) (is : t ≡ c ∷ cs) (b : is_blank c ≡ true) (skips : start ≡ skipped is_inline_white t) (feed : pushed ≡ old ++ line_feed ∷ []) where
+  module _ {t cs start : List ℕ} {c : ℕ} (old pushed : List ℕ) (is : t ≡ c ∷ cs) (b : is_blank c ≡ true)
+      (skips : start ≡ skipped is_inline_white t) (feed : pushed ≡ old ++ line_feed ∷ []) where
     row-at : row o t ≡ goes_on (line o false start)
     row-at =
-        let behind : start ≡ skipped is_inline_white cs = skips ∙ ap (skipped is_inline_white) is ∙ cond-true (is_inline_white c) _ _ (blank_inline c b) in
+        let behind : start ≡ skipped is_inline_white cs = skips ∙ ap (skipped is_inline_white) is
+        ∙ cond-true (is_inline_white c) _ _ (blank_inline c b) in
         rw (behind, is) (rw (ne_eqb c 10 (blank-apart c 10 refl b), ne_eqb c 13 (blank-apart c 13 refl b), b))
 
     line-turn : more_lines o t ≡ go_on (more_lines o) (goes_on (line o false start))
@@ -290,13 +343,15 @@ module _ (o : ParseOption) where
           shortens (MoreLines o) (MoreLinesStop o) (row o) row-sound step,
         )
 
-    pub line_ends : {new end : List ℕ} → prepend pushed (line o false start) ≡ found new end → after_end end ≡ None → prepend old (more_lines o t) ≡ found new end
+    pub line_ends : {new end : List ℕ} → prepend pushed (line o false start) ≡ found new end
+        → after_end end ≡ None → prepend old (more_lines o t) ≡ found new end
     line_ends {end = end} h e =
         let (u, read, grown) = read_behind pushed (line o false start) h in
         let step : row o t ≡ ends (found (line_feed ∷ u) end) = row-at ∙ ap goes_on read ∙ ap (before_end (line_feed ∷ u) end) e in
         and_found old refl (lines-turn t ∙ ap (go_on (more_lines o)) step) (grown-by u grown)
 
-    pub line_stops : {r : List ℕ} {k : ParseKind} → prepend pushed (line o false start) ≡ stopped r k → prepend old (more_lines o t) ≡ stopped r k
+    pub line_stops : {r : List ℕ} {k : ParseKind} → prepend pushed (line o false start) ≡ stopped r k
+        → prepend old (more_lines o t) ≡ stopped r k
     line_stops h = ap (prepend old) (line-turn ∙ ap (λ a. go_on (more_lines o) (goes_on a)) (stopped_behind pushed (line o false start) h))
 
   -- a value, behind its lead
@@ -310,13 +365,19 @@ module _ (o : ParseOption) where
     value_multiline on = rw (skips, on)
 
     pub value_stops : {r : List ℕ} {k : ParseKind} → line o true start ≡ stopped r k → value o t ≡ stopped r k
-    value_stops h = elim (cases_Bool o.enabled_indented_mutiline_value) [ inl on ↦ value_multiline on ∙ ap (multiline o) h | inr off ↦ value_line off ∙ h ]
+    value_stops h = elim (cases_Bool o.enabled_indented_mutiline_value)
+        [ inl on ↦ value_multiline on ∙ ap (multiline o) h | inr off ↦ value_line off ∙ h ]
 
-    pub value_ends : {u v end : List ℕ} → o.enabled_indented_mutiline_value ≡ true → line o true start ≡ found u end → after_end end ≡ None → v ≡ without_outer_line_feeds u
+    pub value_ends : {u v end : List ℕ} → o.enabled_indented_mutiline_value ≡ true
+        → line o true start ≡ found u end → after_end end ≡ None → v ≡ without_outer_line_feeds u
         → value o t ≡ found v end
     value_ends {u} {end = end} on h e is =
-        value_multiline on ∙ ap (multiline o) h ∙ ap (λ n. altered without_outer_line_feeds (go_on (more_lines o) (before_end u end n))) e ∙ ap (λ x. found x end) (sym is)
+        value_multiline on ∙ ap (multiline o) h
+        ∙ ap (λ n. altered without_outer_line_feeds (go_on (more_lines o) (before_end u end n))) e
+        ∙ ap (λ x. found x end) (sym is)
 
-    pub value_goes_on : {u end next : List ℕ} → o.enabled_indented_mutiline_value ≡ true → line o true start ≡ found u end → after_end end ≡ Some next
+    pub value_goes_on : {u end next : List ℕ} → o.enabled_indented_mutiline_value ≡ true
+        → line o true start ≡ found u end → after_end end ≡ Some next
         → value o t ≡ joined u (more_lines o next)
-    value_goes_on {u} {end} on h e = value_multiline on ∙ ap (multiline o) h ∙ ap (λ n. altered without_outer_line_feeds (go_on (more_lines o) (before_end u end n))) e
+    value_goes_on {u} {end} on h e = value_multiline on ∙ ap (multiline o) h
+        ∙ ap (λ n. altered without_outer_line_feeds (go_on (more_lines o) (before_end u end n))) e

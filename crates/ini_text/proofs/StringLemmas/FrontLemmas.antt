@@ -4,7 +4,9 @@ use Rattle.std.proofs.Math.Seq.{take-append_seam}
 use Rattle.ini_text.specs.Parsing.Fronts.{front_of, IsRest}
 
 pub front_is : (f r t : List ℕ) → f ++ r ≡ t → front_of t r ≡ f
-front_is f r t h = ap (λ x. take (length x - length r) x) (sym h) ∙ ap (λ n. take n (f ++ r)) (let e : length (f ++ r) - length r ≡ length f = omega (arith, length-append f r) in e) ∙ take-append_seam f r
+front_is f r t h = ap (λ x. take (length x - length r) x) (sym h)
+    ∙ ap (λ n. take n (f ++ r)) (let e : length (f ++ r) - length r ≡ length f =
+    omega (arith, length-append f r) in e) ∙ take-append_seam f r
 
 pub front_grows : (t r s u : List ℕ) → IsRest t r → r ≡ s ++ u → (front_of t u ≡ front_of t r ++ s) × IsRest t u
 front_grows t r s u h q =

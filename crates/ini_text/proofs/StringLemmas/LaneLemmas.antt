@@ -37,7 +37,8 @@ pub either : (p q : ℕ → Bool) (v : List ℕ) {a b : List ℕ} → a ≡ map 
 either p q v is_a is_b = zip2_of_maps bit_or (λ x. full (p x)) (λ x. full (q x)) v is_a is_b ∙ map_same _ _ (λ x. full_or (p x) (q x)) v
 
 -- the bits of the lanes that pass a test
-pub bits : (p : ℕ → Bool) (v : List ℕ) {a : List ℕ} → length v ≡ 16 → a ≡ map (λ x. full (p x)) v → mask_l (map (top 7) a) % 2 ^ 64 ≡ mask_l (map p v)
+pub bits : (p : ℕ → Bool) (v : List ℕ) {a : List ℕ} → length v ≡ 16 → a ≡ map (λ x. full (p x)) v
+    → mask_l (map (top 7) a) % 2 ^ 64 ≡ mask_l (map p v)
 bits p v long is =
     ap (λ l. mask_l l % 2 ^ 64) (ap (map (top 7)) is ∙ map-map (top 7) (λ x. full (p x)) v ∙ map_same _ _ (λ x. full_top (p x)) v)
     ∙ mask_l-mod (map p v) 64 (omega (arith, length-map v p))
@@ -66,8 +67,11 @@ module _ (p : ℕ → Bool) where
   no_bits (x ∷ xs) e = none_fails (p x) _ (length xs) _ (prefix_len-le-length (λ y. not (p y)) xs) (omega arith) (no_bits xs)
 
   split : (bytes : List ℕ) (at n : ℕ) → position_or_len p (drop at bytes)
-      ≡ cond (eqb (position_or_len p (chunk at n bytes)) (length (chunk at n bytes))) (length (chunk at n bytes) + position_or_len p (drop (at + n) bytes)) (position_or_len p (chunk at n bytes))
-  split bytes at n = ap (position_or_len p) (chunk-drop at n bytes) ∙ prefix_len-append (λ x. not (p x)) (chunk at n bytes) (drop (at + n) bytes)
+      ≡ cond (eqb (position_or_len p (chunk at n bytes)) (length (chunk at n bytes)))
+      (length (chunk at n bytes) + position_or_len p (drop (at + n) bytes))
+      (position_or_len p (chunk at n bytes))
+  split bytes at n = ap (position_or_len p) (chunk-drop at n bytes)
+      ∙ prefix_len-append (λ x. not (p x)) (chunk at n bytes) (drop (at + n) bytes)
 
   -- a block without marks is passed
   pub passed : (bytes : List ℕ) (at n : ℕ) → at + n ≤ length bytes → mask_l (map p (chunk at n bytes)) ≡ 0
@@ -75,7 +79,8 @@ module _ (p : ℕ → Bool) where
   passed bytes at n room none =
       let c = chunk at n bytes in
       let rest = position_or_len p (drop (at + n) bytes) in
-      split bytes at n ∙ ap (λ b. cond b (length c + rest) (position_or_len p c)) (eq-eqb _ _ (leading_from_mask_l p c none)) ∙ ap (λ k. k + rest) (length-chunk at n bytes room)
+      split bytes at n ∙ ap (λ b. cond b (length c + rest) (position_or_len p c))
+      (eq-eqb _ _ (leading_from_mask_l p c none)) ∙ ap (λ k. k + rest) (length-chunk at n bytes room)
 
   -- in a block with marks the lowest ends the run
   pub stopped : (bytes : List ℕ) (at n : ℕ) → at + n ≤ length bytes → n ≤ 64 → 0 < mask_l (map p (chunk at n bytes))
@@ -83,7 +88,8 @@ module _ (p : ℕ → Bool) where
   stopped bytes at n room short some =
       let c = chunk at n bytes in
       let rest = position_or_len p (drop (at + n) bytes) in
-      split bytes at n ∙ ap (λ b. cond b (length c + rest) (position_or_len p c)) (ne_eqb _ _ (λ (e : position_or_len p c ≡ length c). omega (arith, no_bits c e)))
+      split bytes at n ∙ ap (λ b. cond b (length c + rest) (position_or_len p c))
+      (ne_eqb _ _ (λ (e : position_or_len p c ≡ length c). omega (arith, no_bits c e)))
       ∙ sym (trailing_mask_l p 64 c (omega (arith, length-chunk at n bytes room)) some)
 
 -- a character that is no mark, where the first of the marks is a backslash
@@ -99,14 +105,17 @@ not_three true = refl
 not_three false = refl
 
 none_marked : (p : ℕ → Bool) (v : List ℕ) → mask_l (map p v) ≡ 0 → (k : ℕ) → k < length v → p (get_or v k 0) ≡ false
-none_marked p v none k within = not-true (p (get_or v k 0)) (prefix_len_passes (λ x. not (p x)) v k 0 (omega (arith, leading_from_mask_l p v none)))
+none_marked p v none k within =
+    not-true (p (get_or v k 0))
+    (prefix_len_passes (λ x. not (p x)) v k 0 (omega (arith, leading_from_mask_l p v none)))
   where
     not-true : (b : Bool) → not b ≡ true → b ≡ false
     not-true true h = cc
     not-true false h = refl
 
 -- eight to sixteen bytes, of which neither the first eight nor the last eight are marked
-pub unmarked : (p : ℕ → Bool) (bytes : List ℕ) → 8 ≤ length bytes → length bytes ≤ 16 → mask_l (map p (chunk 0 8 bytes ++ chunk (length bytes - 8) 8 bytes)) ≡ 0
+pub unmarked : (p : ℕ → Bool) (bytes : List ℕ) → 8 ≤ length bytes → length bytes ≤ 16
+    → mask_l (map p (chunk 0 8 bytes ++ chunk (length bytes - 8) 8 bytes)) ≡ 0
     → position_or_len p bytes ≡ length bytes
 unmarked p bytes some few none =
     let back = length bytes - 8 in
@@ -119,11 +128,14 @@ unmarked p bytes some few none =
     (λ k within. ap not (elim (cases_lt k 8) [
       | inl low ↦
           let place : 0 + k ≡ k = omega arith in
-          subst (λ x. p x ≡ false) (get_or_append_left a b 0 k (omega arith) ∙ get_or-chunk 0 8 bytes k 0 low ∙ ap (λ i. get_or bytes i 0) place) (free k (omega (arith, length-append a b)))
+          subst (λ x. p x ≡ false) (get_or_append_left a b 0 k (omega arith)
+          ∙ get_or-chunk 0 8 bytes k 0 low ∙ ap (λ i. get_or bytes i 0) place)
+          (free k (omega (arith, length-append a b)))
       | inr high ↦
           let j = k - back in
           let place : back + j ≡ k = omega arith in
-          subst (λ x. p x ≡ false) (get_or-append-add a b j 0 ∙ get_or-chunk back 8 bytes j 0 (omega arith) ∙ ap (λ i. get_or bytes i 0) place) (free (length a + j) (omega (arith, length-append a b)))
+          subst (λ x. p x ≡ false) (get_or-append-add a b j 0 ∙ get_or-chunk back 8 bytes j 0 (omega arith)
+          ∙ ap (λ i. get_or bytes i 0) place) (free (length a + j) (omega (arith, length-append a b)))
     ]))
     (λ past. absurd (omega arith))
 
@@ -133,23 +145,29 @@ halved false n = omega arith
 
 -- the bits of the first k, past the first j of them
 pub bits_past : (p : ℕ → Bool) (j k : ℕ) (xs : List ℕ) → mask_l (map p (take k xs)) / 2 ^ j ≡ mask_l (map p (take (k - j) (drop j xs)))
-bits_past p zero k xs = div-one (mask_l (map p (take k xs))) ∙ ap (λ n. mask_l (map p (take n xs))) (let same : k ≡ k - 0 = omega arith in same)
-bits_past p (suc j) zero xs = zero-div (2 ^ suc j) ∙ ap (λ n. mask_l (map p (take n (drop (suc j) xs)))) (let same : 0 ≡ 0 - suc j = omega arith in same)
+bits_past p zero k xs = div-one (mask_l (map p (take k xs)))
+    ∙ ap (λ n. mask_l (map p (take n xs))) (let same : k ≡ k - 0 = omega arith in same)
+bits_past p (suc j) zero xs = zero-div (2 ^ suc j)
+    ∙ ap (λ n. mask_l (map p (take n (drop (suc j) xs)))) (let same : 0 ≡ 0 - suc j = omega arith in same)
 bits_past p (suc j) (suc k) [] = zero-div (2 ^ suc j) ∙ ap (λ l. mask_l (map p l)) (sym (take_all (suc k - suc j) [] (omega arith)))
 bits_past p (suc j) (suc k) (x ∷ xs) =
     let bits = mask_l (map p (take k xs)) in
-    ap (λ n. (cond (p x) 1 0 + 2 * bits) / n) (pow-suc 2 j ∙ mul_comm (2 ^ j) 2) ∙ sym (div-div-eq-div-mul (cond (p x) 1 0 + 2 * bits) 2 (2 ^ j))
-    ∙ ap (λ n. n / 2 ^ j) (halved (p x) bits) ∙ bits_past p j k xs ∙ ap (λ n. mask_l (map p (take n (drop j xs)))) (let same : k - j ≡ suc k - suc j = omega arith in same)
+    ap (λ n. (cond (p x) 1 0 + 2 * bits) / n) (pow-suc 2 j ∙ mul_comm (2 ^ j) 2)
+    ∙ sym (div-div-eq-div-mul (cond (p x) 1 0 + 2 * bits) 2 (2 ^ j))
+    ∙ ap (λ n. n / 2 ^ j) (halved (p x) bits) ∙ bits_past p j k xs
+    ∙ ap (λ n. mask_l (map p (take n (drop j xs)))) (let same : k - j ≡ suc k - suc j = omega arith in same)
 
 -- What bits tell of the first bytes, behind which so many more follow.
 module _ (p : ℕ → Bool) where
   pub Tells-none : (more : ℕ) (bytes : List ℕ) → Tells p more 0 bytes
   Tells-none more bytes = record { lanes = 0; few = omega arith; within = λ some. omega arith; are = refl }
 
-  pub Tells-found : (more : ℕ) (bytes : List ℕ) {bits : ℕ} → 16 + more ≤ length bytes → bits ≡ mask_l (map p (chunk 0 16 bytes)) → Tells p more bits bytes
+  pub Tells-found : (more : ℕ) (bytes : List ℕ) {bits : ℕ} → 16 + more ≤ length bytes
+      → bits ≡ mask_l (map p (chunk 0 16 bytes)) → Tells p more bits bytes
   Tells-found more bytes long is = record { lanes = 16; few = omega arith; within = λ some. long; are = is }
 
-  pub Tells-past : {more : ℕ} (j : ℕ) {bits : ℕ} {bytes rest : List ℕ} → Tells p more bits bytes → rest ≡ drop j bytes → Tells p more (bits / 2 ^ j) rest
+  pub Tells-past : {more : ℕ} (j : ℕ) {bits : ℕ} {bytes rest : List ℕ} → Tells p more bits bytes
+      → rest ≡ drop j bytes → Tells p more (bits / 2 ^ j) rest
   Tells-past {more} j {bytes = bytes} tells is = subst (Tells p more _) (sym is) record {
     lanes = tells.lanes - j;
     few = omega (arith, tells.few);
@@ -167,7 +185,8 @@ module _ (p : ℕ → Bool) where
     pub below : run < 16
     pub within : run + more < length bytes
 
-  pub stops_at : {more : ℕ} (bytes : List ℕ) {bits : ℕ} → Tells p more bits bytes → 0 < bits → StopsAt more bytes (count_trailing_zeros 64 bits)
+  pub stops_at : {more : ℕ} (bytes : List ℕ) {bits : ℕ} → Tells p more bits bytes → 0 < bits
+      → StopsAt more bytes (count_trailing_zeros 64 bits)
   stops_at {more} bytes {bits} tells some =
       let few = tells.few in
       let are = tells.are in
@@ -183,7 +202,8 @@ module _ (p : ℕ → Bool) where
       record { position = sym first; below = omega arith; within = omega arith }
 
 -- the same of another test that answers alike
-pub Tells-same : (p q : ℕ → Bool) → ((c : ℕ) → p c ≡ q c) → {more bits : ℕ} {bytes : List ℕ} → Tells p more bits bytes → Tells q more bits bytes
+pub Tells-same : (p q : ℕ → Bool) → ((c : ℕ) → p c ≡ q c) → {more bits : ℕ} {bytes : List ℕ}
+    → Tells p more bits bytes → Tells q more bits bytes
 Tells-same p q same {bytes = bytes} tells = record {
   lanes = tells.lanes;
   few = tells.few;
@@ -192,8 +212,11 @@ Tells-same p q same {bytes = bytes} tells = record {
 }
 
 -- of lanes that are put behind the first bytes, so many are kept
-pub placed : (len n : ℕ) (bytes lanes : List ℕ) → len + length lanes ≤ length bytes → n ≤ length lanes → take (len + n) (put_chunk len bytes lanes) ≡ take len bytes ++ take n lanes
+pub placed : (len n : ℕ) (bytes lanes : List ℕ) → len + length lanes ≤ length bytes → n ≤ length lanes
+    → take (len + n) (put_chunk len bytes lanes) ≡ take len bytes ++ take n lanes
 placed len n bytes lanes room some =
     let rest = drop (length lanes) (drop len bytes) in
-    ap (take (len + n)) (put_chunk_is len bytes lanes room) ∙ ap (λ k. take (k + n) (take len bytes ++ (lanes ++ rest))) (sym (length-take-le len bytes (omega arith)))
+    ap (take (len + n)) (put_chunk_is len bytes lanes room)
+    ∙ ap (λ k. take (k + n) (take len bytes ++ (lanes ++ rest)))
+    (sym (length-take-le len bytes (omega arith)))
     ∙ take-append-add (take len bytes) (lanes ++ rest) n ∙ ap (λ l. take len bytes ++ l) (take-append-le n lanes rest some)

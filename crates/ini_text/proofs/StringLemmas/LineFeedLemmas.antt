@@ -27,7 +27,8 @@ feed_kept : (xs : List ℕ) (c : ℕ) → c ≢ line_feed → drop_line_feeds (x
 feed_kept [] c n = cond-false (eqb c 10 && true) [] (c ∷ []) (ap (λ b. b && true) (ne_eqb c 10 n))
 feed_kept (x ∷ xs) c n =
     ap (λ y. cond (eqb x 10 && (length y == 0)) [] (x ∷ y)) (feed_kept xs c n)
-    ∙ cond-false (eqb x 10 && (length (xs ++ c ∷ []) == 0)) [] (x ∷ (xs ++ c ∷ [])) (and_right (eqb x 10) (length (xs ++ c ∷ []) == 0) (kept_length xs c))
+    ∙ cond-false (eqb x 10 && (length (xs ++ c ∷ []) == 0)) [] (x ∷ (xs ++ c ∷ []))
+    (and_right (eqb x 10) (length (xs ++ c ∷ []) == 0) (kept_length xs c))
 
 pub feeds_done : (t before : List ℕ) (c : ℕ) → t ≡ before ++ c ∷ [] → c ≢ line_feed → t ≡ drop_line_feeds t
 feeds_done t before c h n = h ∙ sym (feed_kept before c n) ∙ ap drop_line_feeds (sym h)

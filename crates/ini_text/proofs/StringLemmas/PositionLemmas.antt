@@ -14,7 +14,8 @@ no_line : (cs : List ℕ) (b : Bool) → list_any is_line_feed cs ≡ b → b �
 no_line [] b e h = refl
 no_line (c ∷ cs) b e h = cond-false (list_any is_line_feed (c ∷ cs)) (last_line cs) (c ∷ cs) (e ∙ h)
 
-at_start : (b : Bool) (cs : List ℕ) → list_any is_line_feed cs ≡ b → 1 + length (last_line cs) ≡ cond b (1 + length (last_line cs)) (1 + length cs)
+at_start : (b : Bool) (cs : List ℕ) → list_any is_line_feed cs ≡ b
+    → 1 + length (last_line cs) ≡ cond b (1 + length (last_line cs)) (1 + length cs)
 at_start true cs e = refl
 at_start false cs e = ap (λ l. 1 + length l) (no_line cs false e refl)
 
@@ -32,7 +33,8 @@ count-cons : (c : ℕ) (cs : List ℕ) → count_by is_line_feed (c ∷ cs) ≡ 
 count-cons c cs = count-from (0 + cond (eqb c 10) 1 0) cs ∙ omega arith
 
 pub line-feed : (n c : ℕ) (t cs : List ℕ) → t ≡ c ∷ cs → c ≡ line_feed → n + count_by is_line_feed t ≡ n + 1 + count_by is_line_feed cs
-line-feed n c t cs h d = ap (λ x. n + count_by is_line_feed x) h ∙ ap (λ x. n + x) (count-cons c cs) ∙ ap (λ b. n + (cond b 1 0 + count_by is_line_feed cs)) (eq-eqb c 10 d) ∙ omega arith
+line-feed n c t cs h d = ap (λ x. n + count_by is_line_feed x) h ∙ ap (λ x. n + x) (count-cons c cs)
+    ∙ ap (λ b. n + (cond b 1 0 + count_by is_line_feed cs)) (eq-eqb c 10 d) ∙ omega arith
 
 -- a text has no more characters than bytes
 pub characters_fit : (bs : List ℕ) → IsUtf8 bs → length (chars bs) ≤ length bs

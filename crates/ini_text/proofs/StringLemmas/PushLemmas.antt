@@ -9,11 +9,13 @@ use lib.Utf8.{scalar}
 use Rattle.std.specs.Char.{IsScalar}
 use Rattle.std.specs.declared.alloc.AllocError.{AllocError}
 
-pub appended : (r : Result (Unit {0}) AllocError) (new old t : List ℕ) → IsUtf8 old → new ≡ (if is_ok r then old ++ t else old) → OnOk r (chars new ≡ chars old ++ chars t)
+pub appended : (r : Result (Unit {0}) AllocError) (new old t : List ℕ) → IsUtf8 old
+    → new ≡ (if is_ok r then old ++ t else old) → OnOk r (chars new ≡ chars old ++ chars t)
 appended (Ok x) new old t u e = ap chars e ∙ chars-append old t u
 appended (Err x) new old t u e = tt
 
-pub pushed : (r : Result (Unit {0}) AllocError) (new old : List ℕ) (c : ℕ) → IsUtf8 old → IsScalar c → new ≡ (if is_ok r then old ++ encode_utf8 c else old)
+pub pushed : (r : Result (Unit {0}) AllocError) (new old : List ℕ) (c : ℕ) → IsUtf8 old → IsScalar c
+    → new ≡ (if is_ok r then old ++ encode_utf8 c else old)
     → OnOk r (chars new ≡ chars old ++ c ∷ [])
 pushed (Ok x) new old c u h e =
     ap chars e ∙ chars-append old (encode_utf8 c) u
@@ -33,7 +35,8 @@ pub record IsGrown (old new v : List ℕ) : Type 0 where
 pub grown : (old new v : List ℕ) → IsUtf8 old → IsUtf8 new → chars new ≡ chars old ++ v → IsGrown old new v
 grown old new v u w e =
     let bytes : new ≡ old ++ encode_utf8_all v =
-    sym (encodes-chars new w) ∙ ap encode_utf8_all e ∙ encodes-append (chars old) v ∙ ap (λ x. x ++ encode_utf8_all v) (encodes-chars old u) in
+    sym (encodes-chars new w) ∙ ap encode_utf8_all e ∙ encodes-append (chars old) v
+    ∙ ap (λ x. x ++ encode_utf8_all v) (encodes-chars old u) in
     let are_scalars : all_scalars v ≡ true = scalars-back (chars old) v (ap all_scalars (sym e) ∙ scalars-chars new w) in
     record {
       front = ap chars (ap (take (length old)) bytes ∙ take-append_seam old (encode_utf8_all v));
@@ -52,5 +55,6 @@ some_characters bs u some none = some (ap length (sym (encodes-chars bs u) ∙ a
 -- a text of one byte below 0x80
 pub one_character : (bs : List ℕ) → IsUtf8 bs → length bs ≡ 1 → get_or bs 0 0 < 128 → chars bs ≡ get_or bs 0 0 ∷ []
 one_character [] u one low = absurd (omega arith)
-one_character (b ∷ []) u one low = chars_past_char (b ∷ []) [] b u (sym (ap (λ x. x ++ []) (encode_ascii b low))) ∙ ap (λ x. b ∷ x) chars-nil
+one_character (b ∷ []) u one low =
+    chars_past_char (b ∷ []) [] b u (sym (ap (λ x. x ++ []) (encode_ascii b low))) ∙ ap (λ x. b ∷ x) chars-nil
 one_character (b ∷ c ∷ bs) u one low = absurd (omega arith)

@@ -16,7 +16,8 @@ scalars-front (c ∷ a) b h = both (scalar c) (all_scalars (a ++ b)) (all_scalar
     both true y z h f = f h
     both false y z h f = h
 
-pub front_bytes : (t r : List ℕ) → IsUtf8 t → IsUtf8 r → IsRest (chars t) (chars r) → encode_utf8_all (front_of (chars t) (chars r)) ++ r ≡ t
+pub front_bytes : (t r : List ℕ) → IsUtf8 t → IsUtf8 r → IsRest (chars t) (chars r)
+    → encode_utf8_all (front_of (chars t) (chars r)) ++ r ≡ t
 front_bytes t r u v h =
     ap (λ l. encode_utf8_all (front_of (chars t) (chars r)) ++ l) (sym (encodes-chars r v))
     ∙ sym (encodes-append (front_of (chars t) (chars r)) (chars r)) ∙ ap encode_utf8_all h ∙ encodes-chars t u
@@ -33,13 +34,16 @@ front_le t r u v h =
     let f = encode_utf8_all (front_of (chars t) (chars r)) in
     omega (arith, length-append f r, ap length (front_bytes t r u v h))
 
-pub front_chars : (t r x : List ℕ) → IsUtf8 t → IsUtf8 r → IsRest (chars t) (chars r) → x ≡ take (length t - length r) t → chars x ≡ front_of (chars t) (chars r)
+pub front_chars : (t r x : List ℕ) → IsUtf8 t → IsUtf8 r → IsRest (chars t) (chars r)
+    → x ≡ take (length t - length r) t → chars x ≡ front_of (chars t) (chars r)
 front_chars t r x u v h q =
     let f = encode_utf8_all (front_of (chars t) (chars r)) in
     let e : f ++ r ≡ t = front_bytes t r u v h in
     let n : length t - length r ≡ length f = omega (arith, length-append f r, ap length e) in
-    let s : all_scalars (front_of (chars t) (chars r)) ≡ true = scalars-front (front_of (chars t) (chars r)) (chars r) (ap all_scalars h ∙ scalars-chars t u) in
-    ap chars (q ∙ ap (λ k. take k t) n ∙ ap (take (length f)) (sym e) ∙ take-append_seam f r) ∙ chars-encodes (front_of (chars t) (chars r)) s
+    let s : all_scalars (front_of (chars t) (chars r)) ≡ true =
+    scalars-front (front_of (chars t) (chars r)) (chars r) (ap all_scalars h ∙ scalars-chars t u) in
+    ap chars (q ∙ ap (λ k. take k t) n ∙ ap (take (length f)) (sym e) ∙ take-append_seam f r)
+    ∙ chars-encodes (front_of (chars t) (chars r)) s
 
 pub last_or_append : (d c : ℕ) (xs : List ℕ) → last_or d (xs ++ c ∷ []) ≡ c
 last_or_append d c [] = refl
@@ -58,6 +62,7 @@ last_chars t front c ut u h =
     let ds = chars (encode_utf8 c) in
     let split : chars t ≡ chars front ++ ds = ap chars h ∙ chars-append front (encode_utf8 c) u in
     let same : encode_utf8_all ds ≡ encode_utf8 c = cancel front (encode_utf8_all ds) (encode_utf8 c)
-    (ap (λ x. x ++ encode_utf8_all ds) (sym (encodes-chars front u)) ∙ sym (encodes-append (chars front) ds) ∙ ap encode_utf8_all (sym split) ∙ encodes-chars t ut ∙ h) in
+    (ap (λ x. x ++ encode_utf8_all ds) (sym (encodes-chars front u))
+    ∙ sym (encodes-append (chars front) ds) ∙ ap encode_utf8_all (sym split) ∙ encodes-chars t ut ∙ h) in
     let e = cons_from_encodes ds [] c (same ∙ sym (append-nil (encode_utf8 c))) in
     split ∙ ap (λ x. chars front ++ x) (e.1 ∙ none_left c e.0 e.2)

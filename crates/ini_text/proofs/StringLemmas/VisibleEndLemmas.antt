@@ -22,7 +22,8 @@ visible-black c h = grind (arith, nat_tests)
 one_kept : (c : ℕ) → is_whitespace c ≡ false → end_trimmed (c ∷ []) ≡ c ∷ []
 one_kept c h = rw h refl
 
-visible_last : (t : List ℕ) (n c : ℕ) → IsUtf8 t → length t ≡ suc n → get_or t n 0 ≡ c → is_visible c ≡ true → end_trimmed (chars t) ≡ chars t
+visible_last : (t : List ℕ) (n c : ℕ) → IsUtf8 t → length t ≡ suc n → get_or t n 0 ≡ c
+    → is_visible c ≡ true → end_trimmed (chars t) ≡ chars t
 visible_last t n c u long last sees =
     let at : IsCharBoundary t n = IsCharBoundary-before_ascii t n (omega arith) (omega (arith, visible-low c sees)) in
     let back : drop n t ≡ get_or t n 0 ∷ drop (suc n) t = drop-cons t n 0 (omega arith) in
@@ -30,15 +31,18 @@ visible_last t n c u long last sees =
     let text : IsUtf8 (c ∷ []) = subst IsUtf8 one (IsUtf8-drop t n u at) in
     let parts : chars t ≡ chars (take n t) ++ c ∷ [] = split_chars t (take n t) (drop n t) n u at refl refl
     ∙ ap (λ x. chars (take n t) ++ x) (ap chars one ∙ one_character (c ∷ []) text refl (visible-low c sees)) in
-    subst (λ x. end_trimmed x ≡ x) (sym parts) (end_trimmed-behind (chars (take n t)) (c ∷ []) (λ e. cc) (one_kept c (visible-black c sees)))
+    subst (λ x. end_trimmed x ≡ x) (sym parts)
+    (end_trimmed-behind (chars (take n t)) (c ∷ []) (λ e. cc) (one_kept c (visible-black c sees)))
 
-visible_first : (t : List ℕ) (c : ℕ) → IsUtf8 t → 0 < length t → get_or t 0 0 ≡ c → is_visible c ≡ true → BeginsWithNo is_whitespace (chars t)
+visible_first : (t : List ℕ) (c : ℕ) → IsUtf8 t → 0 < length t → get_or t 0 0 ≡ c → is_visible c ≡ true
+    → BeginsWithNo is_whitespace (chars t)
 visible_first t c u some first sees =
     let front : t ≡ c ∷ drop 1 t = drop-cons t 0 0 some ∙ ap (λ x. x ∷ drop 1 t) first in
     let begins = chars_past_char t (drop 1 t) c u (front ∙ ap (λ x. x ++ drop 1 t) (sym (encode_ascii c (visible-low c sees)))) in
     subst (BeginsWithNo is_whitespace) (sym begins) (visible-black c sees)
 
-pub visible_ends : (t : List ℕ) (n first last : ℕ) → IsUtf8 t → length t ≡ suc n → get_or t 0 0 ≡ first → is_visible first ≡ true → get_or t n 0 ≡ last → is_visible last ≡ true
+pub visible_ends : (t : List ℕ) (n first last : ℕ) → IsUtf8 t → length t ≡ suc n → get_or t 0 0 ≡ first
+    → is_visible first ≡ true → get_or t n 0 ≡ last → is_visible last ≡ true
     → (both : Bool) → trimmed_at both (chars t) ≡ chars t
 visible_ends t n first last u long begins sees ends sees' true =
     ap end_trimmed (skip_none (chars t) (visible_first t first u (omega arith) begins sees)) ∙ visible_last t n last u long ends sees'
@@ -50,7 +54,8 @@ trimmed-space [] = refl
 trimmed-space (c ∷ cs) = at (is_whitespace c) (trimmed-space cs)
   where
     at : (b : Bool) → trimmed (cs ++ 32 ∷ []) ≡ trimmed cs
-        → end_trimmed (cond b (skip_leading_whitespace (cs ++ 32 ∷ [])) (c ∷ (cs ++ 32 ∷ []))) ≡ end_trimmed (cond b (skip_leading_whitespace cs) (c ∷ cs))
+        → end_trimmed (cond b (skip_leading_whitespace (cs ++ 32 ∷ [])) (c ∷ (cs ++ 32 ∷ [])))
+        ≡ end_trimmed (cond b (skip_leading_whitespace cs) (c ∷ cs))
     at true behind = behind
     at false behind = end_trimmed-blanks (c ∷ cs) (32 ∷ []) refl
 

@@ -1,7 +1,7 @@
 -- Derivations of written-out texts, put together from the front to the end. What the grammar asks of a plain part of a
 -- text, one without backslashes and quotes, is one test here, which computes.
 use Rattle.std.proofs.Common.{◌≡◌, ◌≢◌, inl, inr, ℕ, Bool, true, false, not, ◌&&◌, List, [], ◌∷◌, ◌++◌, refl, sym, ◌∙◌, append_assoc, subst}
-use Rattle.std.specs.Prelude.{if◌then◌else◌, ◌==◌, Option, Some, map}
+use Rattle.std.specs.Prelude.{◌==◌, if◌then◌else◌, Option, Some, map}
 use Rattle.std.specs.Char.{is_whitespace}
 use Rattle.std.specs.List.{list_all}
 use Rattle.std.proofs.lemmas.List.{append-nil}
@@ -25,12 +25,14 @@ use Rattle.ini_text.proofs.GrammarLemmas.ItemLemmas.{reads-append}
 pub data RestGives (o : ParseOption) : List ℕ → List ℕ → List Given → Type 0 where
   whole : {b : List ℕ} → RestGives o b [] []
   skip : {b s r : List ℕ} {items : List Given} → Element o b s r [] → RestGives o (b ++ s) r items → RestGives o b (s ++ r) items
-  give : {b s r : List ℕ} {item : Given} {items : List Given} → Element o b s r (item ∷ []) → RestGives o (b ++ s) r items → RestGives o b (s ++ r) (item ∷ items)
+  give : {b s r : List ℕ} {item : Given} {items : List Given} → Element o b s r (item ∷ [])
+      → RestGives o (b ++ s) r items → RestGives o b (s ++ r) (item ∷ items)
 
 -- behind the front b, reading the rest t of a text stops at the end of the front f
 pub data RestStops (o : ParseOption) : List ℕ → List ℕ → ParseKind → List ℕ → Type 0 where
   stop : {b s r : List ℕ} {kind : ParseKind} → ElementStops o b s r kind → RestStops o b (s ++ r) kind (b ++ s)
-  past : {b s r f : List ℕ} {kind : ParseKind} {gives : List Given} → Element o b s r gives → RestStops o (b ++ s) r kind f → RestStops o b (s ++ r) kind f
+  past : {b s r f : List ℕ} {kind : ParseKind} {gives : List Given} → Element o b s r gives
+      → RestStops o (b ++ s) r kind f → RestStops o b (s ++ r) kind f
 
 rest_reads : {o : ParseOption} {T b t : List ℕ} {items : List Given} → T ≡ b ++ t → RestGives o b t items → Reads o T b items T
 rest_reads {o} {T} {b} e RestGives.whole = subst (λ c. Reads o T b [] c) (sym (e ∙ append-nil b)) (Reads.stay [] e)
@@ -40,7 +42,8 @@ rest_reads {b = b} e (RestGives.give {s = s} {r = r} x rest) = Reads.step e x (r
 pub derives : {o : ParseOption} {T : List ℕ} {items : List Given} → RestGives o [] T items → Derives o T items
 derives rest = rest_reads refl rest
 
-rest_stops : {o : ParseOption} {T b t f : List ℕ} {items : List Given} {kind : ParseKind} → Reads o T [] items b → T ≡ b ++ t → RestStops o b t kind f → Stops o T kind f
+rest_stops : {o : ParseOption} {T b t f : List ℕ} {items : List Given} {kind : ParseKind}
+    → Reads o T [] items b → T ≡ b ++ t → RestStops o b t kind f → Stops o T kind f
 rest_stops before e (RestStops.stop x) = Stops.stops before e x
 rest_stops {b = b} before e (RestStops.past {s = s} {r = r} x rest) =
     let more = e ∙ sym (append_assoc b s r) in
@@ -83,7 +86,8 @@ abbrev pub is_raw : Ends → ℕ → Bool
 is_raw ends c = not (c == backslash) && not (is_endpoint ends c)
 
 -- raw characters before a row
-pub raws_before : {escapes : Bool} {ends : Ends} {t v : List ℕ} (s : List ℕ) → list_all (is_raw ends) s ≡ true → Row escapes ends t v → Row escapes ends (s ++ t) (s ++ v)
+pub raws_before : {escapes : Bool} {ends : Ends} {t v : List ℕ} (s : List ℕ)
+    → list_all (is_raw ends) s ≡ true → Row escapes ends t v → Row escapes ends (s ++ t) (s ++ v)
 raws_before [] h row = row
 raws_before {ends = ends} (c ∷ s) h row =
     let parts = and_parts (is_raw ends c) (list_all (is_raw ends) s) h in
@@ -98,10 +102,12 @@ abbrev pub is_raw_string : Ends → List ℕ → List ℕ → Bool
 is_raw_string ends s r = list_all (is_raw ends) s && closes ends r
 
 pub raw_string : {escapes : Bool} {ends : Ends} {r : List ℕ} (s : List ℕ) → is_raw_string ends s r ≡ true → Str escapes ends s r s
-raw_string {ends = ends} {r = r} s h = let parts = and_parts (list_all (is_raw ends) s) (closes ends r) h in Str.closed (raws s parts.0) (closed_by ends r parts.1)
+raw_string {ends = ends} {r = r} s h = let parts = and_parts (list_all (is_raw ends) s) (closes ends r) h
+    in Str.closed (raws s parts.0) (closed_by ends r parts.1)
 
 -- units of one character each, before others
-pub units_before : {t : List ℕ} {us : List (Option ℕ)} (u : List ℕ) → list_all (λ c. not (c == backslash)) u ≡ true → Units t us → Units (u ++ t) (map Some u ++ us)
+pub units_before : {t : List ℕ} {us : List (Option ℕ)} (u : List ℕ)
+    → list_all (λ c. not (c == backslash)) u ≡ true → Units t us → Units (u ++ t) (map Some u ++ us)
 units_before [] h rest = rest
 units_before (c ∷ u) h rest =
     let parts = and_parts (not (c == backslash)) (list_all (λ e. not (e == backslash)) u) h in
@@ -127,7 +133,8 @@ indentation b w h =
     record { at_line_start = start.0; some = begins_with is_blank w blanks.0; blank = blanks.1 }
 
 -- a part in double quotes, before other parts
-pub quoted : {o : ParseOption} {q w : List ℕ} {some : Bool} (s : List ℕ) → o.enabled_quote ≡ true → is_raw_string (quote_ends double_quote) s (double_quote ∷ []) ≡ true
+pub quoted : {o : ParseOption} {q w : List ℕ} {some : Bool} (s : List ℕ) → o.enabled_quote ≡ true
+    → is_raw_string (quote_ends double_quote) s (double_quote ∷ []) ≡ true
     → Quoted o q w some → Quoted o (double_quote ∷ (s ++ double_quote ∷ q)) (s ++ w) true
 quoted s on h rest = Quoted.part on refl (raw_string s h) rest
 
@@ -135,21 +142,25 @@ begins_plain : (o : ParseOption) (cs : List ℕ) → begins_no is_mark cs ≡ tr
 begins_plain o cs h _ = begins_with_no is_mark cs h
 
 -- a line without quotes
-pub unquoted_line : {o : ParseOption} {first : Bool} {s r v : List ℕ} → begins_no is_mark (s ++ r) ≡ true → Row o.enabled_escape plain_ends s v
+pub unquoted_line : {o : ParseOption} {first : Bool} {s r v : List ℕ} → begins_no is_mark (s ++ r) ≡ true
+    → Row o.enabled_escape plain_ends s v
     → closes plain_ends r ≡ true → Line o first s r (plain_value first false v)
-unquoted_line {o} {s = s} {r = r} mark row close = Line.line Quoted.none (begins_plain o (s ++ r) mark) (Str.closed row (closed_by plain_ends r close))
+unquoted_line {o} {s = s} {r = r} mark row close =
+    Line.line Quoted.none (begins_plain o (s ++ r) mark) (Str.closed row (closed_by plain_ends r close))
 
 -- a line without quotes and backslashes
 abbrev pub is_plain_line : List ℕ → List ℕ → Bool
 is_plain_line s r = begins_no is_mark (s ++ r) && is_raw_string plain_ends s r
 
-pub plain_line : {o : ParseOption} {first : Bool} {r : List ℕ} (s : List ℕ) → is_plain_line s r ≡ true → Line o first s r (plain_value first false s)
+pub plain_line : {o : ParseOption} {first : Bool} {r : List ℕ} (s : List ℕ) → is_plain_line s r ≡ true
+    → Line o first s r (plain_value first false s)
 plain_line {o} {r = r} s h =
     let parts = and_parts (begins_no is_mark (s ++ r)) (is_raw_string plain_ends s r) h in
     Line.line Quoted.none (begins_plain o (s ++ r) parts.0) (raw_string s parts.1)
 
 -- a value of one line, with nothing before it
-pub one_line : {o : ParseOption} {s r v : List ℕ} → o.enabled_indented_mutiline_value ≡ false → is_lead [] (s ++ r) ≡ true → Line o true s r v → Value o s r v
+pub one_line : {o : ParseOption} {s r v : List ℕ} → o.enabled_indented_mutiline_value ≡ false
+    → is_lead [] (s ++ r) ≡ true → Line o true s r v → Value o s r v
 one_line {s = s} {r = r} m h content = Value.one_line {w = []} m (lead [] (s ++ r) h) content
 
 -- what a key of the string k behind the blanks w is, without backslashes
@@ -175,31 +186,38 @@ plain_key {r = r} k h =
 abbrev pub is_indented_key : List ℕ → List ℕ → List ℕ → List ℕ → Bool
 is_indented_key b w k r = is_indentation b w && (begins begins_indented_key (k ++ r) && is_raw_string key_ends k r)
 
-pub key_behind_blanks : {o : ParseOption} {b r : List ℕ} (w k : List ℕ) → is_indented_key b w k r ≡ true → KeyFront o b (w ++ k) r (key_of o w k)
+pub key_behind_blanks : {o : ParseOption} {b r : List ℕ} (w k : List ℕ) → is_indented_key b w k r ≡ true
+    → KeyFront o b (w ++ k) r (key_of o w k)
 key_behind_blanks {b = b} {r = r} w k h =
     let blanks = and_parts (is_indentation b w) (begins begins_indented_key (k ++ r) && is_raw_string key_ends k r) h in
     let parts = and_parts (begins begins_indented_key (k ++ r)) (is_raw_string key_ends k r) blanks.1 in
     KeyFront.indented (indentation b w blanks.0) (begins_with begins_indented_key (k ++ r) parts.0) (raw_string k parts.1)
 
 -- a pair whose key has no backslashes, not indented and indented
-pub pair_of : {o : ParseOption} {b s r v : List ℕ} (k : List ℕ) → is_plain_key k (equals ∷ (s ++ r)) ≡ true → begins is_any (key_of o [] k) ≡ true
+pub pair_of : {o : ParseOption} {b s r v : List ℕ} (k : List ℕ) → is_plain_key k (equals ∷ (s ++ r)) ≡ true
+    → begins is_any (key_of o [] k) ≡ true
     → Value o s r v → Element o b (k ++ equals ∷ s) r (Pair (key_of o [] k) v ∷ [])
 pair_of k key some value = Element.pair (plain_key k key) (not_empty some) refl value
 
-pub pair_behind_blanks : {o : ParseOption} {b s r v : List ℕ} (w k : List ℕ) → is_indented_key b w k (equals ∷ (s ++ r)) ≡ true → begins is_any (key_of o w k) ≡ true
+pub pair_behind_blanks : {o : ParseOption} {b s r v : List ℕ} (w k : List ℕ)
+    → is_indented_key b w k (equals ∷ (s ++ r)) ≡ true → begins is_any (key_of o w k) ≡ true
     → Value o s r v → Element o b ((w ++ k) ++ equals ∷ s) r (Pair (key_of o w k) v ∷ [])
 pair_behind_blanks w k key some value = Element.pair (key_behind_blanks w k key) (not_empty some) refl value
 
 -- such a pair in whose value reading stops
-pub stops_in_value_of : {o : ParseOption} {b s r : List ℕ} {kind : ParseKind} (k : List ℕ) → is_plain_key k (equals ∷ (s ++ r)) ≡ true → begins is_any (key_of o [] k) ≡ true
+pub stops_in_value_of : {o : ParseOption} {b s r : List ℕ} {kind : ParseKind} (k : List ℕ)
+    → is_plain_key k (equals ∷ (s ++ r)) ≡ true → begins is_any (key_of o [] k) ≡ true
     → ValueStops o s r kind → ElementStops o b (k ++ equals ∷ s) r kind
 stops_in_value_of k key some value = ElementStops.in_value (plain_key k key) (not_empty some) refl value
 
 -- a pair on one line, without quotes and backslashes
 abbrev pub is_plain_pair : ParseOption → List ℕ → List ℕ → List ℕ → Bool
-is_plain_pair o k s r = not o.enabled_indented_mutiline_value && (begins is_any (key_of o [] k) && (is_plain_key k (equals ∷ (s ++ r)) && (is_lead [] (s ++ r) && is_plain_line s r)))
+is_plain_pair o k s r = not o.enabled_indented_mutiline_value
+    && (begins is_any (key_of o [] k)
+    && (is_plain_key k (equals ∷ (s ++ r)) && (is_lead [] (s ++ r) && is_plain_line s r)))
 
-pub plain_pair : {o : ParseOption} {b r : List ℕ} (k s : List ℕ) → is_plain_pair o k s r ≡ true → Element o b (k ++ equals ∷ s) r (Pair (key_of o [] k) (trimmed s) ∷ [])
+pub plain_pair : {o : ParseOption} {b r : List ℕ} (k s : List ℕ) → is_plain_pair o k s r ≡ true
+    → Element o b (k ++ equals ∷ s) r (Pair (key_of o [] k) (trimmed s) ∷ [])
 plain_pair {o} {r = r} k s h =
     let key = is_plain_key k (equals ∷ (s ++ r)) in
     let value = is_lead [] (s ++ r) && is_plain_line s r in

@@ -98,7 +98,8 @@ raw_backslash o r = elim r.is_read [
 
 -- names
 -- a closing bracket stands in a name only where names may have brackets
-closing_bracket : (o : ParseOption) (policy : EscapePolicy) → o.enabled_brackets_in_section_names ≡ false → ¬ IsPlainName o policy (codes "]")
+closing_bracket : (o : ParseOption) (policy : EscapePolicy) → o.enabled_brackets_in_section_names ≡ false
+    → ¬ IsPlainName o policy (codes "]")
 closing_bracket o policy off n = false≢true (n.no_bracket off)
 
 bracketed_name : IsPlainName (record default_parse_option { enabled_brackets_in_section_names = true }) Basics (codes "a]")

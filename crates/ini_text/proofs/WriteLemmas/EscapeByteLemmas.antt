@@ -50,7 +50,8 @@ IsAscii-escape_by (Some letter) c is =
     IsAscii-cons backslash (letter ∷ []) (omega arith) (IsAscii-cons letter [] (letter_of-ascii c letter is) IsAscii-nil)
 IsAscii-escape_by None c is =
     let digits = hex_digits (digit_count c) c in
-    IsAscii-cons backslash (letter_x ∷ digits) (omega arith) (IsAscii-cons letter_x digits (omega arith) (IsAscii-hex_digits (digit_count c) c))
+    IsAscii-cons backslash (letter_x ∷ digits) (omega arith)
+    (IsAscii-cons letter_x digits (omega arith) (IsAscii-hex_digits (digit_count c) c))
 
 pub IsAscii-escape : (c : ℕ) → IsAscii (escape c)
 unfolding escape
@@ -60,7 +61,8 @@ IsAscii-escape c = IsAscii-escape_by (letter_of c) c refl
 pub escaped-next : (policy : EscapePolicy) (c : ℕ) (text rest : List ℕ) → text ≡ c ∷ rest → is_escaped policy c ≡ true
     → encode_utf8_all (escaped policy text) ≡ escape c ++ encode_utf8_all (escaped policy rest)
 escaped-next policy c text rest parts is =
-    let first : escaped policy (c ∷ rest) ≡ escape c ++ escaped policy rest = ap (λ b. cond b (escape c) (c ∷ []) ++ escaped policy rest) is in
+    let first : escaped policy (c ∷ rest) ≡ escape c ++ escaped policy rest =
+    ap (λ b. cond b (escape c) (c ∷ []) ++ escaped policy rest) is in
     rw (parts, first, encodes-append, encodes-IsAscii (escape c) (IsAscii-escape c)) refl
 
 -- a text's first character, where it begins with none that isn't escaped

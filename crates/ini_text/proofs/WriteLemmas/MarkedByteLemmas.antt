@@ -21,56 +21,72 @@ use Rattle.ini_text.proofs.WriteLemmas.VerbatimRunLemmas.{begins-basic, begins-r
 use Rattle.ini_text.proofs.StringLemmas.LaneLemmas.{StopsAt}
 
 module _ (p : ℕ → Bool) where
-  passed_first : (b : Bool) (n left c : ℕ) (front back : List ℕ) → suc n ≤ cond (not b) (1 + left) 0 → (n ≤ left → back ≡ front) → cond b (escape c) (c ∷ []) ++ back ≡ c ∷ front
+  passed_first : (b : Bool) (n left c : ℕ) (front back : List ℕ) → suc n ≤ cond (not b) (1 + left) 0
+      → (n ≤ left → back ≡ front) → cond b (escape c) (c ∷ []) ++ back ≡ c ∷ front
   passed_first true n left c front back fits rest = absurd (omega arith)
   passed_first false n left c front back fits rest = ap (λ l. c ∷ l) (rest (omega arith))
 
   -- bytes of which none is marked
-  pub marked_escaped-run : (n : ℕ) (bytes : List ℕ) → n ≤ position_or_len p bytes → marked_escaped p bytes ≡ take n bytes ++ marked_escaped p (drop n bytes)
+  pub marked_escaped-run : (n : ℕ) (bytes : List ℕ) → n ≤ position_or_len p bytes
+      → marked_escaped p bytes ≡ take n bytes ++ marked_escaped p (drop n bytes)
   marked_escaped-run zero bytes within = refl
   marked_escaped-run (suc n) [] within = absurd (omega arith)
   marked_escaped-run (suc n) (c ∷ bytes) within = passed_first (p c) n (position_or_len p bytes) c _ _ within (marked_escaped-run n bytes)
 
   -- and where none is in all of them
-  pub marked_escaped-none : (bytes : List ℕ) → position_or_len p bytes ≡ length bytes → marked_escaped p bytes ≡ bytes ++ marked_escaped p (drop (length bytes) bytes)
+  pub marked_escaped-none : (bytes : List ℕ) → position_or_len p bytes ≡ length bytes
+      → marked_escaped p bytes ≡ bytes ++ marked_escaped p (drop (length bytes) bytes)
   marked_escaped-none bytes none =
-      marked_escaped-run (length bytes) bytes (omega (arith, none)) ∙ ap (λ l. l ++ marked_escaped p (drop (length bytes) bytes)) (take-length bytes)
+      marked_escaped-run (length bytes) bytes (omega (arith, none))
+      ∙ ap (λ l. l ++ marked_escaped p (drop (length bytes) bytes)) (take-length bytes)
 
   -- a byte that is marked
-  pub marked_escaped-next : (c : ℕ) (bytes rest : List ℕ) → bytes ≡ c ∷ rest → p c ≡ true → marked_escaped p bytes ≡ escape c ++ marked_escaped p rest
+  pub marked_escaped-next : (c : ℕ) (bytes rest : List ℕ) → bytes ≡ c ∷ rest → p c ≡ true
+      → marked_escaped p bytes ≡ escape c ++ marked_escaped p rest
   marked_escaped-next c bytes rest parts is = ap (marked_escaped p) parts ∙ ap (λ b. cond b (escape c) (c ∷ []) ++ marked_escaped p rest) is
 
   -- a piece more is held, and what follows it is left
-  pub held_more : (before piece rest left : List ℕ) {after whole : List ℕ} → after ≡ before ++ piece → marked_escaped p rest ≡ piece ++ marked_escaped p left
+  pub held_more : (before piece rest left : List ℕ) {after whole : List ℕ} → after ≡ before ++ piece
+      → marked_escaped p rest ≡ piece ++ marked_escaped p left
       → before ++ marked_escaped p rest ≡ whole → after ++ marked_escaped p left ≡ whole
   held_more before piece rest left grown next so_far =
-      ap (λ l. l ++ marked_escaped p left) grown ∙ append_assoc before piece (marked_escaped p left) ∙ ap (λ l. before ++ l) (sym next) ∙ so_far
+      ap (λ l. l ++ marked_escaped p left) grown ∙ append_assoc before piece (marked_escaped p left)
+      ∙ ap (λ l. before ++ l) (sym next) ∙ so_far
 
   -- all is held, and nothing is left
   pub held_all : (after left : List ℕ) {whole : List ℕ} → left ≡ [] → after ++ marked_escaped p left ≡ whole → after ≡ whole
   held_all after left none all = sym (ap (λ l. after ++ marked_escaped p l) none ∙ append-nil after) ∙ all
 
   -- a byte that is marked, and has a letter
-  pub marked_escaped-letter : (bytes : List ℕ) (at letter : ℕ) → at < length bytes → p (get_or bytes at 0) ≡ true → Some letter ≡ letter_of (get_or bytes at 0)
+  pub marked_escaped-letter : (bytes : List ℕ) (at letter : ℕ) → at < length bytes
+      → p (get_or bytes at 0) ≡ true → Some letter ≡ letter_of (get_or bytes at 0)
       → marked_escaped p (drop at bytes) ≡ (backslash ∷ letter ∷ []) ++ marked_escaped p (drop (at + 1) bytes)
   unfolding escape
   marked_escaped-letter bytes at letter within marked is =
       let c = get_or bytes at 0 in
-      marked_escaped-next c (drop at bytes) (drop (at + 1) bytes) (drop_more bytes at 0 within) marked ∙ ap (λ l. escape_by l c ++ marked_escaped p (drop (at + 1) bytes)) (sym is)
+      marked_escaped-next c (drop at bytes) (drop (at + 1) bytes) (drop_more bytes at 0 within) marked
+      ∙ ap (λ l. escape_by l c ++ marked_escaped p (drop (at + 1) bytes)) (sym is)
 
   -- the same behind bytes that are not marked
   pub marked_escaped-short : (bytes : List ℕ) (run letter : ℕ) → StopsAt p 0 bytes run → Some letter ≡ letter_of (get_or bytes run 0)
       → marked_escaped p bytes ≡ (take run bytes ++ backslash ∷ letter ∷ []) ++ marked_escaped p (drop (run + 1) bytes)
   marked_escaped-short bytes run letter stops is =
-      let marked : p (get_or bytes run 0) ≡ true = rw stops.position (passes_at_first p bytes 0 (let inside = stops.within in omega (arith, inside, stops.position))) in
-      marked_escaped-run run bytes (omega (arith, stops.position)) ∙ ap (λ l. take run bytes ++ l) (marked_escaped-letter bytes run letter (omega (arith, stops.within)) marked is)
+      let marked : p (get_or bytes run 0) ≡ true =
+      rw stops.position (passes_at_first p bytes 0
+      (let inside = stops.within in omega (arith, inside, stops.position))) in
+      marked_escaped-run run bytes (omega (arith, stops.position))
+      ∙ ap (λ l. take run bytes ++ l)
+      (marked_escaped-letter bytes run letter (omega (arith, stops.within)) marked is)
       ∙ sym (append_assoc (take run bytes) (backslash ∷ letter ∷ []) (marked_escaped p (drop (run + 1) bytes)))
 
   -- the bytes before the first that is marked, and what stands behind them
-  pub marked_escaped-split : (bytes front back : List ℕ) (run : ℕ) → run ≡ position_or_len p bytes → front ≡ take run bytes → back ≡ drop run bytes
+  pub marked_escaped-split : (bytes front back : List ℕ) (run : ℕ) → run ≡ position_or_len p bytes
+      → front ≡ take run bytes → back ≡ drop run bytes
       → marked_escaped p bytes ≡ front ++ marked_escaped p back
   marked_escaped-split bytes front back run stops is_front is_back =
-      marked_escaped-run run bytes (omega (arith, stops)) ∙ sym (ap (λ l. l ++ marked_escaped p back) is_front ∙ ap (λ l. take run bytes ++ marked_escaped p l) is_back)
+      marked_escaped-run run bytes (omega (arith, stops))
+      ∙ sym (ap (λ l. l ++ marked_escaped p back) is_front
+      ∙ ap (λ l. take run bytes ++ marked_escaped p l) is_back)
 
   pub marked_escaped-at : (bytes back : List ℕ) (run : ℕ) → run ≡ position_or_len p bytes → back ≡ drop run bytes → 0 < length back
       → marked_escaped p back ≡ escape (get_or back 0 0) ++ marked_escaped p (drop 1 back)
@@ -80,11 +96,14 @@ module _ (p : ℕ → Bool) where
       marked_escaped-next (get_or back 0 0) back (drop 1 back) (drop_more back 0 0 some) (ap p first ∙ passes_at_first p bytes 0 within)
 
   -- bytes beyond ASCII, of which none is marked
-  marked_escaped-beyond : ((byte : ℕ) → 0x80 ≤ byte → p byte ≡ false) → (bytes : List ℕ) → list_all (λ b. leb 0x80 b) bytes ≡ true → marked_escaped p bytes ≡ bytes
+  marked_escaped-beyond : ((byte : ℕ) → 0x80 ≤ byte → p byte ≡ false) → (bytes : List ℕ)
+      → list_all (λ b. leb 0x80 b) bytes ≡ true → marked_escaped p bytes ≡ bytes
   marked_escaped-beyond none [] beyond = refl
   marked_escaped-beyond none (b ∷ bytes) beyond =
       let both = and_parts (leb 0x80 b) (list_all (λ b. leb 0x80 b) bytes) beyond in
-      ap (λ x. cond x (escape b) (b ∷ []) ++ marked_escaped p bytes) (none b (let high = both.0 in grind (arith, nat_tests))) ∙ ap (λ l. b ∷ l) (marked_escaped-beyond none bytes both.1)
+      ap (λ x. cond x (escape b) (b ∷ []) ++ marked_escaped p bytes)
+      (none b (let high = both.0 in grind (arith, nat_tests)))
+      ∙ ap (λ l. b ∷ l) (marked_escaped-beyond none bytes both.1)
 
 encode_beyond : (c : ℕ) → 0x80 ≤ c → list_all (λ b. leb 0x80 b) (encode c) ≡ true
 unfolding encode
@@ -92,7 +111,8 @@ encode_beyond c beyond = grind (arith, nat_tests)
 
 -- Where a policy escapes ASCII alone, each byte tells what goes out for it.
 module _ (policy : EscapePolicy) (ascii : (c : ℕ) → 0x80 ≤ c → (begins_escaped policy c ≡ false) × (is_escaped policy c ≡ false)) where
-  one_escaped : (c : ℕ) → marked_escaped (begins_escaped policy) (encode c) ≡ encode_utf8_all (cond (is_escaped policy c) (escape c) (c ∷ []))
+  one_escaped : (c : ℕ) → marked_escaped (begins_escaped policy) (encode c) ≡ encode_utf8_all
+      (cond (is_escaped policy c) (escape c) (c ∷ []))
   one_escaped c =
       elim (cases_lt c 0x80) [
         | inl below ↦ ascii_escaped (is_escaped policy c) below refl
@@ -101,7 +121,8 @@ module _ (policy : EscapePolicy) (ascii : (c : ℕ) → 0x80 ≤ c → (begins_e
             ∙ sym (ap (λ b. encode_utf8_all (cond b (escape c) (c ∷ []))) (ascii c beyond).1 ∙ append-nil (encode c))
       ]
     where
-      ascii_escaped : (b : Bool) → c < 0x80 → is_escaped policy c ≡ b → marked_escaped (begins_escaped policy) (encode c) ≡ encode_utf8_all (cond b (escape c) (c ∷ []))
+      ascii_escaped : (b : Bool) → c < 0x80 → is_escaped policy c ≡ b
+          → marked_escaped (begins_escaped policy) (encode c) ≡ encode_utf8_all (cond b (escape c) (c ∷ []))
       ascii_escaped true below is =
           let same : begins_escaped policy c ≡ is_escaped policy c = grind (arith, nat_tests) in
           ap (marked_escaped (begins_escaped policy)) (encode_ascii c below) ∙ ap (λ b. cond b (escape c) (c ∷ []) ++ []) (same ∙ is)
@@ -118,7 +139,8 @@ module _ (policy : EscapePolicy) (ascii : (c : ℕ) → 0x80 ≤ c → (begins_e
       ∙ sym (encodes-append (cond (is_escaped policy c) (escape c) (c ∷ [])) (escaped policy text))
 
   escaped_bytes-marked : (bytes : List ℕ) → IsUtf8 bytes → escaped_bytes policy bytes ≡ marked_escaped (begins_escaped policy) bytes
-  escaped_bytes-marked bytes is_text = sym (chars_escaped (chars bytes)) ∙ ap (marked_escaped (begins_escaped policy)) (encodes-chars bytes is_text)
+  escaped_bytes-marked bytes is_text = sym (chars_escaped (chars bytes))
+      ∙ ap (marked_escaped (begins_escaped policy)) (encodes-chars bytes is_text)
 
 basics_ascii : (c : ℕ) → 0x80 ≤ c → (begins_escaped Basics c ≡ false) × (is_escaped Basics c ≡ false)
 basics_ascii c beyond = (begins-basic c ∙ grind (arith, nat_tests), grind (arith, nat_tests))
@@ -133,16 +155,22 @@ pub escaped_bytes-reserved : (bytes : List ℕ) → IsUtf8 bytes → escaped_byt
 escaped_bytes-reserved bytes is_text = escaped_bytes-marked Reserved reserved_ascii bytes is_text
 
 -- a run and an escape by a letter, put behind the first bytes
-pub placed_short : (len run letter : ℕ) (before bytes lanes after : List ℕ) → run ≤ 16 → take (len + run) lanes ≡ take len before ++ take run (chunk 0 16 bytes)
-    → take (len + run + 2) after ≡ take (len + run) lanes ++ backslash ∷ letter ∷ [] → take (len + (run + 2)) after ≡ take len before ++ (take run bytes ++ backslash ∷ letter ∷ [])
+pub placed_short : (len run letter : ℕ) (before bytes lanes after : List ℕ) → run ≤ 16
+    → take (len + run) lanes ≡ take len before ++ take run (chunk 0 16 bytes)
+    → take (len + run + 2) after ≡ take (len + run) lanes ++ backslash ∷ letter ∷ []
+    → take (len + (run + 2)) after ≡ take len before ++ (take run bytes ++ backslash ∷ letter ∷ [])
 placed_short len run letter before bytes lanes after below first second =
     let end : len + (run + 2) ≡ len + run + 2 = omega arith in
-    ap (λ k. take k after) end ∙ second ∙ ap (λ l. l ++ backslash ∷ letter ∷ []) (first ∙ ap (λ l. take len before ++ l) (take-take run 16 bytes below))
+    ap (λ k. take k after) end ∙ second
+    ∙ ap (λ l. l ++ backslash ∷ letter ∷ [])
+    (first ∙ ap (λ l. take len before ++ l) (take-take run 16 bytes below))
     ∙ append_assoc (take len before) (take run bytes) (backslash ∷ letter ∷ [])
 
 -- eight to sixteen bytes, put by their first eight and their last
-pub placed_few : (len back : ℕ) (before bytes mid after : List ℕ) → length bytes ≡ back + 8 → back ≤ 8 → take (len + back) mid ≡ take len before ++ take back (chunk 0 8 bytes)
-    → take (len + back + 8) after ≡ take (len + back) mid ++ take 8 (chunk 0 8 (drop back bytes)) → take (len + length bytes) after ≡ take len before ++ bytes
+pub placed_few : (len back : ℕ) (before bytes mid after : List ℕ) → length bytes ≡ back + 8 → back ≤ 8
+    → take (len + back) mid ≡ take len before ++ take back (chunk 0 8 bytes)
+    → take (len + back + 8) after ≡ take (len + back) mid ++ take 8 (chunk 0 8 (drop back bytes))
+    → take (len + length bytes) after ≡ take len before ++ bytes
 placed_few len back before bytes mid after long few first second =
     let end : len + length bytes ≡ len + back + 8 = omega arith in
     let last : take 8 (take 8 (drop back bytes)) ≡ drop back bytes =
@@ -157,11 +185,15 @@ placed_none len before after is =
     ap (λ k. take k after) end ∙ is ∙ append-nil (take len before)
 
 -- what stands before a place is kept where more is
-pub kept_front : (fewer len : ℕ) (before after : List ℕ) → fewer ≤ len → take len after ≡ take len before → take fewer after ≡ take fewer before
-kept_front fewer len before after within same = sym (take-take fewer len after within) ∙ ap (take fewer) same ∙ take-take fewer len before within
+pub kept_front : (fewer len : ℕ) (before after : List ℕ) → fewer ≤ len → take len after ≡ take len before
+    → take fewer after ≡ take fewer before
+kept_front fewer len before after within same = sym (take-take fewer len after within)
+    ∙ ap (take fewer) same ∙ take-take fewer len before within
 
 -- what was held before a piece is the front of what is held with it
-pub grown_front : (fewer len : ℕ) (before after piece : List ℕ) → fewer ≤ length before → fewer ≤ len → take len after ≡ take fewer before ++ piece → take fewer after ≡ take fewer before
+pub grown_front : (fewer len : ℕ) (before after piece : List ℕ) → fewer ≤ length before → fewer ≤ len
+    → take len after ≡ take fewer before ++ piece → take fewer after ≡ take fewer before
 grown_front fewer len before after piece within more is =
     sym (take-take fewer len after more) ∙ ap (take fewer) is
-    ∙ take-append-le fewer (take fewer before) piece (omega (arith, length-take-le fewer before within)) ∙ take-take fewer fewer before (omega arith)
+    ∙ take-append-le fewer (take fewer before) piece (omega (arith, length-take-le fewer before within))
+    ∙ take-take fewer fewer before (omega arith)

@@ -13,7 +13,8 @@ Appends-kept (Some xs) None kept = kept
 Appends-kept (Some xs) (Some ys) kept = kept ∙ sym (append-nil xs)
 
 -- the next part is appended
-pub under_way_more : {a b c : Option (List ℕ)} {whole rest ys : List ℕ} (xs : List ℕ) → IsUnderWay a b whole rest → rest ≡ xs ++ ys → Appends b c xs
+pub under_way_more : {a b c : Option (List ℕ)} {whole rest ys : List ℕ} (xs : List ℕ)
+    → IsUnderWay a b whole rest → rest ≡ xs ++ ys → Appends b c xs
     → IsUnderWay a c whole ys
 under_way_more {a} {b} {c} {whole} {rest} {ys} xs before next more = record {
   done = before.done ++ xs;
@@ -29,7 +30,8 @@ under_way_past {a} {b} {c} {whole} {rest} n before more =
     rw slice (under_way_more (take n rest) before (sym (take-append-drop n rest)) more)
 
 -- a front of the next part, with what went before, is a front of the whole
-pub under_way_front : {a b : Option (List ℕ)} {whole rest : List ℕ} (c : Option (List ℕ)) (xs ys : List ℕ) → IsUnderWay a b whole rest → rest ≡ xs ++ ys
+pub under_way_front : {a b : Option (List ℕ)} {whole rest : List ℕ} (c : Option (List ℕ)) (xs ys : List ℕ)
+    → IsUnderWay a b whole rest → rest ≡ xs ++ ys
     → AppendsFront b c xs → AppendsFront a c whole
 under_way_front {a} {b} {whole} {rest} c xs ys before next (n, within, more) =
     let done = before.done in
@@ -42,5 +44,6 @@ under_way_front {a} {b} {whole} {rest} c xs ys before next (n, within, more) =
     )
 
 -- a write that appends nothing leaves a front of the whole
-pub under_way_kept : {a b : Option (List ℕ)} {whole rest : List ℕ} (c : Option (List ℕ)) → IsUnderWay a b whole rest → Keeps b c → AppendsFront a c whole
+pub under_way_kept : {a b : Option (List ℕ)} {whole rest : List ℕ} (c : Option (List ℕ))
+    → IsUnderWay a b whole rest → Keeps b c → AppendsFront a c whole
 under_way_kept {a} {b} {whole} {rest} c before kept = under_way_front c [] rest before refl (0, omega arith, Appends-kept b c kept)

@@ -11,14 +11,16 @@ use Rattle.ini_text.specs.declared.device.Watched.{Watched}
 use Rattle.ini_text.proofs.WriteLemmas.ProgressLemmas.{under_way_front}
 
 -- what is held after a first text, and a second
-under_way-behind : {a b : Option (List ℕ)} {held : List ℕ} (before xs ys : List ℕ) → IsUnderWay a b (before ++ xs) held → IsUnderWay a b (before ++ (xs ++ ys)) (held ++ ys)
+under_way-behind : {a b : Option (List ℕ)} {held : List ℕ} (before xs ys : List ℕ)
+    → IsUnderWay a b (before ++ xs) held → IsUnderWay a b (before ++ (xs ++ ys)) (held ++ ys)
 under_way-behind {a} {b} {held} before xs ys first = record {
   done = first.done;
   appended = first.appended;
   parts = sym (append_assoc before xs ys) ∙ ap (λ l. l ++ ys) first.parts ∙ append_assoc first.done held ys;
 }
 
-under_way-then : {a b c : Option (List ℕ)} {whole rest after : List ℕ} → IsUnderWay a b whole rest → IsUnderWay b c rest after → IsUnderWay a c whole after
+under_way-then : {a b c : Option (List ℕ)} {whole rest after : List ℕ} → IsUnderWay a b whole rest
+    → IsUnderWay b c rest after → IsUnderWay a c whole after
 under_way-then {a} {b} {c} {whole} {rest} {after} first second = record {
   done = first.done ++ second.done;
   appended = Appends-trans a b c first.done second.done first.appended second.appended;
@@ -43,7 +45,8 @@ module _ {W : Type 0} {contents : W → Option (List ℕ)} where
   }
 
   -- bytes that are held back
-  pub Sends-held : {a : Watched W} {before after xs : List ℕ} → IsClear a → after ≡ before ++ xs → Sends contents a a before after (Ok (tt {0})) xs
+  pub Sends-held : {a : Watched W} {before after xs : List ℕ} → IsClear a → after ≡ before ++ xs
+      → Sends contents a a before after (Ok (tt {0})) xs
   Sends-held clear held = record {
     same_device = refl;
     sent = record { done = []; appended = Appends-nil _; parts = sym held };
@@ -54,7 +57,8 @@ module _ {W : Type 0} {contents : W → Option (List ℕ)} where
   }
 
   -- bytes that go out while nothing is held back
-  pub Sends-direct : {a b : Watched W} {h xs : List ℕ} {r : Result (Unit {0}) Error} → h ≡ [] → WritesBytes contents a b r xs → Sends contents a b h h r xs
+  pub Sends-direct : {a b : Watched W} {h xs : List ℕ} {r : Result (Unit {0}) Error} → h ≡ []
+      → WritesBytes contents a b r xs → Sends contents a b h h r xs
   Sends-direct {a} {b} {h} {xs} {r} empty all = record {
     same_device = all.same_device;
     sent = at r all.bytes;
@@ -64,7 +68,9 @@ module _ {W : Type 0} {contents : W → Option (List ℕ)} where
     only = all.only;
   }
     where
-      at : (r : Result (Unit {0}) Error) → OnOk r (Appends (contents a.device.now) (contents b.device.now) xs) → OnOk r (IsUnderWay (contents a.device.now) (contents b.device.now) (h ++ xs) h)
+      at : (r : Result (Unit {0}) Error)
+          → OnOk r (Appends (contents a.device.now) (contents b.device.now) xs)
+          → OnOk r (IsUnderWay (contents a.device.now) (contents b.device.now) (h ++ xs) h)
       at (Ok x) all = record { done = xs; appended = all; parts = rw empty (sym (append-nil xs)) }
       at (Err e) all = tt
 
@@ -73,7 +79,8 @@ module _ {W : Type 0} {contents : W → Option (List ℕ)} where
       stopped (Err e) = rw empty all.front
 
   -- the second text behind the first
-  pub Sends-then : {a b c : Watched W} {before between after xs ys : List ℕ} {r : Result (Unit {0}) Error} → Sends contents a b before between (Ok (tt {0})) xs
+  pub Sends-then : {a b c : Watched W} {before between after xs ys : List ℕ} {r : Result (Unit {0}) Error}
+      → Sends contents a b before between (Ok (tt {0})) xs
       → Sends contents b c between after r ys → Sends contents a c before after r (xs ++ ys)
   Sends-then {a} {b} {c} {before} {between} {after} {xs} {ys} {r} first second = record {
     same_device = second.same_device ∙ first.same_device;
@@ -120,20 +127,25 @@ module _ {W : Type 0} {contents : W → Option (List ℕ)} where
     only = sends.only;
   }
     where
-      at : (r : Result (Unit {0}) Error) → OnOk r (IsUnderWay (contents a.device.now) (contents b.device.now) (before ++ xs) after) → OnOk r (after ≡ [])
+      at : (r : Result (Unit {0}) Error)
+          → OnOk r (IsUnderWay (contents a.device.now) (contents b.device.now) (before ++ xs) after)
+          → OnOk r (after ≡ [])
           → OnOk r (Appends (contents a.device.now) (contents b.device.now) xs)
       at (Ok x) sent end =
-          subst (Appends _ _) (sym (append-nil sent.done) ∙ ap (λ l. sent.done ++ l) (sym end) ∙ sym sent.parts ∙ ap (λ l. l ++ xs) none) sent.appended
+          subst (Appends _ _) (sym (append-nil sent.done) ∙ ap (λ l. sent.done ++ l) (sym end)
+          ∙ sym sent.parts ∙ ap (λ l. l ++ xs) none) sent.appended
       at (Err e) sent end = tt
 
   -- the same, once it is flushed
   pub Sends-flushed : {a b c : Watched W} {before between after xs : List ℕ} {r : Result (Unit {0}) Error} → IsClear a → before ≡ []
-      → Sends contents a b before between (Ok (tt {0})) xs → Sends contents b c between after r [] → OnOk r (after ≡ []) → WritesBytes contents a c r xs
+      → Sends contents a b before between (Ok (tt {0})) xs → Sends contents b c between after r []
+      → OnOk r (after ≡ []) → WritesBytes contents a c r xs
   Sends-flushed {a} {b} {c} {xs = xs} {r = r} clear none first second empty =
       subst (WritesBytes contents a c r) (append-nil xs) (Sends-all clear none (Sends-then first second) empty)
 
   -- a text that was cut short, and what should have followed
-  pub Sends-cut : {a b : Watched W} {before after xs : List ℕ} {e : Error} (ys : List ℕ) → Sends contents a b before after (Err e) xs → Sends contents a b before after (Err e) (xs ++ ys)
+  pub Sends-cut : {a b : Watched W} {before after xs : List ℕ} {e : Error} (ys : List ℕ)
+      → Sends contents a b before after (Err e) xs → Sends contents a b before after (Err e) (xs ++ ys)
   Sends-cut {a} {b} {before} {after} {xs} {e} ys cut = record {
     same_device = cut.same_device;
     sent = tt;
@@ -154,14 +166,20 @@ module _ {W : Type 0} {contents : W → Option (List ℕ)} where
   Sending-starts h clear = record { so_far = []; joined = refl; sent = Sends-nil h clear }
 
   -- nothing more is held
-  pub Sending-stays : {a b : Watched W} {before held after whole rest : List ℕ} → after ≡ held ++ [] → Sending contents a b before held whole rest → Sending contents a b before after whole rest
-  Sending-stays {a} {b} {before} {held} {after} {whole} {rest} same sending = subst (λ h. Sending contents a b before h whole rest) (sym (same ∙ append-nil held)) sending
+  pub Sending-stays : {a b : Watched W} {before held after whole rest : List ℕ} → after ≡ held ++ []
+      → Sending contents a b before held whole rest → Sending contents a b before after whole rest
+  Sending-stays {a} {b} {before} {held} {after} {whole} {rest} same sending =
+      subst (λ h. Sending contents a b before h whole rest) (sym (same ∙ append-nil held)) sending
 
-  pub Sending-ends : {a b : Watched W} {before held whole : List ℕ} → Sending contents a b before held whole [] → Sends contents a b before held (Ok (tt {0})) whole
-  Sending-ends {a} {b} {before} {held} left = subst (Sends contents a b before held (Ok (tt {0}))) (sym (append-nil left.so_far) ∙ left.joined) left.sent
+  pub Sending-ends : {a b : Watched W} {before held whole : List ℕ}
+      → Sending contents a b before held whole [] → Sends contents a b before held (Ok (tt {0})) whole
+  Sending-ends {a} {b} {before} {held} left =
+      subst (Sends contents a b before held (Ok (tt {0}))) (sym (append-nil left.so_far) ∙ left.joined)
+      left.sent
 
   -- a call that was to send the front xs of the rest
-  module _ {a b c : Watched W} {before held after whole rest xs : List ℕ} (more : List ℕ) (front : rest ≡ xs ++ more) (left : Sending contents a b before held whole rest) where
+  module _ {a b c : Watched W} {before held after whole rest xs : List ℕ} (more : List ℕ)
+      (front : rest ≡ xs ++ more) (left : Sending contents a b before held whole rest) where
     pub Sending-goes_on : Sends contents b c held after (Ok (tt {0})) xs → Sending contents a c before after whole more
     Sending-goes_on step = record {
       so_far = left.so_far ++ xs;
@@ -182,9 +200,16 @@ pub record Leaving {W : Type 0} (contents : W → Option (List ℕ)) (a b : Watc
 
 module _ {W : Type 0} {contents : W → Option (List ℕ)} where
   pub Leaving-starts : {a : Watched W} (whole : List ℕ) → IsClear a → Leaving contents a a whole whole
-  Leaving-starts whole clear = record { clear = clear; same_device = refl; under_way = record { done = []; appended = Appends-nil _; parts = refl } }
+  Leaving-starts whole clear =
+      record {
+        clear = clear;
+        same_device = refl;
+        under_way =
+            record { done = []; appended = Appends-nil _; parts = refl };
+      }
 
-  pub Leaving-ends : {a b : Watched W} (before after xs : List ℕ) → Leaving contents a b (before ++ xs) after → Sends contents a b before after (Ok (tt {0})) xs
+  pub Leaving-ends : {a b : Watched W} (before after xs : List ℕ)
+      → Leaving contents a b (before ++ xs) after → Sends contents a b before after (Ok (tt {0})) xs
   Leaving-ends before after xs all = record {
     same_device = all.same_device;
     sent = all.under_way;
@@ -195,7 +220,8 @@ module _ {W : Type 0} {contents : W → Option (List ℕ)} where
   }
 
   -- a call that was to send the bytes xs behind what is held
-  module _ {a b c : Watched W} {held after whole left : List ℕ} (xs more : List ℕ) (front : left ≡ held ++ (xs ++ more)) (so_far : Leaving contents a b whole left) where
+  module _ {a b c : Watched W} {held after whole left : List ℕ} (xs more : List ℕ)
+      (front : left ≡ held ++ (xs ++ more)) (so_far : Leaving contents a b whole left) where
     pub Leaving-goes_on : Sends contents b c held after (Ok (tt {0})) xs → Leaving contents a c whole (after ++ more)
     Leaving-goes_on step = record {
       clear = (step.failures, step.stalls);
@@ -203,11 +229,14 @@ module _ {W : Type 0} {contents : W → Option (List ℕ)} where
       under_way = under_way-then so_far.under_way (rw front (under_way-behind held xs more step.sent));
     }
 
-    pub Leaving-stops : {e : Error} (before ys : List ℕ) → before ++ ys ≡ whole → Sends contents b c held after (Err e) xs → Sends contents a c before after (Err e) ys
+    pub Leaving-stops : {e : Error} (before ys : List ℕ) → before ++ ys ≡ whole
+        → Sends contents b c held after (Err e) xs → Sends contents a c before after (Err e) ys
     Leaving-stops before ys all cut = record {
       same_device = cut.same_device ∙ so_far.same_device;
       sent = tt;
-      front = subst (AppendsFront _ _) (sym all) (under_way_front _ (held ++ xs) more so_far.under_way (front ∙ sym (append_assoc held xs more)) cut.front);
+      front = subst (AppendsFront _ _) (sym all)
+          (under_way_front _ (held ++ xs) more so_far.under_way (front ∙ sym (append_assoc held xs more))
+          cut.front);
       failures = cut.failures;
       stalls = cut.stalls;
       only = cut.only;

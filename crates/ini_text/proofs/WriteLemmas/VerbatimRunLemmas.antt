@@ -41,19 +41,37 @@ first_of_two : (policy : EscapePolicy) (c : ℕ) → 0x80 ≤ c → c < 0x800 �
 unfolding encode
 first_of_two policy c low high =
     let lead : begins_escaped policy (192 + c / 64) ≡ is_escaped policy 0x80 = grind (arith, nat_tests) in
-    record { first = 192 + c / 64; others = next c ∷ []; all = grind (arith, nat_tests); tells = lead ∙ is_escaped-unicode policy c low (omega arith) }
+    record {
+      first = 192 + c / 64;
+      others = next c ∷ [];
+      all = grind (arith, nat_tests);
+      tells = lead
+          ∙ is_escaped-unicode policy c low (omega arith);
+    }
 
 first_of_three : (policy : EscapePolicy) (c : ℕ) → 0x800 ≤ c → c < 0x1_0000 → HasFirst policy c
 unfolding encode
 first_of_three policy c low high =
     let lead : begins_escaped policy (224 + c / 4096) ≡ is_escaped policy 0x80 = grind (arith, nat_tests) in
-    record { first = 224 + c / 4096; others = next (c / 64) ∷ next c ∷ []; all = grind (arith, nat_tests); tells = lead ∙ is_escaped-unicode policy c (omega arith) high }
+    record {
+      first = 224 + c / 4096;
+      others = next (c / 64) ∷ next c ∷ [];
+      all =
+          grind (arith, nat_tests);
+      tells = lead ∙ is_escaped-unicode policy c (omega arith) high;
+    }
 
 first_of_four : (policy : EscapePolicy) (c : ℕ) → 0x1_0000 ≤ c → HasFirst policy c
 unfolding encode
 first_of_four policy c low =
     let lead : begins_escaped policy (240 + c / 262144) ≡ is_escaped policy 0x1_0000 = grind (arith, nat_tests) in
-    record { first = 240 + c / 262144; others = next (c / 4096) ∷ next (c / 64) ∷ next c ∷ []; all = grind (arith, nat_tests); tells = lead ∙ is_escaped-extended policy c low }
+    record {
+      first = 240 + c / 262144;
+      others = next (c / 4096) ∷ next (c / 64) ∷ next c ∷ [];
+      all =
+          grind (arith, nat_tests);
+      tells = lead ∙ is_escaped-extended policy c low;
+    }
 
 first_of : (policy : EscapePolicy) (c : ℕ) → HasFirst policy c
 first_of policy c =
@@ -61,29 +79,36 @@ first_of policy c =
       | inl below ↦ record { first = c; others = []; all = encode_ascii c below; tells = grind (arith, nat_tests) }
       | inr above ↦ elim (cases_lt c 0x800) [
         | inl below ↦ first_of_two policy c above below
-        | inr above ↦ elim (cases_lt c 0x1_0000) [ inl below ↦ first_of_three policy c above below | inr above ↦ first_of_four policy c above ]
+        | inr above ↦ elim (cases_lt c 0x1_0000) [
+          | inl below ↦ first_of_three policy c above below
+          | inr above ↦ first_of_four policy c above
+        ]
       ]
     ]
 
 -- characters none of whose bytes begins one that is escaped
-escaped-passed : (policy : EscapePolicy) (text : List ℕ) → list_all (λ b. not (begins_escaped policy b)) (encode_utf8_all text) ≡ true → escaped policy text ≡ text
+escaped-passed : (policy : EscapePolicy) (text : List ℕ)
+    → list_all (λ b. not (begins_escaped policy b)) (encode_utf8_all text) ≡ true → escaped policy text ≡ text
 escaped-passed policy [] passed = refl
 escaped-passed policy (c ∷ text) passed =
     let test : ℕ → Bool = λ b. not (begins_escaped policy b) in
     let by = first_of policy c in
-    let both = and_parts (list_all test (encode c)) (list_all test (encode_utf8_all text)) (sym (list_all-append test (encode c) (encode_utf8_all text)) ∙ passed) in
+    let both = and_parts (list_all test (encode c)) (list_all test (encode_utf8_all text))
+    (sym (list_all-append test (encode c) (encode_utf8_all text)) ∙ passed) in
     let first = (and_parts (test by.first) (list_all test by.others) (ap (list_all test) (sym by.all) ∙ both.0)).0 in
     let is : is_escaped policy c ≡ false = grind (arith, by.tells) in
     ap (λ b. cond b (escape c) (c ∷ []) ++ escaped policy text) is ∙ ap (λ l. c ∷ l) (escaped-passed policy text both.1)
 
 -- characters whose first byte, if there is one, begins one that is escaped
-begins-stopped : (policy : EscapePolicy) (text bytes : List ℕ) → encode_utf8_all text ≡ bytes → (0 < length bytes → begins_escaped policy (get_or bytes 0 0) ≡ true)
+begins-stopped : (policy : EscapePolicy) (text bytes : List ℕ) → encode_utf8_all text ≡ bytes
+    → (0 < length bytes → begins_escaped policy (get_or bytes 0 0) ≡ true)
     → BeginsWithNo (λ c. not (is_escaped policy c)) text
 begins-stopped policy [] bytes is stopped = tt
 begins-stopped policy (c ∷ text) bytes is stopped =
     let by = first_of policy c in
     let parts : bytes ≡ by.first ∷ (by.others ++ encode_utf8_all text) = sym is ∙ ap (λ l. l ++ encode_utf8_all text) by.all in
-    let first : begins_escaped policy by.first ≡ true = ap (λ l. begins_escaped policy (get_or l 0 0)) (sym parts) ∙ stopped (rw parts (omega arith)) in
+    let first : begins_escaped policy by.first ≡ true =
+    ap (λ l. begins_escaped policy (get_or l 0 0)) (sym parts) ∙ stopped (rw parts (omega arith)) in
     ap not (sym by.tells ∙ first)
 
 list_all-step : (p : ℕ → Bool) (b : Bool) (n x : ℕ) (xs : List ℕ) → not (p x) ≡ b → list_all (λ y. not (p y)) (take n xs) ≡ true
@@ -96,7 +121,8 @@ list_all-position p [] = refl
 list_all-position p (x ∷ xs) = list_all-step p (not (p x)) (position_or_len p xs) x xs refl (list_all-position p xs)
 
 -- A text's bytes, cut where the search stops.
-module _ (policy : EscapePolicy) (bytes : List ℕ) (n : ℕ) (at : n ≡ position_or_len (begins_escaped policy) bytes) (is_text : IsUtf8 bytes) where
+module _ (policy : EscapePolicy) (bytes : List ℕ) (n : ℕ)
+    (at : n ≡ position_or_len (begins_escaped policy) bytes) (is_text : IsUtf8 bytes) where
   stopped : n < length bytes → begins_escaped policy (get_or bytes n 0) ≡ true
   stopped within = rw at (passes_at_first (begins_escaped policy) bytes 0 (rw at at within))
 
@@ -105,11 +131,14 @@ module _ (policy : EscapePolicy) (bytes : List ℕ) (n : ℕ) (at : n ≡ positi
       let within : n ≤ length bytes = rw at (prefix_len-le-length (λ b. not (begins_escaped policy b)) bytes) in
       (within, λ below high. let stop = stopped below in grind (arith, nat_tests))
 
-  pub escaped_bytes-run : (front back : List ℕ) → front ≡ take n bytes → back ≡ drop n bytes → escaped_bytes policy bytes ≡ front ++ escaped_bytes policy back
+  pub escaped_bytes-run : (front back : List ℕ) → front ≡ take n bytes → back ≡ drop n bytes
+      → escaped_bytes policy bytes ≡ front ++ escaped_bytes policy back
   escaped_bytes-run front back is_front is_back =
       let front_is_text : IsUtf8 front = rw is_front (IsUtf8-take bytes n is_text IsCharBoundary-run) in
       let parts : bytes ≡ front ++ back = rw (is_front, is_back, take-append-drop) refl in
-      let passed = escaped-passed policy (chars front) (rw (encodes-chars front front_is_text, is_front, at) (list_all-position (begins_escaped policy) bytes)) in
+      let passed = escaped-passed policy (chars front)
+      (rw (encodes-chars front front_is_text, is_front, at)
+      (list_all-position (begins_escaped policy) bytes)) in
       rw (parts, chars-append front back front_is_text, flat_map-append, encodes-append, passed, encodes-chars front front_is_text) refl
 
   pub begins-run : (back : List ℕ) → back ≡ drop n bytes → BeginsWithNo (λ c. not (is_escaped policy c)) (chars back)

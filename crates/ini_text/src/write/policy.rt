@@ -10,7 +10,8 @@ ghost use Rattle.ini_text.specs.Escaping.Policies.{is_escaped};
 /// by no policy.
 #[derive(Copy, Clone, PartialEq, Debug)]
 pub enum EscapePolicy {
-    /// No character. A text with a backslash or a line end in it may then load back as another.
+    /// No character. A text with a backslash or a line end in it may then load back as another, or not at
+    /// all.
     Nothing,
     /// The basic characters.
     Basics,

@@ -5,7 +5,8 @@ use Rattle.ini.proofs.items.push_items.Goals as goal
 pub items-init : goal.items-init
 items-init c =
     let new = c.behind-parser.ensures in
-    Loaded-starts (chars c.args.rest.now) c.requires.is_rest (record { option = new.option; text = new.text; refusal = new.refusal }) new.front c.requires.some
+    Loaded-starts (chars c.args.rest.now) c.requires.is_rest
+    (record { option = new.option; text = new.text; refusal = new.refusal }) new.front c.requires.some
 
 pub items-preserved : goal.items-preserved
 items-preserved c =

@@ -4,8 +4,11 @@ use Rattle.ini.proofs.items.push_settled.Goals as goal
 
 pub items-init : goal.items-init
 items-init c =
-    let new = c.behind-parser.ensures in
-    (c.utf8.rest, Settling-starts c.requires.is_rest (record { option = new.option; text = new.text; refusal = new.refusal }) new.front c.requires.some)
+    let new = c.behind-parser.ensures in (
+      c.utf8.rest,
+      Settling-starts c.requires.is_rest
+          (record { option = new.option; text = new.text; refusal = new.refusal }) new.front c.requires.some,
+    )
 
 pub items-preserved : goal.items-preserved
 items-preserved c =
@@ -14,5 +17,8 @@ items-preserved c =
     let reading = settling.reading in
     let is = c.in-Ok-Some.is ∙ ap Ok c.in-Ok-Some.field-0-is in
     let goes_on = IsReading-goes_on reading c.next_item.new.self _ next.item next.option next.text next.refusal is in
-    let some = chars-some c.rest-behind.result.now c.rest-behind.utf8 (grind (arith, c.is_empty.ensures, c.if-is_empty.false)) in
-    (c.rest-behind.utf8, Settling-item reading c.next_item.new.self _ next.item settling goes_on is some (c.rest-behind.ensures ∙ goes_on.text) c.in_ok-push_item.ensures.pushed)
+    let some = chars-some c.rest-behind.result.now c.rest-behind.utf8 (grind (arith, c.is_empty.ensures, c.if-is_empty.false)) in (
+      c.rest-behind.utf8,
+      Settling-item reading c.next_item.new.self _ next.item settling goes_on is some
+          (c.rest-behind.ensures ∙ goes_on.text) c.in_ok-push_item.ensures.pushed,
+    )

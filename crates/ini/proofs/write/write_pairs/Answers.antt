@@ -14,4 +14,5 @@ loop-key-preserved g c =
 pub returns-in_err-write_pair : goal.returns-in_err-write_pair
 returns-in_err-write_pair g c =
     let p = err_from_is_err_and c.from_residual.result c.from_residual.ensures.1 in
-    rw (p.1, p.2) (Writing-stops _ (ap (written_pairs c.args.option.now) c.in-Some.ensures.steps) c.loop-key.invariant c.in_err-write_pair.ensures)
+    rw (p.1, p.2) (Writing-stops _ (ap (written_pairs c.args.option.now) c.in-Some.ensures.steps)
+    c.loop-key.invariant c.in_err-write_pair.ensures)

@@ -5,4 +5,5 @@ use Rattle.ini.proofs.write.write_pairs.Given as goal
 
 abbrev pub invariant-loop-key : goal.invariant-loop-key
 invariant-loop-key g l =
-    Writing g.W.Write.contents l.fn.out l.out (held l.fn.lines) (held l.lines) (written_pairs l.option l.pairs) (written_pairs l.option l.key-iterator)
+    Writing g.W.Write.contents l.fn.out l.out (held l.fn.lines) (held l.lines)
+    (written_pairs l.option l.pairs) (written_pairs l.option l.key-iterator)

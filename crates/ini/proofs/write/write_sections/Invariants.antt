@@ -5,4 +5,5 @@ use Rattle.ini.proofs.write.write_sections.Given as goal
 
 abbrev pub invariant-loop-name : goal.invariant-loop-name
 invariant-loop-name g l =
-    Writing g.W.Write.contents l.fn.out l.out (held l.fn.lines) (held l.lines) (written l.document l.option) (written_sections l.option l.earlier l.name-iterator)
+    Writing g.W.Write.contents l.fn.out l.out (held l.fn.lines) (held l.lines)
+    (written l.document l.option) (written_sections l.option l.earlier l.name-iterator)

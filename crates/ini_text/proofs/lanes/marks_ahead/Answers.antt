@@ -9,4 +9,9 @@ pub returns-clause-tells : goal.returns-clause-tells
 returns-clause-tells g c = Tells-found (g.M.Marks.is_marked c.args.marks.now) c.args.more c.args.bytes.now (omega arith) c.find.ensures
 
 pub returns-clause-none : goal.returns-clause-none
-returns-clause-none g c = λ none long. omega (arith, passed (g.M.Marks.is_marked c.args.marks.now) c.args.bytes.now 0 16 (omega arith) (sym c.find.ensures ∙ none))
+returns-clause-none g c =
+    λ none long. omega (
+      arith,
+      passed (g.M.Marks.is_marked c.args.marks.now) c.args.bytes.now 0 16
+          (omega arith) (sym c.find.ensures ∙ none),
+    )

@@ -4,4 +4,5 @@ use Rattle.std.proofs.lemmas.Iterator.Search.{all_from_yields_List}
 use Rattle.ini_text.proofs.plain.are_read_escaped.Goals as goal
 
 pub returns : goal.returns
-returns c = all_from_yields_List _ _ _ _ c.all.ensures.ran (YieldsList-from_chars c.args.text.now c.utf8.text cc) (λ x b q k. search (rules, tests))
+returns c = all_from_yields_List _ _ _ _ c.all.ensures.ran
+    (YieldsList-from_chars c.args.text.now c.utf8.text cc) (λ x b q k. search (rules, tests))

@@ -8,10 +8,14 @@ use Rattle.ini_text.proofs.plain.is_plain_pair.Goals as goal
 
 pub returns-then-is_read_back : goal.returns-then-is_read_back
 returns-then-is_read_back c =
-    let tested : c.is_plain_value.result ≡ is_plain_pair c.args.read c.args.policy (chars c.args.key.now) (chars c.args.value.now) = grind (arith, common_steps) in
-    Decides-at _ _ tested (pair_decides c.args.read c.args.policy (chars c.args.key.now) (chars c.args.value.now) (scalars-chars _ c.utf8.key) (scalars-chars _ c.utf8.value))
+    let tested : c.is_plain_value.result ≡ is_plain_pair c.args.read c.args.policy (chars c.args.key.now)
+    (chars c.args.value.now) = grind (arith, common_steps) in
+    Decides-at _ _ tested (pair_decides c.args.read c.args.policy (chars c.args.key.now)
+    (chars c.args.value.now) (scalars-chars _ c.utf8.key) (scalars-chars _ c.utf8.value))
 
 pub returns-else-is_read_back : goal.returns-else-is_read_back
 returns-else-is_read_back c =
-    let tested : c.if-is_plain_key.value ≡ is_plain_pair c.args.read c.args.policy (chars c.args.key.now) (chars c.args.value.now) = grind (arith, common_steps) in
-    Decides-at _ _ tested (pair_decides c.args.read c.args.policy (chars c.args.key.now) (chars c.args.value.now) (scalars-chars _ c.utf8.key) (scalars-chars _ c.utf8.value))
+    let tested : c.if-is_plain_key.value ≡ is_plain_pair c.args.read c.args.policy (chars c.args.key.now)
+    (chars c.args.value.now) = grind (arith, common_steps) in
+    Decides-at _ _ tested (pair_decides c.args.read c.args.policy (chars c.args.key.now)
+    (chars c.args.value.now) (scalars-chars _ c.utf8.key) (scalars-chars _ c.utf8.value))

@@ -6,5 +6,6 @@ pub returns-then-is_visible : goal.returns-then-is_visible
 returns-then-is_visible c = λ sees.
     let text = c.args.text.now in
     let same = c.as_bytes-bytes.ensures.value in
-    visible_ends text (length text - 1) _ _ c.utf8.text (omega (arith, c.as_bytes-bytes.ensures.len)) (ap (λ x. get_or x 0 0) (sym same)) (sym c.is_visible.ensures ∙ c.if-is_visible.true)
+    visible_ends text (length text - 1) _ _ c.utf8.text (omega (arith, c.as_bytes-bytes.ensures.len))
+    (ap (λ x. get_or x 0 0) (sym same)) (sym c.is_visible.ensures ∙ c.if-is_visible.true)
     (ap (λ x. get_or x (length x - 1) 0) (sym same)) (sym c.is_visible-then-is_visible.ensures ∙ sees)

@@ -5,7 +5,9 @@ use Rattle.ini_text.proofs.StringLemmas.PushLemmas.{appended, no_characters, one
 use Rattle.ini_text.proofs.text.push_text.Goals as goal
 
 pub returns-in-empty : goal.returns-in-empty
-returns-in-empty c = sym (ap (λ x. string_text c.args.out.now ++ x) (no_characters c.args.text.now (omega (arith, c.as_bytes.ensures.len))) ∙ append-nil _)
+returns-in-empty c = sym
+    (ap (λ x. string_text c.args.out.now ++ x)
+    (no_characters c.args.text.now (omega (arith, c.as_bytes.ensures.len))) ∙ append-nil _)
 
 pub returns-in-len1 : goal.returns-in-len1
 returns-in-len1 c =
@@ -15,4 +17,6 @@ returns-in-len1 c =
     (ap (λ b. b ∷ []) c.from.ensures ∙ sym one ∙ ap chars c.as_bytes.ensures.value) c.push.ensures
 
 pub returns-in_default : goal.returns-in_default
-returns-in_default c = appended c.push_str.result (string_bytes c.push_str.new.self) (string_bytes c.args.out.now) c.args.text.now (IsUtf8-string_bytes c.args.out.now) c.push_str.ensures.bytes
+returns-in_default c = appended c.push_str.result (string_bytes c.push_str.new.self)
+    (string_bytes c.args.out.now) c.args.text.now (IsUtf8-string_bytes c.args.out.now)
+    c.push_str.ensures.bytes

@@ -3,4 +3,5 @@ use Rattle.ini_text.proofs.text.split_first.Goals as goal
 
 pub returns-clause-characters : goal.returns-clause-characters
 returns-clause-characters c =
-    chars_past_char c.args.text.now c.as_str.result.now c.in_ok-first.first c.utf8.text (cc (c.in_ok-first.ensures.steps.0, c.chars-characters.ensures.rest, c.as_str.ensures))
+    chars_past_char c.args.text.now c.as_str.result.now c.in_ok-first.first c.utf8.text
+    (cc (c.in_ok-first.ensures.steps.0, c.chars-characters.ensures.rest, c.as_str.ensures))

@@ -28,7 +28,8 @@ returns-in_default c =
     let fits = name_fits c.args.name in
     let key = chars c.args.key.now in
     let n = c.loop-n.n in
-    let none = ap (λ ss. slice_get (values_at fits ss) n) (sym c.loop-n.invariant) ∙ sym c.get_nth_mut.ensures.value ∙ ap option_copied_mut c.in_default.is in
+    let none = ap (λ ss. slice_get (values_at fits ss) n) (sym c.loop-n.invariant)
+    ∙ sym c.get_nth_mut.ensures.value ∙ ap option_copied_mut c.in_default.is in
     ap sections_of (c.loop-n.invariant ∙ edited-all fits (removed key) n c.self.inside.sections none)
     ∙ all_edited-sections c.args.name key c.self.inside.sections c.name_is_text.ensures
     ∙ ap (delete_in_all (str_name c.args.name) key) c.self.view_is

@@ -18,7 +18,9 @@ returns c =
       (λ j. read_of (ghost_name_of c.get_mut.result) (λ w. set w j) (set_section-same name c.args.self.now pairs there j)),
       (
         value,
-        if_none c.get_mut.result (λ none text. replace_in-none name key text c.args.self.now (sym value ∙ ap (λ r. option_map text_of (option_copied_mut r)) none)),
+        if_none c.get_mut.result
+            (λ none text. replace_in-none name key text c.args.self.now
+            (sym value ∙ ap (λ r. option_map text_of (option_copied_mut r)) none)),
       ),
     )
 

@@ -15,6 +15,7 @@ returns c = (
   (refl, last_set name_of c.self.inside.sections c.args.self.now c.self.view_is),
   record {
     writes_back = tt;
-    section = sym (last_got name_of c.self.inside.sections c.args.self.now c.self.view_is) ∙ sym c.get_last_mut.ensures.value ∙ ap option_copied_mut c.unwrap.ensures;
+    section = sym (last_got name_of c.self.inside.sections c.args.self.now c.self.view_is)
+        ∙ sym c.get_last_mut.ensures.value ∙ ap option_copied_mut c.unwrap.ensures;
   },
 )

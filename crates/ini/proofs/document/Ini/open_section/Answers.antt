@@ -11,7 +11,8 @@ returns-in-Ok c =
       (λ j. inl (c.last_section_mut.result.ghost_name, λ w. last_pushed name c.args.section d c.append_section.new.self pushed w j)),
       record {
         writes_back = tt;
-        value = value_pushed name c.args.section d c.append_section.new.self pushed c.last_section_mut.result.now c.last_section_mut.ensures.section;
+        value = value_pushed name c.args.section d c.append_section.new.self pushed
+            c.last_section_mut.result.now c.last_section_mut.ensures.section;
         handed_back = tt;
       },
     )

@@ -6,7 +6,8 @@ use Rattle.ini.proofs.document.Ini.read_watched.Given as goal
 abbrev pub invariant-pieces : goal.invariant-pieces
 invariant-pieces g l =
     IsClear l.reader × SameDevice l.fn.reader l.reader
-    × IsStreamed l.fn.opt l.fn.drop_mark (g.R.Read.remaining (device_now l.fn.reader)) (g.R.Read.remaining (device_now l.reader)) l.bytes.items l.passing l.last_line l.is_all
+    × IsStreamed l.fn.opt l.fn.drop_mark (g.R.Read.remaining (device_now l.fn.reader))
+    (g.R.Read.remaining (device_now l.reader)) l.bytes.items l.passing l.last_line l.is_all
     × (l.last_line < 2 ^ 64)
 
 abbrev pub decreases-pieces : goal.decreases-pieces

@@ -17,11 +17,14 @@ returns c =
     let section = c.get_mut.ensures.value
     ∙ sym (first_section-sections sections name text)
     ∙ ap (first_section (str_name name)) c.self.view_is in
-    let set = λ (ps : Pairs). sym (set-sections sections name text ps) ∙ ap (λ d. set_value (is_name (str_name name)) d ps) c.self.view_is in (
+    let set = λ (ps : Pairs). sym (set-sections sections name text ps)
+    ∙ ap (λ d. set_value (is_name (str_name name)) d ps) c.self.view_is in (
       (λ j. read_of (ghost_name_of c.get_mut.result) (λ ps. set ps j) (c.self.view_is j)),
       record {
         writes_back = tt;
         section = section;
-        none_to_set = if_none c.get_mut.result (λ none pairs. set_section-none (str_name name) c.args.self.now pairs (sym section ∙ ap option_copied_mut none));
+        none_to_set = if_none c.get_mut.result
+            (λ none pairs. set_section-none (str_name name) c.args.self.now pairs
+            (sym section ∙ ap option_copied_mut none));
       },
     )

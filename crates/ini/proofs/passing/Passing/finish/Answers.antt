@@ -15,14 +15,26 @@ push_items-requires-clause-is_rest c =
 
 pub returns-in-Ok-push_items-clause-ends : goal.returns-in-Ok-push_items-clause-ends
 returns-in-Ok-push_items-clause-ends c =
-    let made = rw (c.split_at.ensures.back, c.in-Ok.ensures.cases.0, front_cut c.args.bytes.now c.args.self.front c.requires.front.utf8) at c.in-Ok-push_items.ensures.document in
+    let made = rw (
+      c.split_at.ensures.back,
+      c.in-Ok.ensures.cases.0,
+      front_cut c.args.bytes.now
+          c.args.self.front c.requires.front.utf8,
+    ) at c.in-Ok-push_items.ensures.document in
     record { utf8 = c.in-Ok.ensures.cases.1; document = made; fault = tt }
 
 pub moved_down-requires : goal.moved_down-requires
 moved_down-requires c =
     let text = c.in-Ok.ensures.cases in
     let stops = rw c.in-Err-Parse.field-0-is at c.in-Err-Parse.ensures.fault in
-    rw c.in-Err-Parse.fault-is (omega (arith, c.requires.countable, ap length text.0, line_fits c.in-Ok.text.now 0 (subst IsUtf8 (sym text.0) text.1) stops))
+    rw c.in-Err-Parse.fault-is
+    (omega (
+      arith,
+      c.requires.countable,
+      ap length text.0,
+      line_fits c.in-Ok.text.now 0
+          (subst IsUtf8 (sym text.0) text.1) stops,
+    ))
 
 pub returns-in-Err-Parse-clause-ends : goal.returns-in-Err-Parse-clause-ends
 returns-in-Err-Parse-clause-ends c =

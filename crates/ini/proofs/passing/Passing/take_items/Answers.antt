@@ -23,9 +23,18 @@ overflow_add-self c =
     let at = c.text_front-text.ensures ∙ ap (take (length text)) c.as_slice.ensures.value in
     let left = c.in_ok-left.ensures in
     let within =
-    whole_within c.args.bytes.now.items text c.in_ok-left.left.now c.front_before-front.result.now c.whole_lines-lines.result.0.now at c.text_front-text.utf8 left.utf8
+    whole_within c.args.bytes.now.items text c.in_ok-left.left.now c.front_before-front.result.now
+    c.whole_lines-lines.result.0.now at c.text_front-text.utf8 left.utf8
     c.front_before-front.utf8 lines.utf8 lines.front left.settled.is_rest c.front_before-front.ensures in
-    omega (arith, within, lines.lines, feeds_fit c.whole_lines-lines.result.0.now lines.utf8, c.requires.countable, c.as_slice.ensures.len, ap length c.as_slice.ensures.value)
+    omega (
+      arith,
+      within,
+      lines.lines,
+      feeds_fit c.whole_lines-lines.result.0.now lines.utf8,
+      c.requires.countable,
+      c.as_slice.ensures.len,
+      ap length c.as_slice.ensures.value,
+    )
 
 pub drop_front-requires : goal.drop_front-requires
 drop_front-requires c =
@@ -34,7 +43,8 @@ drop_front-requires c =
     let at = c.text_front-text.ensures ∙ ap (take (length text)) c.as_slice.ensures.value in
     let left = c.in_ok-left.ensures in
     let within =
-    whole_within c.args.bytes.now.items text c.in_ok-left.left.now c.front_before-front.result.now c.whole_lines-lines.result.0.now at c.text_front-text.utf8 left.utf8
+    whole_within c.args.bytes.now.items text c.in_ok-left.left.now c.front_before-front.result.now
+    c.whole_lines-lines.result.0.now at c.text_front-text.utf8 left.utf8
     c.front_before-front.utf8 lines.utf8 lines.front left.settled.is_rest c.front_before-front.ensures in
     omega (arith, within, c.as_slice.ensures.len, ap length c.as_slice.ensures.value)
 
@@ -46,6 +56,8 @@ returns-clause-goes_by c =
     let left = c.in_ok-left.ensures in
     let rest = c.in-Some.ensures.cases in
     let settled = rw (rest.0, take_rest text c.args.self.now.front) at left.settled in
-    rw c.drop_front.ensures (GoesBy-cut c.args.bytes.now.items text c.in_ok-left.left.now c.front_before-front.result.now c.whole_lines-lines.result.0.now at c.text_front-text.utf8 left.utf8
+    rw c.drop_front.ensures (GoesBy-cut c.args.bytes.now.items text c.in_ok-left.left.now
+    c.front_before-front.result.now c.whole_lines-lines.result.0.now at c.text_front-text.utf8 left.utf8
     c.front_before-front.utf8 lines.utf8 lines.front left.settled.is_rest c.front_before-front.ensures
-    c.args.self.now _ lines.line_start (ap (λ n. c.args.self.now.lines + n) lines.lines) refl c.requires.front.utf8 (omega (arith, rest.1)) settled)
+    c.args.self.now _ lines.line_start (ap (λ n. c.args.self.now.lines + n) lines.lines) refl
+    c.requires.front.utf8 (omega (arith, rest.1)) settled)

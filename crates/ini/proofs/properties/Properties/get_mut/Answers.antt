@@ -12,7 +12,8 @@ pub returns : goal.returns
 returns c =
     let key = c.args.key.now in
     let pairs = c.self.inside.pairs in
-    let set = λ (w : String Global). sym (set-pairs pairs key c.utf8.key w) ∙ ap (λ ps. set_value (is_text (chars key)) ps (text_of w)) c.self.view_is in (
+    let set = λ (w : String Global). sym (set-pairs pairs key c.utf8.key w)
+    ∙ ap (λ ps. set_value (is_text (chars key)) ps (text_of w)) c.self.view_is in (
       (λ j. read_of (ghost_name_of c.get_mut.result) (λ w. set w j) (c.self.view_is j)),
       ap (option_map text_of) c.get_mut.ensures.value
           ∙ sym (first_value-pairs pairs key c.utf8.key)

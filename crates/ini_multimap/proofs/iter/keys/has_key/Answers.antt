@@ -8,7 +8,9 @@ loop-before-init g c =
     let code = g.K.MapKey.key_code in
     let ks = c.args.keys.now in
     rw c.candidate_before-before.ensures
-    (back_starts code (λ x. g.K.PartialEq.eq x key) (code key) (λ p f. g.met.K.MapKey.equal_codes p key f) c.args.index.now ks c.args.values.now c.requires.indexed c.args.at (candidate c.args.index.now code (code key) ks c.args.at c.requires.here))
+    (back_starts code (λ x. g.K.PartialEq.eq x key) (code key) (λ p f. g.met.K.MapKey.equal_codes p key f)
+    c.args.index.now ks c.args.values.now c.requires.indexed c.args.at
+    (candidate c.args.index.now code (code key) ks c.args.at c.requires.here))
 
 pub candidate_before-before-requires-in-Some : goal.candidate_before-before-requires-in-Some
 candidate_before-before-requires-in-Some g c =
@@ -24,14 +26,19 @@ returns-then-is_key g c =
     let ks = c.args.keys.now in
     let vs = c.args.values.now in
     let test : g.row.K.Denot → Bool = λ x. g.K.PartialEq.eq x key in
-    let hit = back_hits g.K.MapKey.key_code test (g.K.MapKey.key_code key) (λ p f. g.met.K.MapKey.equal_codes p key f) c.args.index.now ks vs c.requires.indexed c.args.at c.in-Some.s (rw c.in-Some.is at c.loop-before.invariant) (sym c.if-is_key.ensures) in
+    let hit = back_hits g.K.MapKey.key_code test (g.K.MapKey.key_code key)
+    (λ p f. g.met.K.MapKey.equal_codes p key f) c.args.index.now ks vs c.requires.indexed c.args.at
+    c.in-Some.s (rw c.in-Some.is at c.loop-before.invariant) (sym c.if-is_key.ensures) in
     sym (any_before test ks vs c.args.at ∙ ap is_more hit)
 
 pub loop-before-preserved : goal.loop-before-preserved
 loop-before-preserved g c =
     let key = c.args.key.now in
     rw c.candidate_before-before-in-Some.ensures
-    (back_steps g.K.MapKey.key_code (λ x. g.K.PartialEq.eq x key) (g.K.MapKey.key_code key) (λ p f. g.met.K.MapKey.equal_codes p key f) c.args.index.now c.args.keys.now c.args.values.now c.requires.indexed c.args.at c.in-Some.s (rw c.in-Some.is at c.loop-before.invariant) (sym c.if-is_key.ensures))
+    (back_steps g.K.MapKey.key_code (λ x. g.K.PartialEq.eq x key) (g.K.MapKey.key_code key)
+    (λ p f. g.met.K.MapKey.equal_codes p key f) c.args.index.now c.args.keys.now c.args.values.now
+    c.requires.indexed c.args.at c.in-Some.s (rw c.in-Some.is at c.loop-before.invariant)
+    (sym c.if-is_key.ensures))
 
 pub loop-before-smaller : goal.loop-before-smaller
 loop-before-smaller g c =

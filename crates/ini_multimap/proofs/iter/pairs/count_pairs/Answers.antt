@@ -20,7 +20,8 @@ loop-s-preserved g c =
     let more : suc s ≡ s + 1 = omega arith in
     elim c.if-is_full.branch [
       | then-is_full w ↦ record {
-        counted = w.pairs-is ∙ ap (λ n. n + 1) inv.counted ∙ add_one (F s) ∙ sym (before_hit (λ _. true) ks vs s (sym w.if-is_full.ensures)) ∙ ap F more;
+        counted = w.pairs-is ∙ ap (λ n. n + 1) inv.counted ∙ add_one (F s)
+            ∙ sym (before_hit (λ _. true) ks vs s (sym w.if-is_full.ensures)) ∙ ap F more;
         few = omega (arith, w.pairs-is, inv.few);
       }
       | else-is_full w ↦ record {

@@ -9,7 +9,15 @@ use Rattle.ini_multimap.proofs.multimap.Multimap.close_if_sparse.Goals as goal
 pub overflow_sub-self : goal.overflow_sub-self
 overflow_sub-self g c =
     let ks = c.as_slice-then-is_sparse.result.now in
-    omega (arith, c.count_holes-self-inside.ensures, holes_le ks, ap length c.as_slice-then-is_sparse.ensures.value, c.len.ensures, c.close_holes.new.keys.ok.0)
+    omega (
+      arith,
+      c.count_holes-self-inside.ensures,
+      holes_le ks,
+      ap length
+          c.as_slice-then-is_sparse.ensures.value,
+      c.len.ensures,
+      c.close_holes.new.keys.ok.0,
+    )
 
 pub invariant_of-self : goal.invariant_of-self
 invariant_of-self g c =
@@ -18,10 +26,14 @@ invariant_of-self g c =
     let holes = c.count_holes-self-inside.result in
     let pairs = c.len_pairs-pairs.result in
     let counted : holes ≡ holes_in ks = c.count_holes-self-inside.ensures ∙ ap holes_in c.as_slice-then-is_sparse.ensures.value in
-    let all : pairs ≡ length (pairs_in ks vs) = c.len_pairs-pairs.ensures ∙ ap length (c.new.ensures ∙ (λ j. pairs_in (c.as_slice-then-is_sparse-2.ensures.value j) (c.as_slice-then-is_sparse-3.ensures.value j))) in
+    let all : pairs ≡ length (pairs_in ks vs) = c.len_pairs-pairs.ensures
+    ∙ ap length (c.new.ensures
+    ∙ (λ j. pairs_in (c.as_slice-then-is_sparse-2.ensures.value j)
+    (c.as_slice-then-is_sparse-3.ensures.value j))) in
     record {
       long = c.close_holes.ensures.long;
       indexed = c.close_holes.ensures.indexed;
       counted = counted;
-      paired = OnTrue_from _ _ (λ e. let same = (Decides-eqb pairs (c.len.result - holes)).0 e in omega (arith, same, all, counted, holes_le ks, c.len.ensures, c.close_holes.new.keys.ok.0));
+      paired = OnTrue_from _ _ (λ e. let same = (Decides-eqb pairs (c.len.result - holes)).0 e in
+          omega (arith, same, all, counted, holes_le ks, c.len.ensures, c.close_holes.new.keys.ok.0));
     }

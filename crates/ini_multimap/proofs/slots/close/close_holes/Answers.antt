@@ -17,7 +17,15 @@ pub relink-requires-clause-long : goal.relink-requires-clause-long
 relink-requires-clause-long g c =
     let P : Option (Box Chains) → Type 0 = IsIndexed g.K.MapKey.key_code c.args.keys.now.items in
     let chained : AreChained g.K.MapKey.key_code c.args.keys.now.items c.in-Some.chains.value = subst P c.in-Some.is c.requires.indexed in
-    omega (arith, chained.long, c.move_down.ensures.keys.short, c.drop_last_holes.ensures.keys.short, ap length c.as_slice.ensures.value, ap (λ d. length d.links.items) c.deref_mut.ensures.value)
+    omega (
+      arith,
+      chained.long,
+      c.move_down.ensures.keys.short,
+      c.drop_last_holes.ensures.keys.short,
+      ap
+          length c.as_slice.ensures.value,
+      ap (λ d. length d.links.items) c.deref_mut.ensures.value,
+    )
 
 pub relink-requires-clause-stale : goal.relink-requires-clause-stale
 relink-requires-clause-stale g c =
@@ -29,4 +37,6 @@ relink-requires-clause-stale g c =
     let moves : MovesDown ks new = then_down ks c.move_down.new.keys.items new c.move_down.ensures.keys c.drop_last_holes.ensures.keys in
     let Q : List (Option g.row.K.Denot) → Type 0 = λ l. IsStale (length l) code l (get nat_eq c.deref_mut.result.now.ends) in
     let R : Chains → Type 0 = λ d. IsStale (length new) code new (get nat_eq d.ends) in
-    subst Q (sym c.as_slice.ensures.value) (subst R (sym c.deref_mut.ensures.value) (stale_of code (length new) ks new c.in-Some.chains.value chained moves))
+    subst Q (sym c.as_slice.ensures.value)
+    (subst R (sym c.deref_mut.ensures.value)
+    (stale_of code (length new) ks new c.in-Some.chains.value chained moves))

@@ -7,7 +7,8 @@ use Rattle.ini_multimap.proofs.slots.find.fitting_value.Goals.{in_default-via-in
 pub returns-in-Some-Some-clause-fits : goal.returns-in-Some-Some-clause-fits
 returns-in-Some-Some-clause-fits g c =
     let test = g.Q.Probe.fits c.args.q in
-    let read = fits_read test c.args.keys.now c.args.values.now c.args.s c.index-keys-s.result c.index-values-s.result c.requires.within c.requires.long c.index-keys-s.is c.index-values-s.is in
+    let read = fits_read test c.args.keys.now c.args.values.now c.args.s c.index-keys-s.result
+    c.index-values-s.result c.requires.within c.requires.long c.index-keys-s.is c.index-values-s.is in
     c.if-stands_for.ensures ∙ sym (read ∙ (λ j. fit test (c.in-Some-Some.is-0 j) (c.in-Some-Some.is-1 j)))
 
 pub returns-in-Some-Some-clause-value : goal.returns-in-Some-Some-clause-value
@@ -18,9 +19,11 @@ returns-in-Some-Some-clause-value g c =
 pub returns-in_default-clause-fits : goal.returns-in_default-clause-fits
 returns-in_default-clause-fits g c =
     let test = g.Q.Probe.fits c.args.q in
-    let read = fits_read test c.args.keys.now c.args.values.now c.args.s c.index-keys-s.result c.index-values-s.result c.requires.within c.requires.long c.index-keys-s.is c.index-values-s.is in
+    let read = fits_read test c.args.keys.now c.args.values.now c.args.s c.index-keys-s.result
+    c.index-values-s.result c.requires.within c.requires.long c.index-keys-s.is c.index-values-s.is in
     elim c.in_default.branch [
-      | in_default-via-in-Some-Some+else-stands_for w ↦ w.if-stands_for.ensures ∙ sym (read ∙ (λ j. fit test (w.in-Some-Some.is-0 j) (w.in-Some-Some.is-1 j)))
+      | in_default-via-in-Some-Some+else-stands_for w ↦ w.if-stands_for.ensures
+          ∙ sym (read ∙ (λ j. fit test (w.in-Some-Some.is-0 j) (w.in-Some-Some.is-1 j)))
       | in_default-via-in-Some+in_default w ↦ sym (read ∙ (λ j. fit test (w.in_default.is-0 j) (w.in_default.is-1 j)))
       | in_default-via-in_default w ↦ sym (read ∙ (λ j. fit test (w.in_default.is-0 j) c.index-values-s.result))
     ]

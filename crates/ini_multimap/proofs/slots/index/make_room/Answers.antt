@@ -11,4 +11,6 @@ returns-in-Ok-clause-indexed g c =
     let chains = c.in_ok-chains.chains in
     let P : List (Option g.row.K.Denot) → Type 0 = λ l. AreChained code l chains in
     let Q : Chains → Type 0 = λ d. AreChained code ks d in
-    subst Q (sym c.in-Ok.ensures.ok) (chained_same code ks chains c.make_room-2.new.self c.make_room-2.ensures.links c.make_room-2.ensures.ends (subst P c.as_slice.ensures.value c.in_ok-chains.ensures))
+    subst Q (sym c.in-Ok.ensures.ok)
+    (chained_same code ks chains c.make_room-2.new.self c.make_room-2.ensures.links
+    c.make_room-2.ensures.ends (subst P c.as_slice.ensures.value c.in_ok-chains.ensures))

@@ -7,4 +7,5 @@ returns c =
     let v = c.args.lanes in
     let long = c.fits-lanes.0 in
     let three = c.args.self.now in
-    bits (is_one_of three.0 three.1 three.2) v long (either _ _ v (either _ _ v (equal three.0 v long) (equal three.1 v long)) (equal three.2 v long))
+    bits (is_one_of three.0 three.1 three.2) v long
+    (either _ _ v (either _ _ v (equal three.0 v long) (equal three.1 v long)) (equal three.2 v long))

@@ -8,4 +8,6 @@ use Rattle.ini_text.proofs.parser.endpoints.run_len.Goals as goal
 pub returns-clause-len : goal.returns-clause-len
 returns-clause-len c =
     let three = c.marks.result in
-    c.run_before.ensures.len ∙ sym (same_run (is_plain (ends_of c.args.ends)) (λ x. not (is_one_of three.0 three.1 three.2 x)) c.marks.ensures c.args.bytes.now)
+    c.run_before.ensures.len
+    ∙ sym (same_run (is_plain (ends_of c.args.ends)) (λ x. not (is_one_of three.0 three.1 three.2 x))
+    c.marks.ensures c.args.bytes.now)

@@ -8,7 +8,8 @@ use Rattle.ini_text.proofs.ReaderLemmas.ReaderLemmas.{from_nothing, passed}
 use Rattle.ini_text.proofs.parser.header.read_bracketed_header.Goals as goal
 
 pub returns-in_err-rest : goal.returns-in_err-rest
-returns-in_err-rest c = passed _ _ _ c.from_residual.ensures.1 c.in_err-rest.ensures (λ r k h. ap bracketed_header (sym (from_nothing _ c.new-line.ensures.bytes) ∙ h))
+returns-in_err-rest c = passed _ _ _ c.from_residual.ensures.1 c.in_err-rest.ensures
+    (λ r k h. ap bracketed_header (sym (from_nothing _ c.new-line.ensures.bytes) ∙ h))
 
 pub returns-in_default : goal.returns-in_default
 returns-in_default c =
@@ -20,4 +21,5 @@ pub returns : goal.returns
 returns c =
     ap bracketed_header (sym (from_nothing _ c.new-line.ensures.bytes) ∙ c.in_ok-rest.ensures)
     ∙ ap (λ n. named n (chars c.in_ok-rest.rest.now)) (ap (λ x. name_in (chars x)) (sym c.as_str.ensures.value) ∙ c.in-Some.ensures)
-    ∙ ap (λ x. found (Header x ∷ []) (chars c.in_ok-rest.rest.now)) (sym (c.in_ok-name.ensures ∙ ap (λ x. trimmed (chars x)) c.in_ok-from_str.ensures.ok))
+    ∙ ap (λ x. found (Header x ∷ []) (chars c.in_ok-rest.rest.now))
+    (sym (c.in_ok-name.ensures ∙ ap (λ x. trimmed (chars x)) c.in_ok-from_str.ensures.ok))

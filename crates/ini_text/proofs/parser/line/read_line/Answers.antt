@@ -16,7 +16,9 @@ parts-init c = record { text = search rules; read = refl; quoted = refl }
 pub returns-in_err-end : goal.returns-in_err-end
 unfolding line
 returns-in_err-end c =
-    passed _ _ _ c.from_residual.ensures.1 c.in_err-end.ensures (λ r k h. then_stopped _ _ _ (c.parts.invariant.read ∙ part_stops c.args.option _ _ c.in-Some.ensures h))
+    passed _ _ _ c.from_residual.ensures.1 c.in_err-end.ensures
+    (λ r k h. then_stopped _ _ _
+    (c.parts.invariant.read ∙ part_stops c.args.option _ _ c.in-Some.ensures h))
 
 pub parts-smaller : goal.parts-smaller
 parts-smaller c = rw c.after_first-rest.ensures (part_shortens c.args.option _ _ c.in-Some.ensures c.in_ok-end.ensures)
@@ -35,18 +37,29 @@ returns-in_err-end-2 c =
 
 pub trim_from-requires : goal.trim_from-requires
 trim_from-requires c =
-    let g = grown (string_bytes c.parts.out) (string_bytes c.read_string-2.new.out) _ (IsUtf8-string_bytes c.parts.out) (IsUtf8-string_bytes c.read_string-2.new.out) (read_behind _ _ c.in_ok-end-2.ensures).2 in
+    let g = grown (string_bytes c.parts.out) (string_bytes c.read_string-2.new.out) _
+    (IsUtf8-string_bytes c.parts.out) (IsUtf8-string_bytes c.read_string-2.new.out)
+    (read_behind _ _ c.in_ok-end-2.ensures).2 in
     subst (IsCharBoundary (string_bytes c.read_string-2.new.out)) (sym (c.len-start.ensures ∙ c.parts.out.bytes.ok.0)) g.cut
 
 pub returns : goal.returns
 returns c =
     let read = read_behind _ _ c.in_ok-end-2.ensures in
-    let g = grown (string_bytes c.parts.out) (string_bytes c.read_string-2.new.out) _ (IsUtf8-string_bytes c.parts.out) (IsUtf8-string_bytes c.read_string-2.new.out) read.2 in
+    let g = grown (string_bytes c.parts.out) (string_bytes c.read_string-2.new.out) _
+    (IsUtf8-string_bytes c.parts.out) (IsUtf8-string_bytes c.read_string-2.new.out) read.2 in
     let both : c.if-is_first.trim_from ≡ (c.args.is_first && not c.parts.is_quoted) =
-    elim c.if-is_first.branch [ then-is_first w ↦ rw w.if-is_first.true w.trim_from-is | else-is_first w ↦ rw w.if-is_first.false (w.trim_from-is ∙ w.if-is_first.false) ] in
-    line_read c.args.option c.args.is_first _ _ _ _ c.parts.invariant.read c.in_default.ensures c.parts.is_quoted c.parts.invariant.quoted read.1
+    elim c.if-is_first.branch [
+      | then-is_first w ↦ rw w.if-is_first.true w.trim_from-is
+      | else-is_first w ↦
+          rw w.if-is_first.false (w.trim_from-is ∙ w.if-is_first.false)
+    ] in
+    line_read c.args.option c.args.is_first _ _ _ _ c.parts.invariant.read c.in_default.ensures
+    c.parts.is_quoted c.parts.invariant.quoted read.1
     (c.in_ok-trim_from.ensures
-    ∙ ap (λ n. chars (take n (string_bytes c.read_string-2.new.out)) ++ trimmed_at c.if-is_first.trim_from (chars (drop n (string_bytes c.read_string-2.new.out)))) (c.len-start.ensures ∙ c.parts.out.bytes.ok.0)
-    ∙ ap (λ x. x ++ trimmed_at c.if-is_first.trim_from (chars (drop (length (string_bytes c.parts.out)) (string_bytes c.read_string-2.new.out)))) g.front
+    ∙ ap (λ n. chars (take n (string_bytes c.read_string-2.new.out)) ++ trimmed_at c.if-is_first.trim_from
+    (chars (drop n (string_bytes c.read_string-2.new.out))))
+    (c.len-start.ensures ∙ c.parts.out.bytes.ok.0)
+    ∙ ap (λ x. x ++ trimmed_at c.if-is_first.trim_from
+    (chars (drop (length (string_bytes c.parts.out)) (string_bytes c.read_string-2.new.out)))) g.front
     ∙ ap (λ x. string_text c.parts.out ++ trimmed_at c.if-is_first.trim_from x) g.back
     ∙ ap (λ b. string_text c.parts.out ++ trimmed_at b read.0) both)

@@ -14,8 +14,12 @@ characters-init c = record {
 pub characters-preserved-then-c-eq10 : goal.characters-preserved-then-c-eq10
 characters-preserved-then-c-eq10 c = record {
   text = search rules;
-  line = sym (line-feed c.characters.line c.in-Some.c (chars c.characters.rest.now) (chars c.in-Some.after.now) c.in-Some.ensures.characters c.if-c-eq10.true) ∙ c.characters.invariant.line;
-  column = sym (column-feed c.characters.column c.in-Some.c (chars c.characters.rest.now) (chars c.in-Some.after.now) c.in-Some.ensures.characters c.if-c-eq10.true) ∙ c.characters.invariant.column;
+  line = sym (line-feed c.characters.line c.in-Some.c (chars c.characters.rest.now)
+      (chars c.in-Some.after.now) c.in-Some.ensures.characters c.if-c-eq10.true)
+      ∙ c.characters.invariant.line;
+  column = sym (column-feed c.characters.column c.in-Some.c (chars c.characters.rest.now)
+      (chars c.in-Some.after.now) c.in-Some.ensures.characters c.if-c-eq10.true)
+      ∙ c.characters.invariant.column;
   line_fits = omega (arith, ap length c.in-Some.ensures.characters);
   column_fits = omega (arith, ap length c.in-Some.ensures.characters);
 }

@@ -10,7 +10,16 @@ use Rattle.ini_text.specs.Inside.Scans.{is_plain}
 use Rattle.ini_text.proofs.parser.short.gather.Goals as goal
 
 pub pieces-init : goal.pieces-init
-pieces-init c = record { text = search rules; within = omega arith; values = IsUtf8-nil; read = sym (from_nothing _ refl); seen = Tells-none (λ x. not (is_plain (ends_of c.args.ends) x)) 16 c.args.text.now; shorter = omega arith }
+pieces-init c = record {
+  text = search rules;
+  within = omega arith;
+  values = IsUtf8-nil;
+  read =
+      sym (from_nothing _ refl);
+  seen =
+      Tells-none (λ x. not (is_plain (ends_of c.args.ends) x)) 16 c.args.text.now;
+  shorter = omega arith;
+}
 
 pub split_at-requires : goal.split_at-requires
 split_at-requires c = let piece = c.in-Some.ensures.piece in piece.cut
@@ -31,7 +40,9 @@ pieces-preserved c =
       text = search rules;
       within = c.place-len.ensures.within;
       values = grown.1;
-      read = and_more (chars old) (chars run ++ c.in-Some.value ∷ []) _ c.pieces.invariant.read (rw (c.split_at.ensures.back) piece.read) grown.0;
-      seen = Tells-past (λ x. not (is_plain (ends_of c.args.ends) x)) (c.in-Some.plain + c.in-Some.taken) c.in-Some.ensures.seen c.split_at.ensures.back;
+      read = and_more (chars old) (chars run ++ c.in-Some.value ∷ []) _ c.pieces.invariant.read
+          (rw (c.split_at.ensures.back) piece.read) grown.0;
+      seen = Tells-past (λ x. not (is_plain (ends_of c.args.ends) x)) (c.in-Some.plain + c.in-Some.taken)
+          c.in-Some.ensures.seen c.split_at.ensures.back;
       shorter = omega (arith, piece.shorter, ap (λ x. length (chars x)) c.split_at.ensures.back);
     }

@@ -15,7 +15,8 @@ invariant-pieces l = record {
   text : shadow (Utf8 l.rest);
   within : l.len ≤ 128;
   values : IsUtf8 (take l.len l.block);
-  read : string true (ends_of l.ends) (chars l.fn.text) ≡ prepend (chars (take l.len l.block)) (string true (ends_of l.ends) (chars l.rest));
+  read : string true (ends_of l.ends) (chars l.fn.text) ≡ prepend (chars (take l.len l.block))
+      (string true (ends_of l.ends) (chars l.rest));
   seen : Sees (ends_of l.ends) l.found l.rest;
   shorter : length (chars l.rest) ≤ length (chars l.fn.text);
 }

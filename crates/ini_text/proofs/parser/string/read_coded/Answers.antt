@@ -12,8 +12,10 @@ returns-in_err-b c = passed _ _ _ c.from_residual-in_err-b.ensures.1 c.in_err-b.
 
 pub returns-in_err-c : goal.returns-in_err-c
 unfolding coded
-returns-in_err-c c = passed _ _ _ c.from_residual-in_err-c.ensures.1 c.in_err-c.ensures (λ r k h. rw (c.in_ok-a.ensures, c.in_ok-b.ensures, h))
+returns-in_err-c c = passed _ _ _ c.from_residual-in_err-c.ensures.1 c.in_err-c.ensures
+    (λ r k h. rw (c.in_ok-a.ensures, c.in_ok-b.ensures, h))
 
 pub returns-in_err-d : goal.returns-in_err-d
 unfolding coded
-returns-in_err-d c = passed _ _ _ c.from_residual-in_err-d.ensures.1 c.in_err-d.ensures (λ r k h. rw (c.in_ok-a.ensures, c.in_ok-b.ensures, c.in_ok-c.ensures, h))
+returns-in_err-d c = passed _ _ _ c.from_residual-in_err-d.ensures.1 c.in_err-d.ensures
+    (λ r k h. rw (c.in_ok-a.ensures, c.in_ok-b.ensures, c.in_ok-c.ensures, h))

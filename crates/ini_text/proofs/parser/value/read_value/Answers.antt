@@ -6,7 +6,9 @@ use Rattle.ini_text.proofs.ReaderLemmas.ValueReaderLemmas.{value_stops, value_en
 use Rattle.ini_text.proofs.parser.value.read_value.Goals as goal
 
 pub returns-in_err-value : goal.returns-in_err-value
-returns-in_err-value c = passed _ _ _ c.from_residual.ensures.1 c.in_err-value.ensures (λ r k h. value_stops c.args.option _ c.skip-start.ensures h)
+returns-in_err-value c =
+    passed _ _ _ c.from_residual.ensures.1 c.in_err-value.ensures
+    (λ r k h. value_stops c.args.option _ c.skip-start.ensures h)
 
 pub returns-in_default : goal.returns-in_default
 returns-in_default c =
@@ -16,10 +18,13 @@ returns-in_default c =
 pub returns-in_err-rest : goal.returns-in_err-rest
 returns-in_err-rest c =
     passed _ _ _ c.from_residual-in_err-rest.ensures.1 c.in_err-rest.ensures
-    (λ r k h. value_goes_on c.args.option _ c.skip-start.ensures c.if-not-option.false c.in_ok-value.ensures c.in-Some.ensures ∙ ap (altered without_outer_line_feeds) h)
+    (λ r k h. value_goes_on c.args.option _ c.skip-start.ensures c.if-not-option.false
+    c.in_ok-value.ensures c.in-Some.ensures ∙ ap (altered without_outer_line_feeds) h)
 
 pub returns : goal.returns
 returns c =
     value_goes_on c.args.option _ c.skip-start.ensures c.if-not-option.false c.in_ok-value.ensures c.in-Some.ensures
     ∙ ap (altered without_outer_line_feeds) c.in_ok-rest.ensures
-    ∙ ap (λ v. found v (chars c.in_ok-rest.rest.now)) (sym (c.in_ok-trim_line_feeds-2.ensures ∙ ap (λ b. without_outer_line_feeds (chars b)) c.as_str-2.ensures.value))
+    ∙ ap (λ v. found v (chars c.in_ok-rest.rest.now))
+    (sym (c.in_ok-trim_line_feeds-2.ensures
+    ∙ ap (λ b. without_outer_line_feeds (chars b)) c.as_str-2.ensures.value))

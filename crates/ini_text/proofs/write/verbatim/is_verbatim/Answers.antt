@@ -9,6 +9,8 @@ use Rattle.ini_text.proofs.write.verbatim.is_verbatim.Goals as goal
 pub returns : goal.returns
 returns c whole =
     let text = c.args.text.now in
-    let stops = sym (eqb-true _ _ whole) ∙ c.run_len.ensures ∙ ap (position_or_len (begins_escaped c.args.policy)) c.as_bytes.ensures.value in
-    escaped_bytes-run c.args.policy text (length text) stops c.utf8.text text [] (sym (take_all (length text) text (omega arith))) (sym (drop-length text))
+    let stops = sym (eqb-true _ _ whole) ∙ c.run_len.ensures
+    ∙ ap (position_or_len (begins_escaped c.args.policy)) c.as_bytes.ensures.value in
+    escaped_bytes-run c.args.policy text (length text) stops c.utf8.text text []
+    (sym (take_all (length text) text (omega arith))) (sym (drop-length text))
     ∙ ap (λ l. text ++ l) (escaped_bytes-nil c.args.policy [] refl) ∙ append-nil text

@@ -19,4 +19,5 @@ returns-clause-bytes c =
 
 pub returns-clause-next : goal.returns-clause-next
 returns-clause-next c =
-    begins-run c.args.policy c.args.text.now c.run_len.result (stops (goal.at.returns-clause-next c).After-run_len) c.utf8.text _ c.split_at.ensures.back
+    begins-run c.args.policy c.args.text.now c.run_len.result
+    (stops (goal.at.returns-clause-next c).After-run_len) c.utf8.text _ c.split_at.ensures.back

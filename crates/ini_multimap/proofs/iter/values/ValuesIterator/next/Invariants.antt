@@ -6,9 +6,11 @@ use Rattle.ini_multimap.proofs.iter.values.ValuesIterator.next.Given as goal
 -- only pairs that do not fit were passed over
 abbrev pub invariant-loop-self : goal.invariant-loop-self
 invariant-loop-self g l = record {
-  slots : AreBetween g.K.MapKey.key_code (g.Q.Probe.probe_code l.self-inside.q) l.self-inside.keys.now l.self-inside.values.now l.self-inside.index.now l.self-inside.first l.self-inside.last;
+  slots : AreBetween g.K.MapKey.key_code (g.Q.Probe.probe_code l.self-inside.q) l.self-inside.keys.now
+      l.self-inside.values.now l.self-inside.index.now l.self-inside.first l.self-inside.last;
   end : l.self-inside.last ≡ Some l.last;
-  left : values_from (g.Q.Probe.fits l.self-inside.q) l.self-inside.keys.now l.self-inside.values.now l.self-inside.first l.self-inside.last ≡ l.fn.self;
+  left : values_from (g.Q.Probe.fits l.self-inside.q) l.self-inside.keys.now l.self-inside.values.now
+      l.self-inside.first l.self-inside.last ≡ l.fn.self;
 }
 
 abbrev pub decreases-loop-self : goal.decreases-loop-self

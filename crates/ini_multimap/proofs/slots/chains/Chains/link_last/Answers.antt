@@ -24,9 +24,17 @@ returns g c =
     let P : List Link → Type 0 = λ m. IsLinked (length all) (code_at code all) (next_at m) (prev_at m) new in
     record {
       few = omega (arith, c.requires.room.slot, c.requires.chained.long, length-append ks (Some key ∷ []));
-      long = ap length c.push_reserved.ensures.items ∙ omega (arith, length-append mid (l ∷ []), c.link_after.ensures.links.long, c.requires.chained.long, length-append ks (Some key ∷ []));
+      long = ap length c.push_reserved.ensures.items
+          ∙ omega (
+            arith,
+            length-append mid (l ∷ []),
+            c.link_after.ensures.links.long,
+            c.requires.chained.long,
+            length-append ks (Some key ∷ []),
+          );
       linked =
           subst P (sym c.push_reserved.ensures.items)
-          (linked_push code ks links mid l key old new c.requires.chained.long c.requires.chained.linked (subst N is_last c.link_after.ensures.links) refl (c.link_to.ensures ∙ is_last)
+          (linked_push code ks links mid l key old new c.requires.chained.long c.requires.chained.linked
+          (subst N is_last c.link_after.ensures.links) refl (c.link_to.ensures ∙ is_last)
           (subst E c.code-code.ensures c.put_last-last.ensures.ends));
     }

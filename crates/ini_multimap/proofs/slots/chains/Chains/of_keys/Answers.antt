@@ -17,8 +17,12 @@ loop-s-preserved g c =
       long = ap length c.push_reserved.ensures.items ∙ simp length-append (omega (arith, inv.long));
       room = omega (arith, inv.room, c.push_reserved.ensures.capacity);
       stale = elim c.match-code_in.branch [
-        | in-Some+in_ok-put_alone w ↦ rw (w.ends-is, add-one) (stale_put code ks ends (get nat_eq w.put_alone.new.ends) n w.in-Some.code inv.stale (sym c.code_in.ensures ∙ w.in-Some.is) w.in_ok-put_alone.ensures)
-        | in_default w ↦ rw (w.ends-is, add-one) (stale_hole code ks ends n inv.stale (sym c.code_in.ensures ∙ not_some c.code_in.result w.in_default.not-Some))
+        | in-Some+in_ok-put_alone w ↦
+            rw (w.ends-is, add-one) (stale_put code ks ends (get nat_eq w.put_alone.new.ends) n
+            w.in-Some.code inv.stale (sym c.code_in.ensures ∙ w.in-Some.is) w.in_ok-put_alone.ensures)
+        | in_default w ↦ rw (w.ends-is, add-one)
+            (stale_hole code ks ends n inv.stale
+            (sym c.code_in.ensures ∙ not_some c.code_in.result w.in_default.not-Some))
       ];
     }
 

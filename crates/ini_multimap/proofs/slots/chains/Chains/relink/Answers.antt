@@ -13,7 +13,9 @@ use Rattle.ini_multimap.proofs.slots.chains.Chains.relink.Goals as goal
 use Rattle.ini_multimap.proofs.slots.chains.Chains.relink.Goals.{in-Some, in_default}
 
 pub put_anew-last-requires : goal.put_anew-last-requires
-put_anew-last-requires g c = c.loop-at.invariant.stale.there c.loop-at.at c.in-Some.code c.loop-at-test.true (sym c.code_in.ensures ∙ c.in-Some.is)
+put_anew-last-requires g c =
+    c.loop-at.invariant.stale.there c.loop-at.at c.in-Some.code c.loop-at-test.true
+    (sym c.code_in.ensures ∙ c.in-Some.is)
 
 pub link_after-requires-clause-within : goal.link_after-requires-clause-within
 link_after-requires-clause-within g c =
@@ -23,7 +25,9 @@ link_after-requires-clause-within g c =
     let ends = known n (get nat_eq c.loop-at.self.ends) in
     let W : Option ℕ → Type 0 = λ r. IfSome r (λ t. t < length links) in
     subst W (sym c.put_anew-last.ensures.last)
-    (prev_within at c.in-Some.code n (length links) (last_of ends c.in-Some.code) (c.loop-at.invariant.linked.lasts c.in-Some.code) (omega (arith, c.loop-at-test.true, c.loop-at.invariant.long)))
+    (prev_within at c.in-Some.code n (length links) (last_of ends c.in-Some.code)
+    (c.loop-at.invariant.linked.lasts c.in-Some.code)
+    (omega (arith, c.loop-at-test.true, c.loop-at.invariant.long)))
 
 pub link_to-requires : goal.link_to-requires
 link_to-requires g c =
@@ -32,7 +36,9 @@ link_to-requires g c =
     let ends = known n (get nat_eq c.loop-at.self.ends) in
     let W : Option ℕ → Type 0 = λ r. IfSome r (λ t. t < no_slot) in
     subst W (sym c.put_anew-last.ensures.last)
-    (prev_within at c.in-Some.code n no_slot (last_of ends c.in-Some.code) (c.loop-at.invariant.linked.lasts c.in-Some.code) (omega (arith, c.loop-at-test.true, c.requires.few)))
+    (prev_within at c.in-Some.code n no_slot (last_of ends c.in-Some.code)
+    (c.loop-at.invariant.linked.lasts c.in-Some.code)
+    (omega (arith, c.loop-at-test.true, c.requires.few)))
 
 pub loop-at-preserved : goal.loop-at-preserved
 loop-at-preserved g c =
@@ -61,19 +67,30 @@ loop-at-preserved g c =
           let F : Link → Option ℕ = λ x. named x.next in
           let G : Link → Option ℕ = λ x. named x.prev in
           let linked : IsLinked (suc n) (upto (suc n) at) (next_at (set mid n l)) (prev_at (set mid n l)) (known (suc n) new) =
-          relinked_key n at (next_at links) (prev_at links) ends inv.linked inv.stale.early k first (next_at (set mid n l)) (prev_at (set mid n l)) new here refl
+          relinked_key n at (next_at links) (prev_at links) ends inv.linked inv.stale.early k first
+          (next_at (set mid n l)) (prev_at (set mid n l)) new here refl
           (link_here F mid n l less)
-          (λ j e. link_other F mid n j l (apart j (last_within (upto n at) k n j (last_of (known n ends) k) e (inv.linked.lasts k))) ∙ w.link_after.ensures.links.here j (is_last ∙ e))
+          (λ j e. link_other F mid n j l
+          (apart j (last_within (upto n at) k n j (last_of (known n ends) k) e (inv.linked.lasts k)))
+          ∙ w.link_after.ensures.links.here j (is_last ∙ e))
           (λ j below d. link_other F mid n j l (apart j below) ∙ w.link_after.ensures.links.others j (λ e. d (sym is_last ∙ e)))
           (link_here G mid n l less ∙ w.link_to.ensures ∙ is_last)
           (λ j below. link_other G mid n j l (apart j below) ∙ w.link_after.ensures.links.prevs j)
           ends_new ends_old in
-          let stale : IsStale (length ks) code ks new = stale_next code ks ends new (length ks) n k first inv.stale here refl ends_new ends_old in
-          rw (w.self-is, add-one) (record { long = length-set mid n l ∙ w.link_after.ensures.links.long ∙ inv.long; stale = stale; linked = linked })
+          let stale : IsStale (length ks) code ks new =
+          stale_next code ks ends new (length ks) n k first inv.stale here refl ends_new ends_old in
+          rw (w.self-is, add-one) (record {
+            long = length-set mid n l ∙ w.link_after.ensures.links.long
+                ∙ inv.long;
+            stale = stale;
+            linked = linked;
+          })
           )
       | in_default w ↦ (
           let hole : at n ≡ None = sym c.code_in.ensures ∙ not_some c.code_in.result w.in_default.not-Some in
-          let linked : IsLinked (suc n) (upto (suc n) at) (next_at links) (prev_at links) (known (suc n) ends) = relinked_hole n at (next_at links) (prev_at links) ends inv.linked inv.stale.early hole in
+          let linked : IsLinked (suc n) (upto (suc n) at) (next_at links) (prev_at links)
+          (known (suc n) ends) = relinked_hole n at (next_at links) (prev_at links) ends inv.linked
+          inv.stale.early hole in
           rw (w.self-is, add-one) (record { long = inv.long; stale = inv.stale; linked = linked })
           )
     ]
@@ -88,6 +105,13 @@ returns g c =
     let ends = get nat_eq c.loop-at.self.ends in
     let inv = c.loop-at.invariant in
     let end : n ≡ length ks = omega (arith, c.loop-at-test.false, c.loop-at.auto.at-end) in
-    let within : (i q : ℕ) → at i ≡ Some q → i < n = λ i q e. let k = code_key code (value_in ks i) q e in omega (arith, value_within ks i k.0 k.1, end) in
+    let within : (i q : ℕ) → at i ≡ Some q → i < n = λ i q e. let k = code_key code (value_in ks i) q e in
+    omega (arith, value_within ks i k.0 k.1, end) in
     let P : ℕ → Type 0 = λ m. IsLinked m at (next_at links) (prev_at links) ends in
-    record { few = c.requires.few; long = inv.long; linked = subst P end (relinked_all n at (next_at links) (prev_at links) ends inv.linked inv.stale.early within) }
+    record {
+      few = c.requires.few;
+      long = inv.long;
+      linked =
+          subst P end (relinked_all n at (next_at links) (prev_at links) ends inv.linked inv.stale.early
+          within);
+    }

@@ -10,5 +10,6 @@ abbrev pub invariant-loop-at : goal.invariant-loop-at
 invariant-loop-at g l = record {
   long : length l.self.links.items ≡ length l.fn.keys;
   stale : IsStale (length l.fn.keys) g.K.MapKey.key_code l.fn.keys (get nat_eq l.self.ends);
-  linked : IsLinked l.at (upto l.at (code_at g.K.MapKey.key_code l.fn.keys)) (next_at l.self.links.items) (prev_at l.self.links.items) (known l.at (get nat_eq l.self.ends));
+  linked : IsLinked l.at (upto l.at (code_at g.K.MapKey.key_code l.fn.keys)) (next_at l.self.links.items)
+      (prev_at l.self.links.items) (known l.at (get nat_eq l.self.ends));
 }

@@ -27,10 +27,19 @@ link_before-requires-clause-within g c =
     let within : s < length links = omega (arith, linked.within s c.args.code c.requires.here, c.requires.chained.long) in
     let W : Option ℕ → Type 0 = λ r. IfSome r (λ t. t < length mid) in
     subst W (next_read links s c.index-link.result.now within c.index-link.ensures ∙ sym c.slot_of-next.ensures)
-    (next_within at c.args.code (suc s) (length mid) (next_at links s) (linked.nexts s c.args.code c.requires.here) (λ k e. omega (arith, linked.within k c.args.code e, c.requires.chained.long, c.link_after.ensures.links.long)))
+    (next_within at c.args.code (suc s) (length mid) (next_at links s)
+    (linked.nexts s c.args.code c.requires.here)
+    (λ k e. omega (
+      arith,
+      linked.within k c.args.code e,
+      c.requires.chained.long,
+      c.link_after.ensures.links.long,
+    )))
 
 pub close_ends-requires : goal.close_ends-requires
-close_ends-requires g c = ends_there (code_at g.K.MapKey.key_code c.args.keys.now) c.args.code c.args.s (get nat_eq c.args.self.now.ends c.args.code) (c.requires.chained.linked.firsts c.args.code) c.requires.here
+close_ends-requires g c = ends_there (code_at g.K.MapKey.key_code c.args.keys.now) c.args.code c.args.s
+    (get nat_eq c.args.self.now.ends c.args.code) (c.requires.chained.linked.firsts c.args.code)
+    c.requires.here
 
 pub returns : goal.returns
 returns g c =
@@ -44,7 +53,13 @@ returns g c =
       few = omega (arith, chained.few, length-set ks s None);
       long = c.link_before.ensures.long ∙ c.link_after.ensures.links.long ∙ chained.long ∙ sym (length-set ks s None);
       linked =
-          linked_without code ks links c.link_after.new.links.items c.link_before.new.links.items s c.args.code (get nat_eq c.args.self.now.ends) (get nat_eq c.close_ends.new.ends) c.slot_of-prev.result c.slot_of-next.result
-          chained.linked c.requires.here (prev_read links s c.index-link.result.now within c.index-link.ensures ∙ sym c.slot_of-prev.ensures) (next_read links s c.index-link.result.now within c.index-link.ensures ∙ sym c.slot_of-next.ensures)
+          linked_without code ks links c.link_after.new.links.items c.link_before.new.links.items s
+          c.args.code (get nat_eq c.args.self.now.ends) (get nat_eq c.close_ends.new.ends)
+          c.slot_of-prev.result c.slot_of-next.result
+          chained.linked c.requires.here
+          (prev_read links s c.index-link.result.now within c.index-link.ensures
+          ∙ sym c.slot_of-prev.ensures)
+          (next_read links s c.index-link.result.now within c.index-link.ensures
+          ∙ sym c.slot_of-next.ensures)
           c.link_after.ensures.links c.link_before.ensures c.close_ends.ensures;
     }

@@ -12,11 +12,13 @@ returns-then-has_no_mark-clause-held g c =
     let p = g.M.Marks.is_marked c.args.marks.now in
     let bytes = c.args.bytes.now in
     let next = marked_escaped-none p bytes (c.has_no_mark.ensures.none c.if-has_no_mark.true) in
-    held_more p (held c.args.self.now) bytes bytes _ c.place_few.ensures (next ∙ ap (λ l. bytes ++ marked_escaped p l) (sym (take_rest bytes (length bytes)))) refl
+    held_more p (held c.args.self.now) bytes bytes _ c.place_few.ensures
+    (next ∙ ap (λ l. bytes ++ marked_escaped p l) (sym (take_rest bytes (length bytes)))) refl
 
 pub returns-then-has_no_mark-clause-front : goal.returns-then-has_no_mark-clause-front
 returns-then-has_no_mark-clause-front g c =
-    grown_front c.args.self.now.len (c.args.self.now.len + length c.args.bytes.now) c.args.self.now.bytes c.place_few.new.bytes c.args.bytes.now (omega arith) (omega arith) c.place_few.ensures
+    grown_front c.args.self.now.len (c.args.self.now.len + length c.args.bytes.now) c.args.self.now.bytes
+    c.place_few.new.bytes c.args.bytes.now (omega arith) (omega arith) c.place_few.ensures
 
 pub few-preserved-in-Some : goal.few-preserved-in-Some
 few-preserved-in-Some g c =
@@ -25,9 +27,11 @@ few-preserved-in-Some g c =
     let piece = backslash ∷ c.in-Some.letter ∷ [] in
     let left = take_rest rest 1 in
     let marked = sym c.contain.ensures ∙ c.if-contain.true in
-    let next = marked_escaped-letter p rest 0 c.in-Some.letter (omega arith) marked (sym c.in-Some.is ∙ c.letter_of.ensures ∙ ap letter_of c.from.ensures) in
+    let next = marked_escaped-letter p rest 0 c.in-Some.letter (omega arith) marked
+    (sym c.in-Some.is ∙ c.letter_of.ensures ∙ ap letter_of c.from.ensures) in
     record {
-      held = held_more p _ piece rest _ c.place_escape.ensures.placed (next ∙ ap (λ l. piece ++ marked_escaped p l) (sym left)) c.few.invariant.held;
+      held = held_more p _ piece rest _ c.place_escape.ensures.placed
+          (next ∙ ap (λ l. piece ++ marked_escaped p l) (sym left)) c.few.invariant.held;
       front = kept_front c.args.self.now.len c.few.len _ _ c.few.invariant.longer c.place_escape.ensures.kept ∙ c.few.invariant.front;
       longer = omega (arith, c.few.invariant.longer);
       within = omega (arith, ap length left, length-drop 1 rest, c.few.invariant.within);

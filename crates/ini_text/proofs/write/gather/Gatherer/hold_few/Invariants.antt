@@ -7,7 +7,8 @@ abbrev pub invariant-few : goal.invariant-few
 invariant-few g l = record {
   front : take l.fn.self.len l.self.bytes ≡ held l.fn.self;
   longer : l.fn.self.len ≤ l.len;
-  held : take l.len l.self.bytes ++ marked_escaped (g.M.Marks.is_marked l.marks) l.rest ≡ held l.fn.self ++ marked_escaped (g.M.Marks.is_marked l.fn.marks) l.fn.bytes;
+  held : take l.len l.self.bytes ++ marked_escaped (g.M.Marks.is_marked l.marks) l.rest ≡ held l.fn.self
+      ++ marked_escaped (g.M.Marks.is_marked l.fn.marks) l.fn.bytes;
   within : l.len + 2 * length l.rest ≤ 16384;
   shorter : length l.rest ≤ length l.fn.bytes;
 }

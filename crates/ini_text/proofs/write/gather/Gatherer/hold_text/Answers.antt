@@ -10,15 +10,20 @@ use Rattle.ini_text.proofs.write.gather.Gatherer.hold_text.Goals as goal
 pub returns-in-Basics-clause-all : goal.returns-in-Basics-clause-all
 returns-in-Basics-clause-all c all =
     let text = c.args.text.now in
-    let bytes = ap (marked_escaped (begins_escaped Basics)) c.as_bytes.ensures.value ∙ sym (escaped_bytes-basics text c.utf8.text) ∙ ap (λ policy. escaped_bytes policy text) (sym c.in-Basics.is) in
+    let bytes = ap (marked_escaped (begins_escaped Basics)) c.as_bytes.ensures.value
+    ∙ sym (escaped_bytes-basics text c.utf8.text)
+    ∙ ap (λ policy. escaped_bytes policy text) (sym c.in-Basics.is) in
     let none = nil_from_length c.hold_marked.result.now (eqb-true _ 0 (sym c.is_empty.ensures ∙ all)) in
-    held_all (begins_escaped Basics) (held c.hold_marked.new.self) c.hold_marked.result.now none c.hold_marked.ensures.held ∙ ap (λ l. held c.args.self.now ++ l) bytes
+    held_all (begins_escaped Basics) (held c.hold_marked.new.self) c.hold_marked.result.now none
+    c.hold_marked.ensures.held ∙ ap (λ l. held c.args.self.now ++ l) bytes
 
 pub returns-in-Reserved-clause-all : goal.returns-in-Reserved-clause-all
 returns-in-Reserved-clause-all c all =
     let text = c.args.text.now in
-    let bytes = ap (marked_escaped (begins_escaped Reserved)) c.as_bytes-in-Reserved.ensures.value ∙ sym (escaped_bytes-reserved text c.utf8.text)
+    let bytes = ap (marked_escaped (begins_escaped Reserved)) c.as_bytes-in-Reserved.ensures.value
+    ∙ sym (escaped_bytes-reserved text c.utf8.text)
     ∙ ap (λ policy. escaped_bytes policy text) (sym c.in-Reserved.is) in
     let none = nil_from_length c.hold_marked-in-Reserved.result.now (eqb-true _ 0 (sym c.is_empty-in-Reserved.ensures ∙ all)) in
-    held_all (begins_escaped Reserved) (held c.hold_marked-in-Reserved.new.self) c.hold_marked-in-Reserved.result.now none c.hold_marked-in-Reserved.ensures.held
+    held_all (begins_escaped Reserved) (held c.hold_marked-in-Reserved.new.self)
+    c.hold_marked-in-Reserved.result.now none c.hold_marked-in-Reserved.ensures.held
     ∙ ap (λ l. held c.args.self.now ++ l) bytes

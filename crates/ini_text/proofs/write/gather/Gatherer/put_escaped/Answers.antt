@@ -16,6 +16,7 @@ returns-in-Basics g c =
 pub returns-in-Reserved : goal.returns-in-Reserved
 returns-in-Reserved g c =
     let text = c.args.text.now in
-    let bytes = ap (marked_escaped (begins_escaped Reserved)) c.as_bytes-in-Reserved.ensures.value ∙ sym (escaped_bytes-reserved text c.utf8.text)
+    let bytes = ap (marked_escaped (begins_escaped Reserved)) c.as_bytes-in-Reserved.ensures.value
+    ∙ sym (escaped_bytes-reserved text c.utf8.text)
     ∙ ap (λ policy. escaped_bytes policy text) (sym c.in-Reserved.is) in
     subst (Sends _ _ _ _ _ _) bytes c.put_marked-in-Reserved.ensures

@@ -15,20 +15,25 @@ after_run : (g : given.Over) (c : In_ok-put_bytes g) → Leaving g.W.Write.conte
     (held c.args.self.now ++ marked_escaped (g.M.Marks.is_marked c.args.marks.now) c.args.bytes.now)
     (held c.put_bytes.new.self ++ marked_escaped (g.M.Marks.is_marked c.args.marks.now) c.split_at.result.1.now)
 after_run g c =
-    let parts = marked_escaped-split (g.M.Marks.is_marked c.args.marks.now) c.pieces.rest.now _ _ _ c.run_before.ensures.len c.split_at.ensures.front c.split_at.ensures.back in
+    let parts = marked_escaped-split (g.M.Marks.is_marked c.args.marks.now) c.pieces.rest.now _ _ _
+    c.run_before.ensures.len c.split_at.ensures.front c.split_at.ensures.back in
     Leaving-goes_on _ _ (ap (λ l. held c.pieces.self ++ l) parts) c.pieces.invariant.leaving c.in_ok-put_bytes.ensures
 
 pub returns-in_err-put_bytes : goal.returns-in_err-put_bytes
 returns-in_err-put_bytes g c =
     let p = err_from_is_err_and c.from_residual.result c.from_residual.ensures.1 in
-    let parts = marked_escaped-split (g.M.Marks.is_marked c.args.marks.now) c.pieces.rest.now _ _ _ c.run_before.ensures.len c.split_at.ensures.front c.split_at.ensures.back in
-    rw (p.1, p.2) (Leaving-stops _ _ (ap (λ l. held c.pieces.self ++ l) parts) c.pieces.invariant.leaving _ _ refl c.in_err-put_bytes.ensures)
+    let parts = marked_escaped-split (g.M.Marks.is_marked c.args.marks.now) c.pieces.rest.now _ _ _
+    c.run_before.ensures.len c.split_at.ensures.front c.split_at.ensures.back in
+    rw (p.1, p.2) (Leaving-stops _ _ (ap (λ l. held c.pieces.self ++ l) parts) c.pieces.invariant.leaving _
+    _ refl c.in_err-put_bytes.ensures)
 
 pub returns-in_default : goal.returns-in_default
 returns-in_default g c =
     let p = g.M.Marks.is_marked c.args.marks.now in
     let ended : c.split_at.result.1.now ≡ [] = nil_from_length _ (omega arith) in
-    Leaving-ends _ _ _ (subst (Leaving _ _ _ _) (ap (λ l. held c.put_bytes.new.self ++ marked_escaped p l) ended ∙ append-nil (held c.put_bytes.new.self))
+    Leaving-ends _ _ _ (subst (Leaving _ _ _ _)
+    (ap (λ l. held c.put_bytes.new.self ++ marked_escaped p l) ended
+    ∙ append-nil (held c.put_bytes.new.self))
     (after_run g (goal.at.returns-in_default g c).In_ok-put_bytes))
 
 pub returns-in_err-put_escape : goal.returns-in_err-put_escape
@@ -36,14 +41,21 @@ returns-in_err-put_escape g c =
     let p = err_from_is_err_and c.from_residual-in_err-put_escape.result c.from_residual-in_err-put_escape.ensures.1 in
     let marks = g.M.Marks.is_marked c.args.marks.now in
     let back = c.split_at.result.1.now in
-    let next = marked_escaped-at marks c.pieces.rest.now back _ c.run_before.ensures.len c.split_at.ensures.back (omega arith) ∙ ap (λ b. escape b ++ marked_escaped marks (drop 1 back)) (sym c.from.ensures) in
-    rw (p.1, p.2) (Leaving-stops _ _ (ap (λ l. held c.put_bytes.new.self ++ l) next) (after_run g (goal.at.returns-in_err-put_escape g c).In_ok-put_bytes) _ _ refl c.in_err-put_escape.ensures)
+    let next = marked_escaped-at marks c.pieces.rest.now back _ c.run_before.ensures.len
+    c.split_at.ensures.back (omega arith)
+    ∙ ap (λ b. escape b ++ marked_escaped marks (drop 1 back)) (sym c.from.ensures) in
+    rw (p.1, p.2) (Leaving-stops _ _ (ap (λ l. held c.put_bytes.new.self ++ l) next)
+    (after_run g (goal.at.returns-in_err-put_escape g c).In_ok-put_bytes) _ _ refl
+    c.in_err-put_escape.ensures)
 
 pub pieces-preserved : goal.pieces-preserved
 pieces-preserved g c =
     let marks = g.M.Marks.is_marked c.args.marks.now in
     let back = c.split_at.result.1.now in
-    let next = marked_escaped-at marks c.pieces.rest.now back _ c.run_before.ensures.len c.split_at.ensures.back (omega arith) ∙ ap (λ b. escape b ++ marked_escaped marks (drop 1 back)) (sym c.from.ensures) in
-    let left = Leaving-goes_on _ _ (ap (λ l. held c.put_bytes.new.self ++ l) next) (after_run g (goal.at.pieces-preserved g c).In_ok-put_bytes) c.in_ok-put_escape.ensures in
+    let next = marked_escaped-at marks c.pieces.rest.now back _ c.run_before.ensures.len
+    c.split_at.ensures.back (omega arith)
+    ∙ ap (λ b. escape b ++ marked_escaped marks (drop 1 back)) (sym c.from.ensures) in
+    let left = Leaving-goes_on _ _ (ap (λ l. held c.put_bytes.new.self ++ l) next)
+    (after_run g (goal.at.pieces-preserved g c).In_ok-put_bytes) c.in_ok-put_escape.ensures in
     let same = c.hold_marked-rest.ensures.held ∙ ap (λ l. held c.put_escape.new.self ++ marked_escaped marks l) (take_rest back 1) in
     record { leaving = subst (Leaving _ _ _ _) (sym same) left }

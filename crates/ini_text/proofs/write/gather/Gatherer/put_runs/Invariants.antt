@@ -11,7 +11,8 @@ abbrev pub invariant-runs : goal.invariant-runs
 invariant-runs g l = record {
   is_text : shadow (Utf8 l.rest);
   clear : IsClear l.out;
-  sending : Sending g.W.Write.contents l.fn.out l.out (held l.fn.self) (held l.self) (escaped_bytes l.policy l.fn.text) (escaped_bytes l.policy l.rest);
+  sending : Sending g.W.Write.contents l.fn.out l.out (held l.fn.self) (held l.self)
+      (escaped_bytes l.policy l.fn.text) (escaped_bytes l.policy l.rest);
 }
 
 abbrev pub decreases-runs : goal.decreases-runs
