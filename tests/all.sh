@@ -1,6 +1,7 @@
 #!/bin/sh
-# Every proof and every test: `rt ci`, and then the program that it built, over real streams (tests/program.sh). The last line
-# is 'N passed, M failed' over both, and the status is 1 if anything failed.
+# Every proof and every test: `rt ci`, and then the programs that it built, over real streams (tests/program.sh,
+# tests/streams.sh), and the scripts that build and run them (tests/scripts.sh). Each step ends with the time that it took. The
+# last line is 'N passed, M failed' over all, and the status is 1 if anything failed.
 set -u
 cd "$(dirname "$0")/.." || exit 1
 log=$(mktemp)
@@ -10,6 +11,7 @@ trap 'rm -f "$log"' EXIT
 passed=0
 failed=0
 run() {
+    began=$(date +%s)
     { "$@" 2>&1 || echo "$* ended with status $?"; } | tee "$log"
     numbers=$(sed -n 's/^\([0-9][0-9]*\) passed, \([0-9][0-9]*\) failed$/\1 \2/p' "$log" | tail -n 1)
     ended=$(tail -n 1 "$log" | grep -c 'ended with status')
@@ -21,9 +23,12 @@ run() {
     [ "$ended" -gt 0 ] && [ "$failed_here" -eq 0 ] && failed_here=1
     passed=$((passed + passed_here))
     failed=$((failed + failed_here))
+    echo "$*: $passed_here passed, $failed_here failed, in $(($(date +%s) - began)) s"
 }
 
 run rt ci
 run tests/program.sh
+run tests/streams.sh
+run tests/scripts.sh
 echo "$passed passed, $failed failed"
 [ "$failed" -eq 0 ]

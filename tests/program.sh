@@ -1,11 +1,11 @@
 #!/bin/sh
-# Runs the built program over real streams and files. The cases are the rows of a table, the streams and the large inputs
-# below it, and the commands that README.md and docs/PROGRAM.md show. Each case that fails is told. The last line is
-# 'N passed, M failed', and the status is 1 if a case failed.
+# Runs the built programs over real streams and files. The cases are the rows of a table, the streams, the large inputs and the
+# runs of ini_merge below it, and the commands that README.md and docs/PROGRAM.md show. Each case that fails is told. The last
+# line is 'N passed, M failed', and the status is 1 if a case failed.
 #
-#     tests/program.sh [PROGRAM]
+#     tests/program.sh [INI_TOOL [INI_MERGE]]
 #
-# PROGRAM is by default the one that ini_tool.sh builds; ini_merge, which a page shows too, is built beside it.
+# Each is by default the one that its script builds.
 set -u
 LC_ALL=C
 export LC_ALL
@@ -13,12 +13,20 @@ top=$(cd "$(dirname "$0")/.." && pwd)
 room=$(mktemp -d)
 trap 'rm -rf "$room"' EXIT
 program=${1:-}
+merge=${2:-}
 if [ -z "$program" ]; then
     "$top/ini_tool.sh" fmt </dev/null || exit 1
-    "$top/ini_merge.sh" /dev/null || exit 1
     program=$top/crates/ini_tool/out/ini_tool
 fi
+if [ -z "$merge" ]; then
+    "$top/ini_merge.sh" /dev/null || exit 1
+    merge=$top/crates/ini_merge/out/ini_merge
+fi
 program=$(readlink -f "$program")
+merge=$(readlink -f "$merge")
+mkdir "$room/bin"
+ln -s "$program" "$room/bin/ini_tool"
+ln -s "$merge" "$room/bin/ini_merge"
 passed=0
 failed=0
 usage='usage: ini_tool [--noescape] [--noquote] [--multiline] [--indent] [--brackets] [--crlf] [--policy NAME]'
@@ -53,15 +61,38 @@ sum() {
     cksum | cut -d ' ' -f 1,2
 }
 
-# A row has the words, the input, the status, the output and standard error, parted by bars. Escapes are those of printf's
-# %b. The usage line is written as USAGE.
+# gives NAME STATUS OUTPUT INPUT COMMAND..: over the file INPUT the command ends with that status within a minute, tells
+# nothing, and writes just the file OUTPUT
+gives() {
+    called=$1
+    wanted=$2
+    output=$3
+    input=$4
+    shift 4
+    timeout 60 "$@" <"$input" >"$room/out" 2>"$room/err"
+    wrote "$called" $? "$wanted" "$output"
+}
+
+# lines N FORMAT: the format N times, each %d in it the number of the time, from 0
+lines() {
+    awk -v n="$1" -v format="$2" 'BEGIN { for (i = 0; i < n; i++) printf format, i, i, i }'
+}
+
+# long N CHARACTER: the character N times
+long() {
+    head -c "$1" /dev/zero | tr '\0' "$2"
+}
+
+# A row has the words, the input, the status, the output and standard error, parted by bars. The words are written as for a
+# shell ('a b' is one, '' an empty one), or none where there are no words; escapes in the others are those of printf's %b. The
+# usage line is written as USAGE.
 while IFS='|' read -r words input status output error; do
     case $words in '' | '#'*) continue ;; esac
     if [ "$words" = none ]; then words=; fi
     if [ "$error" = USAGE ]; then error=$usage; fi
     printf '%b' "$input" >"$room/in"
-    # shellcheck disable=SC2086
-    "$program" $words <"$room/in" >"$room/out" 2>"$room/err"
+    eval "set -- $words"
+    "$program" "$@" <"$room/in" >"$room/out" 2>"$room/err"
     {
         echo "status $?"
         cat "$room/out"
@@ -120,7 +151,7 @@ set b 9|a=1\n[s]\nx=y\n|0|a=1\nb=9\n\n[s]\nx=y\n|
 set k 9 s|[s]\na=1\n[s]\nk=2\n|0|[s]\na=1\nk=9\n\n[s]\nk=2\n|
 set k 9 t|[s]\na=1\n|0|[s]\na=1\n\n[t]\nk=9\n|
 set --policy list fmt||0|[fmt]\n--policy=list\n|
-set k \||0|k=\\\\\n|
+set k '\'||0|k=\\\\\n|
 del k|k=1\na=2\nk=3\n|0|a=2\nk=3\n|
 del k|k=1\n[p]\nk=2\n|0|[p]\nk=2\n|
 --crlf del k|k=1\na=2\n|0|a=2\r\n|
@@ -139,7 +170,45 @@ del k|k=1\n[p]\nk=2\n|0|[p]\nk=2\n|
 --crlf --indent --multiline --noquote --noescape fmt|  k='a\\'\n  w\n|0|  k='a\\\\'\\nw\r\n|
 --multiline --crlf --noescape --indent --noquote fmt|  k='a\\'\n  w\n|0|  k='a\\\\'\\nw\r\n|
 --noquote --noquote --noescape --policy Basics --indent --crlf --multiline --noescape fmt|  k='a\\'\n  w\n|0|  k='a\\\\'\\nw\r\n|
+# words with blanks, empty words, and words that a shell would change
+set k 'a b'||0|k=a b\n|
+set k 'a  b'||0|k=a  b\n|
+set k ' v '||0|k= v \n|
+set ' k ' v||0| k =v\n|
+set 'a b' c||0|a b=c\n|
+set k v 'a b'||0|[a b]\nk=v\n|
+set k v ' a '||0|[ a ]\nk=v\n|
+set k ''|k=1|0|k=\n|
+set '' v||0|=v\n|
+set k v ''||0|[]\nk=v\n|
+set '' '' ''||0|[]\n=\n|
+set k v ''|k=1\n[]\nk=2\n|0|k=1\n\n[]\nk=v\n|
+set k "$(printf 'a\tb\nc')"||0|k=a\\tb\\nc\n|
+set k '\n'||0|k=\\\\n\n|
+set k "it's \"so\""||0|k=it's "so"\n|
+set '*' '$HOME'||0|*=$HOME\n|
+set -n -e||0|-n=-e\n|
+set -- --||0|--=--\n|
+set k "$(printf 'a\174b')"||0|k=a\0174b\n|
+get 'a b'|a b = 1|0|1\n|
+get k 'a b'|k=1\n[a]\nk=2\n[ a b ]\nk=3|0|3\n|
+get k ''|k=1\n[]\nk=2|0|2\n|
+--indent get ' k'| k = 1|0|1\n|
+del 'a b'|a=1\na b=2\nb=3|0|a=1\nb=3\n|
+del k ''|[]\nk=2\n[a]\nk=3|0|[]\n[a]\nk=3\n|
 # not found
+get 'a  b'|a b = 1|1||
+get ' k'|k=1|1||
+get 'k '|k=1|1||
+get ' k'| k=1|1||
+--indent get k| k=1|1||
+get ''|k=1|1||
+get k ''|k=1\n[a]\nk=2|1||
+get k ' a '|k=1\n[a]\nk=2|1||
+get a b|a b=1|1||
+del ' k'|k=1|1||
+del ''|k=1|1||
+del k ''|k=1|1||
 get key3 sec1|[sec1]\nkey1=val1|1||
 get k a|k=1\n|1||
 del z|k=1|1||
@@ -176,6 +245,23 @@ del k s x|k=v\n|2||USAGE
 -- fmt|k=v\n|2||USAGE
 --CRLF fmt|k=v\n|2||USAGE
 --policy Basics frob|k=v\n|2||USAGE
+''|k=v|2||USAGE
+'' fmt|k=v|2||USAGE
+fmt ''|k=v|2||USAGE
+list ''|k=v|2||USAGE
+get k s ''|k=v|2||USAGE
+set k v s ''|k=v|2||USAGE
+del k s ''|k=v|2||USAGE
+' fmt'|k=v|2||USAGE
+'fmt '|k=v|2||USAGE
+'get k'|k=v|2||USAGE
+'--crlf fmt'|k=v|2||USAGE
+' --crlf' fmt|k=v|2||USAGE
+'--crlf ' fmt|k=v|2||USAGE
+'--policy Basics' fmt|k=v|2||USAGE
+--policy ' Basics' fmt|k=v|2||USAGE
+--policy 'Basics ' fmt|k=v|2||USAGE
+--policy '' fmt|k=v|2||USAGE
 # refused texts
 --brackets fmt|[a]x\n|3||ini_tool: 2:1 section must be ended with ']'
 fmt|k|3||ini_tool: 1:2 expecting "[Some('='), Some(':')]" but found EOF.
@@ -201,23 +287,31 @@ del k|k=\0303|3||ini_tool: the input is not UTF-8
 --crlf --policy Nothing fmt|k=\0303|3||ini_tool: the input is not UTF-8
 ROWS
 
+# How a fault of a stream is told.
+in_fault='ini_tool: '
+out_fault='ini_tool: '
+merge_fault='ini_merge: '
+closed='Bad file descriptor (os error 9)'
+full='No space left on device (os error 28)'
+broken='Broken pipe (os error 32)'
+large='File too large (os error 27)'
+a_folder='Is a directory (os error 21)'
+
 # Streams that are closed, full or no file.
 printf 'k=v\n' >"$room/pair"
 mkdir "$room/folder"
 : >"$room/nothing"
-closed='ini_tool: Bad file descriptor (os error 9)'
-full='ini_tool: No space left on device (os error 28)'
 for words in fmt list 'get k' 'set k w' 'del k'; do
     # shellcheck disable=SC2086
     "$program" $words <"$room/pair" >&- 2>"$room/err"
     # del of the one pair writes nothing at all
-    case $words in 'del k') told "$words, output closed" $? 0 '' ;; *) told "$words, output closed" $? 4 "$closed" ;; esac
+    case $words in 'del k') told "$words, output closed" $? 0 '' ;; *) told "$words, output closed" $? 4 "$out_fault$closed" ;; esac
     # shellcheck disable=SC2086
     "$program" $words <"$room/folder" >"$room/out" 2>"$room/err"
-    told "$words, a folder as input" $? 4 'ini_tool: Is a directory (os error 21)'
+    told "$words, a folder as input" $? 4 "$in_fault$a_folder"
     # shellcheck disable=SC2086
     "$program" $words <&- >"$room/out" 2>"$room/err"
-    told "$words, input closed" $? 4 "$closed"
+    told "$words, input closed" $? 4 "$in_fault$closed"
 done
 "$program" frob <"$room/folder" >&- 2>"$room/err"
 told 'usage, output closed, a folder as input' $? 2 "$usage"
@@ -231,7 +325,7 @@ if [ -c /dev/full ]; then
     for words in fmt list 'get k' 'set k w'; do
         # shellcheck disable=SC2086
         "$program" $words <"$room/pair" >/dev/full 2>"$room/err"
-        told "$words, a full device" $? 4 "$full"
+        told "$words, a full device" $? 4 "$out_fault$full"
     done
     "$program" del z <"$room/pair" >/dev/full 2>"$room/err"
     told 'not found, a full device' $? 1 ''
@@ -239,19 +333,30 @@ if [ -c /dev/full ]; then
     wrote 'fmt, standard error full' $? 0 "$room/pair"
 fi
 
+# A usage error reads nothing: the input is a pipe that stays open and empty.
+mkfifo "$room/pipe"
+exec 3<>"$room/pipe"
+for words in '' frob 'fmt x' get 'get k s x' 'set k' del --crlf '--policy none fmt' '--policy Basics'; do
+    # shellcheck disable=SC2086
+    timeout 20 "$program" $words <"$room/pipe" >"$room/out" 2>"$room/err" 3<&-
+    told "'$words', an input that stays empty" $? 2 "$usage"
+done
+timeout 20 "$merge" <"$room/pipe" >"$room/out" 2>"$room/err" 3<&-
+status=$?
+cut -d ' ' -f 1,2 "$room/err" >"$room/told"
+mv "$room/told" "$room/err"
+told 'ini_merge without words, an input that stays empty' "$status" 2 'usage: ini_merge'
+exec 3>&-
+
 # A line of 20 MB.
-{ printf 'k='; head -c 20000000 /dev/zero | tr '\0' x; } >"$room/line"
+{ printf 'k='; long 20000000 x; } >"$room/line"
 { cat "$room/line"; echo; } >"$room/lined"
 tail -c +3 "$room/lined" >"$room/value"
 { printf '\tk\t'; cat "$room/value"; } >"$room/listed"
-"$program" fmt <"$room/line" >"$room/out" 2>"$room/err"
-wrote 'a line of 20 MB, fmt' $? 0 "$room/lined"
-"$program" get k <"$room/line" >"$room/out" 2>"$room/err"
-wrote 'a line of 20 MB, get' $? 0 "$room/value"
-"$program" list <"$room/line" >"$room/out" 2>"$room/err"
-wrote 'a line of 20 MB, list' $? 0 "$room/listed"
-"$program" fmt <"$room/lined" 2>"$room/err" >"$room/out"
-wrote 'a line of 20 MB, with its line end' $? 0 "$room/lined"
+gives 'a line of 20 MB, fmt' 0 "$room/lined" "$room/line" "$program" fmt
+gives 'a line of 20 MB, get' 0 "$room/value" "$room/line" "$program" get k
+gives 'a line of 20 MB, list' 0 "$room/listed" "$room/line" "$program" list
+gives 'a line of 20 MB, with its line end' 0 "$room/lined" "$room/lined" "$program" fmt
 (
     ulimit -v 30000 && "$program" fmt <"$room/line" >"$room/out" 2>"$room/err"
 )
@@ -260,34 +365,48 @@ told 'a line of 20 MB, too little memory' $? 4 'ini_tool: out of memory'
 wrote 'a line of 20 MB, too little memory: nothing is written' 4 4 "$room/nothing"
 if [ -c /dev/full ]; then
     "$program" fmt <"$room/line" >/dev/full 2>"$room/err"
-    told 'a line of 20 MB, a full device' $? 4 "$full"
+    told 'a line of 20 MB, a full device' $? 4 "$out_fault$full"
 fi
 
 # 100,000 sections.
-awk 'BEGIN { for (i = 0; i < 100000; i++) printf "[s%d]\nk=%d\n\n", i, i }' | sed '$d' >"$room/many"
-awk 'BEGIN { for (i = 0; i < 100000; i++) printf "[s%d]\tk\t%d\n", i, i }' >"$room/listed"
+lines 100000 '[s%d]\nk=%d\n\n' | sed '$d' >"$room/many"
+lines 100000 '[s%d]\tk\t%d\n' >"$room/listed"
 { cat "$room/many"; printf '\n[new]\nk=v\n'; } >"$room/more"
 sed '2d;3d' "$room/many" >"$room/fewer"
 echo 99999 >"$room/value"
-"$program" fmt <"$room/many" >"$room/out" 2>"$room/err"
-wrote '100,000 sections, fmt' $? 0 "$room/many"
-"$program" list <"$room/many" >"$room/out" 2>"$room/err"
-wrote '100,000 sections, list' $? 0 "$room/listed"
-"$program" get k s99999 <"$room/many" >"$room/out" 2>"$room/err"
-wrote '100,000 sections, get in the last' $? 0 "$room/value"
-"$program" get k s100000 <"$room/many" >"$room/out" 2>"$room/err"
-wrote '100,000 sections, get in none' $? 1 "$room/nothing"
-"$program" set k v new <"$room/many" >"$room/out" 2>"$room/err"
-wrote '100,000 sections, set in one more' $? 0 "$room/more"
-"$program" del k s0 <"$room/many" >"$room/out" 2>"$room/err"
-wrote '100,000 sections, del in the first' $? 0 "$room/fewer"
+gives '100,000 sections, fmt' 0 "$room/many" "$room/many" "$program" fmt
+gives '100,000 sections, list' 0 "$room/listed" "$room/many" "$program" list
+gives '100,000 sections, get in the last' 0 "$room/value" "$room/many" "$program" get k s99999
+gives '100,000 sections, get in none' 1 "$room/nothing" "$room/many" "$program" get k s100000
+gives '100,000 sections, set in one more' 0 "$room/more" "$room/many" "$program" set k v new
+gives '100,000 sections, del in the first' 0 "$room/fewer" "$room/many" "$program" del k s0
 
 # An output that nobody reads on.
 {
     "$program" fmt <"$room/many" 2>"$room/err"
     echo $? >"$room/status"
 } | head -c 1 >"$room/out"
-told 'an output that nobody reads on' "$(cat "$room/status")" 4 'ini_tool: Broken pipe (os error 32)'
+told 'an output that nobody reads on' "$(cat "$room/status")" 4 "$out_fault$broken"
+
+# is_cut NAME STATUS ERROR TEXT: the last run ended so since its output was full, and wrote a front of the file TEXT
+is_cut() {
+    told "$1" "$2" 4 "$3"
+    head -c "$(wc -c <"$room/out")" "$4" | sum >"$room/want"
+    sum <"$room/out" >"$room/have"
+    count "$1: what is written is a front of it"
+}
+
+# An output that is full after its first pieces: a file may have 100 blocks, and only the last call fails.
+lines 5000 'k%d=%d\n' >"$room/some"
+(
+    trap '' XFSZ
+    ulimit -f 100 && "$program" fmt <"$room/some" >"$room/out" 2>"$room/err"
+)
+is_cut 'an output that is full before the end' $? "$out_fault$large" "$room/some"
+
+# Large texts, and ini_merge.
+. "$top/tests/program/large.sh"
+. "$top/tests/program/merge.sh"
 
 # The commands that a page shows: in its blocks marked `console`, each line that begins with '$ ' is a command, and what
 # follows it, up to the next one, is what the shell then shows. A page's commands run in turn, in a folder with the examples.
@@ -311,7 +430,7 @@ examples() {
     fi
     n=1
     while [ "$n" -le "$total" ]; do
-        (cd "$here" && PATH=$(dirname "$program"):$PATH sh "shown/$n.command") >"$room/have" 2>&1 </dev/null
+        (cd "$here" && PATH=$room/bin:$PATH sh "shown/$n.command") >"$room/have" 2>&1 </dev/null
         cp "$here/shown/$n.output" "$room/want"
         count "$(basename "$page"): $(cat "$here/shown/$n.command")"
         n=$((n + 1))

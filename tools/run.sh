@@ -3,36 +3,124 @@
 #
 #     tools/run.sh NAME [WORD ..]
 #
-# The first time, and where its sources have changed, the program is proved and built, which tells on standard error how far
-# it is; it then lies in crates/NAME/out/NAME.
-set -eu
+# The first time, and where its sources or those of a library that it uses have changed, the program is proved and built,
+# which tells on standard error how far it is; it then lies in crates/NAME/out/NAME. The status is the program's own, or 125
+# where it could not be built: what went wrong, and a line on what to do, stand on standard error then.
+set -u
 top=$(dirname "$(dirname "$(readlink -f "$0")")")
+room=
+builder=
+shower=
+
+say() {
+    printf '%s\n' "$1" >&2 || true
+}
+
+# give_up WHY: there is no program to run
+give_up() {
+    say "tools/run.sh: $1"
+    exit 125
+}
+
+# the crates that the program is made of, by the lines of crates.txt: itself, those that it uses, those that they use, ..
+crates_of() {
+    awk -v name="$1" '
+        { sub(/#.*/, ""); colon = index($0, ":") }
+        colon && split(substr($0, 1, colon - 1), heads) { uses[heads[1]] = substr($0, colon + 1) }
+        END {
+            if (name in uses) found[count = 1] = name
+            for (i = 1; i <= count; i++) {
+                print found[i]
+                n = split(uses[found[i]], used)
+                for (j = 1; j <= n; j++)
+                    if (used[j] in uses && !(used[j] in is_found)) { is_found[used[j]] = 1; found[++count] = used[j] }
+            }
+        }
+    ' "$top/crates.txt"
+}
+
+# whether the program is there, and nothing that it is made from is newer: no file, and no folder that lost or got one
+is_built() {
+    [ -x "$program" ] || return 1
+    (
+        cd "$top/crates" || exit 1
+        set --
+        for crate in $crates; do
+            for part in src specs proofs; do
+                if [ -d "$crate/$part" ] || [ "$part" = src ]; then set -- "$@" "$crate/$part"; fi
+            done
+        done
+        newer=$(find "$@" \( -name tests -o -name tests.rt \) -prune -o -newer "$program" -print 2>&1)
+        [ -z "$newer" ]
+    )
+}
+
+# tells at once what would end the build later
+look_ahead() {
+    command -v rt >/dev/null || give_up "$name is not built, and there is no command rt to build it: put the Rattle kit's bin in PATH"
+    for crate in $crates; do
+        folder=$top/crates/$crate
+        [ -d "$folder/src" ] || give_up "$name is not built, and there is no folder crates/$crate/src, which crates.txt asks for"
+        if [ -d "$folder/out" ]; then folder=$folder/out; fi
+        [ -w "$folder" ] || give_up "$name is not built, and $folder can't be written to: build it in a copy of your own"
+    done
+}
+
+# interrupted SIGNAL: ends the build, and leaves neither its log nor a program that may be half written
+interrupted() {
+    trap '' HUP INT TERM
+    for child in $builder $shower; do
+        kill "$child" 2>/dev/null
+    done
+    wait
+    rm -f "$program"
+    rm -rf "$room"
+    trap - "$1" EXIT
+    kill -s "$1" $$
+}
+
+# keeps what the build says, and shows how far it is
+show() {
+    while IFS= read -r line || [ -n "$line" ]; do
+        printf '%s\n' "$line" >>"$room/log"
+        case $line in 'so far:'* | checked* | 'rt: chose'*) say "$line" ;; esac
+    done
+}
+
+# Proves and builds the program. Its time is then that of the build's start, so that a file that was changed meanwhile is newer.
+build() {
+    look_ahead
+    say "building $program: each function is proved first, which takes some minutes the first time"
+    for signal in HUP INT TERM; do
+        # shellcheck disable=SC2064
+        trap "interrupted $signal" "$signal"
+    done
+    trap 'rm -rf "$room"' EXIT
+    { room=$(mktemp -d) && : >"$room/log" && : >"$room/start" && mkfifo "$room/said"; } ||
+        give_up "$name is not built, and there is no room for its log: set TMPDIR to a folder that can be written to"
+    # the run that builds it: an empty text to format, or an empty file to merge
+    case $name in ini_tool) word=fmt ;; *) word=/dev/null ;; esac
+    (cd "$top/crates/$name" && TMPDIR=$room && export TMPDIR && exec rt run -- "$word") </dev/null >"$room/said" 2>&1 &
+    builder=$!
+    show <"$room/said" &
+    shower=$!
+    wait "$builder"
+    status=$?
+    wait "$shower"
+    if [ "$status" -ne 0 ] || ! [ -x "$program" ]; then
+        cat "$room/log" >&2
+        give_up "$name could not be built: mend what is told above, and run it again"
+    fi
+    touch -r "$room/start" "$program"
+    rm -rf "$room"
+    trap - HUP INT TERM EXIT
+}
+
+[ $# -gt 0 ] || give_up 'which program? tools/run.sh NAME [WORD ..]'
 name=$1
 shift
 program=$top/crates/$name/out/$name
-
-# whether the program is there and no older than its sources and those of the libraries
-is_built() {
-    [ -x "$program" ] || return 1
-    changed=$(cd "$top" && find crates.txt crates/ini_multimap crates/ini_text crates/ini crates/ini_layers "crates/$name" \
-        -name out -prune -o -name must-fail -prune -o -name wrong-bodies -prune -o -name '*.md' -prune -o -name 'tests*' -prune -o -type f -newer "$program" -print)
-    [ -z "$changed" ]
-}
-
-if ! is_built; then
-    echo "building $program: each function is proved first, which takes some minutes the first time" >&2
-    log=$(mktemp)
-    trap 'rm -f "$log"' EXIT
-    # the run that builds it: an empty text to format, or an empty file to merge
-    case $name in ini_tool) word=fmt ;; *) word=/dev/null ;; esac
-    (cd "$top/crates/$name" && rt run -- "$word" </dev/null 2>&1 && touch "$program") | while IFS= read -r line; do
-        printf '%s\n' "$line" >>"$log"
-        case $line in 'so far:'* | checked* | 'rt: chose'*) printf '%s\n' "$line" >&2 ;; esac
-    done
-    if ! is_built; then
-        cat "$log" >&2
-        exit 1
-    fi
-    rm -f "$log"
-fi
+crates=$(crates_of "$name")
+{ [ -n "$crates" ] && [ -f "$top/crates/$name/src/main.rt" ]; } || give_up "$name is no program of crates.txt"
+is_built || build
 exec "$program" "$@"

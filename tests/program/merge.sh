@@ -1,0 +1,111 @@
+# The program ini_merge: read by tests/program.sh, of which it has `told`, `wrote`, `is_cut`, `lines`, the words of faults, the
+# program and the folder `room`.
+# shellcheck shell=sh disable=SC2154
+
+# ini_merge: the files that its words name, whatever their names and their number.
+here=$room/here
+mkdir "$here" "$here/folder"
+printf 'k=1\n[s]\na = "x"\n' >"$here/one.ini"
+printf 'j=2\nk=2\n[t]\nb=y\n[s]\nc=z\n' >"$here/two.ini"
+printf 'k=2\nj=2\n\n[s]\na=x\nc=z\n\n[t]\nb=y\n' >"$room/merged"
+printf 'k=v\n[s]\n=v\n' >"$here/broken.ini"
+printf 'k=\303\n' >"$here/bytes.ini"
+: >"$here/empty"
+
+# merges NAME STATUS OUTPUT WORD..: ini_merge over these words gives this
+merges() {
+    called=$1
+    wanted=$2
+    output=$3
+    shift 3
+    (cd "$here" && timeout 60 "$merge" "$@" </dev/null >"$room/out" 2>"$room/err")
+    wrote "ini_merge, $called" $? "$wanted" "$output"
+}
+
+# refuses NAME STATUS ERROR WORD..: it tells this, and writes nothing
+refuses() {
+    called=$1
+    wanted=$2
+    error=$3
+    shift 3
+    (cd "$here" && "$merge" "$@" </dev/null >"$room/out" 2>"$room/err")
+    told "ini_merge, $called" $? "$wanted" "ini_merge: $error"
+    : >"$room/err"
+    wrote "ini_merge, $called: nothing is written" 0 0 "$room/nothing"
+}
+
+merges 'two files' 0 "$room/merged" one.ini two.ini
+merges 'an empty file' 0 "$room/nothing" empty
+merges 'empty files between' 0 "$room/merged" empty one.ini empty two.ini empty
+n=0
+# shellcheck disable=SC2016,SC1003
+for name in a.ini ' a.ini' 'a.ini ' ' a.ini ' a b 'a b' "it's" '"a.ini"' '*.ini' '$HOME' '\' "$(printf 'a\nb')"; do
+    n=$((n + 1))
+    echo "k=$n" >"$here/$name"
+done
+n=0
+# shellcheck disable=SC2016,SC1003
+for name in a.ini ' a.ini' 'a.ini ' ' a.ini ' a b 'a b' "it's" '"a.ini"' '*.ini' '$HOME' '\' "$(printf 'a\nb')"; do
+    n=$((n + 1))
+    echo "k=$n" >"$room/merged"
+    merges "a file named '$name'" 0 "$room/merged" "$name"
+    merges "a file named '$name', the last of three" 0 "$room/merged" a 'a b' "$name"
+done
+for n in 12 20 300 2000; do
+    # each file has a key of its own, and one that all have
+    set --
+    i=0
+    while [ "$i" -lt "$n" ]; do
+        printf 'all = %d\nown%d = %d\n' "$i" "$i" "$i" >"$here/$i"
+        set -- "$@" "$i"
+        i=$((i + 1))
+    done
+    { echo "all=$((n - 1))"; lines "$n" 'own%d=%d\n'; } >"$room/merged"
+    merges "$n files" 0 "$room/merged" "$@"
+    refuses "$n files, and one that is not there" 4 'none.ini: No such file or directory (os error 2)' "$@" none.ini
+done
+for n in 20 300 70000; do
+    # the second file has every third key again and others, the third a section
+    lines "$n" 'k%d = a%d\n' >"$here/first"
+    { awk -v n="$n" 'BEGIN { for (i = 0; i < n; i += 3) printf "k%d = b%d\n", i, i }'; lines "$n" 'm%d = %d\n'; } >"$here/second"
+    { echo '[s]'; lines "$n" 'k%d = c%d\n'; } >"$here/third"
+    {
+        awk -v n="$n" 'BEGIN { for (i = 0; i < n; i++) printf "k%d=%s%d\n", i, i % 3 ? "a" : "b", i }'
+        lines "$n" 'm%d=%d\n'
+        printf '\n[s]\n'
+        lines "$n" 'k%d=c%d\n'
+    } >"$room/merged"
+    merges "three files of $n pairs" 0 "$room/merged" first second third
+done
+refuses 'an empty name' 4 ': No such file or directory (os error 2)' one.ini ''
+refuses 'a file that is not there' 4 'none.ini: No such file or directory (os error 2)' one.ini none.ini two.ini
+refuses 'a folder' 4 "folder: $a_folder" one.ini folder
+refuses 'a broken file' 3 'broken.ini: 3:2 missing key' broken.ini
+refuses 'a broken file, the last' 3 'broken.ini: 3:2 missing key' one.ini two.ini broken.ini
+refuses 'a broken file, the first of two' 3 'broken.ini: 3:2 missing key' one.ini broken.ini bytes.ini
+refuses 'a file that is no text' 3 'bytes.ini: the input is not UTF-8' one.ini bytes.ini
+(cd "$here" && "$merge" one.ini two.ini >&- 2>"$room/err")
+told 'ini_merge, output closed' $? 4 "$merge_fault$closed"
+(cd "$here" && "$merge" empty >&- 2>"$room/err")
+told 'ini_merge, output closed, nothing to write' $? 0 ''
+(cd "$here" && "$merge" one.ini broken.ini >&- 2>"$room/err")
+told 'ini_merge, output closed, a broken file' $? 3 'ini_merge: broken.ini: 3:2 missing key'
+: >"$room/err"
+(cd "$here" && "$merge" broken.ini >"$room/out" 2>&-)
+wrote 'ini_merge, a broken file, standard error closed' $? 3 "$room/nothing"
+if [ -c /dev/full ]; then
+    (cd "$here" && "$merge" one.ini two.ini >/dev/full 2>"$room/err")
+    told 'ini_merge, a full device' $? 4 "$merge_fault$full"
+    (cd "$here" && "$merge" first second third >/dev/full 2>"$room/err")
+    told 'ini_merge, a full device and a long text' $? 4 "$merge_fault$full"
+fi
+{
+    (cd "$here" && "$merge" first second third 2>"$room/err")
+    echo $? >"$room/status"
+} | head -c 1 >"$room/out"
+told 'ini_merge, an output that nobody reads on' "$(cat "$room/status")" 4 "$merge_fault$broken"
+(
+    trap '' XFSZ
+    ulimit -f 100 && "$merge" "$room/some" >"$room/out" 2>"$room/err"
+)
+is_cut 'ini_merge, an output that is full before the end' $? "$merge_fault$large" "$room/some"
