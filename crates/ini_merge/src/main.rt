@@ -17,7 +17,7 @@ use ini::{Error, Ini, Watched, WriteOption};
 use ini_layers::{Layers, NoLayer};
 use std::alloc::{AllocError, Global};
 use std::env;
-use std::io::{BufWriter, Write};
+use std::io::Write;
 use std::path::Path;
 use std::process::ExitCode;
 use std::rt::Files;
@@ -168,19 +168,16 @@ fn gather_words(rt: &HostRuntime, words: &mut Vec<String>) -> Result<(), Error> 
     Ok(())
 }
 
-/// Runs over the process's own words and output. The output is gathered, and written out before this
-/// returns.
+/// Runs over the process's own words and output.
 fn run_here(rt: &HostRuntime, words: &mut Vec<String>) -> Result<Outcome, Error> {
     gather_words(rt, words)?;
-    let mut output = BufWriter::new(rt.alloc(), rt.stdout())?;
-    let outcome = run(
+    let mut output = rt.stdout();
+    Ok(run(
         rt,
         rt.alloc(),
         words.as_slice(),
         &mut Watched::new(&mut output),
-    );
-    output.flush()?;
-    Ok(outcome)
+    ))
 }
 
 fn main(rt: HostRuntime) -> ExitCode {

@@ -1,7 +1,7 @@
 //! The program: reads an INI text from standard input, and writes to standard output what its words ask.
 //!
 //! `run` is the program as a function of its words and of two devices; this file hands it those of the
-//! process, and nothing else.
+//! process, and nothing else: what is written is gathered in `run`, and no call of the output follows it.
 #![tactic(auto)]
 
 mod command;
@@ -11,7 +11,6 @@ mod words;
 use ini::{Error, Watched};
 use run::{Outcome, run, status, tell};
 use std::env;
-use std::io::{BufWriter, Write};
 use std::process::ExitCode;
 
 /// The words after the program's name.
@@ -23,22 +22,17 @@ fn words_of(rt: &HostRuntime) -> Result<Vec<String>, Error> {
     Ok(words)
 }
 
-/// Runs over the process's own words and streams. The output is gathered, and written out before this
-/// returns; a fault there is a refusal too.
+/// Runs over the process's own words and streams.
 fn run_here(rt: &HostRuntime) -> Result<Outcome, Error> {
     let words = words_of(rt)?;
     let mut input = rt.stdin();
-    let mut output = BufWriter::new(rt.alloc(), rt.stdout())?;
-    let outcome = run(
+    let mut output = rt.stdout();
+    Ok(run(
         rt.alloc(),
         words.as_slice(),
         &mut Watched::new(&mut input),
         &mut Watched::new(&mut output),
-    );
-    if let Outcome::Done = outcome {
-        output.flush()?;
-    }
-    Ok(outcome)
+    ))
 }
 
 fn main(rt: HostRuntime) -> ExitCode {

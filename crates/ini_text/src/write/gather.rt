@@ -286,7 +286,7 @@ impl Gatherer {
         Ok(())
     }
 
-    // Sends bytes: they are held back if they have room, else they go out in a call of their own.
+    // Sends bytes: they are held back if they have room, else behind what is held back.
     fn put_bytes<W: Write>(&mut self, bytes: &[u8], out: &mut Watched<'_, W>) -> Result<(), Error>
         requires { IsClear out.old }
         ensures { Sends W.contents out.old out.new (held self.old) (held self.new) result bytes.now }
@@ -298,13 +298,18 @@ impl Gatherer {
         self.put_through(bytes, out)
     }
 
-    // Sends bytes in a call of their own, behind what is held back.
+    // Sends bytes behind what is held back, which goes out first. They are held back then, or go out in a
+    // call of their own where they are more than there is room for.
     #[inline(never)]
     fn put_through<W: Write>(&mut self, bytes: &[u8], out: &mut Watched<'_, W>) -> Result<(), Error>
         requires { IsClear out.old }
         ensures { Sends W.contents out.old out.new (held self.old) (held self.new) result bytes.now }
     {
         self.flush(out)?;
+        if bytes.len() <= ROOM - self.len {
+            self.append(bytes);
+            return Ok(());
+        }
         write_bytes(bytes, out)
     }
 
