@@ -18,9 +18,10 @@ use Rattle.ini.specs.Documents.{Document, document_of}
 use Rattle.ini.specs.Loading.{IsDocumentOf}
 use Rattle.ini.specs.Outcomes.{HasOneOutcome, HasOutcome, Inverts, Outcome, loaded, refused}
 use Rattle.ini.specs.Plain.{IsPlain}
+use Rattle.ini.specs.SectionItems.{items_of, pair_items}
 use Rattle.ini.specs.Written.{has_pairs, written, written_pairs, written_sections}
 use Rattle.ini.proofs.EachLemmas.{Each, each_of}
-use Rattle.ini.proofs.PlainTextLemmas.{GivesBefore, HasNames, IsGood, general_gives, items_make, items_of, more_make, pair_items, pairs-scalars, sections-scalars, sections_give}
+use Rattle.ini.proofs.PlainTextLemmas.{GivesBefore, HasNames, IsGood, general_gives, items_make, more_make, pairs-scalars, sections-scalars, sections_give}
 
 module _ (o : ParseOption) (w : WriteOption) {d : Document} (plain : IsPlain d w o) where
   abbrev whole : Document

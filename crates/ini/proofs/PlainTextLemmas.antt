@@ -18,22 +18,10 @@ use Rattle.ini_text.proofs.LawLemmas.ExportedLemmas as text_laws
 use Rattle.ini.specs.Texts.{Text}
 use Rattle.ini.specs.Properties.{Pairs}
 use Rattle.ini.specs.Documents.{Document, document_of, with_item, with_pair}
+use Rattle.ini.specs.SectionItems.{items_of, name_items, pair_items}
 use Rattle.ini.specs.Written.{has_pairs, written_name, written_pair, written_pairs, written_sections}
 use Rattle.ini.proofs.EachLemmas.{Each}
 use Rattle.ini.proofs.ReadingLemmas.{Reads-append, with_item-some}
-
--- the items of pairs, of a section and of sections
-abbrev pub pair_items : Pairs → List Given
-pair_items [] = []
-pair_items (p ∷ ps) = Pair p.0 p.1 ∷ pair_items ps
-
-abbrev pub name_items : Option Text → List Given
-name_items None = []
-name_items (Some name) = Header name ∷ []
-
-abbrev pub items_of : Document → List Given
-items_of [] = []
-items_of (s ∷ d) = (name_items s.0 ++ pair_items s.1) ++ items_of d
 
 -- behind a document that has a section, items leave the sections before that one as they are
 with_pair-behind : (key value : Text) (d : Document) (s : Option Text × Pairs) (e : Document)
@@ -48,7 +36,7 @@ with_item-behind d [] item h = absurd (omega arith)
 with_item-behind d (s ∷ e) (Header name) h = append_assoc d (s ∷ e) ((Some name, []) ∷ [])
 with_item-behind d (s ∷ e) (Pair key value) h = with_pair-behind key value d s e
 
-items-behind : (d x : Document) (items : List Given) → 0 < length x
+pub items-behind : (d x : Document) (items : List Given) → 0 < length x
     → fold with_item (d ++ x) items ≡ d ++ fold with_item x items
 items-behind d x [] h = refl
 items-behind d x (item ∷ items) h =
@@ -56,7 +44,7 @@ items-behind d x (item ∷ items) h =
     (with_item-some x item h)
 
 -- the items of pairs go to the last section
-pairs_make : (name : Option Text) (before ps : Pairs)
+pub pairs_make : (name : Option Text) (before ps : Pairs)
     → fold with_item ((name, before) ∷ []) (pair_items ps) ≡ (name, before ++ ps) ∷ []
 pairs_make name before [] = ap (λ x. (name, x) ∷ []) (sym (append-nil before))
 pairs_make name before (p ∷ ps) =

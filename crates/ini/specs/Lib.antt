@@ -13,5 +13,6 @@ pub mod Files
 pub mod Entries
 pub mod Setter
 pub mod Plain
+pub mod SectionItems
 pub mod Outcomes
 pub mod Inside

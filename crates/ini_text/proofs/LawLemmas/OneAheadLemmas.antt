@@ -42,7 +42,7 @@ LineEnd-alike a LineEnd.lf = LineEnd.lf
 LineEnd-alike a LineEnd.cr_lf = LineEnd.cr_lf
 LineEnd-alike a (LineEnd.cr n) = LineEnd.cr (BeginsWithNo-alike is_line_feed a n)
 
-Gap-alike : {b s r x : List ℕ} → Alike r x → Gap b s r → Gap b s x
+pub Gap-alike : {b s r x : List ℕ} → Alike r x → Gap b s r → Gap b s x
 Gap-alike a (Gap.blank_line c ind h) = Gap.blank_line c ind h
 Gap-alike Alike.same (Gap.before_header ind) = Gap.before_header ind
 Gap-alike a (Gap.white h n) = Gap.white h n
@@ -58,7 +58,7 @@ module _ {o : ParseOption} where
       let a = Alike-some e r x (line_end-some end) in
       record { lead = Lead-alike (Alike-behind l a) n.lead; line = Line-alike a n.line; end = end }
 
-  MoreLines-alike : {s r v x : List ℕ} → Alike r x → MoreLines o s r v → MoreLines o s x v
+  pub MoreLines-alike : {s r v x : List ℕ} → Alike r x → MoreLines o s r v → MoreLines o s x v
   MoreLines-alike a (MoreLines.done n m) = MoreLines.done (BeginsWithNo-alike is_blank a n) (BeginsWithNo-alike is_line_end a m)
   MoreLines-alike a (MoreLines.empty_lf m) = MoreLines.empty_lf (MoreLines-alike a m)
   MoreLines-alike a (MoreLines.empty_cr_lf m) = MoreLines.empty_cr_lf (MoreLines-alike a m)
@@ -67,7 +67,7 @@ module _ {o : ParseOption} where
       MoreLines.continued b n.lead n.line n.end (MoreLines-alike a m)
   MoreLines-alike a (MoreLines.last b lead ln) = elim a [ ]
 
-  Value-alike : {s r v x : List ℕ} → Alike r x → Value o s r v → Value o s x v
+  pub Value-alike : {s r v x : List ℕ} → Alike r x → Value o s r v → Value o s x v
   Value-alike a (Value.one_line {l = l} off lead ln) = Value.one_line off (Lead-alike (Alike-behind l a) lead) (Line-alike a ln)
   Value-alike a (Value.to_end on lead ln) = elim a [ ]
   Value-alike a (Value.lines {t = t} on lead ln end m) =
@@ -80,7 +80,7 @@ module _ {o : ParseOption} where
   KeyFront-alike a (KeyFront.indented {s = s} ind begins str) =
       KeyFront.indented ind (BeginsWith-alike begins_indented_key (Alike-behind s a) begins) (Str-alike a str)
 
-  Element-alike : {b s r x : List ℕ} {gives : List Given} → Alike r x → Element o b s r gives → Element o b s x gives
+  pub Element-alike : {b s r x : List ℕ} {gives : List Given} → Alike r x → Element o b s r gives → Element o b s x gives
   Element-alike a (Element.gap g) = Element.gap (Gap-alike a g)
   Element-alike a (Element.comment s one mark all) = Element.comment s one mark all
   Element-alike a (Element.last_comment one mark all) = elim a [ ]
@@ -90,7 +90,7 @@ module _ {o : ParseOption} where
   Element-alike a (Element.dropped_blanks ind) = elim a [ ]
   Element-alike a (Element.dropped_key ind begins stops) = elim a [ ]
 
-  Reads-front : {T b c : List ℕ} {items : List Given} → Reads o T b items c → (m : List ℕ) × (b ++ m ≡ c)
+  pub Reads-front : {T b c : List ℕ} {items : List Given} → Reads o T b items c → (m : List ℕ) × (b ++ m ≡ c)
   Reads-front {b = b} (Reads.stay r h) = ([], append-nil b)
   Reads-front {b = b} (Reads.step {s = s} h e reads) = let x = Reads-front reads in (s ++ x.0, sym (append_assoc b s x.0) ∙ x.1)
 

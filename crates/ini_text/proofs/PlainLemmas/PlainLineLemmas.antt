@@ -23,11 +23,11 @@ use Rattle.ini_text.proofs.LawLemmas.MovedLemmas.{last_or-behind}
 use Rattle.ini_text.proofs.PlainLemmas.PlainTrimLemmas.{line_end_is_white}
 
 -- line ends are gaps
-line_end_gap : {b r : List ℕ} (c : ℕ) → is_line_end c ≡ true → Gap b (c ∷ []) r
+pub line_end_gap : {b r : List ℕ} (c : ℕ) → is_line_end c ≡ true → Gap b (c ∷ []) r
 line_end_gap c h =
     Gap.white (line_end_is_white c h) (λ q. absurd (both_ways (is_blank c) (line_end_no_blank c h) q))
 
-gaps_of : {b r : List ℕ} (e : List ℕ) → list_all is_line_end e ≡ true → AreGaps r b e
+pub gaps_of : {b r : List ℕ} (e : List ℕ) → list_all is_line_end e ≡ true → AreGaps r b e
 gaps_of [] h = AreGaps.none
 gaps_of (c ∷ e) h =
     let parts = and_parts (is_line_end c) (list_all is_line_end e) h in
@@ -48,7 +48,7 @@ pub line_end_gaps : {b r : List ℕ} (w : WriteOption) (twice : Bool) → AreGap
 line_end_gaps w twice = gaps_of (line_ends w twice) (line_ends-all w twice)
 
 -- gaps as a row of elements
-gaps_read : {o : ParseOption} {T r : List ℕ} {b s : List ℕ} → AreGaps r b s → T ≡ b ++ (s ++ r)
+pub gaps_read : {o : ParseOption} {T r : List ℕ} {b s : List ℕ} → AreGaps r b s → T ≡ b ++ (s ++ r)
     → Reads o T b [] (b ++ s)
 gaps_read {o} {T} {r} {b} AreGaps.none q = subst (Reads o T b []) (sym (append-nil b)) (Reads.stay r q)
 gaps_read {o} {T} {r} (AreGaps.more {b} {s} {t} gap gaps) q =
@@ -72,7 +72,7 @@ element_then_gaps-gives {o} {b} {s} {e} {r} {item} x =
     (subst (Reads o T b (item ∷ [])) (append_assoc b s e) (Reads.step whole x.element gaps), x.column_one)
 
 -- behind line ends column one begins
-column_one_behind : (x : List ℕ) (c : ℕ) (y : List ℕ) → is_column_one (x ++ c ∷ y) ≡ is_column_one (c ∷ y)
+pub column_one_behind : (x : List ℕ) (c : ℕ) (y : List ℕ) → is_column_one (x ++ c ∷ y) ≡ is_column_one (c ∷ y)
 column_one_behind x c y = ap is_line_feed (last_or-behind line_feed c x y)
 
 pub line_ends_column : (x : List ℕ) (w : WriteOption) (twice : Bool) → is_column_one (x ++ line_ends w twice) ≡ true

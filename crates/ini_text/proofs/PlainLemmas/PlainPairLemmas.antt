@@ -37,7 +37,7 @@ unfolding escape
 escape-begins c = escape_by-begins (letter_of c) c
 
 module _ (P : List ℕ → Type 0) (slash : (y : List ℕ) → P (backslash ∷ y)) (policy : EscapePolicy) where
-  escaped_begins : (c : ℕ) (cs x : List ℕ) → (is_escaped policy c ≡ false → (y : List ℕ) → P (c ∷ y))
+  pub escaped_begins : (c : ℕ) (cs x : List ℕ) → (is_escaped policy c ≡ false → (y : List ℕ) → P (c ∷ y))
       → P (escaped policy (c ∷ cs) ++ x)
   escaped_begins c cs x raw =
       cond_both (is_escaped policy c) (escape c) (c ∷ []) (λ p. P ((p ++ escaped policy cs) ++ x))
@@ -46,7 +46,7 @@ module _ (P : List ℕ → Type 0) (slash : (y : List ℕ) → P (backslash ∷ 
       (λ h. raw h (escaped policy cs ++ x))
 
   -- a bare key begins with no white space, comment's mark or bracket
-  bare_begins : {o : ParseOption} {key : List ℕ} (x : List ℕ) → IsBareKey o policy key
+  pub bare_begins : {o : ParseOption} {key : List ℕ} (x : List ℕ) → IsBareKey o policy key
       → ((c : ℕ) (y : List ℕ) → is_whitespace c ≡ false → is_comment_mark c ≡ false
       → eqb c open_bracket ≡ false → P (c ∷ y)) → P (escaped policy key ++ x)
   bare_begins {o} {key = []} x bare raw = absurd (bare.some refl)
@@ -68,7 +68,7 @@ module _ (P : List ℕ → Type 0) (slash : (y : List ℕ) → P (backslash ∷ 
           (and_parts (is_whitespace c) (is_escaped policy c) i.white).1)
 
   -- a plain value before a line end
-  value_begins : {o : ParseOption} {value : List ℕ} (l : ℕ) (x : List ℕ) → IsPlainValue o policy value
+  pub value_begins : {o : ParseOption} {value : List ℕ} (l : ℕ) (x : List ℕ) → IsPlainValue o policy value
       → is_line_end l ≡ true
       → ((y : List ℕ) → P (l ∷ y))
       → ((c : ℕ) (y : List ℕ) → is_whitespace c ≡ false → (o.enabled_quote ≡ true → is_mark c ≡ false)
@@ -77,20 +77,20 @@ module _ (P : List ℕ → Type 0) (slash : (y : List ℕ) → P (backslash ∷ 
   value_begins {o} {value = c ∷ cs} l x plain h ends raw =
       escaped_begins c cs (l ∷ x) (λ _ y. raw c y (trimmed_begins (c ∷ cs) plain.is_trimmed) plain.no_mark)
 
-no_white_no_line_end : (c : ℕ) → is_whitespace c ≡ false → is_line_end c ≡ false
+pub no_white_no_line_end : (c : ℕ) → is_whitespace c ≡ false → is_line_end c ≡ false
 no_white_no_line_end c h =
     false_from_ne_true (is_line_end c) (λ q. both_ways (is_whitespace c) h (line_end_is_white c q))
 
 -- keys
 module _ {o : ParseOption} (policy : EscapePolicy) where
-  bare_unindented : {key : List ℕ} (x : List ℕ) → IsBareKey o policy key
+  pub bare_unindented : {key : List ℕ} (x : List ℕ) → IsBareKey o policy key
       → BeginsWith begins_key (escaped policy key ++ x)
   bare_unindented x bare =
       bare_begins (BeginsWith begins_key) (λ y. refl) policy x bare (λ c y white mark bracket.
       ap not (or_from _ (eqb c open_bracket)
       (or_from (is_whitespace c) (is_comment_mark c) white mark) bracket))
 
-  bare_indented : {key : List ℕ} (x : List ℕ) → IsBareKey o policy key
+  pub bare_indented : {key : List ℕ} (x : List ℕ) → IsBareKey o policy key
       → BeginsWith begins_indented_key (escaped policy key ++ x)
   bare_indented x bare =
       bare_begins (BeginsWith begins_indented_key) (λ y. refl) policy x bare (λ c y white mark bracket.
@@ -128,7 +128,7 @@ blank_row (c ∷ w) h =
           Row.raw (λ s. absurd (omega arith)) no_end (blank_row w parts.1)
     ]
 
-separator_closes : (m : ℕ) → is_separator m ≡ true → is_endpoint key_ends m ≡ true
+pub separator_closes : (m : ℕ) → is_separator m ≡ true → is_endpoint key_ends m ≡ true
 separator_closes m h = elim (or_cases (eqb m 0x3D) (eqb m 0x3A) h) [
   | inl q ↦ or_left (eqb m 0x3D) _ q
   | inr q ↦ or_right (eqb m 0x3D) _ (or_left (eqb m 0x3A) false q)
@@ -215,7 +215,7 @@ spaces_blank (c ∷ spaces) h =
     let parts = and_parts (eqb c space) (list_all (λ c. eqb c space) spaces) h in
     and_from (is_blank c) _ (or_left (eqb c space) (eqb c 9) parts.0) (spaces_blank spaces parts.1)
 
-line_starts : (b : List ℕ) → is_column_one b ≡ true → starts_line b ≡ true
+pub line_starts : (b : List ℕ) → is_column_one b ≡ true → starts_line b ≡ true
 line_starts b one = or_left (is_line_feed (last_or line_feed b)) _ one
 
 module _ {o : ParseOption} {policy : EscapePolicy} where
@@ -241,7 +241,7 @@ module _ {o : ParseOption} {policy : EscapePolicy} where
       subst (KeyFront o b ((c ∷ spaces) ++ (escaped policy key ++ w)) (m ∷ r)) key_is
       (KeyFront.indented ind begins (bare_string bare read w r m blank sep))
 
-  key_front : {b key : List ℕ} (w r : List ℕ) (m : ℕ) → is_column_one b ≡ true → IsPlainKey o policy key
+  pub key_front : {b key : List ℕ} (w r : List ℕ) (m : ℕ) → is_column_one b ≡ true → IsPlainKey o policy key
       → AllRead o.enabled_escape policy key
       → list_all is_blank w ≡ true → is_separator m ≡ true
       → KeyFront o b (escaped policy key ++ w) (m ∷ r) key
@@ -253,7 +253,7 @@ module _ {o : ParseOption} {policy : EscapePolicy} where
       subst (λ s. KeyFront o b s (m ∷ r) (spaces ++ key)) source
       (spaced_front spaces w r m one kept all bare (AllRead-behind spaces read) blank sep)
 
-  key_some : {key : List ℕ} → IsPlainKey o policy key → key ≢ []
+  pub key_some : {key : List ℕ} → IsPlainKey o policy key → key ≢ []
   key_some (IsPlainKey.bare bare) = bare.some
   key_some (IsPlainKey.behind_spaces {key} spaces kept off all bare) = some_behind spaces key bare.some
 
@@ -275,7 +275,7 @@ value_no_end {policy = policy} (AllRead.more {c} one all) =
     at false true h = h
     at false false h = h
 
-line_end_closes : (l : ℕ) → is_line_end l ≡ true → is_endpoint plain_ends l ≡ true
+pub line_end_closes : (l : ℕ) → is_line_end l ≡ true → is_endpoint plain_ends l ≡ true
 line_end_closes l h = at (eqb l 0x0A) (eqb l 0x0D) h
   where
     at : (x y : Bool) → (x || y) ≡ true → (x || (y || false)) ≡ true
@@ -283,13 +283,13 @@ line_end_closes l h = at (eqb l 0x0A) (eqb l 0x0D) h
     at false true h = h
     at false false h = h
 
-line_end_no_mark : (l : ℕ) → is_line_end l ≡ true → is_mark l ≡ false
+pub line_end_no_mark : (l : ℕ) → is_line_end l ≡ true → is_mark l ≡ false
 line_end_no_mark l h = elim (or_cases (eqb l 0x0A) (eqb l 0x0D) h) [
   | inl q ↦ subst (λ x. is_mark x ≡ false) (sym (eqb-true l 0x0A q)) refl
   | inr q ↦ subst (λ x. is_mark x ≡ false) (sym (eqb-true l 0x0D q)) refl
 ]
 
-inline_blanks : (w : List ℕ) → list_all is_blank w ≡ true → list_all is_inline_white w ≡ true
+pub inline_blanks : (w : List ℕ) → list_all is_blank w ≡ true → list_all is_inline_white w ≡ true
 inline_blanks [] h = refl
 inline_blanks (c ∷ w) h =
     let parts = and_parts (is_blank c) (list_all is_blank w) h in
@@ -301,7 +301,7 @@ inline_blanks (c ∷ w) h =
 -- a plain value before a line end
 module _ {o : ParseOption} {policy : EscapePolicy} {value : List ℕ} (plain : IsPlainValue o policy value)
     (all : AllRead o.enabled_escape policy value) where
-  value_line : (l : ℕ) (r : List ℕ) → is_line_end l ≡ true → Line o true (escaped policy value) (l ∷ r) value
+  pub value_line : (l : ℕ) (r : List ℕ) → is_line_end l ≡ true → Line o true (escaped policy value) (l ∷ r) value
   value_line l r h =
       let unquoted : BeginsPlain o (escaped policy value ++ l ∷ r) = λ on.
       value_begins (BeginsWithNo is_mark) (λ y. refl) policy l r plain h (λ y. line_end_no_mark l h)
@@ -310,7 +310,7 @@ module _ {o : ParseOption} {policy : EscapePolicy} {value : List ℕ} (plain : I
       (Line.line Quoted.none unquoted
       (Str.closed (row_of value all (value_no_end all)) (line_end_closes l h)))
 
-  value_lead : (w : List ℕ) (l : ℕ) (r : List ℕ) → list_all is_blank w ≡ true → is_line_end l ≡ true
+  pub value_lead : (w : List ℕ) (l : ℕ) (r : List ℕ) → list_all is_blank w ≡ true → is_line_end l ≡ true
       → Lead w (escaped policy value ++ l ∷ r)
   value_lead w l r blank h = record {
     white = inline_blanks w blank;
@@ -318,13 +318,13 @@ module _ {o : ParseOption} {policy : EscapePolicy} {value : List ℕ} (plain : I
         (λ y. and_right (is_whitespace l) _ (ap not h)) (λ c y white mark. and_left (is_whitespace c) _ white);
   }
 
-ends_begin : (s : LineSeparator) (x : List ℕ)
+pub ends_begin : (s : LineSeparator) (x : List ℕ)
     → (l : ℕ) × (y : List ℕ) × (is_line_end l ≡ true) × (line_end s ++ x ≡ l ∷ y)
 ends_begin SystemDefault x = (line_feed, x, refl, refl)
 ends_begin CR x = (line_feed, x, refl, refl)
 ends_begin CRLF x = (carriage_return, line_feed ∷ x, refl, refl)
 
-line_end-is : (s : LineSeparator) (r : List ℕ) → LineEnd (line_end s) r
+pub line_end-is : (s : LineSeparator) (r : List ℕ) → LineEnd (line_end s) r
 line_end-is SystemDefault r = LineEnd.lf
 line_end-is CR r = LineEnd.lf
 line_end-is CRLF r = LineEnd.cr_lf
@@ -338,7 +338,7 @@ more_lines CR true n m = (line_feed ∷ [], refl, MoreLines.empty_lf (MoreLines.
 more_lines CRLF true n m = (line_feed ∷ [], refl, MoreLines.empty_cr_lf (MoreLines.done n m))
 
 -- the source of a pair, its separator in three parts
-source-parts : {text : List ℕ} (key value : List ℕ) (sep : IsPlainSeparator text)
+pub source-parts : {text : List ℕ} (key value : List ℕ) (sep : IsPlainSeparator text)
     → (key ++ sep.before) ++ sep.mark ∷ (sep.after ++ value) ≡ key ++ (text ++ value)
 source-parts key value sep =
     append_assoc key sep.before (sep.mark ∷ (sep.after ++ value))

@@ -1,0 +1,11 @@
+pub mod AheadLemmas
+pub mod BehindLemmas
+pub mod CutLemmas
+pub mod DeleteLemmas
+pub mod DocumentLemmas
+pub mod InsertLemmas
+pub mod InsertedLemmas
+pub mod PadLemmas
+pub mod ReplacedLemmas
+pub mod SetLemmas
+pub mod ValueLemmas

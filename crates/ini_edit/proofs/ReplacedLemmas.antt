@@ -1,0 +1,80 @@
+-- A pair whose value was replaced in its text.
+use Rattle.std.proofs.Common.{◌≡◌, ℕ, List, [], ◌∷◌, ◌++◌, refl, sym, subst, append_assoc, append-nil}
+use Rattle.ini_text.specs.declared.option.ParseOption.{ParseOption}
+use Rattle.ini_text.specs.declared.write.policy.EscapePolicy.{EscapePolicy}
+use Rattle.ini_text.specs.Grammar.CharacterKinds.{}
+use Rattle.ini_text.specs.Grammar.Strings.{Closes, plain_ends}
+use Rattle.ini_text.specs.Grammar.Values.{LineEnd}
+use Rattle.ini_text.specs.Grammar.Elements.{Given, Pair, Element}
+use Rattle.ini_text.specs.Grammar.Texts.{Reads, Derives}
+use Rattle.ini_text.specs.Escaping.EscapedTexts.{escaped}
+use Rattle.ini_text.specs.Laws.Plain.{IsPlainValue}
+use Rattle.ini_text.proofs.LawLemmas.OneAheadLemmas.{Alike, KeyFront-alike, Reads-alike}
+use Rattle.ini_edit.proofs.BehindLemmas.{EndsLike-one, Reads-like, Reads-line_end, nothing_left}
+use Rattle.ini_edit.specs.Places.{StandsAt, Stretches, Tail, pair_of, pair_with, text_with}
+use Rattle.ini_edit.proofs.ValueLemmas.{closes_line_end, value_written}
+
+module _ (o : ParseOption) where
+  -- behind a tail the rest is read as before, whatever stands before the tail
+  abbrev pub RestBehind : List ℕ → List ℕ → List Given → List ℕ → Type 0
+  RestBehind t r items P = Reads o ((P ++ t) ++ r) (P ++ t) items ((P ++ t) ++ r)
+
+  -- a rest that is empty or begins with a line end is read behind any front as before
+  pub Reads-closes : (r : List ℕ) {items : List Given} (W V : List ℕ) → Closes plain_ends r
+      → Reads o (W ++ r) W items (W ++ r) → Reads o (V ++ r) V items (V ++ r)
+  Reads-closes [] {items} W V h reads =
+      let none : items ≡ [] = nothing_left reads (append-nil W) in
+      subst (λ g. Reads o (V ++ []) V g (V ++ [])) (sym none)
+      (subst (λ z. Reads o z V [] z) (sym (append-nil V)) (Reads.stay [] (sym (append-nil V))))
+  Reads-closes (c ∷ r) W V h reads = Reads-line_end W V c r (closes_line_end c h) reads
+
+  pub rest_behind : {t r : List ℕ} {items : List Given} (P Q : List ℕ) → Tail o t r → RestBehind t r items P → RestBehind t r items Q
+  rest_behind {r = r} P Q (Tail.line off h) reads = Reads-closes r (P ++ []) (Q ++ []) h reads
+  rest_behind P Q (Tail.end on) reads = Reads-closes [] (P ++ []) (Q ++ []) refl reads
+  rest_behind {r = r} P Q (Tail.lines {t = t} on LineEnd.lf more all) reads = Reads-like o (EndsLike-one P Q _ t) r reads
+  rest_behind {r = r} P Q (Tail.lines {t = t} on LineEnd.cr_lf more all) reads = Reads-like o (EndsLike-one P Q _ (_ ∷ t)) r reads
+  rest_behind {r = r} P Q (Tail.lines {t = t} on (LineEnd.cr n) more all) reads = Reads-like o (EndsLike-one P Q _ t) r reads
+
+-- two texts that begin with one key and its separator
+alike_key : (k : List ℕ) (m : ℕ) (x y r : List ℕ) → Alike ((k ++ m ∷ x) ++ r) ((k ++ m ∷ y) ++ r)
+alike_key [] m x y r = Alike.same
+alike_key (c ∷ k) m x y r = Alike.same
+
+-- the pair of the stretches p
+module _ {o : ParseOption} {T : List ℕ} {p : Stretches} {key old : List ℕ} {before after : List Given}
+    (s : StandsAt o T p key old before after) {policy : EscapePolicy} {value : List ℕ}
+    (plain : IsPlainValue o policy value) where
+  abbrev new : List ℕ
+  new = escaped policy value
+
+  abbrev before_tail : List ℕ → List ℕ
+  before_tail x = p.front ++ (p.key ++ p.separator ∷ (p.lead ++ (x ++ p.pad)))
+
+  to_tail : (x : List ℕ) → p.front ++ pair_with p x ≡ before_tail x ++ p.tail
+  to_tail x = simp append_assoc
+
+  whole_text : (x : List ℕ) → text_with p x ≡ (before_tail x ++ p.tail) ++ p.rest
+  whole_text x = simp append_assoc
+
+  element_new : Element o p.front (pair_with p new) p.rest (Pair key value ∷ [])
+  element_new =
+      Element.pair (KeyFront-alike Alike.same s.key_front) s.some s.separates
+      (value_written p.lead p.pad s.white_lead s.white_pad plain s.is_tail)
+
+  rest_new : Reads o (text_with p new) (p.front ++ pair_with p new) after (text_with p new)
+  rest_new =
+      let then : Reads o (text_with p p.own) (p.front ++ pair_of p) after (text_with p p.own) =
+      subst (λ z. Reads o z (p.front ++ pair_of p) after z) s.text s.then in
+      let was : RestBehind o p.tail p.rest after (before_tail p.own) =
+      subst (λ z. Reads o z (before_tail p.own ++ p.tail) after z) (whole_text p.own)
+      (subst (λ z. Reads o (text_with p p.own) z after (text_with p p.own)) (to_tail p.own) then) in
+      let is = rest_behind o (before_tail p.own) (before_tail new) s.is_tail was in
+      subst (λ z. Reads o (text_with p new) z after (text_with p new)) (sym (to_tail new))
+      (subst (λ z. Reads o z (before_tail new ++ p.tail) after z) (sym (whole_text new)) is)
+
+  -- with the written value in its own's place the text gives the same items, but for the pair's value
+  pub replaced : Derives o (text_with p new) (before ++ Pair key value ∷ after)
+  replaced =
+      let first : Reads o (text_with p p.own) [] before p.front =
+      subst (λ z. Reads o z [] before p.front) s.text s.reads in
+      Reads-alike (alike_key p.key p.separator _ _ p.rest) refl first (Reads.step refl element_new rest_new)

@@ -1,0 +1,126 @@
+-- A plain value as it is written in an old one's place, between the white space around that, and before what
+-- is kept behind it: its last line end, and lines that add nothing.
+use Rattle.std.proofs.Common.{◌≡◌, ℕ, Bool, true, false, not, ◌||◌, eqb, List, [], ◌∷◌, ◌++◌, refl, sym, ap, ◌∙◌, subst}
+use Rattle.std.proofs.Common.{append_assoc, append-nil}
+use Rattle.std.proofs.lemmas.Bool.{and_left, and_right}
+use Rattle.std.specs.Char.{is_whitespace}
+use Rattle.std.specs.List.{list_all}
+use Rattle.ini_text.specs.declared.option.ParseOption.{ParseOption}
+use Rattle.ini_text.specs.declared.write.policy.EscapePolicy.{EscapePolicy}
+use Rattle.ini_text.specs.Grammar.CharacterKinds.{backslash, is_inline_white, is_line_end, is_mark}
+use Rattle.ini_text.specs.Grammar.CharacterKinds.{BeginsWithNo}
+use Rattle.ini_text.specs.Grammar.WhiteSpace.{Lead, without_outer_line_feeds}
+use Rattle.ini_text.specs.Grammar.Strings.{Closes, Row, Str, plain_ends, is_endpoint}
+use Rattle.ini_text.specs.Grammar.Lines.{Line, Quoted, BeginsPlain}
+use Rattle.ini_text.specs.Grammar.Values.{LineEnd, Value}
+use Rattle.ini_text.specs.Escaping.EscapedTexts.{escaped}
+use Rattle.ini_text.specs.Laws.Plain.{IsPlainValue}
+use Rattle.ini_text.proofs.PlainLemmas.EscapedTextLemmas.{AllRead, all_read, row_escaped}
+use Rattle.ini_text.proofs.PlainLemmas.PlainPairLemmas.{escaped_begins, value_no_end, line_end_no_mark}
+use Rattle.ini_text.proofs.PlainLemmas.PlainTrimLemmas.{trimmed_begins, without_line_feeds-trimmed}
+use Rattle.ini_edit.specs.Places.{Tail}
+use Rattle.ini_edit.proofs.PadLemmas.{trimmed-white, white_both, white_row}
+
+pub closes_line_end : (c : ℕ) → is_endpoint plain_ends c ≡ true → is_line_end c ≡ true
+closes_line_end c h = at (eqb c 0x0A) (eqb c 0x0D) h
+  where
+    at : (x y : Bool) → (x || (y || false)) ≡ true → (x || y) ≡ true
+    at true y h = h
+    at false true h = h
+    at false false h = h
+
+pub tail_closes : {o : ParseOption} {t r : List ℕ} → Tail o t r → Closes plain_ends (t ++ r)
+tail_closes (Tail.line off h) = h
+tail_closes (Tail.end on) = refl
+tail_closes (Tail.lines on LineEnd.lf more all) = refl
+tail_closes (Tail.lines on LineEnd.cr_lf more all) = refl
+tail_closes (Tail.lines on (LineEnd.cr n) more all) = refl
+
+closes_no_mark : (r : List ℕ) → Closes plain_ends r → BeginsWithNo is_mark r
+closes_no_mark [] h = tt
+closes_no_mark (c ∷ r) h = line_end_no_mark c (closes_line_end c h)
+
+closes_no_inline : (r : List ℕ) → Closes plain_ends r → BeginsWithNo is_inline_white r
+closes_no_inline [] h = tt
+closes_no_inline (c ∷ r) h = and_right (is_whitespace c) _ (ap not (closes_line_end c h))
+
+-- a source before r in two parts: white space, and a first line
+record WrittenLine (o : ParseOption) (s r value : List ℕ) : Type 0 where
+  pub lead : List ℕ
+  pub line : List ℕ
+  pub whole : s ≡ lead ++ line
+  pub is_lead : Lead lead (line ++ r)
+  pub is_line : Line o true line r value
+
+module _ {o : ParseOption} {policy : EscapePolicy} (w pad : List ℕ) (white : list_all is_inline_white w ≡ true)
+    (white_pad : list_all is_inline_white pad ≡ true) where
+  -- a plain value as it is written, between white space; all of that is a lead where the value is empty
+  written_line : (value r : List ℕ) → IsPlainValue o policy value → Closes plain_ends r
+      → WrittenLine o (w ++ (escaped policy value ++ pad)) r value
+  written_line [] r plain h = record {
+    lead = w ++ pad;
+    line = [];
+    whole = sym (append-nil (w ++ pad));
+    is_lead = record { white = white_both w pad white white_pad; ends = closes_no_inline r h };
+    is_line = Line.line Quoted.none (λ on. closes_no_mark r h) (Str.closed Row.none h);
+  }
+  written_line (c ∷ cs) r plain h =
+      let value = c ∷ cs in
+      let line = escaped policy value ++ pad in
+      let read : AllRead o.enabled_escape policy value = all_read {o = o} policy value plain.read_back in
+      let row = row_escaped value read (value_no_end read) (white_row pad white_pad) in
+      record {
+        lead = w;
+        line = line;
+        whole = refl;
+        is_lead = record { white = white; ends = no_inline };
+        is_line =
+            subst (Line o true line r) (trimmed-white c cs pad plain.is_trimmed white_pad)
+            (Line.line Quoted.none unquoted (Str.closed row h));
+      }
+    where
+      begins_no : (test : ℕ → Bool) → test backslash ≡ false → test c ≡ false
+          → BeginsWithNo test ((escaped policy (c ∷ cs) ++ pad) ++ r)
+      begins_no test slash none =
+          subst (BeginsWithNo test) (sym (append_assoc (escaped policy (c ∷ cs)) pad r))
+          (escaped_begins (BeginsWithNo test) (λ y. slash) policy c cs (pad ++ r) (λ _ y. none))
+
+      no_inline : BeginsWithNo is_inline_white ((escaped policy (c ∷ cs) ++ pad) ++ r)
+      no_inline =
+          begins_no is_inline_white refl (and_left (is_whitespace c) _ (trimmed_begins (c ∷ cs) plain.is_trimmed))
+
+      unquoted : BeginsPlain o ((escaped policy (c ∷ cs) ++ pad) ++ r)
+      unquoted = λ on. begins_no is_mark refl (plain.no_mark on)
+
+  -- the value as it is written, with what is kept behind it
+  pub value_written : {value t r : List ℕ} → IsPlainValue o policy value → Tail o t r
+      → Value o (w ++ (escaped policy value ++ (pad ++ t))) r value
+  value_written {value} {r = r} plain (Tail.line off h) =
+      let x = written_line value r plain h in
+      let whole : x.lead ++ x.line ≡ w ++ (escaped policy value ++ (pad ++ [])) =
+      sym x.whole ∙ ap (λ z. w ++ (escaped policy value ++ z)) (sym (append-nil pad)) in
+      subst (λ s. Value o s r value) whole (Value.one_line off x.is_lead x.is_line)
+  value_written {value} plain (Tail.end on) =
+      let x = written_line value [] plain refl in
+      let whole : x.lead ++ x.line ≡ w ++ (escaped policy value ++ (pad ++ [])) =
+      sym x.whole ∙ ap (λ z. w ++ (escaped policy value ++ z)) (sym (append-nil pad)) in
+      let lead : Lead x.lead x.line = subst (Lead x.lead) (append-nil x.line) x.is_lead in
+      let same : without_outer_line_feeds value ≡ value =
+      ap without_outer_line_feeds (sym (append-nil value))
+      ∙ without_line_feeds-trimmed value [] plain.is_trimmed refl in
+      subst (λ s. Value o s [] value) whole (subst (Value o (x.lead ++ x.line) []) same (Value.to_end on lead x.is_line))
+  value_written {value} {r = r} plain (Tail.lines {e} {t} {u = u} on le more all) =
+      let h = tail_closes (Tail.lines on le more all) in
+      let closes : Closes plain_ends (e ++ (t ++ r)) = subst (Closes plain_ends) (append_assoc e t r) h in
+      let x = written_line value (e ++ (t ++ r)) plain closes in
+      let ev = escaped policy value in
+      let whole : x.lead ++ (x.line ++ (e ++ t)) ≡ w ++ (ev ++ (pad ++ (e ++ t))) =
+      sym (append_assoc x.lead x.line (e ++ t)) ∙ ap (λ z. z ++ (e ++ t)) (sym x.whole)
+      ∙ append_assoc w (ev ++ pad) (e ++ t) ∙ ap (λ z. w ++ z) (append_assoc ev pad (e ++ t)) in
+      subst (λ s. Value o s r value) whole
+      (subst (Value o (x.lead ++ (x.line ++ (e ++ t))) r) (without_line_feeds-trimmed value u plain.is_trimmed all)
+      (Value.lines on x.is_lead x.is_line le more))
+
+pub line_closes : {o : ParseOption} {first : Bool} {l r v : List ℕ} → Line o first l r v → Closes plain_ends r
+line_closes (Line.line quoted plain (Str.closed row h)) = h
+line_closes (Line.line quoted plain (Str.lone row h)) = refl

@@ -1,0 +1,3 @@
+pub mod EditedTexts
+pub mod Places
+pub mod Targets

@@ -1,0 +1,86 @@
+-- Where a pair stands in a text, and the text with another value in its place.
+use Rattle.std.specs.Prelude.{◌≡◌, ◌≢◌, ℕ, true, false, List, [], ◌∷◌, ◌++◌}
+use Rattle.std.specs.List.{list_all}
+use Rattle.ini_text.specs.Grammar.CharacterKinds.{is_blank, is_inline_white, is_line_end, is_line_feed}
+use Rattle.ini_text.specs.Grammar.CharacterKinds.{is_separator, BeginsWithNo}
+use Rattle.ini_text.specs.Grammar.Positions.{starts_line, is_column_one}
+use Rattle.ini_text.specs.Grammar.Strings.{Closes, plain_ends}
+use Rattle.ini_text.specs.Grammar.Values.{LineEnd, MoreLines, Value}
+use Rattle.ini_text.specs.Grammar.Keys.{KeyFront}
+use Rattle.ini_text.specs.Grammar.Elements.{Given}
+use Rattle.ini_text.specs.Grammar.Texts.{Reads}
+use Rattle.ini_text.specs.declared.option.ParseOption.{ParseOption}
+
+-- A pair's stretches in a text: what stands before its element; its key's source, and the separator; white
+-- space before the value; the value's own source; white space behind it; where values are multiline, the
+-- line end and the lines that add nothing to the value; and what follows the element.
+pub record Stretches : Type 0 where
+  pub front : List ℕ
+  pub key : List ℕ
+  pub separator : ℕ
+  pub lead : List ℕ
+  pub own : List ℕ
+  pub pad : List ℕ
+  pub tail : List ℕ
+  pub rest : List ℕ
+
+-- the element, and the text, with x in the place of the value's own source
+abbrev pub pair_with : Stretches → List ℕ → List ℕ
+pair_with p x = p.key ++ p.separator ∷ (p.lead ++ (x ++ (p.pad ++ p.tail)))
+
+abbrev pub text_with : Stretches → List ℕ → List ℕ
+text_with p x = p.front ++ (pair_with p x ++ p.rest)
+
+-- the element as it is, and the text up to its end
+abbrev pub pair_of : Stretches → List ℕ
+pair_of p = pair_with p p.own
+
+abbrev pub up_to_end : Stretches → List ℕ
+up_to_end p = p.front ++ pair_of p
+
+-- what is kept behind a value, before r: nothing; or, where values are multiline, its last line end and
+-- lines that give line feeds alone
+pub data Tail (o : ParseOption) : List ℕ → List ℕ → Type 0 where
+  line : {r : List ℕ} → o.enabled_indented_mutiline_value ≡ false → Closes plain_ends r → Tail o [] r
+  end : o.enabled_indented_mutiline_value ≡ true → Tail o [] []
+  lines : {e t r u : List ℕ} → o.enabled_indented_mutiline_value ≡ true → LineEnd e (t ++ r)
+      → MoreLines o t r u → list_all is_line_feed u ≡ true → Tail o (e ++ t) r
+
+-- The stretches are those of a pair of the text, which gives the items before it, and those after it.
+pub record StandsAt (o : ParseOption) (T : List ℕ) (p : Stretches) (key value : List ℕ)
+    (before after : List Given) : Type 0 where
+  pub text : T ≡ text_with p p.own
+  pub reads : Reads o T [] before p.front
+  pub key_front : KeyFront o p.front p.key (p.separator ∷ ((p.lead ++ (p.own ++ (p.pad ++ p.tail))) ++ p.rest)) key
+  pub some : key ≢ []
+  pub separates : is_separator p.separator ≡ true
+  pub gives : Value o (p.lead ++ (p.own ++ (p.pad ++ p.tail))) p.rest value
+  pub white_lead : list_all is_inline_white p.lead ≡ true
+  pub white_pad : list_all is_inline_white p.pad ≡ true
+  pub is_tail : Tail o p.tail p.rest
+  pub then : Reads o T (up_to_end p) after T
+
+-- Behind the front c all that stands behind the front b is read as it is there: a line starts behind both or
+-- behind neither, and column one is behind c where it is behind b.
+pub record EndsLike (b c : List ℕ) : Type 0 where
+  pub line : starts_line b ≡ starts_line c
+  pub column : is_column_one b ≡ true → is_column_one c ≡ true
+
+-- what may follow a multiline value
+pub record Follows (o : ParseOption) (x : List ℕ) : Type 0 where
+  pub no_blank : o.enabled_indented_mutiline_value ≡ true → BeginsWithNo is_blank x
+  pub no_line_end : o.enabled_indented_mutiline_value ≡ true → BeginsWithNo is_line_end x
+
+-- What goes with a pair that is taken out, where r is what follows then: its line end too, where what follows
+-- doesn't notice; or not its line end; or all that a multiline value took
+pub data Cut (o : ParseOption) (p : Stretches) : List ℕ → Type 0 where
+  with_line_end : (e r : List ℕ) → o.enabled_indented_mutiline_value ≡ false → p.rest ≡ e ++ r
+      → list_all is_line_end e ≡ true → EndsLike (up_to_end p ++ e) p.front → Cut o p r
+  before_line_end : o.enabled_indented_mutiline_value ≡ false → Cut o p p.rest
+  whole_lines : o.enabled_indented_mutiline_value ≡ true → EndsLike (up_to_end p) p.front → Cut o p p.rest
+
+-- A line may be put in behind the front W: column one is there, and elements that give the items reach it
+-- whatever follows that a multiline value doesn't take.
+pub record IsLineStart (o : ParseOption) (W : List ℕ) (items : List Given) : Type 0 where
+  pub column_one : is_column_one W ≡ true
+  pub stands : (x : List ℕ) → Follows o x → Reads o (W ++ x) [] items W
