@@ -7,6 +7,7 @@ pub mod InversionLemmas
 pub mod KeepingLemmas
 pub mod LastSectionLemmas
 pub mod ListLemmas
+pub mod MarkLemmas
 pub mod PassingLemmas
 pub mod PlainPartLemmas
 pub mod PlainSamples

@@ -1,6 +1,7 @@
 -- Texts are equal exactly where their bytes are.
-use Rattle.std.proofs.Common.{◌≡◌, ℕ, List, Option, None, Some, String, refl}
-use Rattle.std.proofs.lemmas.Str.{IsUtf8-string_bytes}
+use Rattle.std.proofs.Common.{◌≡◌, ◌∙◌, ◌↔◌, ℕ, List, Option, None, Some, String, ap, refl, sym}
+use lib.Utf8.{encodes}
+use Rattle.std.proofs.lemmas.Str.{IsUtf8-string_bytes, encodes-chars}
 use Rattle.std.specs.Borrow.{Bor}
 use Rattle.std.specs.Option.{option_eq}
 use Rattle.std.specs.Str.{IsUtf8, chars, bytes_eq}
@@ -9,6 +10,10 @@ use Rattle.ini_multimap.specs.Keys.{name_fits}
 use Rattle.ini_text.proofs.StringLemmas.SameTextLemmas.{same_text}
 use Rattle.ini.specs.Texts.{is_text, is_name, name_of, str_name, text_of}
 use Rattle.ini.specs.Inside.LentNames.{IsTextName}
+
+-- texts are equal as characters exactly where they are as bytes
+pub same_characters : (u v : List ℕ) → IsUtf8 u → IsUtf8 v → (chars u ≡ chars v) ↔ (u ≡ v)
+same_characters u v a b = ((λ e. sym (encodes-chars u a) ∙ ap encodes e ∙ encodes-chars v b), ap chars)
 
 module _ {Z : Type 0} where
   -- a key by a `&str`, and by a `String`

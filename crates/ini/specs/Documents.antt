@@ -2,7 +2,7 @@
 use Rattle.std.specs.Prelude.{List, [], ◌∷◌, ◌++◌, fold, map, Option, None, Some, IsSome, String}
 use Rattle.std.specs.Prelude.{option_and_then}
 use Rattle.std.specs.Map.{lookup, remove_entry}
-use Rattle.ini_multimap.specs.Pairs.{distinct_keys, values_at}
+use Rattle.ini_multimap.specs.Pairs.{distinct_keys, values_at, without}
 use Rattle.ini_text.specs.Grammar.Elements.{Given, Header, Pair}
 use Rattle.ini.specs.Texts.{Text, is_name, name_of}
 use Rattle.ini.specs.Properties.{Pairs, both, first_value}
@@ -34,6 +34,10 @@ names d = distinct_keys is_name d
 -- without the first section of the name
 abbrev pub section_removed : Option Text → Document → Document
 section_removed name d = remove_entry (is_name name) d
+
+-- without any section of the name
+abbrev pub all_sections_removed : Option Text → Document → Document
+all_sections_removed name d = without (is_name name) d
 
 -- the pair goes last in the last section
 abbrev pub with_pair : Text → Text → Document → Document

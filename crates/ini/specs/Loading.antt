@@ -1,5 +1,5 @@
 -- What loading a text or bytes answers.
-use Rattle.std.specs.Prelude.{◌≡◌, ℕ, Bool, if◌then◌else◌, nat_eq, List, [], ◌∷◌, drop, length, Option}
+use Rattle.std.specs.Prelude.{◌≡◌, ◌==◌, ℕ, Bool, if◌then◌else◌, nat_eq, List, [], ◌∷◌, drop, length, Option}
 use Rattle.std.specs.Prelude.{IfSome, Result, Err, IfErr, IfOk, ⊤}
 use Rattle.std.specs.List.{starts_with}
 use Rattle.std.specs.Str.{IsUtf8, chars}
@@ -52,6 +52,11 @@ without_mark bytes = if starts_with nat_eq bytes mark then drop (length mark) by
 -- the bytes that are read as a text
 abbrev pub text_bytes : Bool → List ℕ → List ℕ
 text_bytes drop_mark bytes = if drop_mark then without_mark bytes else bytes
+
+-- the same of a text: a mark is the character U+FEFF
+abbrev pub unmarked : Text → Text
+unmarked [] = []
+unmarked (c ∷ T) = if c == 0xFEFF then T else c ∷ T
 
 -- the bytes are UTF-8, and P holds of their text
 abbrev pub IsTextWith : (Text → Type 0) → List ℕ → Type 0

@@ -9,7 +9,8 @@ ghost use Rattle.std.specs.Option.{option_map, option_copied, option_copied_mut}
 ghost use Rattle.std.specs.Str.{chars};
 ghost use Rattle.ini.specs.Texts.{Text, name_of, str_name, str_text, text_of};
 ghost use Rattle.ini.specs.Properties.{Pairs};
-ghost use Rattle.ini.specs.Documents.{first_section, names, section_removed, sections_named};
+ghost use Rattle.ini.specs.Documents.{all_sections_removed, first_section, names, section_removed};
+ghost use Rattle.ini.specs.Documents.{sections_named};
 ghost use Rattle.ini.specs.Documents.{value_in, with_pair};
 ghost use Rattle.ini.specs.Edits.{add_in, delete_in, delete_in_all, replace_in, section_set, set_in};
 ghost use Rattle.ini.specs.Lends.{lends_found_section, lends_section};
@@ -242,6 +243,14 @@ impl Ini {
         self.sections.remove(name)
     }
 
+    /// Takes out every section of the name; where there is none it changes nothing. Takes no memory.
+    #[tactic(auto, using(crate::proofs::EverySectionLemmas::all_removed))]
+    pub fn delete_all(&mut self, name: Option<&str>)
+        ensures { self.new ≡ all_sections_removed (str_name name.entry) self.old }
+    {
+        'sections: while self.delete(name).is_some() {}
+    }
+
     /// Takes out every section, the general one included.
     pub fn clear(&mut self)
         ensures { self.new ≡ [] }
@@ -265,8 +274,10 @@ impl Ini {
         }
     }
 
-    // Puts a section last. Refused, it hands the properties back.
-    pub(crate) fn append_section(
+    /// Puts a section last, whatever sections the name has.
+    ///
+    /// Refused, for want of memory alone, it hands the properties back, and the document stays as it was.
+    pub fn append_section(
         &mut self,
         name: SectionKey,
         section: Properties,

@@ -1,11 +1,12 @@
 //! Laws of documents, each the contract of a function that does nothing. They speak of the definitions
 //! alone.
-ghost use Rattle.std.specs.Prelude.{◌≡◌, chars, true};
-ghost use Rattle.std.specs.Str.{all_scalars};
+ghost use Rattle.std.specs.Prelude.{◌≡◌, ◌↔◌, chars, true};
+ghost use Rattle.std.specs.Str.{all_scalars, bytes_eq};
 ghost use Rattle.ini_text.specs.Laws.PlainLaws.{IsEmptyOrHeader};
 ghost use Rattle.ini.specs.Loading.{IsDocumentOf};
 ghost use Rattle.ini.specs.Outcomes.{HasOneOutcome, Inverts};
 ghost use Rattle.ini.specs.Plain.{IsPlain};
+ghost use Rattle.ini.specs.Texts.{is_text};
 ghost use Rattle.ini.specs.Written.{written};
 
 use crate::document::Ini;
@@ -27,6 +28,19 @@ pub fn inversion(document: &Ini, write: &WriteOption, read: ParseOption, follows
     ensures characters { all_scalars (written document.now write.now) ≡ true }
     ensures document { IsDocumentOf read (written document.now write.now) document.now }
     ensures inverts { Inverts read write.now document.now (chars follows.now) }
+{}
+
+/// The text of a plain document loads as the document.
+pub fn loads_back(document: &Ini, write: &WriteOption, read: ParseOption)
+    requires { IsPlain document.now write.now read }
+    ensures characters { all_scalars (written document.now write.now) ≡ true }
+    ensures document { IsDocumentOf read (written document.now write.now) document.now }
+{}
+
+/// Texts are equal as characters exactly where they are equal as bytes, and so are the tests of both.
+pub fn same_characters(one: &str, other: &str)
+    ensures equal { (chars one.now ≡ chars other.now) ↔ (one.now ≡ other.now) }
+    ensures test { is_text (chars one.now) (chars other.now) ≡ bytes_eq one.now other.now }
 {}
 
 /// Two documents that are plain under the same options and have one text are equal.

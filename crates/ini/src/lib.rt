@@ -24,8 +24,9 @@ mod write;
 pub use document::Ini;
 pub use entry::{NoRoom, SectionEntry, SectionOccupiedEntry, SectionVacantEntry};
 pub use ini_text::{
-    Error, EscapePolicy, Gatherer, LineSeparator, ParseError, ParseKind, ParseOption, Watched,
-    WriteOption, is_plain_name, is_plain_pair, is_plain_separator, write_escaped, write_raw,
+    Error, EscapePolicy, Gatherer, Item, LineSeparator, ParseError, ParseKind, ParseOption, Parser,
+    Watched, WriteOption, is_plain_name, is_plain_pair, is_plain_separator, write_escaped,
+    write_raw,
 };
 pub use iter::{
     PropertiesIntoIter, PropertyIter, PropertyIterMut, PropertyValues, RemovedValues, SectionAll,

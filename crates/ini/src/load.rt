@@ -7,7 +7,7 @@ ghost use Rattle.ini_text.specs.Options.ReadOptions.{default_parse_option, witho
 ghost use Rattle.ini_text.specs.Device.Watched.{IsClear, SameDevice, device_now, failure_count, stall_count};
 ghost use Rattle.ini.specs.Documents.{HasGeneral};
 ghost use Rattle.ini.specs.Loading.{IfParse, IsDocumentOf, IsParseOrMemory, IsStopOf, ReadsDocument};
-ghost use Rattle.ini.specs.Loading.{text_bytes};
+ghost use Rattle.ini.specs.Loading.{text_bytes, unmarked};
 ghost use Rattle.ini.specs.Inside.ReadBytes.{HasRead, IsFilled, IsIoOrMemory};
 
 use crate::document::Ini;
@@ -19,6 +19,9 @@ use std::io::Read;
 
 impl Ini {
     /// The document of a text, by the default options. The rest is as `load_from_str_opt` has it.
+    ///
+    /// **A mark (U+FEFF) at the text's front is text: the first key begins with it, or a header isn't seen
+    /// as one.** `load_from_str_bom` leaves it out.
     pub fn load_from_str(alloc: Global, text: &str) -> Result<Ini, Error>
         ensures document { IfOk result (IsDocumentOf default_parse_option (chars text.now)) }
         ensures general { IfOk result HasGeneral }
@@ -30,6 +33,9 @@ impl Ini {
 
     /// The document of a text, by the default options but without escapes. The rest is as
     /// `load_from_str_opt` has it.
+    ///
+    /// **A mark (U+FEFF) at the text's front is text: the first key begins with it, or a header isn't seen
+    /// as one.** `load_from_str_bom` leaves it out.
     pub fn load_from_str_noescape(alloc: Global, text: &str) -> Result<Ini, Error>
         ensures document { IfOk result (IsDocumentOf without_escapes (chars text.now)) }
         ensures general { IfOk result HasGeneral }
@@ -40,6 +46,9 @@ impl Ini {
     }
 
     /// The document of a text: the items that the text gives by the options, put in order into sections.
+    ///
+    /// **A mark (U+FEFF) at the text's front is text: the first key begins with it, or a header isn't seen
+    /// as one.** `load_from_str_bom` leaves it out.
     ///
     /// # Errors
     ///
@@ -53,6 +62,17 @@ impl Ini {
         let mut document = Ini::new(alloc)?;
         push_items(alloc, &mut document, text, text, opt)?;
         Ok(document)
+    }
+
+    /// The document of a text, without one mark (U+FEFF) at its front; places count from behind it. The
+    /// rest is as `load_from_str_opt` has it.
+    pub fn load_from_str_bom(alloc: Global, text: &str, opt: ParseOption) -> Result<Ini, Error>
+        ensures document { IfOk result (IsDocumentOf opt (unmarked (chars text.now))) }
+        ensures general { IfOk result HasGeneral }
+        ensures fault { IfParse result (IsStopOf opt (unmarked (chars text.now))) }
+        ensures only { IfErr result IsParseOrMemory }
+    {
+        Ini::load_from_str_opt(alloc, without_mark(text), opt)
     }
 
     /// The document of a reader's bytes, by the default options. A mark at their front is text. The rest
@@ -151,6 +171,16 @@ pub(crate) fn without_escapes() -> ParseOption
 
 // A mark at a text's front: the character U+FEFF.
 const MARK: [u8; 3] = [0xEF, 0xBB, 0xBF];
+
+// The text without one mark at its front.
+fn without_mark(text: &str) -> &str
+    ensures { chars result.now ≡ unmarked (chars text.now) }
+{
+    match text.strip_prefix('\u{FEFF}') {
+        Some(rest) => rest,
+        None => text,
+    }
+}
 
 // How many bytes are asked for at a time.
 const PIECE: usize = 0x1_0000;

@@ -5,8 +5,10 @@
 ghost use Rattle.std.specs.Prelude.{◌≡◌, ◌≤◌, ◌++◌, [], ◌∷◌, IsSome, None, Option, Some, length};
 ghost use Rattle.ini.specs.Texts.{Text};
 ghost use Rattle.ini.specs.Properties.{Pairs, all_removed, first_value, inserted, removed};
-ghost use Rattle.ini.specs.Documents.{Document, first_section, section_removed, value_in};
-ghost use Rattle.ini.specs.Edits.{add_in, delete_in, delete_in_all, section_put, section_set, set_in};
+ghost use Rattle.ini.specs.Documents.{Document, all_sections_removed, first_section, section_removed};
+ghost use Rattle.ini.specs.Documents.{value_in};
+ghost use Rattle.ini.specs.Edits.{add_in, delete_in, delete_in_all, replace_in, section_put};
+ghost use Rattle.ini.specs.Edits.{section_set, set_in};
 ghost use Rattle.ini.specs.EditLaws.{KeepsLaterSections, KeepsNames, KeepsOtherKeys, KeepsOtherKeysIn};
 ghost use Rattle.ini.specs.EditLaws.{KeepsOtherNames, KeepsOtherPairs, KeepsOtherSections};
 ghost use Rattle.ini.specs.EditLaws.{KeepsOtherValues, KeepsRest, values_in};
@@ -24,13 +26,16 @@ pub fn set_is_there()
         → value_in name key (set_in name key value d) ≡ Some value }
 {}
 
-/// What was left behind a reference into a section, or behind an entry, is there.
+/// What was left behind a reference into a section, behind an entry, or behind a reference to a value, is
+/// there.
 #[tactic(auto, using(crate::proofs::EditLawLemmas::there))]
 pub fn lent_is_there()
     ensures section { (name : Option Text) (pairs : Pairs) (d : Document)
         → IsSome (first_section name d) → first_section name (section_set name pairs d) ≡ Some pairs }
     ensures entry { (name : Option Text) (pairs : Pairs) (d : Document)
         → first_section name (section_put name pairs d) ≡ Some pairs }
+    ensures value { (name : Option Text) (key value : Text) (d : Document)
+        → IsSome (value_in name key d) → value_in name key (replace_in name key value d) ≡ Some value }
 {}
 
 /// Where a section has one pair of the key at most, the key isn't there once it was deleted.
@@ -75,7 +80,10 @@ pub fn other_names_stay()
     ensures add { (name : Option Text) (key value : Text) → KeepsOtherNames name (add_in name key value) }
     ensures delete { (name : Option Text) (key : Text) → KeepsOtherNames name (delete_in_all name key) }
     ensures delete_from { (name : Option Text) (key : Text) → KeepsOtherNames name (delete_in name key) }
+    ensures replace { (name : Option Text) (key value : Text)
+        → KeepsOtherNames name (replace_in name key value) }
     ensures delete_section { (name : Option Text) → KeepsOtherNames name (section_removed name) }
+    ensures delete_sections { (name : Option Text) → KeepsOtherNames name (all_sections_removed name) }
     ensures lent { (name : Option Text) (pairs : Pairs) → KeepsOtherNames name (section_set name pairs) }
     ensures entry { (name : Option Text) (pairs : Pairs) → KeepsOtherNames name (section_put name pairs) }
 {}
@@ -87,7 +95,10 @@ pub fn other_sections_stay()
     ensures add { (name : Option Text) (key value : Text) → KeepsOtherSections name (add_in name key value) }
     ensures delete { (name : Option Text) (key : Text) → KeepsOtherSections name (delete_in_all name key) }
     ensures delete_from { (name : Option Text) (key : Text) → KeepsOtherSections name (delete_in name key) }
+    ensures replace { (name : Option Text) (key value : Text)
+        → KeepsOtherSections name (replace_in name key value) }
     ensures delete_section { (name : Option Text) → KeepsOtherSections name (section_removed name) }
+    ensures delete_sections { (name : Option Text) → KeepsOtherSections name (all_sections_removed name) }
     ensures lent { (name : Option Text) (pairs : Pairs) → KeepsOtherSections name (section_set name pairs) }
     ensures entry { (name : Option Text) (pairs : Pairs) → KeepsOtherSections name (section_put name pairs) }
 {}
@@ -103,6 +114,8 @@ pub fn other_keys_in_the_section_stay()
         → KeepsOtherKeysIn name key (delete_in_all name key) }
     ensures delete_from { (name : Option Text) (key : Text)
         → KeepsOtherKeysIn name key (delete_in name key) }
+    ensures replace { (name : Option Text) (key value : Text)
+        → KeepsOtherKeysIn name key (replace_in name key value) }
 {}
 
 /// A section that is there stays there.
@@ -112,6 +125,7 @@ pub fn sections_stay_there()
     ensures add { (name : Option Text) (key value : Text) → KeepsNames (add_in name key value) }
     ensures delete { (name : Option Text) (key : Text) → KeepsNames (delete_in_all name key) }
     ensures delete_from { (name : Option Text) (key : Text) → KeepsNames (delete_in name key) }
+    ensures replace { (name : Option Text) (key value : Text) → KeepsNames (replace_in name key value) }
     ensures lent { (name : Option Text) (pairs : Pairs) → KeepsNames (section_set name pairs) }
     ensures entry { (name : Option Text) (pairs : Pairs) → KeepsNames (section_put name pairs) }
 {}
@@ -123,6 +137,8 @@ pub fn rest_stays()
     ensures add { (name : Option Text) (key value : Text) → KeepsRest name key (add_in name key value) }
     ensures delete { (name : Option Text) (key : Text) → KeepsRest name key (delete_in_all name key) }
     ensures delete_from { (name : Option Text) (key : Text) → KeepsRest name key (delete_in name key) }
+    ensures replace { (name : Option Text) (key value : Text)
+        → KeepsRest name key (replace_in name key value) }
 {}
 
 /// The later sections of the name stay.
@@ -131,14 +147,18 @@ pub fn later_sections_stay()
     ensures set { (name : Option Text) (key value : Text) → KeepsLaterSections name (set_in name key value) }
     ensures add { (name : Option Text) (key value : Text) → KeepsLaterSections name (add_in name key value) }
     ensures delete_from { (name : Option Text) (key : Text) → KeepsLaterSections name (delete_in name key) }
+    ensures replace { (name : Option Text) (key value : Text)
+        → KeepsLaterSections name (replace_in name key value) }
 {}
 
-/// Where the name has no section, the document stays whole, and a new section with the one pair comes
-/// behind it.
+/// Where the name has no section, the document stays whole, and a new section, with the one pair or with
+/// the pairs of an entry, comes behind it.
 #[tactic(auto, using(crate::proofs::EditLawLemmas::opened))]
 pub fn new_section_comes_last()
     ensures set { (name : Option Text) (key value : Text) (d : Document)
         → first_section name d ≡ None → set_in name key value d ≡ d ++ (name, (key, value) ∷ []) ∷ [] }
     ensures add { (name : Option Text) (key value : Text) (d : Document)
         → first_section name d ≡ None → add_in name key value d ≡ d ++ (name, (key, value) ∷ []) ∷ [] }
+    ensures entry { (name : Option Text) (pairs : Pairs) (d : Document)
+        → first_section name d ≡ None → section_put name pairs d ≡ d ++ (name, pairs) ∷ [] }
 {}
