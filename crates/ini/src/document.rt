@@ -277,11 +277,7 @@ impl Ini {
     /// Puts a section last, whatever sections the name has.
     ///
     /// Refused, for want of memory alone, it hands the properties back, and the document stays as it was.
-    pub fn append_section(
-        &mut self,
-        name: SectionKey,
-        section: Properties,
-    ) -> Result<(), NoRoom>
+    pub fn append_section(&mut self, name: SectionKey, section: Properties) -> Result<(), NoRoom>
         ensures appended { OnOk result (self.new ≡ self.old ++ (name_of name, section) ∷ []) }
         ensures unchanged { OnErr result (self.new ≡ self.old) }
         ensures handed_back { IfErr result (λ refused. refused.value ≡ section) }
