@@ -14,4 +14,5 @@ pub mod Entries
 pub mod Setter
 pub mod Plain
 pub mod Outcomes
+pub mod Refusals
 pub mod Inside
