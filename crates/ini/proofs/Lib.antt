@@ -14,6 +14,7 @@ pub mod PlainSamples
 pub mod PlainTextLemmas
 pub mod PropertyLemmas
 pub mod ReadingLemmas
+pub mod RefusalLemmas
 pub mod SectionLemmas
 pub mod StreamLemmas
 pub mod TextLemmas

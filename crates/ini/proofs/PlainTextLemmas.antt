@@ -8,7 +8,7 @@ use Rattle.ini_text.specs.Grammar.CharacterKinds.{close_bracket, open_bracket}
 use Rattle.ini_text.specs.Grammar.Elements.{Given, Header, Pair}
 use Rattle.ini_text.specs.Escaping.EscapedTexts.{escaped}
 use Rattle.ini_text.specs.Laws.Plain.{IsPlainKey, IsPlainName, IsPlainPair, IsPlainSeparator}
-use Rattle.ini_text.specs.Laws.PlainLaws.{BeginsWithHeader, FollowsPair, IsEmptyOrHeader, header_source, line_ends, pair_source}
+use Rattle.ini_text.specs.Laws.PlainLaws.{BeginsWithHeader, FollowsPair, GivesLine, IsEmptyOrHeader, header_source, line_ends, pair_source}
 use Rattle.ini_text.specs.Grammar.Positions.{is_column_one}
 use Rattle.ini_text.specs.Grammar.Texts.{Reads}
 use Rattle.ini_text.specs.Options.WriteOptions.{line_end}
@@ -142,7 +142,7 @@ module _ (o : ParseOption) (w : WriteOption) where
   name_gives twice name plain b r one h =
       let line : header_source w name ++ line_ends w twice ≡ written_name w (Some name) ++ gap twice =
       simp append_assoc in
-      subst (λ l. text_laws.GivesLine o b l r (Header name)) line
+      subst (λ l. GivesLine o b l r (Header name)) line
       (text_laws.element_then_gaps-gives (text_laws.header_line o w twice b name r plain))
 
   pair_gives : (twice : Bool) (p : Text × Text) → IsPlainSeparator (chars w.kv_separator.now)
@@ -151,7 +151,7 @@ module _ (o : ParseOption) (w : WriteOption) where
   pair_gives twice p sep plain b r one h =
       let line : pair_source w p.0 p.1 ++ line_ends w twice ≡ written_pair w p ++ gap twice =
       simp append_assoc in
-      subst (λ l. text_laws.GivesLine o b l r (Pair p.0 p.1)) line
+      subst (λ l. GivesLine o b l r (Pair p.0 p.1)) line
       (text_laws.pair_line-gives (text_laws.pair_line o w twice b p.0 p.1 r one sep plain h))
 
   -- pairs

@@ -7,6 +7,7 @@ use Rattle.std.specs.Cow.{cow_str_bytes}
 use Rattle.ini_text.specs.Grammar.Elements.{Given, Header, Pair}
 use Rattle.ini_text.specs.Parsing.Fronts.{front_of, IsRest}
 use Rattle.ini_text.specs.Parsing.Items.{item_of}
+use Rattle.ini_text.specs.Parsing.Trivia.{AreTrivia, SkipsTrivia}
 use Rattle.ini_text.specs.Errors.Messages.{HasMessage}
 use Rattle.ini_text.specs.Parsing.Parser.{AnswersItem, KeepsRefusal, Place, Refuses, StopsBehind}
 use Rattle.ini_text.specs.Grammar.Texts.{Reads, Stops}
@@ -212,3 +213,29 @@ module _ {o : ParseOption} {T : Text} {p : Place} (reading : IsReading o T p) (q
         };
         some = subst (λ x. 0 < length x) (sym with) (with_item-some e (item_of item) settling.some);
       }
+
+-- trivia that are skipped are settled
+module _ {o : ParseOption} where
+  AreTrivia-front : {b c : Text} → AreTrivia o b c → (m : Text) × (b ++ m ≡ c)
+  AreTrivia-front {b} AreTrivia.none = ([], append-nil b)
+  AreTrivia-front {b} (AreTrivia.more {s = s} t row) = let x = AreTrivia-front row in (s ++ x.0, sym (append_assoc b s x.0) ∙ x.1)
+
+  AreTrivia-read : {T b c : Text} (r : Text) → AreTrivia o b c → T ≡ c ++ r → Reads o T b [] c
+  AreTrivia-read r AreTrivia.none whole = Reads.stay r whole
+  AreTrivia-read r (AreTrivia.more {b} {s} t row) whole =
+      let m = AreTrivia-front row in
+      let at = whole ∙ ap (λ y. y ++ r) (sym m.1) ∙ append_assoc (b ++ s) m.0 r ∙ append_assoc b s (m.0 ++ r) in
+      Reads.step at (t (m.0 ++ r)) (AreTrivia-read r row whole)
+
+  pub Settles-trivia : {T rest left behind : Text} {d e : Document} → Settles o T rest left d e
+      → SkipsTrivia o T (front_of T left) (front_of T behind) → IsRest T behind → Settles o T rest behind d e
+  Settles-trivia {T} {rest} {left} {behind} settles skips is_rest = record {
+    items = settles.items;
+    reads = λ more.
+        let whole : T ++ more ≡ front_of T behind ++ (skips.rest ++ more) =
+        ap (λ t. t ++ more) skips.whole ∙ append_assoc (front_of T behind) skips.rest more in
+        subst (λ l. Reads o (T ++ more) (front_of T rest) l (front_of T behind)) (append-nil settles.items)
+        (Reads-append (settles.reads more) (AreTrivia-read (skips.rest ++ more) skips.skipped whole));
+    document = settles.document;
+    is_rest = is_rest;
+  }

@@ -15,4 +15,5 @@ pub mod Setter
 pub mod Plain
 pub mod SectionItems
 pub mod Outcomes
+pub mod Refusals
 pub mod Inside

@@ -3,6 +3,7 @@ ghost use Rattle.std.specs.Prelude.{◌≡◌, ◌<◌, length, chars, alloc_err
 ghost use Rattle.std.specs.Prelude.{IsUtf8};
 ghost use Rattle.ini_text.specs.Parsing.Fronts.{IsRest, front_of};
 ghost use Rattle.ini_text.specs.Parsing.Items.{item_of};
+ghost use Rattle.ini_text.specs.Parsing.Trivia.{SkipsTrivia};
 ghost use Rattle.ini.specs.Documents.{with_item};
 ghost use Rattle.ini.specs.Loading.{IfParse, IsParseOrMemory};
 ghost use Rattle.ini.specs.Inside.ReadBytes.{IsMemory};
@@ -36,7 +37,8 @@ pub(crate) fn push_items(
     Ok(())
 }
 
-// The items of what is left of a text that stand there whatever follows the text: what follows them is left.
+// The items of what is left of a text that stand there whatever follows the text: what follows them is left,
+// without the white space and comments that stand there whatever follows.
 pub(crate) fn push_settled<'a>(
     alloc: Global,
     document: &mut Ini,
@@ -56,17 +58,30 @@ pub(crate) fn push_settled<'a>(
     'items: loop {
         let item = match parser.next_item() {
             Ok(Some(item)) => item,
-            Ok(None) | Err(Error::Parse(_)) => return Ok(left),
+            Ok(None) | Err(Error::Parse(_)) => return Ok(behind_trivia(alloc, text, left, opt)),
             Err(refused) => return Err(refused),
         };
         // An item that ends the text may go on.
         let behind = parser.rest();
         if behind.is_empty() {
-            return Ok(left);
+            return Ok(behind_trivia(alloc, text, left, opt));
         }
         push_item(alloc, document, item)?;
         left = behind;
     }
+}
+
+// What is left of a text behind its trivia.
+fn behind_trivia<'a>(alloc: Global, text: &'a str, left: &'a str, opt: ParseOption) -> &'a str
+    requires { IsRest (chars text.now) (chars left.now) }
+    ensures skipped { SkipsTrivia opt (chars text.now)
+        (front_of (chars text.now) (chars left.now)) (front_of (chars text.now) (chars result.now)) }
+    ensures is_rest { IsRest (chars text.now) (chars result.now) }
+    ensures utf8 { IsUtf8 result.now }
+{
+    let mut parser = Parser::behind(alloc, text, left, opt);
+    parser.skip_trivia();
+    parser.rest()
 }
 
 // A header opens a section last, a pair goes last in the last section.

@@ -13,6 +13,7 @@ use crate::document::Ini;
 use ini_text::{ParseOption, WriteOption};
 
 pub mod edits;
+pub mod refusals;
 
 /// A text has one outcome: a document, or a refusal with its kind, line and column.
 #[tactic(auto, using(crate::proofs::InversionLemmas::one_outcome))]

@@ -124,7 +124,8 @@ impl Ini {
     /// `Io` where the reader answers a fault, at once and with nothing more asked of it; `NotUtf8` where
     /// the bytes are not UTF-8; `Parse` where reading their text stops; `Memory` where memory is
     /// refused. All bytes are read before `NotUtf8` or `Parse` is told, and `NotUtf8` goes before `Parse`,
-    /// whichever comes first in the bytes.
+    /// whichever comes first in the bytes. `Io` and `Memory` are told where they are met: since the text
+    /// goes by, `Memory` may be told before bytes further on that are not UTF-8, or a fault of the reader.
     pub fn read_watched<R: Read>(
         alloc: Global,
         reader: &mut Watched<'_, R>,

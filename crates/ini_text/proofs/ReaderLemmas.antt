@@ -6,3 +6,4 @@ pub mod LineReaderLemmas
 pub mod RunReaderLemmas
 pub mod ValueReaderLemmas
 pub mod ElementReaderLemmas
+pub mod TriviaLemmas

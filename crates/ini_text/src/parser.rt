@@ -2,8 +2,8 @@
 //! nothing of what an element is made of.
 //!
 //! The files below, from the least part to the greatest: `tables`, `endpoints`, `block`, `short`, `string`,
-//! `trimmed`, `line`, `value`, `pair` and `header`, `element`. Beside them `fault` has why reading stops,
-//! and `position` where.
+//! `trimmed`, `line`, `value`, `pair` and `header`, `element`. Beside them `trivia` has what is skipped
+//! between items, `fault` why reading stops, and `position` where.
 ghost use Rattle.std.specs.Prelude.{◌≡◌, ◌++◌, chars, [], None, Some, Ok, IfSome, IsOkAnd, IsErrAnd, OnErr};
 ghost use Rattle.ini_text.specs.Parsing.Fronts.{IsRest, front_of};
 ghost use Rattle.ini_text.specs.Parsing.Parser.{AnswersItem, KeepsRefusal, Tells, refusal_of};
@@ -32,6 +32,7 @@ mod short;
 mod string;
 mod tables;
 mod trimmed;
+mod trivia;
 mod value;
 
 /// Gives the items of a text one by one.
@@ -79,6 +80,8 @@ impl<'a> Parser<'a> {
     }
 
     /// A parser at the rest of a text, which must be one. It takes no memory.
+    ///
+    /// It is public since `ini` goes on so in a text that goes by: what one other crate may call, all may.
     pub fn behind(alloc: Global, text: &'a str, rest: &'a str, opt: ParseOption) -> Self
         requires { IsRest (chars text.now) (chars rest.now) }
         ensures option { result.option ≡ opt }

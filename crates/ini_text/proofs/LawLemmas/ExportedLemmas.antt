@@ -5,7 +5,7 @@ pub use Rattle.ini_text.proofs.LawLemmas.MovedLemmas.{moved, header_first}
 pub use Rattle.ini_text.proofs.PlainLemmas.PlainHeaderLemmas.{header_line}
 pub use Rattle.ini_text.proofs.PlainLemmas.PlainPairLemmas.{pair_line}
 -- and what a header's and a pair's line are as rows of elements
-pub use Rattle.ini_text.proofs.PlainLemmas.PlainLineLemmas.{GivesLine, element_then_gaps-gives}
+pub use Rattle.ini_text.proofs.PlainLemmas.PlainLineLemmas.{element_then_gaps-gives}
 pub use Rattle.ini_text.proofs.PlainLemmas.PlainPairLemmas.{pair_line-gives}
 -- and that what is written for texts of characters is made of characters
 pub use Rattle.ini_text.proofs.PlainLemmas.ScalarLemmas.{escaped-scalars, line_end-scalars, scalars-append, separator-scalars}

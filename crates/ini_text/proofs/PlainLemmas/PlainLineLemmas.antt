@@ -15,7 +15,7 @@ use Rattle.ini_text.specs.Grammar.Positions.{is_column_one}
 use Rattle.ini_text.specs.Grammar.Elements.{Given, Header, Gap, Element}
 use Rattle.ini_text.specs.Grammar.Texts.{Reads}
 use Rattle.ini_text.specs.Laws.Plain.{IsPlainName}
-use Rattle.ini_text.specs.Laws.PlainLaws.{AreGaps, IsElementThenGaps, IsHeaderLine, header_source, line_ends}
+use Rattle.ini_text.specs.Laws.PlainLaws.{AreGaps, GivesLine, IsElementThenGaps, IsHeaderLine, header_source, line_ends}
 use Rattle.ini_text.specs.Options.WriteOptions.{line_end}
 use Rattle.ini_text.proofs.GrammarLemmas.KindLemmas.{line_end_no_blank}
 use Rattle.ini_text.proofs.PlainLemmas.EscapedTextLemmas.{AllRead, NoRawEnd, all_read, row_escaped}
@@ -56,12 +56,7 @@ gaps_read {o} {T} {r} (AreGaps.more {b} {s} {t} gap gaps) q =
     let rest : Reads o T (b ++ s) [] ((b ++ s) ++ t) = gaps_read gaps (whole ∙ sym (append_assoc b s (t ++ r))) in
     subst (Reads o T b []) (append_assoc b s t) (Reads.step whole (Element.gap gap) rest)
 
--- behind the front b and before r the source gives the item, and behind it column one begins
-abbrev pub GivesLine : ParseOption → List ℕ → List ℕ → List ℕ → Given → Type 0
-GivesLine o b source r item =
-    Reads o (b ++ (source ++ r)) b (item ∷ []) (b ++ source) × (is_column_one (b ++ source) ≡ true)
-
--- as an element and then gaps do
+-- a line gives its item as an element and then gaps do
 pub element_then_gaps-gives : {o : ParseOption} {b s e r : List ℕ} {item : Given}
     → IsElementThenGaps o b s e r item → GivesLine o b (s ++ e) r item
 element_then_gaps-gives {o} {b} {s} {e} {r} {item} x =

@@ -20,11 +20,11 @@ use Rattle.ini_text.specs.Grammar.Keys.{Indentation, KeyFront, begins_key, begin
 use Rattle.ini_text.specs.Grammar.Positions.{last_or, starts_line, is_column_one}
 use Rattle.ini_text.specs.Grammar.Elements.{Pair, Element}
 use Rattle.ini_text.specs.Laws.Plain.{IsPlainSeparator, IsBareKey, IsIndentedByEscape, IsPlainKey, IsPlainValue, IsPlainPair}
-use Rattle.ini_text.specs.Laws.PlainLaws.{AreGaps, FollowsPair, IsPairLine, line_ends, pair_source}
+use Rattle.ini_text.specs.Laws.PlainLaws.{AreGaps, FollowsPair, GivesLine, IsPairLine, line_ends, pair_source}
 use Rattle.ini_text.specs.Options.WriteOptions.{line_end}
 use Rattle.ini_text.proofs.GrammarLemmas.KindLemmas.{no_white_no_blank}
 use Rattle.ini_text.proofs.PlainLemmas.EscapedTextLemmas.{AllRead, NoRawEnd, all_read, row_escaped}
-use Rattle.ini_text.proofs.PlainLemmas.PlainLineLemmas.{GivesLine, element_then_gaps-gives, line_end_gaps, line_ends_column, row_of}
+use Rattle.ini_text.proofs.PlainLemmas.PlainLineLemmas.{element_then_gaps-gives, line_end_gaps, line_ends_column, row_of}
 use Rattle.ini_text.proofs.PlainLemmas.PlainTrimLemmas.{line_end_is_white, trimmed_begins, trimmed_end, end_trimmed-blanks, trimmed-blanks, end_trimmed-behind, some_behind, without_line_feeds-trimmed}
 
 -- what an escaped text begins with: a backslash, or its first character, which isn't escaped

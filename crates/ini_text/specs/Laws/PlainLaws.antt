@@ -39,6 +39,11 @@ pub record IsElementThenGaps (o : ParseOption) (b source gaps r : List ℕ) (ite
   pub are_gaps : AreGaps r (b ++ source) gaps
   pub column_one : is_column_one (b ++ (source ++ gaps)) ≡ true
 
+-- behind the front b and before r the source gives the item, and behind it column one begins
+abbrev pub GivesLine : ParseOption → List ℕ → List ℕ → List ℕ → Given → Type 0
+GivesLine o b source r item =
+    Reads o (b ++ (source ++ r)) b (item ∷ []) (b ++ source) × (is_column_one (b ++ source) ≡ true)
+
 -- a name's written line: a header that gives the name, and gaps
 abbrev pub IsHeaderLine : ParseOption → WriteOption → Bool → List ℕ → List ℕ → List ℕ → Type 0
 IsHeaderLine o w twice b name r =
