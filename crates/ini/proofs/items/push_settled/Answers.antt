@@ -17,9 +17,11 @@ items-preserved c =
     let reading = settling.reading in
     let is = c.in-Ok-Some.is ∙ ap Ok c.in-Ok-Some.field-0-is in
     let goes_on = IsReading-goes_on reading c.next_item.new.self _ next.item next.option next.text next.refusal is in
-    let some = chars-some c.rest-behind.result.now c.rest-behind.utf8 (grind (arith, c.is_empty.ensures, c.if-is_empty.false)) in
-    (c.rest-behind.utf8, Settling-item reading c.next_item.new.self _ next.item settling goes_on is some
-        (c.rest-behind.ensures ∙ goes_on.text) c.in_ok-push_item.ensures.pushed)
+    let some = chars-some c.rest-behind.result.now c.rest-behind.utf8 (grind (arith, c.is_empty.ensures, c.if-is_empty.false)) in (
+      c.rest-behind.utf8,
+      Settling-item reading c.next_item.new.self _ next.item settling goes_on is some
+          (c.rest-behind.ensures ∙ goes_on.text) c.in_ok-push_item.ensures.pushed,
+    )
 
 pub returns-in-Ok-None-clause-settled : goal.returns-in-Ok-None-clause-settled
 returns-in-Ok-None-clause-settled c =
