@@ -1,6 +1,6 @@
 #!/bin/sh
 # Every proof and every test: `rt ci`, and then the programs that it built, over real streams (tests/program.sh,
-# tests/streams.sh), and the scripts that build and run them (tests/scripts.sh). Each step ends with the time that it took. The
+# tests/streams.sh, tests/passing.sh), and the scripts that build and run them (tests/scripts.sh). Each step ends with the time that it took. The
 # last line is 'N passed, M failed' over all, and the status is 1 if anything failed.
 set -u
 cd "$(dirname "$0")/.." || exit 1
@@ -29,6 +29,7 @@ run() {
 run rt ci
 run tests/program.sh
 run tests/streams.sh
+run tests/passing.sh
 run tests/scripts.sh
 echo "$passed passed, $failed failed"
 [ "$failed" -eq 0 ]
