@@ -1,7 +1,8 @@
 #!/bin/sh
 # Every proof and every test: `rt ci`, and then the programs that it built, over real streams (tests/program.sh,
-# tests/streams.sh), and the scripts that build and run them (tests/scripts.sh). Each step ends with the time that it took. The
-# last line is 'N passed, M failed' over all, and the status is 1 if anything failed.
+# tests/streams.sh), the scripts that build and run them (tests/scripts.sh), and the pages made of the sources
+# (tests/pages.sh). Each step ends with the time that it took. The last line is 'N passed, M failed' over all, and the status
+# is 1 if anything failed.
 set -u
 cd "$(dirname "$0")/.." || exit 1
 log=$(mktemp)
@@ -30,5 +31,6 @@ run rt ci
 run tests/program.sh
 run tests/streams.sh
 run tests/scripts.sh
+run tests/pages.sh
 echo "$passed passed, $failed failed"
 [ "$failed" -eq 0 ]
