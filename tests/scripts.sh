@@ -68,7 +68,7 @@ case $mode in
 makes) make ;;
 fails) echo 'error: a contract is not proved' && exit 1 ;;
 fails_late) make && exit 1 ;;
-makes_nothing) ;;
+makes_nothing | finds_nothing_new) ;;
 is_edited) sleep 0.1 && touch "$argument" && make ;;
 # half a program, and then the signal to the script, or to all, as a terminal sends it
 is_stopped)
@@ -246,6 +246,12 @@ built 'a source that changes while it is built' 1
 mode makes
 script ini_tool.sh
 built 'is built in the next run' 2
+touch "$top/crates/second/src/lib.rt"
+mode finds_nothing_new
+script ini_tool.sh
+script ini_tool.sh
+built 'a source that says what it said' 2
+is 'rt looks at it once' 3 "$(grep -c . "$calls")"
 checkout
 script ini_tool.sh
 rm -r "$top/crates/second"
@@ -339,16 +345,12 @@ chmod a+w "$room/tmp" "$calls"
 if [ -n "$as" ] && ! $as true 2>/dev/null; then
     echo 'skipped: a checkout that can not be written to (no setpriv, and root may write everywhere)'
 else
-    for n in '' first second ini_tool; do
-        # one folder, or none, that may be written to
-        [ -z "$n" ] || chmod a+w "$top/crates/$n"
+    # in turn one folder more may be written to, at last all that are needed
+    for crate in '' ini_tool second first; do
+        [ -z "$crate" ] || chmod a+w "$top/crates/$crate"
         $as "$top/ini_tool.sh" get k </dev/null >"$room/out" 2>"$room/err"
         status=$?
-        case $n in ini_tool) chmod a-w "$top/crates/first" ;; esac
-        case $n in
-        ini_tool) ;;
-        *) refused "a checkout that can't be written to but for '$n'" "ini_tool is not built, and $top/crates/" ;;
-        esac
+        [ "$crate" = first ] || refused "a checkout that can't be written to, '$crate' the last that can" 'ini_tool is not built, and '
     done
     is 'rt is called only where all may be written to' 'ini_tool <run> <--> <fmt>' "$(cat "$calls")"
     chmod -R a-w "$top"
