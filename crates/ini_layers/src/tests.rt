@@ -141,3 +141,28 @@ fn documents_come_from_both_ends(rt: HostRuntime) {
     assert!(rt; is_value(documents.next(), Some("2")));
     assert!(rt; is_value(documents.next_back(), None));
 }
+
+// So many layers: each sets x of section a, and opens a section of its own.
+fn many_layers(rt: &(impl Abort + AllocGlobal), count: usize) -> Layers {
+    let mut layers = Layers::new(rt.alloc());
+    for number in 0..count {
+        let text = format!(in rt.alloc(); "[a]\nx={number}\n[{number}]\nk=v\n");
+        let text = text.expect(rt, "memory");
+        let document = Ini::load_from_str(rt.alloc(), &text).expect(rt, "a document");
+        assert!(rt; layers.push(document).is_ok());
+    }
+    layers
+}
+
+#[test]
+fn many_layers_are_merged(rt: HostRuntime) {
+    for (count, last) in [(9, "8"), (17, "16"), (300, "299")] {
+        let layers = many_layers(&rt, count);
+        expect_value(&rt, &layers, (Some("a"), "x", Some(last)));
+        expect_value(&rt, &layers, (Some("0"), "k", Some("v")));
+        let merged = merged_of(&rt, &layers);
+        assert!(rt; merged.len() == count.saturating_add(2), "{count}");
+        assert!(rt; merged.get_from(Some("a"), "x") == Some(last));
+        assert!(rt; merged.get_from(Some(last), "k") == Some("v"));
+    }
+}

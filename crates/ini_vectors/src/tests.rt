@@ -5,3 +5,4 @@ mod devices;
 mod edits;
 mod files;
 mod refusals;
+mod saving;

@@ -3,9 +3,16 @@ ghost use Rattle.std.specs.Prelude.{◌≡◌, chars, true};
 ghost use Rattle.ini_text.specs.Laws.PlainLaws.{IsEmptyOrHeader};
 
 use crate::reloads::{reload, reload_with};
-use ini::{Error, EscapePolicy, Ini, LineSeparator, ParseOption, Properties, WriteOption};
+use ini::{
+    Error, EscapePolicy, Ini, LineSeparator, ParseOption, Properties, SectionSetter, WriteOption,
+};
 use std::alloc::Global;
 use std::test::Fail;
+
+// Whether a setter gets these values of a, b and c.
+fn gets(setter: &SectionSetter<'_>, a: Option<&str>, b: Option<&str>, c: Option<&str>) -> bool {
+    setter.get("a") == a && setter.get("b") == b && setter.get("c") == c
+}
 
 // What is set in a chain is there, the last value of each key; what is deleted is gone.
 fn chain_of_one_section(document: &mut Ini) -> Result<bool, Error> {
@@ -14,18 +21,13 @@ fn chain_of_one_section(document: &mut Ini) -> Result<bool, Error> {
         .set("a", "1")?
         .set("b", "2")?;
     let setter = setter.set("c", "3")?;
-    if setter.get("a") != Some("1")
-        || setter.get("b") != Some("2")
-        || setter.get("c") != Some("3")
-    {
-        return Ok(false);
-    }
-    let setter = setter.set("a", "4")?.set("b", "5")?.set("c", "6")?;
+    let first = gets(&setter, Some("1"), Some("2"), Some("3"));
+    let setter = setter.set("a", "4")?.set("b", "5")?;
+    let setter = setter.set("c", "6")?;
+    let second = gets(&setter, Some("4"), Some("5"), Some("6"));
     let setter = setter.delete("a").delete("b");
-    if setter.get("a").is_some() || setter.get("b").is_some() || setter.get("c") != Some("6") {
-        return Ok(false);
-    }
-    Ok(setter.delete("c").get("c").is_none())
+    let setter = setter.delete("c");
+    Ok(first && second && gets(&setter, None, None, None))
 }
 
 // The same of the general section, before and after all is cleared.
@@ -51,6 +53,55 @@ fn section_setter_chain(rt: HostRuntime) {
     let mut document = Ini::new(rt.alloc()).expect(&rt, "memory");
     assert!(rt; matches!(chain_of_one_section(&mut document), Ok(true)));
     assert!(rt; matches!(chain_of_the_general_section(&mut document), Ok(true)));
+}
+
+/// Three pairs of the general section, whose keys are in no order of letters.
+const THREE: &'static str = "\nx2 = nc\nx1 = na\nx3 = nb\n";
+
+// Whether the pair has this key and this value.
+fn is_pair(pair: Option<(&str, &str)>, key: &str, value: &str) -> bool {
+    pair == Some((key, value))
+}
+
+// Appends to each value its place, from 0.
+fn number(section: &mut Properties) -> Result<(), Error> {
+    for ((_, value), place) in section.iter_mut().zip("012".chars()) {
+        value.push(place)?;
+    }
+    Ok(())
+}
+
+#[test]
+fn iter_mut_preserve_order_in_section(rt: HostRuntime) -> Result<(), Fail> {
+    let mut document = Ini::load_from_str(rt.alloc(), THREE)?;
+    let section = document.section_mut(None).ok_or("no section")?;
+    number(section)?;
+    let mut pairs = section.iter();
+    assert!(rt; is_pair(pairs.next(), "x2", "nc0"));
+    assert!(rt; is_pair(pairs.next(), "x1", "na1"));
+    assert!(rt; is_pair(pairs.next(), "x3", "nb2"));
+    assert!(rt; pairs.next().is_none());
+    Ok(())
+}
+
+// Whether the pair that is handed out has this key and this value.
+fn is_handed_out(pair: Option<(String, String)>, key: &str, value: &str) -> bool {
+    match pair {
+        Some((k, v)) => k.as_str() == key && v.as_str() == value,
+        None => false,
+    }
+}
+
+#[test]
+fn preserve_order_properties_into_iter(rt: HostRuntime) -> Result<(), Fail> {
+    let document = Ini::load_from_str(rt.alloc(), THREE)?;
+    let (_, section) = document.into_iter().next().ok_or("no section")?;
+    let mut pairs = section.into_iter();
+    assert!(rt; is_handed_out(pairs.next(), "x2", "nc"));
+    assert!(rt; is_handed_out(pairs.next(), "x1", "na"));
+    assert!(rt; is_handed_out(pairs.next(), "x3", "nb"));
+    assert!(rt; pairs.next().is_none());
+    Ok(())
 }
 
 #[test]
