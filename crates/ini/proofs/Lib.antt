@@ -1,7 +1,9 @@
+pub mod DefaultLemmas
 pub mod EachLemmas
 pub mod EditLawLemmas
 pub mod EditLemmas
 pub mod EverySectionLemmas
+pub mod GeneralLawLemmas
 pub mod GeneralLemmas
 pub mod InversionLemmas
 pub mod KeepingLemmas
@@ -14,6 +16,8 @@ pub mod PlainSamples
 pub mod PlainTextLemmas
 pub mod PropertyLemmas
 pub mod ReadingLemmas
+pub mod RenameLawLemmas
+pub mod RenameLemmas
 pub mod SectionLemmas
 pub mod StreamLemmas
 pub mod TextLemmas
