@@ -16,7 +16,7 @@ pub name_refl : (n : Option Text) → is_name n n ≡ true
 name_refl n = (options_equiv nat_list_eq_equiv).refl n
 
 -- texts that fit are equal
-texts_equal : (s t : Text) → is_text s t ≡ true → s ≡ t
+pub texts_equal : (s t : Text) → is_text s t ≡ true → s ≡ t
 texts_equal s t h = (bytes_decides s t).0 h
 
 -- names that fit are equal

@@ -1,7 +1,9 @@
+pub mod DefaultLemmas
 pub mod EachLemmas
 pub mod EditLawLemmas
 pub mod EditLemmas
 pub mod EverySectionLemmas
+pub mod GeneralLawLemmas
 pub mod GeneralLemmas
 pub mod InversionLemmas
 pub mod KeepingLemmas
@@ -15,6 +17,8 @@ pub mod PlainTextLemmas
 pub mod PropertyLemmas
 pub mod ReadingLemmas
 pub mod RefusalLemmas
+pub mod RenameLawLemmas
+pub mod RenameLemmas
 pub mod SectionLemmas
 pub mod StreamLemmas
 pub mod TextLemmas

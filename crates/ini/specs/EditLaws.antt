@@ -2,7 +2,7 @@
 use Rattle.std.specs.Prelude.{◌≡◌, false, if◌then◌else◌, List, [], map, drop, Option, Some, None, IsSome}
 use Rattle.ini.specs.Texts.{Text, is_name, is_text}
 use Rattle.ini.specs.Properties.{Pairs, all_removed, first_value, values}
-use Rattle.ini.specs.Documents.{Document, first_section, sections_named, value_in}
+use Rattle.ini.specs.Documents.{Document, HasGeneral, first_section, sections_named, value_in}
 
 abbrev values_of_found : Text → Option Pairs → List Text
 values_of_found key None = []
@@ -39,6 +39,10 @@ KeepsOtherKeysIn name key edit = (other : Text) (d : Document) → is_text other
 abbrev pub KeepsNames : (Document → Document) → Type 0
 KeepsNames edit = (other : Option Text) (d : Document) → IsSome (first_section other d)
     → IsSome (first_section other (edit d))
+
+-- a document that has a general section keeps one
+abbrev pub KeepsGeneral : (Document → Document) → Type 0
+KeepsGeneral edit = (d : Document) → HasGeneral d → HasGeneral (edit d)
 
 -- the document without the pairs of the key in the sections of the name
 abbrev pub apart_from : Option Text → Text → Document → Document

@@ -9,6 +9,7 @@ pub mod Lends
 pub mod Loading
 pub mod Written
 pub mod WrittenTo
+pub mod DefaultOptions
 pub mod Files
 pub mod Entries
 pub mod Setter

@@ -258,6 +258,34 @@ impl Ini {
         self.sections.clear();
     }
 
+    // No sections. Takes no memory.
+    pub(crate) fn empty(alloc: Global) -> Self
+        ensures { result ≡ [] }
+    {
+        Ini {
+            sections: Multimap::new(alloc),
+            alloc,
+        }
+    }
+
+    // What it takes its memory from.
+    pub(crate) fn allocator(&self) -> Global {
+        self.alloc
+    }
+
+    // Puts a copy of a section last.
+    pub(crate) fn push_copy(
+        &mut self,
+        name: Option<&str>,
+        pairs: &Properties,
+    ) -> Result<(), Error>
+        ensures pushed { OnOk result (self.new ≡ self.old ++ (str_name name.entry, pairs.now) ∷ []) }
+        ensures only_memory { IsOkUnless result (Error.Memory alloc_error) }
+    {
+        let name = owned_name(self.alloc, name)?;
+        self.push_section(name, pairs.clone()?)
+    }
+
     // Puts a section last.
     pub(crate) fn push_section(
         &mut self,

@@ -3,6 +3,11 @@
 ghost use Rattle.std.specs.Prelude.{◌≡◌, ◌↔◌, chars, true};
 ghost use Rattle.std.specs.Str.{all_scalars, bytes_eq};
 ghost use Rattle.ini_text.specs.Laws.PlainLaws.{IsEmptyOrHeader};
+ghost use Rattle.ini_text.specs.Options.WriteOptions.{IsDefaultWriteOption};
+ghost use Rattle.ini_text.specs.declared.option.ParseOption.{ParseOption};
+ghost use Rattle.ini_text.specs.declared.write.option.WriteOption.{WriteOption};
+ghost use Rattle.ini.specs.DefaultOptions.{default_write_option};
+ghost use Rattle.ini.specs.Documents.{Document};
 ghost use Rattle.ini.specs.Loading.{IsDocumentOf};
 ghost use Rattle.ini.specs.Outcomes.{HasOneOutcome, Inverts};
 ghost use Rattle.ini.specs.Plain.{IsPlain};
@@ -14,6 +19,7 @@ use ini_text::{ParseOption, WriteOption};
 
 pub mod edits;
 pub mod refusals;
+pub mod renames;
 
 /// A text has one outcome: a document, or a refusal with its kind, line and column.
 #[tactic(auto, using(crate::proofs::InversionLemmas::one_outcome))]
@@ -36,6 +42,15 @@ pub fn loads_back(document: &Ini, write: &WriteOption, read: ParseOption)
     requires { IsPlain document.now write.now read }
     ensures characters { all_scalars (written document.now write.now) ≡ true }
     ensures document { IsDocumentOf read (written document.now write.now) document.now }
+{}
+
+/// Whichever value has the default options, the same is written by it, and the same is plain.
+#[tactic(auto, using(crate::proofs::DefaultLemmas::defaults))]
+pub fn one_default()
+    ensures written { (document : Document) (write : WriteOption) → IsDefaultWriteOption write
+        → written document write ≡ written document default_write_option }
+    ensures plain { (document : Document) (write : WriteOption) (read : ParseOption)
+        → IsDefaultWriteOption write → IsPlain document write read ↔ IsPlain document default_write_option read }
 {}
 
 /// Texts are equal as characters exactly where they are equal as bytes, and so are the tests of both.

@@ -18,6 +18,7 @@ mod name;
 mod passing;
 mod plain;
 mod properties;
+mod rename;
 mod setter;
 mod write;
 

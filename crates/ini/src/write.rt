@@ -1,12 +1,14 @@
 //! Documents on their way to a device. This file knows in which order the parts of a document are
 //! written, and leaves escapes and the device to `ini_text`.
-ghost use Rattle.std.specs.Prelude.{OnOk, IfErr, ◌++◌, Some, chars, encode_utf8_all};
+ghost use Rattle.std.specs.Prelude.{◌≡◌, OnOk, IfErr, IfOk, IsOkUnless, ◌++◌, Some, alloc_error, chars};
+ghost use Rattle.std.specs.Prelude.{encode_utf8_all, true};
+ghost use Rattle.std.specs.Str.{all_scalars};
 ghost use Rattle.ini_text.specs.Escaping.EscapedTexts.{escaped};
 ghost use Rattle.ini_text.specs.Device.DeviceRefusals.{IsIoOrNoProgress};
 ghost use Rattle.ini_text.specs.Device.Watched.{IsClear, WritesBytes};
 ghost use Rattle.ini_text.specs.Options.WriteOptions.{IsDefaultWriteOption, with_policy};
 ghost use Rattle.ini_text.specs.declared.write.option.WriteOption.{WriteOption};
-ghost use Rattle.ini.specs.Texts.{str_name};
+ghost use Rattle.ini.specs.Texts.{str_name, text_of};
 ghost use Rattle.ini.specs.Written.{written, written_gap, written_name, written_pair};
 ghost use Rattle.ini.specs.Written.{written_pairs, written_section};
 ghost use Rattle.ini.specs.WrittenTo.{IsFrontWrittenTo, IsWrittenTo};
@@ -16,6 +18,7 @@ ghost use Rattle.ini_text.specs.Device.HeldBack.{held};
 use crate::document::Ini;
 use crate::properties::Properties;
 use ini_text::{Error, EscapePolicy, Gatherer, Watched, WriteOption};
+use std::alloc::{AllocError, Global};
 use std::io::Write;
 
 // A text escaped, and another as it is behind it.
@@ -179,9 +182,23 @@ impl Ini {
         requires { IsClear out.old }
         ensures { WritesBytes W.contents out.old out.new result (encode_utf8_all (written self.now option)) }
     {
-        let mut lines = Gatherer::new();
-        write_sections(&mut lines, self, &option, out)?;
-        lines.flush(out)
+        write_text(self, &option, out)
+    }
+
+    /// The document's text, by the given options, in memory.
+    ///
+    /// Refused for want of memory alone.
+    pub fn to_text(&self, alloc: Global, option: WriteOption) -> Result<String, Error>
+        ensures text { IfOk result (λ text. text_of text ≡ written self.now option) }
+        ensures characters { OnOk result (all_scalars (written self.now option) ≡ true) }
+        ensures only_memory { IsOkUnless result (Error.Memory alloc_error) }
+    {
+        let mut bytes: Vec<u8> = Vec::new(alloc);
+        match write_text_to(self, &option, &mut bytes) {
+            Ok(()) => Ok(String::from_utf8(bytes).unwrap()),
+            // Bytes in memory are refused for want of it alone.
+            Err(_) => Err(Error::Memory(AllocError)),
+        }
     }
 
     /// Writes the document's text to a writer, by the default options. The rest is as `write_watched`
@@ -245,4 +262,33 @@ fn write_sections<W: Write>(
         earlier |= !pairs.is_empty();
     }
     Ok(())
+}
+
+// The document's text, which is made of characters.
+fn write_text<W: Write>(
+    document: &Ini,
+    option: &WriteOption,
+    out: &mut Watched<'_, W>,
+) -> Result<(), Error>
+    requires { IsClear out.old }
+    ensures bytes { WritesBytes W.contents out.old out.new result
+        (encode_utf8_all (written document.now option.now)) }
+    ensures characters { OnOk result (all_scalars (written document.now option.now) ≡ true) }
+{
+    let mut lines = Gatherer::new();
+    write_sections(&mut lines, document, option, out)?;
+    lines.flush(out)
+}
+
+// The same to a writer that is not watched yet.
+fn write_text_to<W: Write>(
+    document: &Ini,
+    option: &WriteOption,
+    writer: &mut W,
+) -> Result<(), Error>
+    ensures bytes { OnOk result
+        (IsWrittenTo W.contents writer.old writer.new (written document.now option.now)) }
+    ensures characters { OnOk result (all_scalars (written document.now option.now) ≡ true) }
+{
+    write_text(document, option, &mut Watched::new(writer))
 }

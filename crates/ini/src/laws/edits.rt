@@ -8,8 +8,9 @@ ghost use Rattle.ini.specs.Properties.{Pairs, all_removed, first_value, inserted
 ghost use Rattle.ini.specs.Documents.{Document, all_sections_removed, first_section, section_removed};
 ghost use Rattle.ini.specs.Documents.{value_in};
 ghost use Rattle.ini.specs.Edits.{add_in, delete_in, delete_in_all, replace_in, section_put};
-ghost use Rattle.ini.specs.Edits.{section_set, set_in};
-ghost use Rattle.ini.specs.EditLaws.{KeepsLaterSections, KeepsNames, KeepsOtherKeys, KeepsOtherKeysIn};
+ghost use Rattle.ini.specs.Edits.{rename_key_in, section_renamed, section_set, set_in};
+ghost use Rattle.ini.specs.EditLaws.{KeepsGeneral, KeepsLaterSections, KeepsNames};
+ghost use Rattle.ini.specs.EditLaws.{KeepsOtherKeys, KeepsOtherKeysIn};
 ghost use Rattle.ini.specs.EditLaws.{KeepsOtherNames, KeepsOtherPairs, KeepsOtherSections};
 ghost use Rattle.ini.specs.EditLaws.{KeepsOtherValues, KeepsRest, values_in};
 
@@ -128,6 +129,25 @@ pub fn sections_stay_there()
     ensures replace { (name : Option Text) (key value : Text) → KeepsNames (replace_in name key value) }
     ensures lent { (name : Option Text) (pairs : Pairs) → KeepsNames (section_set name pairs) }
     ensures entry { (name : Option Text) (pairs : Pairs) → KeepsNames (section_put name pairs) }
+{}
+
+/// A general section stays there, but where it is itself taken out or renamed. `clear` takes it out.
+#[tactic(auto, using(crate::proofs::GeneralLawLemmas::general))]
+pub fn general_stays()
+    ensures set { (name : Option Text) (key value : Text) → KeepsGeneral (set_in name key value) }
+    ensures add { (name : Option Text) (key value : Text) → KeepsGeneral (add_in name key value) }
+    ensures delete { (name : Option Text) (key : Text) → KeepsGeneral (delete_in_all name key) }
+    ensures delete_from { (name : Option Text) (key : Text) → KeepsGeneral (delete_in name key) }
+    ensures replace { (name : Option Text) (key value : Text) → KeepsGeneral (replace_in name key value) }
+    ensures rename_key { (name : Option Text) (key other : Text)
+        → KeepsGeneral (rename_key_in name key other) }
+    ensures lent { (name : Option Text) (pairs : Pairs) → KeepsGeneral (section_set name pairs) }
+    ensures entry { (name : Option Text) (pairs : Pairs) → KeepsGeneral (section_put name pairs) }
+    ensures append { (name : Option Text) (pairs : Pairs) → KeepsGeneral (λ d. d ++ (name, pairs) ∷ []) }
+    ensures delete_section { (name : Text) → KeepsGeneral (section_removed (Some name)) }
+    ensures delete_sections { (name : Text) → KeepsGeneral (all_sections_removed (Some name)) }
+    ensures rename_section { (name : Text) (other : Option Text)
+        → KeepsGeneral (section_renamed (Some name) other) }
 {}
 
 /// All stays in order but the pairs of the key in the sections of the name.
