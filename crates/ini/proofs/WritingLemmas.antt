@@ -43,15 +43,21 @@ module _ {W : Type 0} {contents : W → Option (List ℕ)} where
       (policy : EscapePolicy) → IsUtf8 bytes → Sends contents a b h i r (escaped_bytes policy bytes)
       → SendsText contents a b h i r (escaped policy (chars bytes))
   SendsText-escaped {bytes = bytes} {r = r} policy utf8 sent =
-      record { sends = sent; characters =
-      at_ok r (escaped-scalars policy (chars bytes) (scalars-chars bytes utf8)) }
+      record {
+        sends = sent;
+        characters =
+            at_ok r (escaped-scalars policy (chars bytes) (scalars-chars bytes utf8));
+      }
 
   -- a text of one ASCII character
   pub SendsText-one : {a b : Watched W} {h i : List ℕ} {r : Result (Unit {0}) Error} (c : ℕ) → c < 128
       → Sends contents a b h i r (c ∷ []) → SendsText contents a b h i r (c ∷ [])
   SendsText-one {a} {b} {h} {i} {r} c below sent =
-      record { sends = subst (Sends contents a b h i r)
-      (sym (append-nil (encode c) ∙ encode_ascii c below)) sent; characters = at_ok r (scalars-one c below) }
+      record {
+        sends = subst (Sends contents a b h i r)
+            (sym (append-nil (encode c) ∙ encode_ascii c below)) sent;
+        characters = at_ok r (scalars-one c below);
+      }
 
   -- the second text behind the first
   pub SendsText-then : {a b d : Watched W} {h i j : List ℕ} {r : Result (Unit {0}) Error} {xs ys : Text}
@@ -125,9 +131,9 @@ pub line-scalars : (policy : EscapePolicy) (first between second end : List ℕ)
 line-scalars policy first between second end a b c d =
     let part = λ (text behind : List ℕ) (u : IsUtf8 text) (v : IsUtf8 behind).
     scalars-append (escaped policy (chars text)) (chars behind)
-        (escaped-scalars policy (chars text) (scalars-chars text u)) (scalars-chars behind v) in
+    (escaped-scalars policy (chars text) (scalars-chars text u)) (scalars-chars behind v) in
     scalars-append (escaped policy (chars first) ++ chars between)
-        (escaped policy (chars second) ++ chars end) (part first between a b) (part second end c d)
+    (escaped policy (chars second) ++ chars end) (part first between a b) (part second end c d)
 
 -- a pair's line and a header by their parts
 pub pair_parts : (w : WriteOption) (key value : Text)

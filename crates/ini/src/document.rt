@@ -274,11 +274,7 @@ impl Ini {
     }
 
     // Puts a copy of a section last.
-    pub(crate) fn push_copy(
-        &mut self,
-        name: Option<&str>,
-        pairs: &Properties,
-    ) -> Result<(), Error>
+    pub(crate) fn push_copy(&mut self, name: Option<&str>, pairs: &Properties) -> Result<(), Error>
         ensures pushed { OnOk result (self.new ≡ self.old ++ (str_name name.entry, pairs.now) ∷ []) }
         ensures only_memory { IsOkUnless result (Error.Memory alloc_error) }
     {
