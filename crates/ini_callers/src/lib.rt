@@ -5,6 +5,9 @@ mod edited;
 mod entries;
 mod loaded;
 mod refusals;
+#[cfg(test)]
+mod tests;
+mod walks;
 
 pub use edited::{
     Settings, add_to, delete_last, insert_lent, insert_one, insert_then_index, move_log, set_there,
@@ -13,3 +16,4 @@ pub use edited::{
 pub use entries::{appended, is_occupied, look, opened};
 pub use loaded::{general_keys, general_keys_of};
 pub use refusals::{characters_before, lines_before, open, save, write_nothing};
+pub use walks::{keep, move_pairs, rename, upstreams};

@@ -1,12 +1,13 @@
 //! The layers: documents in the order in which they were pushed. This file knows a document's look-up, and
 //! leaves merging to `merge`.
 ghost use Rattle.std.specs.Prelude.{◌≡◌, ◌==◌, [], ◌∷◌, ◌++◌, length};
-ghost use Rattle.std.specs.Prelude.{IfErr, IfOk, IsOkUnless, IsSome, None, OnErr, OnOk, alloc_error};
+ghost use Rattle.std.specs.Prelude.{IfErr, IfNone, IfOk, IfSome, IsOkUnless, IsSome, None, OnErr, OnOk};
+ghost use Rattle.std.specs.Prelude.{alloc_error};
 ghost use Rattle.std.specs.Option.{option_map};
 ghost use Rattle.std.specs.Str.{chars};
 ghost use Rattle.ini.specs.Texts.{str_name, str_text};
 ghost use Rattle.ini.specs.Documents.{first_section};
-ghost use Rattle.ini_layers.specs.Layers.{HasLayeredValues, layered_value};
+ghost use Rattle.ini_layers.specs.Layers.{HasLayeredValues, IsOrigin, layered_value};
 ghost use Rattle.ini_layers.specs.Merging.{merged};
 
 use crate::iter::DocumentIter;
@@ -84,6 +85,22 @@ impl Layers {
         for document in self.iter().rev() {
             if let Some(value) = document.get_from(name, key) {
                 return Some(value);
+            }
+        }
+        None
+    }
+
+    /// Which layer gives the value that `get_from` answers: its number, from 0 in the order in which they were
+    /// pushed. Takes no memory.
+    pub fn origin(&self, name: Option<&str>, key: &str) -> Option<usize>
+        ensures origin { IfSome result (IsOrigin (str_name name.entry) (chars key.now) self.now) }
+        ensures none { IfNone result (layered_value (str_name name.entry) (chars key.now) self.now ≡ None) }
+    {
+        let mut number = self.documents.len();
+        for document in self.iter().rev() {
+            number -= 1;
+            if document.get_from(name, key).is_some() {
+                return Some(number);
             }
         }
         None

@@ -71,6 +71,28 @@ fn the_last_layer_that_has_the_key_counts(rt: HostRuntime) {
 }
 
 #[test]
+fn the_origin_of_a_value_is_told(rt: HostRuntime) {
+    let layers = layers_of(
+        &rt,
+        &[
+            "k=1\n[a]\nx=1\n",
+            "[a]\nx=2\ny=3\n[a]\nz=9\n",
+            "[b]\nx=4\n",
+        ],
+    );
+    for (name, key, want) in [
+        (Some("a"), "x", Some(1)),
+        (Some("a"), "z", None),
+        (Some("b"), "x", Some(2)),
+        (None, "k", Some(0)),
+        (None, "x", None),
+    ] {
+        let origin = layers.origin(name, key);
+        assert!(rt; origin == want, "{name:?} {key}: {origin:?}");
+    }
+}
+
+#[test]
 fn a_first_section_without_the_key_leaves_the_layers_below(rt: HostRuntime) {
     let layers = layers_of(&rt, &["[a]\nx=1\n", "[a]\n[a]\nx=2\n"]);
     expect_value(&rt, &layers, (Some("a"), "x", Some("1")));
