@@ -1,12 +1,18 @@
--- What a run of the program is: what it writes, and its status.
-use Rattle.std.specs.Prelude.{◌≡◌, ℕ, List, length, Result, Err, ⊤, encode_utf8_all}
-use Rattle.ini_text.specs.Options.WriteOptions.{IsDefaultWriteOption}
+-- What a run of the program is: what it writes, what it tells, and its status.
+use Rattle.std.specs.Prelude.{◌≡◌, ◌+◌, ◌<◌, ◌≤◌, ◌++◌, ℕ, List, length, map, codes, String, string_bytes}
+use Rattle.std.specs.Prelude.{Option, Some, IfSome, Result, Err, ⊤, encode_utf8_all}
+use Rattle.std.specs.List.{All}
+use Rattle.std.specs.declared.alloc.Global.{Global}
 use Rattle.ini_text.specs.declared.error.Error.{Error}
 use Rattle.ini_text.specs.declared.error.Error.TheVariants.{Io, Parse, Memory, NotUtf8, NoProgress}
 use Rattle.ini_text.specs.declared.write.option.WriteOption.{WriteOption}
 use Rattle.ini.specs.Documents.{Document}
+use Rattle.ini.specs.Files.{IsDocumentOfFile}
 use Rattle.ini.specs.Written.{written}
 use Rattle.ini_layers.specs.Merging.{merged}
+use Rattle.ini_options.specs.Words.{IsWriteOption, Word}
+use Rattle.ini_options.specs.declared.options.Options.{Options}
+use Rattle.ini_merge.specs.Words.{asked}
 use Rattle.ini_merge.specs.declared.Outcome.{Outcome}
 use Rattle.ini_merge.specs.declared.Outcome.TheVariants.{Done, Usage, NotLoaded, Refused}
 
@@ -14,13 +20,28 @@ use Rattle.ini_merge.specs.declared.Outcome.TheVariants.{Done, Usage, NotLoaded,
 abbrev pub merged_bytes : List Document → WriteOption → List ℕ
 merged_bytes layers option = encode_utf8_all (written (merged layers) option)
 
--- these bytes are the text of so many layers, merged
-pub record IsOutput (count : ℕ) (output : List ℕ) : Type 0 where
+-- the options and the names of files of the words, if they are the program's
+abbrev pub asked_by : List (String Global) → Option (Options × List Word)
+asked_by words = asked (map string_bytes words)
+
+-- these bytes are the merged text of documents of files, as many as the words name: read and written as the
+-- words' options say
+pub record IsOutput {F : Type 0} (remaining : F → Option (List ℕ)) (words : List (String Global))
+    (output : List ℕ) : Type 0 where
+  pub options : Options
+  pub files : List Word
   pub layers : List Document
-  pub as_many : length layers ≡ count
   pub option : WriteOption
-  pub is_default : IsDefaultWriteOption option
+  pub asks : asked_by words ≡ Some (options, files)
+  pub as_many : length layers ≡ length files
+  pub loaded : All (IsDocumentOfFile remaining options.reading) layers
+  pub is_option : IsWriteOption options option
   pub is_written : output ≡ merged_bytes layers option
+
+-- the number of a word that names a file: these are the last words
+abbrev pub NamesFile : List (String Global) → ℕ → Type 0
+NamesFile words at =
+    (at < length words) × IfSome (asked_by words) (λ a. length words ≤ at + length a.1)
 
 abbrev pub IsDone : Outcome → Type 0
 IsDone Done = ⊤
@@ -82,3 +103,9 @@ status_of Done = 0
 status_of Usage = 2
 status_of (NotLoaded at e) = refusal_status e
 status_of (Refused e) = refusal_status e
+
+-- what is told of words that are none of the program's
+abbrev pub usage_line : List ℕ
+usage_line =
+    codes "usage: ini_merge [--noescape] [--noquote] [--multiline] [--indent] [--brackets] [--crlf] "
+    ++ codes "[--policy NAME] [--] FILE..\n"

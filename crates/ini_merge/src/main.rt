@@ -5,18 +5,24 @@
 //! process.
 #![tactic(auto)]
 
-ghost use Rattle.std.specs.Prelude.{◌≡◌, ◌+◌, ◌<◌, ◌↔◌, length, ℕ, List, IfErr, IfOk, OnOk};
+mod words;
+
+ghost use Rattle.std.specs.Prelude.{◌≡◌, ◌<◌, ◌↔◌, ◌++◌, [], ◌∷◌, length, ℕ, List, IfErr, IfOk, None, OnOk};
+ghost use Rattle.std.specs.List.{All};
 ghost use Rattle.ini_text.specs.Device.DeviceRefusals.{failures_in, stalls_in};
-ghost use Rattle.ini_text.specs.Device.Watched.{IsClear, SameDevice, WritesAll, WritesFront};
+ghost use Rattle.ini_text.specs.Device.Watched.{AppendsFront, IsClear, SameDevice, WritesAll, WritesFront};
 ghost use Rattle.ini_text.specs.Device.Watched.{device_now, failure_count, stall_count};
+ghost use Rattle.ini.specs.Documents.{Document};
+ghost use Rattle.ini.specs.Files.{IsDocumentOfFile};
 ghost use Rattle.ini_merge.specs.Runs.{IfNotLoaded, IfRefused, IsDone, IsOutput, IsUsage, IsWriteRefusal};
-ghost use Rattle.ini_merge.specs.Runs.{OnMemory, OnSilent};
+ghost use Rattle.ini_merge.specs.Runs.{NamesFile, OnMemory, OnSilent, asked_by, usage_line};
 ghost use Rattle.ini_merge.specs.Runs.{failures_of, merged_bytes, refusal_status, stalls_of, status_of};
 
-use ini::{Error, Ini, Watched, WriteOption};
+use crate::words::{USAGE, parse};
+use ini::{Error, Ini, ParseOption, Watched, WriteOption, write_raw};
 use ini_layers::{Layers, NoLayer};
+use ini_options::{named, words_of};
 use std::alloc::{AllocError, Global};
-use std::env;
 use std::io::Write;
 use std::path::Path;
 use std::process::ExitCode;
@@ -27,9 +33,9 @@ use std::rt::Files;
 pub enum Outcome {
     /// The merged document was written.
     Done,
-    /// There are no words; nothing was read.
+    /// The words are none of the program's; nothing was read.
     Usage,
-    /// The file of that word, counted from 0, was not loaded.
+    /// The file that this word names, counted from 0, was not loaded.
     NotLoaded(usize, Error),
     /// The memory or the writer refused.
     Refused(Error),
@@ -58,10 +64,17 @@ fn refusal_status(refusal: &Error) -> u8
 }
 
 // Puts the document of a file on top of the layers.
-fn push_file<R: Files>(rt: &R, alloc: Global, path: &str, layers: &mut Layers) -> Result<(), Error>
-    ensures { OnOk result (length layers.new ≡ length layers.old + 1) }
+fn push_file<R: Files>(
+    rt: &R,
+    alloc: Global,
+    path: &str,
+    reading: ParseOption,
+    layers: &mut Layers,
+) -> Result<(), Error>
+    ensures { OnOk result ((document : Document) × IsDocumentOfFile R.File.remaining reading document
+        × (layers.new ≡ layers.old ++ document ∷ [])) }
 {
-    let document = Ini::load_from_file(rt, alloc, Path::new(path))?;
+    let document = Ini::load_from_file_opt(rt, alloc, Path::new(path), reading)?;
     match layers.push(document) {
         Ok(()) => Ok(()),
         Err(NoLayer { doc: _ }) => Err(Error::Memory(AllocError)),
@@ -69,13 +82,19 @@ fn push_file<R: Files>(rt: &R, alloc: Global, path: &str, layers: &mut Layers) -
 }
 
 // The documents of the files, in order. Else the number of the file that was not loaded, and why.
-fn load_files<R: Files>(rt: &R, alloc: Global, paths: &[String]) -> Result<Layers, (usize, Error)>
+fn load_files<R: Files>(
+    rt: &R,
+    alloc: Global,
+    paths: &[String],
+    reading: ParseOption,
+) -> Result<Layers, (usize, Error)>
     ensures layers { IfOk result (λ layers. length layers ≡ length paths.now) }
+    ensures loaded { IfOk result (λ layers. All (IsDocumentOfFile R.File.remaining reading) layers) }
     ensures file { IfErr result (λ refused. refused.0 < length paths.now) }
 {
     let mut layers = Layers::new(alloc);
     for (at, path) in paths.iter().enumerate() {
-        if let Err(refusal) = push_file(rt, alloc, path.as_str(), &mut layers) {
+        if let Err(refusal) = push_file(rt, alloc, path.as_str(), reading, &mut layers) {
             return Err((at, refusal));
         }
     }
@@ -106,10 +125,10 @@ pub fn write_merged<W: Write>(
     merged.write_watched(out, option)
 }
 
-/// Loads the files and writes their merged document.
+/// Loads the files that the words name and writes their merged document, both as the words' options say.
 ///
-/// No words are `Usage`. All files are read before anything is written, so a file that is not loaded leaves
-/// the writer as it was. The rest is as `write_merged` has it.
+/// Words that are none of the program's are `Usage`. All files are read before anything is written, so a
+/// file that is not loaded leaves the writer as it was. The rest is as `write_merged` has it.
 pub fn run<R: Files, W: Write>(
     rt: &R,
     alloc: Global,
@@ -118,23 +137,25 @@ pub fn run<R: Files, W: Write>(
 ) -> Outcome
     requires { IsClear writer.old }
     ensures same_device { SameDevice writer.old writer.new }
-    ensures usage { IsUsage result ↔ (length words.now ≡ 0) }
-    ensures done { IsDone result → (output : List ℕ) × IsOutput (length words.now) output
+    ensures usage { IsUsage result ↔ (asked_by words.now ≡ None) }
+    ensures done { IsDone result → (output : List ℕ) × IsOutput R.File.remaining words.now output
         × WritesAll W.contents writer.old writer.new output }
     ensures silent { OnSilent result (device_now writer.new ≡ device_now writer.old) }
     ensures failures { failure_count writer.new ≡ failures_of result }
     ensures stalls { stall_count writer.new ≡ stalls_of result }
-    ensures file { IfNotLoaded result (λ at. at < length words.now) }
+    ensures file { IfNotLoaded result (NamesFile words.now) }
     ensures only { IfRefused result IsWriteRefusal }
 {
-    if words.is_empty() {
+    let Some((options, paths)) = parse(words) else {
         return Outcome::Usage;
-    }
-    let layers = match load_files(rt, alloc, words) {
-        Ok(layers) => layers,
-        Err((at, refusal)) => return Outcome::NotLoaded(at, refusal),
     };
-    match write_merged(&layers, WriteOption::default(), writer) {
+    let layers = match load_files(rt, alloc, paths, options.reading) {
+        Ok(layers) => layers,
+        Err((at, refusal)) => {
+            return Outcome::NotLoaded(words.len() - paths.len() + at, refusal);
+        }
+    };
+    match write_merged(&layers, options.write_option(), writer) {
         Ok(()) => Outcome::Done,
         Err(refusal) => Outcome::Refused(refusal),
     }
@@ -144,11 +165,12 @@ pub fn run<R: Files, W: Write>(
 /// the file that was not loaded and the refusal. A fault of the writer is dropped.
 pub fn tell<W: Write>(words: &[String], outcome: &Outcome, err: &mut W)
     ensures quiet { IsDone outcome.now → err.new ≡ err.old }
+    ensures usage { IsUsage outcome.now → AppendsFront (W.contents err.old) (W.contents err.new) usage_line }
 {
     match outcome {
         Outcome::Done => {}
         Outcome::Usage => {
-            let _ = writeln!(err, "usage: ini_merge FILE..");
+            let _ = write_raw(USAGE, &mut Watched::new(err));
         }
         Outcome::NotLoaded(at, refusal) => {
             let path = words.get(*at).map_or("", |word| word.as_str());
@@ -160,30 +182,25 @@ pub fn tell<W: Write>(words: &[String], outcome: &Outcome, err: &mut W)
     }
 }
 
-/// Gathers the words after the program's name.
-fn gather_words(rt: &HostRuntime, words: &mut Vec<String>) -> Result<(), Error> {
-    for word in env::args(rt)?.skip(1) {
-        words.push(word)?;
-    }
-    Ok(())
-}
-
-/// Runs over the process's own words and output.
-fn run_here(rt: &HostRuntime, words: &mut Vec<String>) -> Result<Outcome, Error> {
-    gather_words(rt, words)?;
+/// Runs over files and the process's own output. A fault of the output has its name.
+fn run_here(rt: &HostRuntime, words: &[String]) -> Outcome {
     let mut output = rt.stdout();
-    Ok(run(
-        rt,
-        rt.alloc(),
-        words.as_slice(),
-        &mut Watched::new(&mut output),
-    ))
+    match run(rt, rt.alloc(), words, &mut Watched::new(&mut output)) {
+        Outcome::Refused(Error::Io(fault)) => {
+            let fault = named(rt.alloc(), "standard output", fault);
+            Outcome::Refused(Error::Io(fault))
+        }
+        outcome => outcome,
+    }
 }
 
 fn main(rt: HostRuntime) -> ExitCode {
     let mut words = Vec::new(rt.alloc());
-    let outcome = match run_here(&rt, &mut words) {
-        Ok(outcome) => outcome,
+    let outcome = match words_of(&rt, rt.alloc()) {
+        Ok(given) => {
+            words = given;
+            run_here(&rt, words.as_slice())
+        }
         Err(refusal) => Outcome::Refused(refusal),
     };
     tell(words.as_slice(), &outcome, &mut rt.stderr());

@@ -103,10 +103,58 @@ fn a_file_that_is_not_there_is_a_fault(rt: HostRuntime) {
 }
 
 #[test]
-fn no_words_are_a_usage_error(rt: HostRuntime) {
-    let ran = run_over(&rt, &[]);
-    assert!(rt; ran.is_refused(2));
-    assert!(rt; ran.told.as_slice() == b"usage: ini_merge FILE..\n".as_slice());
+fn words_without_a_file_are_a_usage_error(rt: HostRuntime) {
+    let rows: [&[&'static str]; 6] = [
+        &[],
+        &["--crlf"],
+        &["--"],
+        &["--crlf", "--"],
+        &["--frob", "one.ini"],
+        &["--policy", "none", "one.ini"],
+    ];
+    for names in rows {
+        let ran = run_over(&rt, names);
+        assert!(rt; ran.is_refused(2), "{names:?}");
+        assert!(rt;
+            ran.told.starts_with(b"usage: ini_merge [--noescape] "),
+            "{names:?}"
+        );
+        assert!(rt;
+            ran.told.ends_with(b" [--policy NAME] [--] FILE..\n"),
+            "{names:?}"
+        );
+    }
+}
+
+#[test]
+fn options_say_how_files_are_read_and_written(rt: HostRuntime) {
+    make_file(&rt, "--odd.ini", "k=\"a=b\"\n[[*]]\npath=C:\\temp\n");
+    let words: [&[&'static str]; 2] = [
+        &[
+            "--brackets",
+            "--noquote",
+            "--noescape",
+            "--policy",
+            "Reserved",
+            "--",
+            "--odd.ini",
+        ],
+        &[
+            "--crlf",
+            "--policy",
+            "Nothing",
+            "--noescape",
+            "--brackets",
+            "--",
+            "--odd.ini",
+        ],
+    ];
+    expect_merged(&rt, words[0], "k=\"a\\=b\"\n\n[[*]]\npath=C\\:\\\\temp\n");
+    expect_merged(&rt, words[1], "k=a=b\r\n\r\n[[*]]\r\npath=C:\\temp\r\n");
+    let ran = run_over(&rt, &["--crlf", "--", "--none.ini"]);
+    assert!(rt; ran.is_refused(4));
+    assert!(rt; ran.told.starts_with(b"ini_merge: --none.ini: "));
+    remove_file(&rt, "--odd.ini");
 }
 
 // Whether a run over the words stalls once where there is room for three bytes, which it fills with these.

@@ -1,5 +1,5 @@
 -- What a request asks to be written of a document.
-use Rattle.std.specs.Prelude.{◌≡◌, [], ◌∷◌, ◌++◌, flat_map, codes, Option, None, Some}
+use Rattle.std.specs.Prelude.{[], ◌∷◌, ◌++◌, flat_map, Option, None, Some}
 use Rattle.std.specs.Option.{option_map}
 use Rattle.ini_text.specs.Grammar.CharacterKinds.{close_bracket, line_feed, open_bracket, tab}
 use Rattle.ini_text.specs.Escaping.EscapedTexts.{escaped}
@@ -10,7 +10,6 @@ use Rattle.ini.specs.Documents.{Document, value_in}
 use Rattle.ini.specs.Edits.{delete_in, set_in}
 use Rattle.ini.specs.Written.{written}
 use Rattle.ini_tool.specs.Requests.{Request, Fmt, Listing, Get, Set, Del}
-use Rattle.ini_tool.specs.declared.words.Options.{Options}
 
 -- the name in brackets; the general section has none
 abbrev pub listed_name : Option Text → Text
@@ -37,9 +36,3 @@ output w Listing d = Some (listed d)
 output w (Get key section) d = value_line section key d
 output w (Set key value section) d = Some (written (set_in section key value d) w)
 output w (Del key section) d = option_map (λ _. written (delete_in section key d) w) (value_in section key d)
-
--- how the options have documents written: `=` alone stands between a key and its value
-pub record IsWriteOption (o : Options) (w : WriteOption) : Type 0 where
-  pub escape_policy : w.escape_policy ≡ o.escape_policy
-  pub line_separator : w.line_separator ≡ o.line_separator
-  pub kv_separator : w.kv_separator.now ≡ codes "="

@@ -2,7 +2,7 @@
 use Rattle.std.specs.Prelude.{Option}
 use Rattle.std.specs.Option.{option_map}
 use Rattle.ini.specs.Texts.{Text, str_name, str_text}
-use Rattle.ini_tool.specs.declared.words.Options.{Options}
+use Rattle.ini_options.specs.declared.options.Options.{Options}
 use Rattle.ini_tool.specs.declared.words.Command.{Command}
 use Rattle.ini_tool.specs.declared.words.Command.TheVariants as command
 

@@ -11,10 +11,11 @@ use Rattle.ini_text.specs.declared.write.option.WriteOption.{WriteOption}
 use Rattle.ini.specs.Documents.{Document}
 use Rattle.ini.specs.Loading.{IsDocumentOf, IsStopOf, IsTextWith, text_bytes}
 use Rattle.ini.specs.Texts.{Text}
-use Rattle.ini_tool.specs.Outputs.{IsWriteOption, output}
+use Rattle.ini_options.specs.Words.{IsWriteOption, default_options}
+use Rattle.ini_options.specs.declared.options.Options.{Options}
+use Rattle.ini_tool.specs.Outputs.{output}
 use Rattle.ini_tool.specs.Requests.{Request}
-use Rattle.ini_tool.specs.Words.{asked, default_options}
-use Rattle.ini_tool.specs.declared.words.Options.{Options}
+use Rattle.ini_tool.specs.Words.{asked}
 use Rattle.ini_tool.specs.declared.run.Outcome.{Outcome}
 use Rattle.ini_tool.specs.declared.run.Outcome.TheVariants.{Done, NotFound, Usage, Refused}
 

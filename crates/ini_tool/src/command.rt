@@ -8,25 +8,14 @@ ghost use Rattle.ini_text.specs.declared.write.policy.EscapePolicy.TheVariants.{
 ghost use Rattle.ini.specs.Texts.{str_name};
 ghost use Rattle.ini.specs.Inside.SentTexts.{SendsText};
 ghost use Rattle.ini_tool.specs.Requests.{Del, Fmt, Set, request_of};
-ghost use Rattle.ini_tool.specs.Outputs.{IsWriteOption, listed, listed_pair, output, value_line};
+ghost use Rattle.ini_tool.specs.Outputs.{listed, listed_pair, output, value_line};
 ghost use Rattle.ini_tool.specs.Prints.{Prints, part_text};
 
-use crate::words::{Command, Options};
+use crate::words::Command;
 use ini::{Error, EscapePolicy, Gatherer, Ini, Properties, Watched, WriteOption};
 use std::alloc::Global;
 use std::io::Write;
 use std::mem;
-
-/// How the options have documents written.
-pub fn write_option(options: Options) -> WriteOption
-    ensures { IsWriteOption options result }
-{
-    WriteOption {
-        escape_policy: options.escape_policy,
-        line_separator: options.line_separator,
-        ..WriteOption::default()
-    }
-}
 
 /// Writes what the command asks of the document, and answers whether the pair that it asks for was there.
 pub fn answer<W: Write>(

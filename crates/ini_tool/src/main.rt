@@ -9,30 +9,27 @@ mod run;
 mod words;
 
 use ini::{Error, Watched};
+use ini_options::{named, words_of};
 use run::{Outcome, run, status, tell};
-use std::env;
 use std::process::ExitCode;
 
-/// The words after the program's name.
-fn words_of(rt: &HostRuntime) -> Result<Vec<String>, Error> {
-    let mut words = Vec::new(rt.alloc());
-    for word in env::args(rt)?.skip(1) {
-        words.push(word)?;
-    }
-    Ok(words)
-}
-
-/// Runs over the process's own words and streams.
+/// Runs over the process's own words and streams. A fault of a stream has its name.
 fn run_here(rt: &HostRuntime) -> Result<Outcome, Error> {
-    let words = words_of(rt)?;
+    let words = words_of(rt, rt.alloc())?;
     let mut input = rt.stdin();
     let mut output = rt.stdout();
-    Ok(run(
-        rt.alloc(),
-        words.as_slice(),
-        &mut Watched::new(&mut input),
-        &mut Watched::new(&mut output),
-    ))
+    let mut reader = Watched::new(&mut input);
+    let mut writer = Watched::new(&mut output);
+    let outcome = run(rt.alloc(), words.as_slice(), &mut reader, &mut writer);
+    let stream = if reader.failures() > 0 {
+        "standard input"
+    } else {
+        "standard output"
+    };
+    match outcome {
+        Outcome::Refused(Error::Io(fault)) => Err(Error::Io(named(rt.alloc(), stream, fault))),
+        outcome => Ok(outcome),
+    }
 }
 
 fn main(rt: HostRuntime) -> ExitCode {

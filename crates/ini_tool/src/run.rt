@@ -7,7 +7,7 @@ ghost use Rattle.ini_tool.specs.Runs.{IsDone, IsNotFound, IsUsage, OnNotUtf8, On
 ghost use Rattle.ini_tool.specs.Runs.{IsOutput, IsStop, IsText, WritesOutput, WritesOutputFront};
 ghost use Rattle.ini_tool.specs.Runs.{asked_by, failures_of, stalls_of, status_of, usage_line};
 
-use crate::command::{answer, write_option};
+use crate::command::answer;
 use crate::words::{USAGE, parse};
 use ini::{Error, Ini, Watched, write_raw};
 use std::alloc::Global;
@@ -88,7 +88,7 @@ pub fn run<R: Read, W: Write>(
         Ok(document) => document,
         Err(refusal) => return Outcome::Refused(refusal),
     };
-    match answer(command, alloc, document, write_option(options), writer) {
+    match answer(command, alloc, document, options.write_option(), writer) {
         Ok(true) => Outcome::Done,
         Ok(false) => Outcome::NotFound,
         Err(refusal) => Outcome::Refused(refusal),

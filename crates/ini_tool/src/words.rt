@@ -1,27 +1,18 @@
 //! The words of the program: options, a command and its arguments. This file knows no document and no
 //! device.
-ghost use Rattle.std.specs.Prelude.{◌≡◌, IsTrue, map, None, Some, string_bytes};
+ghost use Rattle.std.specs.Prelude.{◌≡◌, map, string_bytes};
 ghost use Rattle.std.specs.Option.{option_map};
+ghost use Rattle.ini_options.specs.Words.{default_options};
 ghost use Rattle.ini_tool.specs.Requests.{given_by, request_of};
-ghost use Rattle.ini_tool.specs.Words.{asked, default_options, policy_named, requested, switched};
+ghost use Rattle.ini_tool.specs.Words.{asked, requested};
 
-use ini::{EscapePolicy, LineSeparator, ParseOption};
+use ini_options::{Options, usage_line};
 
 /// The line that tells what the program takes, with its line end.
-pub const USAGE: &str =
-    "usage: ini_tool [--noescape] [--noquote] [--multiline] [--indent] [--brackets] [--crlf] \
-    [--policy NAME] fmt|list|get KEY [SECTION]|set KEY VALUE [SECTION]|del KEY [SECTION]\n";
-
-/// What the words before the command set.
-#[derive(Clone, Copy)]
-pub struct Options {
-    /// How the input is read.
-    pub reading: ParseOption,
-    /// Which characters are written as escapes.
-    pub escape_policy: EscapePolicy,
-    /// What ends a written line.
-    pub line_separator: LineSeparator,
-}
+pub const USAGE: &str = usage_line!(
+    "ini_tool",
+    "fmt|list|get KEY [SECTION]|set KEY VALUE [SECTION]|del KEY [SECTION]",
+);
 
 /// What is asked of the document. Where no section is named it is the general one.
 #[derive(Clone, Copy)]
@@ -46,55 +37,6 @@ pub enum Command<'a> {
         key: &'a str,
         section: Option<&'a str>,
     },
-}
-
-/// The options where no word sets one: the defaults of reading and writing.
-impl Default for Options {
-    ghost is_default = { λ o. o ≡ default_options };
-
-    fn default() -> Options {
-        Options {
-            reading: ParseOption::default(),
-            escape_policy: EscapePolicy::Basics,
-            line_separator: LineSeparator::SystemDefault,
-        }
-    }
-}
-
-impl Options {
-    // The options after a word that is one by itself.
-    fn switched(self, word: &str) -> Option<Options>
-        ensures { result ≡ switched word.now self }
-    {
-        let mut options = self;
-        match word {
-            "--noescape" => options.reading.enabled_escape = false,
-            "--noquote" => options.reading.enabled_quote = false,
-            "--multiline" => options.reading.enabled_indented_mutiline_value = true,
-            "--indent" => options.reading.enabled_preserve_key_leading_whitespace = true,
-            "--brackets" => options.reading.enabled_brackets_in_section_names = true,
-            "--crlf" => options.line_separator = LineSeparator::CRLF,
-            _ => return None,
-        }
-        Some(options)
-    }
-}
-
-// The policy of a name, which is spelled as its variant.
-fn policy_named(name: &str) -> Option<EscapePolicy>
-    ensures { result ≡ policy_named name.now }
-{
-    match name {
-        "Nothing" => Some(EscapePolicy::Nothing),
-        "Basics" => Some(EscapePolicy::Basics),
-        "BasicsUnicode" => Some(EscapePolicy::BasicsUnicode),
-        "BasicsUnicodeExtended" => Some(EscapePolicy::BasicsUnicodeExtended),
-        "Reserved" => Some(EscapePolicy::Reserved),
-        "ReservedUnicode" => Some(EscapePolicy::ReservedUnicode),
-        "ReservedUnicodeExtended" => Some(EscapePolicy::ReservedUnicodeExtended),
-        "Everything" => Some(EscapePolicy::Everything),
-        _ => None,
-    }
 }
 
 // The command of a word and its arguments.
@@ -146,20 +88,7 @@ fn command_of<'a>(word: &'a str, arguments: &'a [String]) -> Option<Command<'a>>
 pub fn parse(words: &[String]) -> Option<(Options, Command<'_>)>
     ensures { given_by result ≡ asked default_options (map string_bytes words.now) }
 {
-    let mut options = Options::default();
-    let mut rest = words;
-    'words: while let Some((word, after)) = rest.split_first() {
-        let word = word.as_str();
-        if word == "--policy" {
-            let (name, after) = after.split_first()?;
-            options.escape_policy = policy_named(name.as_str())?;
-            rest = after;
-        } else if let Some(changed) = options.switched(word) {
-            options = changed;
-            rest = after;
-        } else {
-            return Some((options, command_of(word, after)?));
-        }
-    }
-    None
+    let (options, behind) = Options::of_words(words)?;
+    let (command, arguments) = behind.split_first()?;
+    Some((options, command_of(command.as_str(), arguments)?))
 }

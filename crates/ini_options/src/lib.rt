@@ -1,0 +1,15 @@
+//! What the programs share: the words that they were started with, the options among these, and how a fault
+//! names the stream where it arose. This crate knows no document and no command.
+#![tactic(auto)]
+
+mod fault;
+mod options;
+mod usage;
+mod words;
+
+pub use fault::named;
+pub use options::Options;
+pub use words::words_of;
+
+#[cfg(test)]
+mod tests;

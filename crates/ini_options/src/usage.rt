@@ -1,0 +1,16 @@
+//! The line that tells what a program takes. This file knows the options by their names alone.
+
+/// The usage line of a program that takes the options: its name, then they, then what its words are behind
+/// them, and the line end.
+#[macro_export]
+macro_rules! usage_line {
+    ($program:literal, $behind:literal $(,)?) => {
+        concat!(
+            "usage: ",
+            $program,
+            " [--noescape] [--noquote] [--multiline] [--indent] [--brackets] [--crlf] [--policy NAME] ",
+            $behind,
+            "\n",
+        )
+    };
+}

@@ -1,0 +1,197 @@
+#!/bin/sh
+# Runs the built programs over streams that fail, and looks at each call of their output: none follows one that went wrong,
+# none is made where a run is refused before it writes, and what is told names the stream. Where strace is there it makes the
+# faults and shows the calls; where it isn't, the cases that need it are skipped, and their number is told before the last
+# line. Each case that fails is told. The last line is 'N passed, M failed', and the status is 1 if a case failed.
+#
+#     tests/streams.sh [INI_TOOL [INI_MERGE]]
+#
+# The programs are by default those that ini_tool.sh and ini_merge.sh build.
+set -u
+LC_ALL=C
+export LC_ALL
+top=$(cd "$(dirname "$0")/.." && pwd)
+room=$(mktemp -d)
+trap 'rm -rf "$room"' EXIT
+tool=${1:-}
+merge=${2:-}
+if [ -z "$tool" ]; then
+    "$top/ini_tool.sh" fmt </dev/null || exit 1
+    tool=$top/crates/ini_tool/out/ini_tool
+fi
+if [ -z "$merge" ]; then
+    "$top/ini_merge.sh" /dev/null || exit 1
+    merge=$top/crates/ini_merge/out/ini_merge
+fi
+tool=$(readlink -f "$tool")
+merge=$(readlink -f "$merge")
+passed=0
+failed=0
+skipped=0
+
+# says what a case wants and what it has, where these differ
+count() {
+    if cmp -s "$room/want" "$room/have"; then
+        passed=$((passed + 1))
+    else
+        failed=$((failed + 1))
+        echo "FAILED: $1"
+        diff "$room/want" "$room/have" | head -n 20
+    fi
+}
+
+# The files: a pair, 20,000 pairs, a text that is refused, a folder. A pair that is written like this stays as it is.
+printf 'k=v\n' >"$room/pair"
+awk 'BEGIN { for (i = 0; i < 20000; i++) printf "key %d=its value %d\n", i, i }' >"$room/pairs"
+printf 'k=v\n=w\n' >"$room/refused"
+mkdir "$room/folder"
+: >"$room/nothing"
+
+# told NAME STATUS WANTED ERROR: the last run's status, what it told, and that it wrote the bytes of $room/wrote
+told() {
+    { echo "status $3, $4"; cksum <"$room/wrote"; } >"$room/want"
+    { echo "status $2, $(cat "$room/err")"; cksum <"$room/out"; } >"$room/have"
+    count "$1"
+}
+
+# Faults of the streams themselves.
+closed='Bad file descriptor (os error 9)'
+full='No space left on device (os error 28)'
+folder='Is a directory (os error 21)'
+cd "$room" || exit 1
+cp nothing wrote
+cp nothing out
+"$tool" fmt <pair >&- 2>err
+told 'ini_tool, output closed' $? 4 "ini_tool: standard output: $closed"
+"$merge" pair pair >&- 2>err
+told 'ini_merge, output closed' $? 4 "ini_merge: standard output: $closed"
+"$tool" fmt <&- >out 2>err
+told 'ini_tool, input closed' $? 4 "ini_tool: standard input: $closed"
+"$tool" fmt <folder >out 2>err
+told 'ini_tool, a folder as input' $? 4 "ini_tool: standard input: $folder"
+"$tool" fmt <folder >&- 2>err
+told 'ini_tool, a folder as input, output closed' $? 4 "ini_tool: standard input: $folder"
+"$merge" pair folder >out 2>err
+told 'ini_merge, a folder as file' $? 4 "ini_merge: folder: $folder"
+"$merge" --crlf pair folder >out 2>err
+told 'ini_merge, a folder as file behind an option' $? 4 "ini_merge: folder: $folder"
+"$merge" pair none >out 2>err
+told 'ini_merge, a file that is not there' $? 4 'ini_merge: none: No such file or directory (os error 2)'
+"$tool" get "$(printf '\303')" <pair >out 2>err
+told 'ini_tool, a word that is no text' $? 4 'ini_tool: word 2 is not UTF-8'
+"$merge" pair pair "$(printf '\377')" >out 2>err
+told 'ini_merge, a word that is no text' $? 4 'ini_merge: word 3 is not UTF-8'
+if [ -c /dev/full ]; then
+    for name in pair pairs; do
+        "$tool" fmt <"$name" >/dev/full 2>err
+        told "ini_tool, $name, a full device" $? 4 "ini_tool: standard output: $full"
+        "$merge" pair "$name" >/dev/full 2>err
+        told "ini_merge, $name, a full device" $? 4 "ini_merge: standard output: $full"
+    done
+    "$merge" pair refused >/dev/full 2>err
+    told 'ini_merge, a refused text, a full device' $? 3 'ini_merge: refused: 2:2 missing key'
+fi
+
+# whether a program can be traced, and a fault be made
+can_trace() {
+    command -v strace >/dev/null || return 1
+    strace -o trace -e trace=write -e inject=write:error=EINTR:when=1 "$tool" fmt <pair >out 2>err
+    grep -q INJECTED trace
+}
+if can_trace; then traced=yes; else traced=no; fi
+
+# traced NAME STATUS CALLS ERROR FAULT INPUT OUTPUT PROGRAM WORD ..: a run with this fault made, or with none where FAULT is
+# `none`; its status, how often it called its output, what it told, and that it wrote the bytes of $room/wrote
+traced() {
+    if [ "$traced" = no ]; then
+        skipped=$((skipped + 1))
+        return
+    fi
+    { echo "status $2, calls $3, $4"; cksum <wrote; } >want
+    name=$1 fault=$5 input=$6 output=$7
+    shift 7
+    if [ "$fault" = none ]; then set -- "$@"; else set -- -e "inject=$fault" "$@"; fi
+    cp nothing out
+    strace -o trace -e trace=write,writev,pwrite64,pwritev,sendto,sendfile,fsync,fdatasync "$@" <"$input" >"$output" 2>err
+    { echo "status $?, calls $(grep -c '^[a-z0-9]*(1[,)]' trace), $(cat err)"; cksum <out; } >have
+    count "$name"
+}
+
+# One call of the output, and none behind the one that went wrong.
+cp nothing wrote
+for words in fmt list 'get k' 'set k w'; do
+    for fault in 'write:error=EINTR:when=1|ini_tool: standard output: Interrupted system call (os error 4)' \
+        'write:error=EIO:when=1|ini_tool: standard output: Input/output error (os error 5)' \
+        'write:retval=0:when=1|ini_tool: a write took no bytes'; do
+        # shellcheck disable=SC2086
+        traced "$words, ${fault%%|*}" 4 1 "${fault#*|}" "${fault%%|*}" pair out "$tool" $words
+    done
+    # shellcheck disable=SC2086
+    [ -c /dev/full ] && traced "$words, a full device" 4 1 "ini_tool: standard output: $full" none pair /dev/full "$tool" $words
+done
+for fault in 'write:error=EINTR:when=1|ini_merge: standard output: Interrupted system call (os error 4)' \
+    'write:error=EIO:when=1|ini_merge: standard output: Input/output error (os error 5)' \
+    'write:retval=0:when=1|ini_merge: a write took no bytes'; do
+    traced "ini_merge, ${fault%%|*}" 4 1 "${fault#*|}" "${fault%%|*}" nothing out "$merge" pair pair
+done
+[ -c /dev/full ] && traced 'ini_merge, a full device' 4 1 "ini_merge: standard output: $full" none nothing /dev/full "$merge" pair
+
+# No call where nothing is to be written, or where a run is refused before it writes.
+traced 'fmt, a refused text' 3 0 'ini_tool: 2:2 missing key' none refused out "$tool" fmt
+traced 'fmt, a folder as input' 4 0 "ini_tool: standard input: $folder" none folder out "$tool" fmt
+traced 'get, not found' 1 0 '' none pair out "$tool" get z
+traced 'fmt, no text' 0 0 '' none nothing out "$tool" fmt
+traced 'ini_merge, a refused text' 3 0 'ini_merge: refused: 2:2 missing key' none nothing out "$merge" pair refused
+traced 'ini_merge, a file that is not there' 4 0 'ini_merge: none: No such file or directory (os error 2)' none nothing out \
+    "$merge" pair none
+
+# A fault at the third call of a long text: what the first two took went out, and no call follows. The lines are short, so each
+# call that takes what is gathered takes more than half of 16,384 bytes.
+half() {
+    awk -F '= ' '/^write\(1,/ && !/INJECTED/ { size[++n] = $NF + 0 } END {
+        for (i = 1; i < n; i++) if (size[i] <= 8192) small++
+        print "small calls before the last: " small + 0 }' trace
+}
+long() {
+    if [ "$traced" = no ]; then
+        skipped=$((skipped + 1))
+        return
+    fi
+    program=$1 input=$2
+    shift 2
+    cp nothing out
+    strace -o trace -e trace=write -e inject=write:error=EIO:when=3 "$@" <"$input" >out 2>err
+    echo "status $?, calls $(grep -c '^write(1,' trace), $(cat err)" >have
+    size=$(wc -c <out)
+    head -c "$size" pairs | cmp - out >>have 2>&1
+    [ "$size" -gt 16384 ] && [ "$size" -le 32768 ] && echo 'two calls went out' >>have
+    half >>have
+    {
+        echo "status 4, calls 3, $program: standard output: Input/output error (os error 5)"
+        echo 'two calls went out'
+        echo 'small calls before the last: 0'
+    } >want
+    count "$program, a fault at the third call"
+}
+long ini_tool pairs "$tool" fmt
+long ini_merge nothing "$merge" pairs
+
+# A reader that is interrupted isn't asked again.
+reads() {
+    if [ "$traced" = no ]; then
+        skipped=$((skipped + 1))
+        return
+    fi
+    cp nothing out
+    strace -o trace -P "$room/pair" -e trace=read -e inject=read:error=EINTR:when=1 "$tool" fmt <pair >out 2>err
+    { echo "status $?, calls $(grep -c '^read(0,' trace), $(cat err)"; cksum <out; } >have
+    { echo 'status 4, calls 1, ini_tool: standard input: Interrupted system call (os error 4)'; cksum <nothing; } >want
+    count 'ini_tool, a read that is interrupted'
+}
+reads
+
+if [ "$skipped" -gt 0 ]; then
+    echo "$skipped skipped: strace isn't here, or may trace no program"
+fi
+echo "$passed passed, $failed failed"
+[ "$failed" -eq 0 ]
