@@ -29,8 +29,9 @@ ln -s "$program" "$room/bin/ini_tool"
 ln -s "$merge" "$room/bin/ini_merge"
 passed=0
 failed=0
-usage='usage: ini_tool [--noescape] [--noquote] [--multiline] [--indent] [--brackets] [--crlf] [--policy NAME]'
-usage="$usage fmt|list|get KEY [SECTION]|set KEY VALUE [SECTION]|del KEY [SECTION]"
+options='[--noescape] [--noquote] [--multiline] [--indent] [--brackets] [--crlf] [--policy NAME]'
+usage="usage: ini_tool $options fmt|list|get KEY [SECTION]|set KEY VALUE [SECTION]|del KEY [SECTION]"
+merge_usage="usage: ini_merge $options [--] FILE.."
 
 # says what a case wants and what it has, where these differ
 count() {
@@ -288,9 +289,9 @@ del k|k=\0303|3||ini_tool: the input is not UTF-8
 ROWS
 
 # How a fault of a stream is told.
-in_fault='ini_tool: '
-out_fault='ini_tool: '
-merge_fault='ini_merge: '
+in_fault='ini_tool: standard input: '
+out_fault='ini_tool: standard output: '
+merge_fault='ini_merge: standard output: '
 closed='Bad file descriptor (os error 9)'
 full='No space left on device (os error 28)'
 broken='Broken pipe (os error 32)'
@@ -320,7 +321,9 @@ told 'not found, output closed' $? 1 ''
 "$program" frob <"$room/pair" >"$room/out" 2>&-
 wrote 'usage, standard error closed' $? 2 "$room/nothing"
 "$program" get "$(printf '\303')" <"$room/pair" >"$room/out" 2>"$room/err"
-told 'a word that is no text' $? 4 'ini_tool: invalid data'
+told 'a word that is no text' $? 4 'ini_tool: word 2 is not UTF-8'
+"$program" set k v "$(printf 'a\377')" <"$room/folder" >"$room/out" 2>"$room/err"
+told 'a word that is no text, the last; nothing is read' $? 4 'ini_tool: word 4 is not UTF-8'
 if [ -c /dev/full ]; then
     for words in fmt list 'get k' 'set k w'; do
         # shellcheck disable=SC2086
@@ -342,10 +345,7 @@ for words in '' frob 'fmt x' get 'get k s x' 'set k' del --crlf '--policy none f
     told "'$words', an input that stays empty" $? 2 "$usage"
 done
 timeout 20 "$merge" <"$room/pipe" >"$room/out" 2>"$room/err" 3<&-
-status=$?
-cut -d ' ' -f 1,2 "$room/err" >"$room/told"
-mv "$room/told" "$room/err"
-told 'ini_merge without words, an input that stays empty' "$status" 2 'usage: ini_merge'
+told 'ini_merge without words, an input that stays empty' $? 2 "$merge_usage"
 exec 3>&-
 
 # A line of 20 MB.

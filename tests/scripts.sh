@@ -342,8 +342,8 @@ chmod -R a+rX "$room"
 chmod -R a-w "$top"
 chmod a+w "$room/tmp" "$calls"
 # shellcheck disable=SC2086
-if [ -n "$as" ] && ! $as true 2>/dev/null; then
-    echo 'skipped: a checkout that can not be written to (no setpriv, and root may write everywhere)'
+if [ -n "$as" ] && ! $as test -r "$top/ini_tool.sh" 2>/dev/null; then
+    echo 'skipped: a checkout that can not be written to (root may write everywhere, and no other user can run it here)'
 else
     # in turn one folder more may be written to, at last all that are needed
     for crate in '' ini_tool second first; do

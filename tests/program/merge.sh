@@ -51,6 +51,58 @@ for name in a.ini ' a.ini' 'a.ini ' ' a.ini ' a b 'a b' "it's" '"a.ini"' '*.ini'
     merges "a file named '$name'" 0 "$room/merged" "$name"
     merges "a file named '$name', the last of three" 0 "$room/merged" a 'a b' "$name"
 done
+# Options, over the file `in`: the words, what the file holds, and what is written. Words and escapes are as in the rows above.
+while IFS='|' read -r words input output; do
+    printf '%b' "$input" >"$here/in"
+    printf '%b' "$output" >"$room/merged"
+    eval "set -- $words"
+    merges "$words" 0 "$room/merged" "$@"
+done <<'ROWS'
+in|k = a\\tb\n|k=a\\tb\n
+--noescape in|k=C:\\temp|k=C:\\\\temp\n
+--noescape --policy Nothing in|k=C:\\temp|k=C:\\temp\n
+--noquote in|k="a"|k="a"\n
+--multiline in|k=v\n  w|k=v\\nw\n
+--indent in|  k=v|  k=v\n
+--brackets in|[[*]]\nk=v|[[*]]\nk=v\n
+--crlf in|k=1\n[a]\nx=y|k=1\r\n\r\n[a]\r\nx=y\r\n
+--policy Reserved in|k=a:b|k=a\\:b\n
+--policy Everything in|k=\0303\0251|k=\\x00e9\n
+--policy Everything --policy Nothing in|k=\0303\0251|k=\0303\0251\n
+--crlf --crlf --noquote --policy Reserved --indent in|  k="a:b"|  k="a\\:b"\r\n
+-- in|k=1|k=1\n
+--crlf -- in|k=1|k=1\r\n
+--crlf in in|k=1\nk=2|k=1\r\n
+in|k=1\nk=2\n[p]\nj=1\n[p]\nj=2\n[e]|k=1\n\n[p]\nj=1\n
+ROWS
+echo 'k=1' >"$here/in"
+echo 'k=3' >"$here/--crlf"
+echo 'k=3' >"$room/merged"
+merges 'a file named as an option, behind --' 0 "$room/merged" -- --crlf
+merges 'a file named as an option, behind another' 0 "$room/merged" in --crlf
+while read -r words; do
+    eval "set -- $words"
+    (cd "$here" && "$merge" "$@" </dev/null >"$room/out" 2>"$room/err")
+    told "ini_merge, usage: $words" $? 2 "$merge_usage"
+    : >"$room/err"
+    wrote "ini_merge, usage, nothing is written: $words" 0 0 "$room/nothing"
+done <<'ROWS'
+
+--
+--crlf
+--crlf --
+--policy
+--policy in
+--policy Basics
+--policy basics in
+--policy '' in
+--CRLF in
+--frob in
+'--crlf ' in
+'--policy Basics' in
+ROWS
+(cd "$here" && "$merge" in "$(printf 'a\377')" >"$room/out" 2>"$room/err")
+told 'ini_merge, a name that is no text' $? 4 'ini_merge: word 2 is not UTF-8'
 for n in 12 20 300 2000; do
     # each file has a key of its own, and one that all have
     set --

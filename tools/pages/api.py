@@ -161,6 +161,8 @@ def calls(crate):
                     given.setdefault(inside, []).append((signature(lines, at, where), sentence(lines, at, where)))
                 elif method[1] and inside is None:
                     raise Unknown(f"{where}: a public function that stands in no type: {line.strip()}")
+            elif line.startswith("    pub ") and inside and not re.match(r"    pub (const \w+:|ghost )", line):
+                raise Unknown(f"{where}: {line.strip()}")
             elif method and method[1] and line.startswith("     "):
                 raise Unknown(f"{where}: a public function deeper than in a type: {line.strip()}")
     lost = [it for it in own if it not in seen]
