@@ -3,6 +3,7 @@ use ini_multimap::MapKey;
 
 mod both;
 mod calls;
+mod counting;
 mod list;
 mod look_ups;
 mod odd_keys;
