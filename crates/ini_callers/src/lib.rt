@@ -3,10 +3,12 @@
 
 mod edited;
 mod entries;
+mod general;
 mod loaded;
 mod refusals;
 #[cfg(test)]
 mod tests;
+mod texts;
 mod walks;
 
 pub use edited::{
@@ -14,6 +16,8 @@ pub use edited::{
     set_two,
 };
 pub use entries::{appended, is_occupied, look, opened};
+pub use general::general_keys_after;
 pub use loaded::{general_keys, general_keys_of};
 pub use refusals::{characters_before, lines_before, open, save, write_nothing};
+pub use texts::{default_text, plain_text};
 pub use walks::{keep, move_pairs, rename, upstreams};

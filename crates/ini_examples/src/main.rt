@@ -4,7 +4,10 @@
 
 mod faults;
 mod fleet;
+mod migration;
+mod report;
 mod save;
+mod service;
 mod settings;
 
 use ini::Error;
@@ -28,6 +31,22 @@ fn main(rt: HostRuntime) -> Result<(), Error> {
     let saved = save::set_port(&rt, alloc, "9090")?;
     let port = save::port_in_file(&rt, alloc)?;
     println!(rt; "saved {saved}, port {port}")?;
+
+    let text = "name = depot\nport = 0\n[upstream]\nserver = a\nserver = b\n";
+    let service = service::load(alloc, text)?;
+    let servers = service.servers.len();
+    println!(rt; "{}:{}, {servers} servers", service.name, service.port)?;
+
+    let old = "[database]\nhostname = h\n[cache]\nsize = 1\n";
+    match migration::migrate(alloc, old)? {
+        Some(text) => println!(rt; "{text}")?,
+        None => println!(rt; "it would not load back")?,
+    }
+
+    match report::find_value(alloc, "k = 1\n", "[a]\nk = 2\n", None, "k")? {
+        Some(found) => println!(rt; "{} from layer {}", found.value, found.layer)?,
+        None => println!(rt; "no value")?,
+    }
 
     let told = faults::told(alloc, "[paths]\nlog = /tmp/log\n= /tmp/cache\n")?;
     println!(rt; "{told}")?;

@@ -34,7 +34,5 @@ pub fn moved(alloc: Global, text: &str, log: &str, cache: &str) -> Result<String
 
 /// The document's text in memory.
 pub fn written(alloc: Global, document: &Ini) -> Result<String, Error> {
-    let mut bytes: Vec<u8> = Vec::new(alloc);
-    document.write_to(&mut bytes)?;
-    String::from_utf8(bytes).map_err(|_| Error::NotUtf8)
+    document.to_text(alloc, WriteOption::default())
 }

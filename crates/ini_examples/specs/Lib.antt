@@ -1,0 +1,3 @@
+pub mod Services
+pub mod Migrations
+pub mod Reports
