@@ -1,0 +1,218 @@
+/* Bigrosk: INI documents for C, over a library whose every function is proved.
+ *
+ * A document lives in a struct bigrosk_ini_document of the caller's. It begins as BIGROSK_INI_EMPTY; bigrosk_ini_load puts
+ * a document in, bigrosk_ini_free takes it out. Texts are UTF-8, each a pointer and a number of bytes; the functions at
+ * the end take strings that end in 0. A call that is refused changes no document. The library opens no file: the caller
+ * reads and writes.
+ *
+ * What a caller owes, and nothing checks:
+ *   - a struct bigrosk_ini_document is written by these calls alone; it may be moved, but of two copies only one may be
+ *     used further;
+ *   - one call at a time uses a document, a look-up too; another thread may use it once the call has returned and the two
+ *     are ordered (a lock, a join). Different documents may be used at the same time;
+ *   - every pointer points to as many bytes as are named, also where these are 0 (never NULL), and the memory of an argument
+ *     that is written overlaps no other argument's;
+ *   - a bool is 0 or 1; no call is made from a signal handler, nor in the child of a fork of a program with threads;
+ *   - malloc, realloc and free are one allocator's, and align a block to each power of two up to 16 that divides its size.
+ */
+#ifndef BIGROSK_INI_H
+#define BIGROSK_INI_H
+
+#include <stdbool.h>
+#include <stddef.h>
+#include <stdint.h>
+#include <string.h>
+
+#ifdef __cplusplus
+extern "C" {
+#endif
+
+/* What a call answers. */
+enum bigrosk_ini_status {
+    BIGROSK_INI_OK = 0,
+    BIGROSK_INI_ABSENT = 1,     /* no such pair or section */
+    BIGROSK_INI_NO_ROOM = 2,    /* the buffer is too small: it takes as many bytes as the count says, and 1 more */
+    BIGROSK_INI_BROKEN = 3,     /* the text breaks the grammar: struct bigrosk_ini_fault says where and why */
+    BIGROSK_INI_NOT_UTF8 = 4,   /* a text, a name, a key or a value is no UTF-8 */
+    BIGROSK_INI_NO_MEMORY = 5,
+    BIGROSK_INI_NO_DOCUMENT = 6 /* nothing is loaded */
+};
+
+/* What is wrong where reading a text stops. */
+enum bigrosk_ini_kind {
+    BIGROSK_INI_END_OF_TEXT = 1,       /* within a name, a key, quotes or an escape */
+    BIGROSK_INI_BROKEN_ESCAPE = 2,     /* among the four units of \x stands a backslash, and no LF behind it */
+    BIGROSK_INI_UNKNOWN_CHARACTER = 3, /* the four units of \x spell no character */
+    BIGROSK_INI_INLINE_COMMENT = 4,    /* ; or # where an item may begin, but not in column one */
+    BIGROSK_INI_MISSING_KEY = 5,       /* a separator follows an empty key */
+    BIGROSK_INI_CR_ALONE = 6,          /* in a multiline value, CR without LF in the place of an empty line */
+    BIGROSK_INI_HEADER_END = 7         /* with brackets in names, a header's line does not end in ] */
+};
+
+/* A document, or none. */
+struct bigrosk_ini_document {
+    bool is_open;
+    void *inner;
+};
+#define BIGROSK_INI_EMPTY { false, NULL }
+
+/* How a text is read. */
+struct bigrosk_ini_read_option {
+    bool quotes;           /* a part of a value may stand in quotes */
+    bool escapes;          /* a backslash begins an escape */
+    bool multiline;        /* a value goes on over indented lines */
+    bool keep_indentation; /* blanks before a key belong to it */
+    bool brackets;         /* brackets may stand in names of sections */
+};
+#define BIGROSK_INI_READ_DEFAULT { true, true, false, false, false }
+
+/* Which characters of names, keys and values are escaped. */
+enum bigrosk_ini_policy {
+    BIGROSK_INI_NOTHING = 0,
+    BIGROSK_INI_BASICS = 1,
+    BIGROSK_INI_BASICS_UNICODE = 2,
+    BIGROSK_INI_BASICS_UNICODE_EXTENDED = 3,
+    BIGROSK_INI_RESERVED = 4,
+    BIGROSK_INI_RESERVED_UNICODE = 5,
+    BIGROSK_INI_RESERVED_UNICODE_EXTENDED = 6,
+    BIGROSK_INI_EVERYTHING = 7
+};
+
+/* How a document is written. */
+struct bigrosk_ini_write_option {
+    uint32_t policy;    /* enum bigrosk_ini_policy; any greater number is EVERYTHING */
+    bool crlf;          /* lines end in CR LF */
+    uint32_t separator; /* 0 "=", 1 " = ", 2 ":", any other number ": " */
+};
+#define BIGROSK_INI_WRITE_DEFAULT { BIGROSK_INI_BASICS, false, 0 }
+
+/* Where and why reading a text stopped. */
+struct bigrosk_ini_fault {
+    uint32_t kind;    /* enum bigrosk_ini_kind */
+    size_t line;      /* from 1 */
+    size_t column;    /* from 1, in characters: the place behind the character that was looked at */
+    char message[64]; /* ends in 0 */
+};
+
+/* 10000 * major + 100 * minor */
+uint32_t bigrosk_ini_version(void);
+
+/* Loads the document of a text, in place of the one that is there; with drop_mark without one mark (the bytes EF BB BF) at the
+ * text's front.
+ * OK; NOT_UTF8; BROKEN, and only then is the fault written; NO_MEMORY. Where it isn't OK, the document that was there stays. */
+uint32_t bigrosk_ini_load(const uint8_t *text, size_t text_count, bool drop_mark,
+                          const struct bigrosk_ini_read_option *option, struct bigrosk_ini_document *document,
+                          struct bigrosk_ini_fault *fault);
+
+/* Frees the document, which leaves none. */
+void bigrosk_ini_free(struct bigrosk_ini_document *document);
+
+/* In the calls below, `named` false means the general section, which stands before the first header; its name is then passed
+ * over, but must be a text. The first section of a name counts, and in it the first pair of a key. */
+
+/* Copies the value of the key out, and a 0 behind it; count says how many bytes it has.
+ * OK; ABSENT; NO_ROOM where the buffer has room for no more than count bytes: it is then as it was; NOT_UTF8; NO_DOCUMENT. */
+uint32_t bigrosk_ini_get(struct bigrosk_ini_document *document, bool named, const uint8_t *section, size_t section_count,
+                         const uint8_t *key, size_t key_count, uint8_t *value, size_t room, size_t *count);
+
+/* Whether the section has the key: OK, ABSENT, NOT_UTF8 or NO_DOCUMENT. */
+uint32_t bigrosk_ini_has(struct bigrosk_ini_document *document, bool named, const uint8_t *section, size_t section_count,
+                         const uint8_t *key, size_t key_count);
+
+/* Whether a section has the name: OK, ABSENT, NOT_UTF8 or NO_DOCUMENT. */
+uint32_t bigrosk_ini_has_section(struct bigrosk_ini_document *document, bool named, const uint8_t *section,
+                                 size_t section_count);
+
+/* Sets the value of the key. The key's later pairs in that section go; a new key, or a new section, comes last.
+ * OK, NOT_UTF8, NO_MEMORY or NO_DOCUMENT. */
+uint32_t bigrosk_ini_set(struct bigrosk_ini_document *document, bool named, const uint8_t *section, size_t section_count,
+                         const uint8_t *key, size_t key_count, const uint8_t *value, size_t value_count);
+
+/* Puts the pair last in the section, also where the key is there; a new section comes last.
+ * OK, NOT_UTF8, NO_MEMORY or NO_DOCUMENT. */
+uint32_t bigrosk_ini_add(struct bigrosk_ini_document *document, bool named, const uint8_t *section, size_t section_count,
+                         const uint8_t *key, size_t key_count, const uint8_t *value, size_t value_count);
+
+/* Takes the pair out: OK, ABSENT, NOT_UTF8 or NO_DOCUMENT. */
+uint32_t bigrosk_ini_delete(struct bigrosk_ini_document *document, bool named, const uint8_t *section,
+                            size_t section_count, const uint8_t *key, size_t key_count);
+
+/* Takes the section out: OK, ABSENT, NOT_UTF8 or NO_DOCUMENT. */
+uint32_t bigrosk_ini_delete_section(struct bigrosk_ini_document *document, bool named, const uint8_t *section,
+                                    size_t section_count);
+
+/* Copies the document's text out, and a 0 behind it; count says how many bytes it has.
+ * OK; NO_ROOM, and the buffer is as it was; NO_MEMORY; NO_DOCUMENT. */
+uint32_t bigrosk_ini_write(struct bigrosk_ini_document *document, const struct bigrosk_ini_write_option *option,
+                           uint8_t *text, size_t room, size_t *count);
+
+/* Whether the document, written by one option, loads by the other as it is: to be asked before it is saved. Of no document
+ * it is not so. */
+bool bigrosk_ini_is_plain(struct bigrosk_ini_document *document, const struct bigrosk_ini_write_option *write,
+                          const struct bigrosk_ini_read_option *read);
+
+/* ---- The same for strings that end in 0; a section of NULL is the general one. Plain C, proved by nobody. ---- */
+
+static inline const uint8_t *bigrosk_ini_bytes(const char *s) { return (const uint8_t *)(s ? s : ""); }
+static inline size_t bigrosk_ini_count(const char *s) { return s ? strlen(s) : 0; }
+
+static inline uint32_t bigrosk_ini_load_str(const char *text, struct bigrosk_ini_document *document,
+                                            struct bigrosk_ini_fault *fault)
+{
+    struct bigrosk_ini_read_option option = BIGROSK_INI_READ_DEFAULT;
+    return bigrosk_ini_load(bigrosk_ini_bytes(text), bigrosk_ini_count(text), true, &option, document, fault);
+}
+
+static inline uint32_t bigrosk_ini_get_str(struct bigrosk_ini_document *document, const char *section, const char *key,
+                                           char *value, size_t room, size_t *count)
+{
+    size_t unused;
+    return bigrosk_ini_get(document, section != NULL, bigrosk_ini_bytes(section), bigrosk_ini_count(section),
+                           bigrosk_ini_bytes(key), bigrosk_ini_count(key), (uint8_t *)value, room,
+                           count ? count : &unused);
+}
+
+static inline uint32_t bigrosk_ini_has_str(struct bigrosk_ini_document *document, const char *section, const char *key)
+{
+    return bigrosk_ini_has(document, section != NULL, bigrosk_ini_bytes(section), bigrosk_ini_count(section),
+                           bigrosk_ini_bytes(key), bigrosk_ini_count(key));
+}
+
+static inline uint32_t bigrosk_ini_has_section_str(struct bigrosk_ini_document *document, const char *section)
+{
+    return bigrosk_ini_has_section(document, section != NULL, bigrosk_ini_bytes(section), bigrosk_ini_count(section));
+}
+
+static inline uint32_t bigrosk_ini_set_str(struct bigrosk_ini_document *document, const char *section, const char *key,
+                                           const char *value)
+{
+    return bigrosk_ini_set(document, section != NULL, bigrosk_ini_bytes(section), bigrosk_ini_count(section),
+                           bigrosk_ini_bytes(key), bigrosk_ini_count(key), bigrosk_ini_bytes(value),
+                           bigrosk_ini_count(value));
+}
+
+static inline uint32_t bigrosk_ini_add_str(struct bigrosk_ini_document *document, const char *section, const char *key,
+                                           const char *value)
+{
+    return bigrosk_ini_add(document, section != NULL, bigrosk_ini_bytes(section), bigrosk_ini_count(section),
+                           bigrosk_ini_bytes(key), bigrosk_ini_count(key), bigrosk_ini_bytes(value),
+                           bigrosk_ini_count(value));
+}
+
+static inline uint32_t bigrosk_ini_delete_str(struct bigrosk_ini_document *document, const char *section,
+                                              const char *key)
+{
+    return bigrosk_ini_delete(document, section != NULL, bigrosk_ini_bytes(section), bigrosk_ini_count(section),
+                              bigrosk_ini_bytes(key), bigrosk_ini_count(key));
+}
+
+static inline uint32_t bigrosk_ini_delete_section_str(struct bigrosk_ini_document *document, const char *section)
+{
+    return bigrosk_ini_delete_section(document, section != NULL, bigrosk_ini_bytes(section),
+                                      bigrosk_ini_count(section));
+}
+
+#ifdef __cplusplus
+}
+#endif
+#endif

@@ -1,0 +1,8 @@
+use Rattle.std.proofs.Common.{◌≡◌, Some, None}
+use Rattle.ini_c.specs.Choices.{TellsPlain, parse_option}
+use Rattle.ini_c.specs.Held.{held}
+use Rattle.ini_c.proofs.bigrosk_ini_is_plain.Goals as goal
+
+pub returns-clause-plain : goal.returns-clause-plain
+returns-clause-plain c =
+    rw (← c.in-Some.ensures.taken, ← c.to_option.ensures, ← c.deref.ensures) c.is_plain-answer.ensures

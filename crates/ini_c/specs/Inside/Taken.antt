@@ -1,0 +1,10 @@
+-- What is taken out for a call.
+use Rattle.std.specs.Prelude.{Option, Some, None}
+use Rattle.std.specs.Global.{Box}
+use Rattle.ini.specs.Documents.{Document}
+use Rattle.ini_c.specs.declared.document.Kept.{Kept}
+
+-- the document of a box, if it is there
+abbrev pub taken : Option (Box Kept) → Option Document
+taken (Some kept) = Some kept.value.document
+taken None = None

@@ -1,0 +1,6 @@
+pub mod Choices
+pub mod Faults
+pub mod Held
+pub mod Inside
+pub mod LookUps
+pub mod Statuses

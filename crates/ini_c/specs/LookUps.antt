@@ -1,0 +1,23 @@
+-- What calls name, and what is found there.
+use Rattle.std.specs.Prelude.{ℕ, Bool, true, false, List, Option, Some, None, IsSome}
+use Rattle.std.specs.Str.{IsUtf8, chars}
+use Rattle.std.specs.Option.{option_and_then}
+use Rattle.ini.specs.Texts.{Text}
+use Rattle.ini.specs.Documents.{Document, first_section, value_in}
+
+-- a section's name; without one it is the general section's
+abbrev pub name_if : Bool → List ℕ → Option Text
+name_if true name = Some (chars name)
+name_if false name = None
+
+-- both are UTF-8
+abbrev pub AreTexts : List ℕ → List ℕ → Type 0
+AreTexts section key = IsUtf8 section × IsUtf8 key
+
+-- the first value of the key in the first section of the name
+abbrev pub found_in : Option Text → Text → Option Document → Option Text
+found_in name key held = option_and_then (value_in name key) held
+
+-- the first section of the name is there
+abbrev pub HasSection : Option Text → Option Document → Type 0
+HasSection name held = IsSome (option_and_then (first_section name) held)

@@ -1,0 +1,28 @@
+-- The numbers that calls answer.
+use Rattle.std.specs.Prelude.{ℕ, Bool, false, ◌||◌, ◌==◌, List, [], ◌∷◌}
+
+abbrev pub ok : ℕ
+ok = 0
+
+abbrev pub absent : ℕ
+absent = 1
+
+abbrev pub no_room : ℕ
+no_room = 2
+
+abbrev pub broken : ℕ
+broken = 3
+
+abbrev pub not_utf8 : ℕ
+not_utf8 = 4
+
+abbrev pub no_memory : ℕ
+no_memory = 5
+
+abbrev pub no_document : ℕ
+no_document = 6
+
+-- whether a status is one of these
+abbrev pub is_among : ℕ → List ℕ → Bool
+is_among status [] = false
+is_among status (s ∷ ss) = (status == s) || is_among status ss

@@ -1,0 +1,325 @@
+//! Documents for programs in C.
+//!
+//! This file knows what crosses to C: numbers, structs of numbers, slices, and a `Document`, which C keeps
+//! between calls. Each call takes the document out of what C keeps, hands it to `ini`, and puts it back.
+#![tactic(auto)]
+
+ghost use Rattle.std.specs.Prelude.{◌≡◌, ◌∷◌, [], ◌≤◌, ◌↔◌, IsTrue, IsSome, IsSomeAnd, None, length, take};
+ghost use Rattle.std.specs.Prelude.{Some, slice_get};
+ghost use Rattle.std.specs.Option.{option_and_then, option_map};
+ghost use Rattle.std.specs.Str.{IsUtf8, chars};
+ghost use Rattle.ini.specs.Documents.{first_section, section_removed};
+ghost use Rattle.ini.specs.Edits.{add_in, delete_in, set_in};
+ghost use Rattle.ini.specs.Loading.{IsDocumentOf, text_bytes};
+ghost use Rattle.ini_c.specs.Choices.{IsCountOf, IsTextOf, TellsPlain, parse_option};
+ghost use Rattle.ini_c.specs.Faults.{IsStopAt};
+ghost use Rattle.ini_c.specs.Held.{held};
+ghost use Rattle.ini_c.specs.LookUps.{AreTexts, HasSection, found_in, name_if};
+ghost use Rattle.ini_c.specs.Statuses.{absent, broken, is_among, no_document, no_memory, no_room, not_utf8, ok};
+
+mod copies;
+mod document;
+mod edits;
+mod fault;
+mod handle;
+mod keeping;
+mod loading;
+mod look_up;
+mod options;
+mod parts;
+mod writing;
+
+pub use crate::document::{Document, Kept};
+pub use crate::fault::Fault;
+pub use crate::options::{ReadChoice, WriteChoice};
+use std::alloc::Global;
+
+/// Done, or there.
+pub const OK: u32 = 0;
+/// No such pair or section.
+pub const ABSENT: u32 = 1;
+/// What was to be copied out does not fit.
+pub const NO_ROOM: u32 = 2;
+/// The text breaks the grammar.
+pub const BROKEN: u32 = 3;
+/// Bytes that should be a text are no UTF-8.
+pub const NOT_UTF8: u32 = 4;
+/// Memory was refused.
+pub const NO_MEMORY: u32 = 5;
+/// No document is loaded.
+pub const NO_DOCUMENT: u32 = 6;
+
+/// The version: a hundred for each minor one, ten thousand for each major one.
+#[unsafe(no_mangle)]
+pub extern "C" fn bigrosk_ini_version() -> u32
+    ensures { result ≡ 300 }
+{
+    300
+}
+
+/// Loads the document of a text, in place of the one that is there; with `drop_mark` without one mark (the
+/// bytes EF BB BF) at the text's front.
+///
+/// `NOT_UTF8` if the bytes are no text, and else `BROKEN` where reading it stops: the fault tells kind, line,
+/// column and message. Refused, for that or for want of memory, the document stays.
+#[unsafe(no_mangle)]
+pub extern "C" fn bigrosk_ini_load(
+    alloc: Global,
+    text: &[u8],
+    drop_mark: bool,
+    option: &ReadChoice,
+    document: &mut Document,
+    fault: &mut Fault,
+) -> u32
+    ensures loaded { result ≡ ok → IsSomeAnd (held document.new)
+        (IsDocumentOf (parse_option option.now) (chars (text_bytes drop_mark text.now))) }
+    ensures broken { result ≡ broken →
+        IsStopAt (parse_option option.now) (chars (text_bytes drop_mark text.now)) fault.new }
+    ensures not_utf8 { result ≡ not_utf8 ↔ ¬ (IsUtf8 (text_bytes drop_mark text.now)) }
+    ensures statuses { IsTrue (is_among result (ok ∷ broken ∷ not_utf8 ∷ no_memory ∷ [])) }
+    ensures unchanged { ¬ (result ≡ ok) → held document.new ≡ held document.old }
+    ensures fault_stays { ¬ (result ≡ broken) → fault.new ≡ fault.old }
+{
+    let bytes = loading::text_of(drop_mark, text);
+    loading::load_into(alloc, bytes, option.to_option(), document, fault)
+}
+
+/// Frees the document, which leaves none.
+#[unsafe(no_mangle)]
+pub extern "C" fn bigrosk_ini_free(alloc: Global, document: &mut Document)
+    ensures { held document.new ≡ None }
+{
+    let _before = document.take(alloc);
+}
+
+/// Copies the first value of the key in the first section of the name (of the general one without `named`)
+/// out, and a 0 behind it. `count` is the value's number of bytes, where it fits and where it doesn't.
+#[unsafe(no_mangle)]
+pub extern "C" fn bigrosk_ini_get(
+    alloc: Global,
+    document: &mut Document,
+    named: bool,
+    section: &[u8],
+    key: &[u8],
+    value: &mut [u8],
+    count: &mut usize,
+) -> u32
+    ensures stays { held document.new ≡ held document.old }
+    ensures no_document { result ≡ no_document ↔ (held document.old ≡ None) }
+    ensures not_utf8 { result ≡ not_utf8 ↔
+        (IsSome (held document.old) × ¬ (AreTexts section.now key.now)) }
+    ensures absent { result ≡ absent → found_in (name_if named section.now) (chars key.now) (held document.old) ≡ None }
+    ensures value { result ≡ ok → found_in (name_if named section.now) (chars key.now) (held document.old)
+        ≡ Some (chars (take count.new value.new)) }
+    ensures zero { result ≡ ok → slice_get value.new count.new ≡ Some 0 }
+    ensures there { result ≡ no_room → IsSome (found_in (name_if named section.now) (chars key.now) (held document.old)) }
+    ensures no_room { result ≡ no_room → length value.old ≤ count.new }
+    ensures rest { ¬ (result ≡ ok) → value.new ≡ value.old }
+    ensures statuses { IsTrue (is_among result (ok ∷ absent ∷ no_room ∷ not_utf8 ∷ no_document ∷ [])) }
+{
+    let Some(kept) = document.take(alloc) else {
+        return NO_DOCUMENT;
+    };
+    let answer = look_up::find(&kept.document, named, section, key, value, count);
+    document.put(alloc, kept);
+    answer
+}
+
+/// Whether the first section of the name has the key: `OK` or `ABSENT`.
+#[unsafe(no_mangle)]
+pub extern "C" fn bigrosk_ini_has(
+    alloc: Global,
+    document: &mut Document,
+    named: bool,
+    section: &[u8],
+    key: &[u8],
+) -> u32
+    ensures stays { held document.new ≡ held document.old }
+    ensures no_document { result ≡ no_document ↔ (held document.old ≡ None) }
+    ensures not_utf8 { result ≡ not_utf8 ↔
+        (IsSome (held document.old) × ¬ (AreTexts section.now key.now)) }
+    ensures absent { result ≡ absent → found_in (name_if named section.now) (chars key.now) (held document.old) ≡ None }
+    ensures there { result ≡ ok → IsSome (found_in (name_if named section.now) (chars key.now) (held document.old)) }
+    ensures statuses { IsTrue (is_among result (ok ∷ absent ∷ not_utf8 ∷ no_document ∷ [])) }
+{
+    let Some(kept) = document.take(alloc) else {
+        return NO_DOCUMENT;
+    };
+    let answer = look_up::has(&kept.document, named, section, key);
+    document.put(alloc, kept);
+    answer
+}
+
+/// Whether a section has the name: `OK` or `ABSENT`.
+#[unsafe(no_mangle)]
+pub extern "C" fn bigrosk_ini_has_section(
+    alloc: Global,
+    document: &mut Document,
+    named: bool,
+    section: &[u8],
+) -> u32
+    ensures stays { held document.new ≡ held document.old }
+    ensures no_document { result ≡ no_document ↔ (held document.old ≡ None) }
+    ensures not_utf8 { result ≡ not_utf8 ↔ (IsSome (held document.old) × ¬ (IsUtf8 section.now)) }
+    ensures absent { result ≡ absent → ¬ (HasSection (name_if named section.now) (held document.old)) }
+    ensures there { result ≡ ok → HasSection (name_if named section.now) (held document.old) }
+    ensures statuses { IsTrue (is_among result (ok ∷ absent ∷ not_utf8 ∷ no_document ∷ [])) }
+{
+    let Some(kept) = document.take(alloc) else {
+        return NO_DOCUMENT;
+    };
+    let answer = look_up::has_section(&kept.document, named, section);
+    document.put(alloc, kept);
+    answer
+}
+
+/// Sets the value of the key in the first section of the name: its first pair there takes the value, and later
+/// ones go. Where the key, or the section, is new, it comes last.
+#[unsafe(no_mangle)]
+pub extern "C" fn bigrosk_ini_set(
+    alloc: Global,
+    document: &mut Document,
+    named: bool,
+    section: &[u8],
+    key: &[u8],
+    value: &[u8],
+) -> u32
+    ensures no_document { result ≡ no_document ↔ (held document.old ≡ None) }
+    ensures not_utf8 { result ≡ not_utf8 ↔
+        (IsSome (held document.old) × ¬ (AreTexts section.now key.now × IsUtf8 value.now)) }
+    ensures set { result ≡ ok → held document.new
+        ≡ option_map (set_in (name_if named section.now) (chars key.now) (chars value.now)) (held document.old) }
+    ensures unchanged { ¬ (result ≡ ok) → held document.new ≡ held document.old }
+    ensures statuses { IsTrue (is_among result (ok ∷ not_utf8 ∷ no_memory ∷ no_document ∷ [])) }
+{
+    let Some(mut kept) = document.take(alloc) else {
+        return NO_DOCUMENT;
+    };
+    let answer = edits::set(&mut kept.document, named, section, key, value);
+    document.put(alloc, kept);
+    answer
+}
+
+/// Appends the pair to the first section of the name, or opens one with it, last.
+#[unsafe(no_mangle)]
+pub extern "C" fn bigrosk_ini_add(
+    alloc: Global,
+    document: &mut Document,
+    named: bool,
+    section: &[u8],
+    key: &[u8],
+    value: &[u8],
+) -> u32
+    ensures no_document { result ≡ no_document ↔ (held document.old ≡ None) }
+    ensures not_utf8 { result ≡ not_utf8 ↔
+        (IsSome (held document.old) × ¬ (AreTexts section.now key.now × IsUtf8 value.now)) }
+    ensures added { result ≡ ok → held document.new
+        ≡ option_map (add_in (name_if named section.now) (chars key.now) (chars value.now)) (held document.old) }
+    ensures unchanged { ¬ (result ≡ ok) → held document.new ≡ held document.old }
+    ensures statuses { IsTrue (is_among result (ok ∷ not_utf8 ∷ no_memory ∷ no_document ∷ [])) }
+{
+    let Some(mut kept) = document.take(alloc) else {
+        return NO_DOCUMENT;
+    };
+    let answer = edits::add(&mut kept.document, named, section, key, value);
+    document.put(alloc, kept);
+    answer
+}
+
+/// Takes the first pair of the key out of the first section of the name.
+#[unsafe(no_mangle)]
+pub extern "C" fn bigrosk_ini_delete(
+    alloc: Global,
+    document: &mut Document,
+    named: bool,
+    section: &[u8],
+    key: &[u8],
+) -> u32
+    ensures no_document { result ≡ no_document ↔ (held document.old ≡ None) }
+    ensures not_utf8 { result ≡ not_utf8 ↔
+        (IsSome (held document.old) × ¬ (AreTexts section.now key.now)) }
+    ensures deleted { result ≡ ok → held document.new
+        ≡ option_map (delete_in (name_if named section.now) (chars key.now)) (held document.old) }
+    ensures there { result ≡ ok → IsSome (found_in (name_if named section.now) (chars key.now) (held document.old)) }
+    ensures absent { result ≡ absent → found_in (name_if named section.now) (chars key.now) (held document.old) ≡ None }
+    ensures unchanged { ¬ (result ≡ ok) → held document.new ≡ held document.old }
+    ensures statuses { IsTrue (is_among result (ok ∷ absent ∷ not_utf8 ∷ no_document ∷ [])) }
+{
+    let Some(mut kept) = document.take(alloc) else {
+        return NO_DOCUMENT;
+    };
+    let answer = edits::delete(&mut kept.document, named, section, key);
+    document.put(alloc, kept);
+    answer
+}
+
+/// Takes the first section of the name out.
+#[unsafe(no_mangle)]
+pub extern "C" fn bigrosk_ini_delete_section(
+    alloc: Global,
+    document: &mut Document,
+    named: bool,
+    section: &[u8],
+) -> u32
+    ensures no_document { result ≡ no_document ↔ (held document.old ≡ None) }
+    ensures not_utf8 { result ≡ not_utf8 ↔ (IsSome (held document.old) × ¬ (IsUtf8 section.now)) }
+    ensures deleted { result ≡ ok → held document.new
+        ≡ option_map (section_removed (name_if named section.now)) (held document.old) }
+    ensures there { result ≡ ok → HasSection (name_if named section.now) (held document.old) }
+    ensures absent { result ≡ absent → ¬ (HasSection (name_if named section.now) (held document.old)) }
+    ensures unchanged { ¬ (result ≡ ok) → held document.new ≡ held document.old }
+    ensures statuses { IsTrue (is_among result (ok ∷ absent ∷ not_utf8 ∷ no_document ∷ [])) }
+{
+    let Some(mut kept) = document.take(alloc) else {
+        return NO_DOCUMENT;
+    };
+    let answer = edits::delete_section(&mut kept.document, named, section);
+    document.put(alloc, kept);
+    answer
+}
+
+/// Copies the document's text out, and a 0 behind it. `count` is the text's number of bytes, where it fits and
+/// where it doesn't.
+#[unsafe(no_mangle)]
+pub extern "C" fn bigrosk_ini_write(
+    alloc: Global,
+    document: &mut Document,
+    choice: &WriteChoice,
+    text: &mut [u8],
+    count: &mut usize,
+) -> u32
+    ensures stays { held document.new ≡ held document.old }
+    ensures no_document { result ≡ no_document ↔ (held document.old ≡ None) }
+    ensures text { result ≡ ok → IsTextOf choice.now (held document.old) (take count.new text.new) }
+    ensures zero { result ≡ ok → slice_get text.new count.new ≡ Some 0 }
+    ensures count { result ≡ no_room → IsCountOf choice.now (held document.old) count.new }
+    ensures no_room { result ≡ no_room → length text.old ≤ count.new }
+    ensures rest { ¬ (result ≡ ok) → text.new ≡ text.old }
+    ensures statuses { IsTrue (is_among result (ok ∷ no_room ∷ no_memory ∷ no_document ∷ [])) }
+{
+    let Some(kept) = document.take(alloc) else {
+        return NO_DOCUMENT;
+    };
+    let answer = writing::write(alloc, &kept.document, choice, text, count);
+    document.put(alloc, kept);
+    answer
+}
+
+/// Whether the document, written by one option, loads by the other as it is; of no document it is not so.
+#[unsafe(no_mangle)]
+pub extern "C" fn bigrosk_ini_is_plain(
+    alloc: Global,
+    document: &mut Document,
+    choice: &WriteChoice,
+    option: &ReadChoice,
+) -> bool
+    ensures stays { held document.new ≡ held document.old }
+    ensures plain { TellsPlain choice.now (parse_option option.now) result (held document.old) }
+{
+    let Some(kept) = document.take(alloc) else {
+        return false;
+    };
+    let answer = writing::is_plain(&kept.document, choice, option.to_option());
+    document.put(alloc, kept);
+    answer
+}

@@ -1,0 +1,70 @@
+//! Loading: bytes in, a document kept, or a fault told. Of characters this file knows the mark alone that
+//! may stand before a text.
+ghost use Rattle.std.specs.Prelude.{◌≡◌, ◌∷◌, [], ◌↔◌, IsTrue, IsSomeAnd, IfOk, IfErr};
+ghost use Rattle.std.specs.Str.{IsUtf8, chars};
+ghost use Rattle.ini.specs.Loading.{IsDocumentOf, IsStopOf, IfParse, IsNotUtf8, text_bytes};
+ghost use Rattle.ini_c.specs.Faults.{IsStopAt};
+ghost use Rattle.ini_c.specs.Held.{held};
+ghost use Rattle.ini_c.specs.Statuses.{broken, is_among, no_memory, not_utf8, ok};
+
+use crate::document::{Document, Kept};
+use crate::fault::{Fault, tell};
+use crate::{BROKEN, NO_MEMORY, NOT_UTF8, OK};
+use ini::{Error, Ini, ParseOption};
+use std::alloc::Global;
+
+const MARK: [u8; 3] = [0xEF, 0xBB, 0xBF];
+
+// The bytes, without one mark at their front if it is dropped.
+pub(crate) fn text_of(drop_mark: bool, bytes: &[u8]) -> &[u8]
+    ensures { result.now ≡ text_bytes drop_mark bytes.now }
+{
+    if drop_mark && bytes.starts_with(&MARK) {
+        return &bytes[3..];
+    }
+    bytes
+}
+
+// The document of bytes, in a box.
+fn load(alloc: Global, bytes: &[u8], option: ParseOption) -> Result<Box<Kept>, Error>
+    ensures text { IfOk result (λ kept. IsUtf8 bytes.now) }
+    ensures document { IfOk result (λ kept. IsDocumentOf option (chars bytes.now) kept.value.document) }
+    ensures fault { IfParse result (IsStopOf option (chars bytes.now)) }
+    ensures fault_of_text { IfParse result (λ refused. IsUtf8 bytes.now) }
+    ensures not_utf8 { IsNotUtf8 result ↔ ¬ (IsUtf8 bytes.now) }
+{
+    let Ok(text) = str::from_utf8(bytes) else {
+        return Err(Error::NotUtf8);
+    };
+    let document = Ini::load_from_str_opt(alloc, text, option)?;
+    let kept = Box::new(alloc, Kept { document })?;
+    Ok(kept)
+}
+
+pub(crate) fn load_into(
+    alloc: Global,
+    bytes: &[u8],
+    option: ParseOption,
+    document: &mut Document,
+    fault: &mut Fault,
+) -> u32
+    ensures loaded { result ≡ ok → IsSomeAnd (held document.new) (IsDocumentOf option (chars bytes.now)) }
+    ensures broken { result ≡ broken → IsStopAt option (chars bytes.now) fault.new }
+    ensures not_utf8 { result ≡ not_utf8 ↔ ¬ (IsUtf8 bytes.now) }
+    ensures statuses { IsTrue (is_among result (ok ∷ broken ∷ not_utf8 ∷ no_memory ∷ [])) }
+    ensures unchanged { ¬ (result ≡ ok) → held document.new ≡ held document.old }
+    ensures fault_stays { ¬ (result ≡ broken) → fault.new ≡ fault.old }
+{
+    match load(alloc, bytes, option) {
+        Ok(kept) => {
+            document.put(alloc, kept);
+            OK
+        }
+        Err(Error::Parse(refused)) => {
+            tell(&refused, fault);
+            BROKEN
+        }
+        Err(Error::NotUtf8) => NOT_UTF8,
+        Err(_) => NO_MEMORY,
+    }
+}

@@ -1,0 +1,208 @@
+/* A program that uses the library as a stranger would. The last line is 'N checks, M failed'. */
+#include <stdio.h>
+#include <stdlib.h>
+#include "bigrosk_ini.h"
+
+static int checks, failed;
+#define CHECK(e) do { checks++; if (!(e)) { printf("FAILED %s:%d: %s\n", __FILE__, __LINE__, #e); failed++; } } while (0)
+
+typedef struct bigrosk_ini_document document;
+typedef struct bigrosk_ini_fault fault;
+static const struct bigrosk_ini_write_option plain = BIGROSK_INI_WRITE_DEFAULT;
+static const struct bigrosk_ini_read_option usual = BIGROSK_INI_READ_DEFAULT;
+
+/* whether the document, written by the option, is this text */
+static bool is_written(document *d, const struct bigrosk_ini_write_option *option, const char *want)
+{
+    size_t count = 0;
+    uint8_t none[1] = { 'x' };
+    bool told = bigrosk_ini_write(d, option, none, 0, &count) == BIGROSK_INI_NO_ROOM && none[0] == 'x';
+    char *text = malloc(count + 1);
+    memset(text, 'y', count + 1);
+    told = told && bigrosk_ini_write(d, option, (uint8_t *)text, count, &count) == BIGROSK_INI_NO_ROOM;
+    told = told && (count == 0 || text[0] == 'y');
+    told = told && bigrosk_ini_write(d, option, (uint8_t *)text, count + 1, &count) == BIGROSK_INI_OK;
+    bool same = told && !strcmp(text, want) && count == strlen(want);
+    if (!same) printf("written:\n%s", told ? text : "nothing\n");
+    free(text);
+    return same;
+}
+
+/* whether the value is this text */
+static bool is_value(document *d, const char *section, const char *key, const char *want)
+{
+    char value[256];
+    size_t count = 0;
+    return bigrosk_ini_get_str(d, section, key, value, sizeof value, &count) == BIGROSK_INI_OK && !strcmp(value, want)
+        && count == strlen(want);
+}
+
+static void nothing_is_loaded(void)
+{
+    document d = BIGROSK_INI_EMPTY;
+    char text[16] = "as it was";
+    size_t count = 77;
+    CHECK(bigrosk_ini_get_str(&d, NULL, "port", text, sizeof text, &count) == BIGROSK_INI_NO_DOCUMENT);
+    CHECK(bigrosk_ini_has_str(&d, NULL, "port") == BIGROSK_INI_NO_DOCUMENT);
+    CHECK(bigrosk_ini_has_section_str(&d, NULL) == BIGROSK_INI_NO_DOCUMENT);
+    CHECK(bigrosk_ini_set_str(&d, NULL, "port", "1") == BIGROSK_INI_NO_DOCUMENT);
+    CHECK(bigrosk_ini_add_str(&d, NULL, "port", "1") == BIGROSK_INI_NO_DOCUMENT);
+    CHECK(bigrosk_ini_delete_str(&d, NULL, "port") == BIGROSK_INI_NO_DOCUMENT);
+    CHECK(bigrosk_ini_delete_section_str(&d, NULL) == BIGROSK_INI_NO_DOCUMENT);
+    CHECK(bigrosk_ini_write(&d, &plain, (uint8_t *)text, sizeof text, &count) == BIGROSK_INI_NO_DOCUMENT);
+    CHECK(!bigrosk_ini_is_plain(&d, &plain, &usual));
+    CHECK(!strcmp(text, "as it was") && count == 77);
+    bigrosk_ini_free(&d);
+    CHECK(!d.is_open);
+    CHECK(bigrosk_ini_version() >= 300);
+}
+
+static const char fleet[] =
+    "; the fleet\nport = 8080\ntimeout: 30\n\n[paths]\nlog   = /var/log/app\ncache = \"/var/cache/app data\"\n";
+
+static void look_ups(void)
+{
+    document d = BIGROSK_INI_EMPTY;
+    fault f;
+    char value[64];
+    size_t count;
+    CHECK(bigrosk_ini_load_str(fleet, &d, &f) == BIGROSK_INI_OK && d.is_open);
+    CHECK(is_value(&d, NULL, "port", "8080"));
+    CHECK(is_value(&d, "paths", "log", "/var/log/app"));
+    CHECK(is_value(&d, "paths", "cache", "/var/cache/app data"));
+    CHECK(bigrosk_ini_get_str(&d, "paths", "port", value, sizeof value, NULL) == BIGROSK_INI_ABSENT);
+    CHECK(bigrosk_ini_get_str(&d, "nowhere", "port", value, sizeof value, NULL) == BIGROSK_INI_ABSENT);
+    memset(value, 'v', sizeof value);
+    CHECK(bigrosk_ini_get_str(&d, "paths", "log", value, 5, &count) == BIGROSK_INI_NO_ROOM && count == 12);
+    CHECK(bigrosk_ini_get_str(&d, "paths", "log", value, 12, &count) == BIGROSK_INI_NO_ROOM && value[0] == 'v');
+    CHECK(bigrosk_ini_get_str(&d, "paths", "log", value, 13, &count) == BIGROSK_INI_OK && value[12] == 0);
+    CHECK(bigrosk_ini_get_str(&d, "\xff", "log", value, 13, &count) == BIGROSK_INI_NOT_UTF8);
+    CHECK(bigrosk_ini_get_str(&d, "paths", "\xff", value, 13, &count) == BIGROSK_INI_NOT_UTF8);
+    CHECK(bigrosk_ini_has_str(&d, "paths", "log") == BIGROSK_INI_OK);
+    CHECK(bigrosk_ini_has_str(&d, "paths", "port") == BIGROSK_INI_ABSENT);
+    CHECK(bigrosk_ini_has_str(&d, NULL, "\xff") == BIGROSK_INI_NOT_UTF8);
+    CHECK(bigrosk_ini_has_section_str(&d, "paths") == BIGROSK_INI_OK);
+    CHECK(bigrosk_ini_has_section_str(&d, NULL) == BIGROSK_INI_OK);
+    CHECK(bigrosk_ini_has_section_str(&d, "path") == BIGROSK_INI_ABSENT);
+    CHECK(bigrosk_ini_has_section_str(&d, "\xff") == BIGROSK_INI_NOT_UTF8);
+    bigrosk_ini_free(&d);
+}
+
+static void edits(void)
+{
+    document d = BIGROSK_INI_EMPTY;
+    fault f;
+    CHECK(bigrosk_ini_load_str(fleet, &d, &f) == BIGROSK_INI_OK);
+    CHECK(bigrosk_ini_set_str(&d, NULL, "port", "9090") == BIGROSK_INI_OK);
+    CHECK(bigrosk_ini_set_str(&d, "new", "gr\xc3\xbc\xc3\x9f", "a\tb") == BIGROSK_INI_OK);
+    CHECK(bigrosk_ini_set_str(&d, "new", "k", "\xff") == BIGROSK_INI_NOT_UTF8);
+    CHECK(bigrosk_ini_delete_str(&d, "paths", "cache") == BIGROSK_INI_OK);
+    CHECK(bigrosk_ini_delete_str(&d, "paths", "cache") == BIGROSK_INI_ABSENT);
+    CHECK(is_written(&d, &plain,
+        "port=9090\ntimeout=30\n\n[paths]\nlog=/var/log/app\n\n[new]\ngr\xc3\xbc\xc3\x9f=a\\tb\n"));
+    struct bigrosk_ini_write_option other = { BIGROSK_INI_EVERYTHING, true, 1 };
+    CHECK(is_written(&d, &other, "port = 9090\r\ntimeout = 30\r\n\r\n[paths]\r\nlog = /var/log/app\r\n\r\n[new]\r\n"
+                                 "gr\\x00fc\\x00df = a\\tb\r\n"));
+    /* add keeps what is there, set takes the later ones away */
+    CHECK(bigrosk_ini_add_str(&d, "paths", "log", "second") == BIGROSK_INI_OK);
+    CHECK(is_value(&d, "paths", "log", "/var/log/app"));
+    CHECK(is_written(&d, &plain,
+        "port=9090\ntimeout=30\n\n[paths]\nlog=/var/log/app\nlog=second\n\n[new]\ngr\xc3\xbc\xc3\x9f=a\\tb\n"));
+    CHECK(bigrosk_ini_set_str(&d, "paths", "log", "only") == BIGROSK_INI_OK);
+    CHECK(bigrosk_ini_add_str(&d, "added", "k", "v") == BIGROSK_INI_OK);
+    CHECK(bigrosk_ini_add_str(&d, "added", "\xff", "v") == BIGROSK_INI_NOT_UTF8);
+    CHECK(bigrosk_ini_delete_section_str(&d, "new") == BIGROSK_INI_OK);
+    CHECK(bigrosk_ini_delete_section_str(&d, "new") == BIGROSK_INI_ABSENT);
+    CHECK(is_written(&d, &plain, "port=9090\ntimeout=30\n\n[paths]\nlog=only\n\n[added]\nk=v\n"));
+    CHECK(bigrosk_ini_is_plain(&d, &plain, &usual));
+    CHECK(bigrosk_ini_set_str(&d, "added", "blank", "\t=") == BIGROSK_INI_OK && is_value(&d, "added", "blank", "\t="));
+    CHECK(bigrosk_ini_set_str(&d, NULL, "[key", "v") == BIGROSK_INI_OK);
+    CHECK(!bigrosk_ini_is_plain(&d, &plain, &usual));
+    bigrosk_ini_free(&d);
+}
+
+/* whether the text is refused so, and the document stays */
+static bool is_refused(document *d, const char *text, uint32_t kind, size_t line, size_t column, const char *message)
+{
+    fault f;
+    bool same = bigrosk_ini_load_str(text, d, &f) == BIGROSK_INI_BROKEN && f.kind == kind && f.line == line
+        && f.column == column && !strcmp(f.message, message) && is_value(d, NULL, "kept", "yes");
+    if (!same) printf("%s: kind %u at %zu:%zu, %s\n", text, (unsigned)f.kind, f.line, f.column, f.message);
+    return same;
+}
+
+static void refusals(void)
+{
+    document d = BIGROSK_INI_EMPTY;
+    fault f;
+    CHECK(bigrosk_ini_load_str("kept=yes\n", &d, &f) == BIGROSK_INI_OK);
+    CHECK(is_refused(&d, "ok = 1\n = no key\n", BIGROSK_INI_MISSING_KEY, 2, 3, "missing key"));
+    CHECK(is_refused(&d, "a=\\xD800", BIGROSK_INI_UNKNOWN_CHARACTER, 1, 9, "unknown character in \\xHH form"));
+    CHECK(is_refused(&d, "a=1\n ;c=2", BIGROSK_INI_INLINE_COMMENT, 2, 3, "doesn't support inline comment"));
+    memset(&f, 'f', sizeof f);
+    CHECK(bigrosk_ini_load_str("a=\xff\n=", &d, &f) == BIGROSK_INI_NOT_UTF8 && f.message[0] == 'f');
+    CHECK(bigrosk_ini_load_str("[open", &d, &f) == BIGROSK_INI_BROKEN && f.kind == BIGROSK_INI_END_OF_TEXT && f.line == 1);
+    CHECK(bigrosk_ini_load_str("a=\\x1\\23", &d, &f) == BIGROSK_INI_BROKEN && f.kind == BIGROSK_INI_BROKEN_ESCAPE);
+    CHECK(is_value(&d, NULL, "kept", "yes"));
+    bigrosk_ini_free(&d);
+}
+
+static void options(void)
+{
+    document d = BIGROSK_INI_EMPTY;
+    fault f;
+    const uint8_t text[] = "\xef\xbb\xbf" "a = \"b\\tc\"\n d\n";
+    struct bigrosk_ini_read_option o = { false, false, true, false, false };
+    CHECK(bigrosk_ini_load(text, sizeof text - 1, true, &o, &d, &f) == BIGROSK_INI_OK);
+    CHECK(is_value(&d, NULL, "a", "\"b\\tc\"\nd"));
+    CHECK(bigrosk_ini_load((const uint8_t *)"\xef\xbb\xbf" "a=1\n", 7, false, &usual, &d, &f) == BIGROSK_INI_OK);
+    CHECK(is_value(&d, NULL, "\xef\xbb\xbf" "a", "1"));
+    CHECK(bigrosk_ini_load((const uint8_t *)"[a[b]]\nk=1\n", 11, true, &usual, &d, &f) == BIGROSK_INI_OK);
+    CHECK(bigrosk_ini_has_section_str(&d, "a[b]") == BIGROSK_INI_ABSENT);
+    o.brackets = true;
+    CHECK(bigrosk_ini_load((const uint8_t *)"[a[b]]\nk=1\n", 11, true, &o, &d, &f) == BIGROSK_INI_OK);
+    CHECK(is_value(&d, "a[b]", "k", "1"));
+    CHECK(bigrosk_ini_load((const uint8_t *)"", 0, true, &usual, &d, &f) == BIGROSK_INI_OK);
+    CHECK(is_written(&d, &plain, ""));
+    /* a value with a 0 in it */
+    char value[16];
+    size_t count;
+    CHECK(bigrosk_ini_load_str("a = x\\0y\n", &d, &f) == BIGROSK_INI_OK);
+    CHECK(bigrosk_ini_get_str(&d, NULL, "a", value, sizeof value, &count) == BIGROSK_INI_OK && count == 3
+        && !memcmp(value, "x\0y", 4));
+    bigrosk_ini_free(&d);
+}
+
+/* as many documents as one likes; a document may be moved, and loaded over */
+static void many(void)
+{
+    document all[100];
+    fault f;
+    char number[16];
+    bool good = true;
+    for (int i = 0; i < 100; i++) {
+        all[i] = (document)BIGROSK_INI_EMPTY;
+        sprintf(number, "%d", i);
+        good = good && bigrosk_ini_load_str("[a]\nb=c\n", &all[i], &f) == BIGROSK_INI_OK;
+        good = good && bigrosk_ini_load_str("[a]\nb=d\n", &all[i], &f) == BIGROSK_INI_OK;
+        good = good && bigrosk_ini_set_str(&all[i], "a", "n", number) == BIGROSK_INI_OK;
+    }
+    document moved = all[42];
+    all[42] = (document)BIGROSK_INI_EMPTY;
+    CHECK(good && is_value(&moved, "a", "n", "42") && is_value(&all[99], "a", "n", "99"));
+    bigrosk_ini_free(&moved);
+    for (int i = 0; i < 100; i++) bigrosk_ini_free(&all[i]);
+    CHECK(!all[0].is_open);
+}
+
+int main(void)
+{
+    nothing_is_loaded();
+    look_ups();
+    edits();
+    refusals();
+    options();
+    many();
+    printf("%d checks, %d failed\n", checks, failed);
+    return failed != 0;
+}

@@ -1,0 +1,98 @@
+/* Each request for memory is refused in turn: each call then answers NO_MEMORY or does all, changes nothing where it is refused,
+ * and every block is freed. This program brings the library's memory itself. */
+#include <stdio.h>
+#include <stdlib.h>
+#include "bigrosk_ini.h"
+
+static long left, taken, freed;
+static int failed;
+#define CHECK(e) do { if (!(e)) { printf("FAILED %d (%ld): %s\n", __LINE__, n, #e); failed++; } } while (0)
+
+struct tried { uint64_t ok; void *at; };
+struct tried rattle_alloc(size_t count, size_t align);
+struct tried rattle_realloc(void *at, size_t kept, size_t count, size_t align);
+void rattle_dealloc(void *at);
+static char refused[16];
+
+static struct tried answer(void *at)
+{
+    struct tried t = { at != NULL, at ? at : refused };
+    return t;
+}
+
+struct tried rattle_alloc(size_t count, size_t align)
+{
+    if (left-- <= 0) return answer(NULL);
+    taken++;
+    return answer(malloc(count ? count : align));
+}
+
+struct tried rattle_realloc(void *at, size_t kept, size_t count, size_t align)
+{
+    (void)kept;
+    return left-- <= 0 ? answer(NULL) : answer(realloc(at, count ? count : align));
+}
+
+void rattle_dealloc(void *at)
+{
+    freed++;
+    free(at);
+}
+
+enum { load, set, add, write, calls };
+
+/* one call with n requests granted */
+static uint32_t call(int which, long n, struct bigrosk_ini_document *d)
+{
+    static const struct bigrosk_ini_write_option option = BIGROSK_INI_WRITE_DEFAULT;
+    struct bigrosk_ini_fault f;
+    uint8_t text[512];
+    size_t count;
+    uint32_t status;
+    left = n;
+    switch (which) {
+    case load: status = bigrosk_ini_load_str("x=1\n[t]\ny=2\n[u]\nz=3\nlong = a value that is longer\n", d, &f); break;
+    case set: status = bigrosk_ini_set_str(d, "a new section", "a new key", "a new value"); break;
+    case add: status = bigrosk_ini_add_str(d, "s", "c", "another value of the key"); break;
+    default: status = bigrosk_ini_write(d, &option, text, sizeof text, &count); break;
+    }
+    left = 1000000;
+    return status;
+}
+
+int main(void)
+{
+    struct bigrosk_ini_write_option option = BIGROSK_INI_WRITE_DEFAULT;
+    long refusals = 0;
+    for (int which = 0; which < calls; which++) {
+        uint32_t status = BIGROSK_INI_NO_MEMORY;
+        for (long n = 0; n < 400 && status == BIGROSK_INI_NO_MEMORY; n++) {
+            struct bigrosk_ini_document d = BIGROSK_INI_EMPTY;
+            struct bigrosk_ini_fault f;
+            uint8_t before[512], after[512];
+            size_t count, then;
+            left = 1000000;
+            CHECK(bigrosk_ini_load_str("a=1\nb=2\n[s]\nc=3\n", &d, &f) == BIGROSK_INI_OK);
+            CHECK(bigrosk_ini_write(&d, &option, before, sizeof before, &count) == BIGROSK_INI_OK);
+            status = call(which, n, &d);
+            CHECK(status == BIGROSK_INI_OK || status == BIGROSK_INI_NO_MEMORY);
+            CHECK(bigrosk_ini_write(&d, &option, after, sizeof after, &then) == BIGROSK_INI_OK);
+            if (status == BIGROSK_INI_NO_MEMORY) {
+                refusals++;
+                CHECK(count == then && !memcmp(before, after, count));
+            } else if (which != write) {
+                CHECK(count != then || memcmp(before, after, count));
+            }
+            left = 0; /* these take no memory */
+            CHECK(bigrosk_ini_has_str(&d, NULL, "none") == BIGROSK_INI_ABSENT);
+            CHECK(bigrosk_ini_delete_str(&d, NULL, "none") == BIGROSK_INI_ABSENT);
+            CHECK(bigrosk_ini_delete_section_str(&d, "s") != BIGROSK_INI_NO_MEMORY);
+            bigrosk_ini_free(&d);
+            CHECK(taken == freed);
+        }
+        long n = which;
+        CHECK(status == BIGROSK_INI_OK);
+    }
+    printf("%ld refusals, %ld blocks taken and %ld freed, %d failed\n", refusals, taken, freed, failed);
+    return failed != 0 || refusals < calls;
+}

@@ -1,0 +1,87 @@
+"""The Python module: each call, refusals, and random runs of edits against a dict."""
+import random
+import resource
+from bigrosk_ini import Broken, Document, WriteOption, version
+
+
+def refusal(text):
+    try:
+        Document(text)
+    except Broken as broken:
+        return broken.line, broken.column, broken.kind, broken.message
+    return None
+
+
+def is_raised(error, call):
+    try:
+        call()
+    except error:
+        return True
+    return False
+
+
+def calls():
+    d = Document('; the fleet\nport = 8080\n[paths]\nlog = /var/log/app\ncache = "a b"\n')
+    assert version() >= 300
+    assert d[None]["port"] == "8080" and d["paths"]["log"] == "/var/log/app" and d["paths"]["cache"] == "a b"
+    assert "paths" in d and None in d and "path" not in d
+    assert "log" in d["paths"] and "port" not in d["paths"] and "log" not in d["nowhere"]
+    assert d.get("paths", "none") is None and d["none"].get("port", "x") == "x"
+    assert is_raised(KeyError, lambda: d["paths"]["none"])
+    d[None]["port"] = "9090"
+    d["grün"]["schlüssel"] = "wert\n2" * 100
+    assert d["grün"]["schlüssel"] == "wert\n2" * 100
+    del d["paths"]["log"]
+    assert is_raised(KeyError, lambda: d["paths"].__delitem__("log"))
+    d.add("paths", "cache", "c")
+    assert str(d) == "port=9090\n\n[paths]\ncache=a b\ncache=c\n\n[grün]\nschlüssel=" + "wert\\n2" * 100 + "\n"
+    del d["grün"]
+    assert is_raised(KeyError, lambda: d.__delitem__("grün")) and d.is_plain()
+    assert d.text(WriteOption(crlf=True, separator=3)) == "port: 9090\r\n\r\n[paths]\r\ncache: a b\r\ncache: c\r\n"
+
+
+def refusals():
+    assert refusal("a=1\n =v") == (2, 3, "missing key", "missing key")
+    assert refusal("a=\\xD800")[:3] == (1, 9, "unknown character")
+    assert refusal("[a")[2] == "end of text" and refusal("a=1") is None
+    assert is_raised(UnicodeError, lambda: Document(b"a=\xff"))
+
+
+def edits():
+    random.seed(7)
+    names, keys = (None, "a", "b", "ü"), "xyz"
+    values = ("", "1", "zwei drei", "x\t=;#[]\\", "\0", "😀", "long " * 99)
+    for _ in range(300):
+        d, model = Document(), {}
+        for _ in range(random.randrange(60)):
+            name, key, value = random.choice(names), random.choice(keys), random.choice(values)
+            what = random.random()
+            if what < 0.65:
+                d[name][key] = value
+                model.setdefault(name, {})[key] = value
+            elif what < 0.95:
+                there = model.get(name, {}).pop(key, None) is not None
+                assert (not is_raised(KeyError, lambda: d[name].__delitem__(key))) == there
+            elif name is not None:
+                there = model.pop(name, None) is not None
+                assert (not is_raised(KeyError, lambda: d.__delitem__(name))) == there
+        for name in names + ("c",):
+            assert (name in d) == (name is None or name in model)
+            for key in keys:
+                assert d[name].get(key) == model.get(name, {}).get(key)
+                assert (key in d[name]) == (key in model.get(name, {}))
+        again = Document(str(d))
+        assert str(again) == str(d)
+
+
+def memory():
+    before = resource.getrusage(resource.RUSAGE_SELF).ru_maxrss
+    for _ in range(20000):
+        Document("[a]\nb=c\n" * 50)
+    grown = resource.getrusage(resource.RUSAGE_SELF).ru_maxrss - before
+    assert grown < 5000, f"grown by {grown} KB"
+
+
+for part in (calls, refusals, edits, memory):
+    part()
+print("all of the Python module")

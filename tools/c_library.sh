@@ -1,0 +1,65 @@
+#!/bin/sh
+# Makes the C library and installs it below a folder:
+#
+#     tools/c_library.sh PREFIX [--kit-heap | --no-heap]
+#
+#     PREFIX/lib/libbigrosk_ini.a, PREFIX/lib/libbigrosk_ini.so, PREFIX/lib/pkgconfig/bigrosk_ini.pc,
+#     PREFIX/include/bigrosk_ini.h, PREFIX/share/man/man3/bigrosk_ini.3
+#
+# The library asks for memory by three functions. By default they are those of c/heap.c, over malloc, realloc and free; with
+# --kit-heap those of the Rattle kit; with --no-heap the static library has none, so that the program brings its own, and no
+# shared library is made. It takes the kit's command rt, and a C compiler, CC (by default cc). The crate is proved first, where
+# crates/ini_c/out has no proof of it yet.
+set -eu
+top=$(dirname "$(dirname "$(readlink -f "$0")")")
+prefix=${1:?'usage: tools/c_library.sh PREFIX [--kit-heap | --no-heap]'}
+heap=${2:-}
+case $heap in '' | --kit-heap | --no-heap) ;; *) echo "unknown word: $heap" >&2; exit 2 ;; esac
+cc=${CC:-cc}
+mkdir -p "$prefix/lib/pkgconfig" "$prefix/include" "$prefix/share/man/man3"
+prefix=$(cd "$prefix" && pwd)
+room=$(mktemp -d)
+trap 'rm -rf "$room"' EXIT
+built=$top/crates/ini_c/out/libini_c.a
+
+# whether the library is there and no older than its sources and those of the crates below it
+is_built() {
+    [ -f "$built" ] || return 1
+    changed=$(cd "$top" && find crates.txt crates/ini_multimap crates/ini_text crates/ini crates/ini_c -name out -prune -o \
+        -name must-fail -prune -o -name wrong-bodies -prune -o -name '*.md' -prune -o -type f -newer "$built" -print)
+    [ -z "$changed" ]
+}
+
+if ! is_built; then
+    echo 'proving and building the library, which takes some minutes the first time' >&2
+    (cd "$top/crates/ini_c" && rt lib) >"$room/log" 2>&1 || { tail -n 40 "$room/log" >&2; exit 1; }
+    [ -f "$built" ] || { tail -n 40 "$room/log" >&2; exit 1; }
+    touch "$built"
+fi
+
+cp "$built" "$room/libbigrosk_ini.a"
+case $heap in
+--no-heap) ;;
+--kit-heap) (cd "$room" && ar x "$(dirname "$(rt doc)")/c/liblibc_c.a" heap.pic.o) && mv "$room/heap.pic.o" "$room/heap.o" ;;
+*) "$cc" -O2 -fPIC -Wall -Wextra -c -o "$room/heap.o" "$top/c/heap.c" ;;
+esac
+if [ -f "$room/heap.o" ]; then
+    ar r "$room/libbigrosk_ini.a" "$room/heap.o" 2>"$room/log" || { cat "$room/log" >&2; exit 1; }
+    "$cc" -shared -o "$room/libbigrosk_ini.so" -Wl,-soname,libbigrosk_ini.so -Wl,--whole-archive "$room/libbigrosk_ini.a" \
+        -Wl,--no-whole-archive
+    install -m 755 "$room/libbigrosk_ini.so" "$prefix/lib/libbigrosk_ini.so"
+fi
+install -m 644 "$room/libbigrosk_ini.a" "$prefix/lib/libbigrosk_ini.a"
+install -m 644 "$top/c/bigrosk_ini.h" "$prefix/include/bigrosk_ini.h"
+install -m 644 "$top/man/bigrosk_ini.3" "$prefix/share/man/man3/bigrosk_ini.3"
+cat >"$prefix/lib/pkgconfig/bigrosk_ini.pc" <<END
+prefix=$prefix
+libdir=\${prefix}/lib
+includedir=\${prefix}/include
+
+Name: bigrosk_ini
+Description: INI documents, read and edited by proved code
+Version: 0.3.0
+Libs: -L\${libdir} -lbigrosk_ini
+Cflags: -I\${includedir}
+END
