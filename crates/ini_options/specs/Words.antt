@@ -63,8 +63,9 @@ policy_named name =
     else if bytes_eq name (codes "Everything") then Some Everything
     else None
 
--- the options of words where `o` holds before them, and the words behind: each word that is an option changes
--- it, and those behind begin at the first that is none. None where a policy's name is missing or is none
+-- the options of words where `o` holds before them, and the words behind: each word that is an option
+-- changes it, and those behind begin at the first that is none. None where the name of a policy is missing,
+-- or is no policy's
 abbrev mutual
   pub given : Options → List Word → Option (Options × List Word)
   given o [] = Some (o, [])

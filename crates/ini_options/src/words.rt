@@ -14,8 +14,8 @@ const FIRST_ROOM: usize = 256;
 ///
 /// # Errors
 ///
-/// `Memory`; `Io` of the kind `InvalidData` where a word is not UTF-8, which tells the first such word by its
-/// number: words count from 1.
+/// `Memory`; `Io` of the kind `InvalidData` where a word is not UTF-8, which tells the first such word by
+/// its number: words count from 1.
 pub fn words_of<R: Env>(rt: &R, alloc: Global) -> Result<Vec<String>, Error>
     ensures { IfErr result IsMemoryOrIo }
 {

@@ -9,6 +9,6 @@ loop-at-preserved g c =
     let pushed = c.in_default.ensures in
     let before = c.loop-at.layers in
     record {
-      as_many = omega (arith, ap length pushed.2, length-append before (pushed.0 ∷ []), c.loop-at.invariant.as_many);
+      as_many = omega (arith, ap length pushed.2, length-append before (pushed.0 ∷ []));
       loaded = All-same P _ _ pushed.2 (All-push P before pushed.0 c.loop-at.invariant.loaded pushed.1);
     }
