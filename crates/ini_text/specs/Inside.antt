@@ -8,6 +8,7 @@ pub mod LineReader
 pub mod ValueReader
 pub mod ElementReader
 pub mod ItemSearch
+pub mod PlaceReader
 pub mod Lanes
 pub mod ShortPieces
 pub mod Verbatim

@@ -2,3 +2,4 @@
 pub mod Fronts
 pub mod Items
 pub mod Parser
+pub mod Places
