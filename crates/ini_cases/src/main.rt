@@ -14,6 +14,7 @@
 mod document;
 mod file;
 mod option;
+mod places;
 mod plain;
 mod properties;
 mod replay;

@@ -1,5 +1,6 @@
 //! Questions about one text: what it loads as, how it is refused, and what is written of it.
 use crate::option::{Options, POLICIES};
+use crate::places::places;
 use crate::show::{load, loaded};
 use crate::token::unreadable;
 use ini::{Error, EscapePolicy, Ini, ParseOption, Watched, write_escaped};
@@ -131,6 +132,7 @@ fn of_text(alloc: Global, call: &str, text: &str, options: &Options) -> Result<S
         "refuse" => refusal(alloc, text, reading),
         "write" | "write_to" | "write_to_policy" => writes(alloc, call, text, options),
         "items" => items(alloc, text, reading),
+        "places" => places(alloc, text, reading),
         "escape" => escapes(alloc, text, policies),
         "write_escaped" => escaped(alloc, text, options.writing().escape_policy),
         "cut_fronts" => cut_fronts(alloc, text, reading),

@@ -4,4 +4,5 @@ pub mod Worked
 pub mod WriteLemmas
 pub mod ReaderLemmas
 pub mod LawLemmas
+pub mod PlaceLemmas
 pub mod PlainLemmas

@@ -9,3 +9,4 @@ pub mod Values
 pub mod Keys
 pub mod Elements
 pub mod Texts
+pub mod Places

@@ -9,6 +9,7 @@ pub mod ValueReader
 pub mod ElementReader
 pub mod ItemSearch
 pub mod TriviaSearch
+pub mod PlaceReader
 pub mod Lanes
 pub mod ShortPieces
 pub mod Verbatim

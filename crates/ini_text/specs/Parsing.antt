@@ -3,3 +3,4 @@ pub mod Fronts
 pub mod Items
 pub mod Trivia
 pub mod Parser
+pub mod Places

@@ -27,6 +27,7 @@ mod fault;
 mod header;
 mod line;
 mod pair;
+pub(crate) mod placed;
 mod position;
 mod short;
 mod string;

@@ -27,11 +27,11 @@ after_end-finds LineEnd.cr_lf = refl
 after_end-finds {r = []} (LineEnd.cr n) = refl
 after_end-finds {r = c ∷ r} (LineEnd.cr n) = rw n
 
-abbrev EndSays : List ℕ → Option (List ℕ) → Type 0
+abbrev pub EndSays : List ℕ → Option (List ℕ) → Type 0
 EndSays t None = BeginsWithNo is_line_end t
 EndSays t (Some r) = (e : List ℕ) × LineEnd e r × (e ++ r ≡ t)
 
-after_end-sound : (t : List ℕ) → EndSays t (after_end t)
+pub after_end-sound : (t : List ℕ) → EndSays t (after_end t)
 after_end-sound [] = tt
 after_end-sound (c ∷ cs) = elim (cases_Bool (c == line_feed)) [
   | inl q ↦ rw (eqb-true c 10 q) (line_feed ∷ [], LineEnd.lf, refl)
@@ -54,7 +54,7 @@ Str-closes : {e : Bool} {s r v : List ℕ} → Str e plain_ends s r v → Closes
 Str-closes (Str.closed k h) = h
 Str-closes (Str.lone k h) = h
 
-Line-closes : {o : ParseOption} {first : Bool} {s r v : List ℕ} → Line o first s r v → Closes plain_ends r
+pub Line-closes : {o : ParseOption} {first : Bool} {s r v : List ℕ} → Line o first s r v → Closes plain_ends r
 Line-closes (Line.line k plain str) = Str-closes str
 
 -- a line of lead w and source l, with the value u, before its line end e and then r
@@ -195,7 +195,7 @@ module _ (o : ParseOption) where
   row-done [] n m = refl
   row-done (c ∷ r) n m = let other = or_parts (c == line_feed) (c == carriage_return) m in rw (other.0, other.1, n)
 
-  MoreLines-finds : (s r v : List ℕ) → MoreLines o s r v → more_lines o (s ++ r) ≡ found v r
+  pub MoreLines-finds : (s r v : List ℕ) → MoreLines o s r v → more_lines o (s ++ r) ≡ found v r
   MoreLines-finds _ r _ (MoreLines.done n m) = last _ (row-done r n m)
   MoreLines-finds _ r _ (MoreLines.empty_lf {t} {v = v} m) = then _ refl (MoreLines-finds t r v m)
   MoreLines-finds _ r _ (MoreLines.empty_cr_lf {t} {v = v} m) = then _ refl (MoreLines-finds t r v m)
@@ -224,7 +224,7 @@ module _ (o : ParseOption) where
     stops = λ {s} {r} {k} m. MoreLinesStop-finds s r k m;
   }
 
-  abbrev joined : List ℕ → Answer ℕ → Answer ℕ
+  abbrev pub joined : List ℕ → Answer ℕ → Answer ℕ
   joined u a = altered without_outer_line_feeds (prepend u a)
 
   abbrev ValueSays : List ℕ → Answer ℕ → Type 0

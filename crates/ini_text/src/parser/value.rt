@@ -38,7 +38,7 @@ pub(crate) fn read_value<'a>(
 }
 
 /// What follows a line end, if the text begins with one.
-fn after_line_end(text: &str) -> Option<&str>
+pub(crate) fn after_line_end(text: &str) -> Option<&str>
     ensures { after_end (chars text.now) ≡ option_map (λ rest. chars rest.now) result }
 {
     let (c, after) = split_first(text)?;
@@ -58,7 +58,7 @@ fn after_line_end(text: &str) -> Option<&str>
 }
 
 /// What follows an empty line behind its CR.
-fn after_cr(text: &str) -> Result<&str, Stop<'_>>
+pub(crate) fn after_cr(text: &str) -> Result<&str, Stop<'_>>
     ensures { Appends [] result (empty_cr (chars text.now)) }
 {
     let message = "\\r is not followed by \\n";

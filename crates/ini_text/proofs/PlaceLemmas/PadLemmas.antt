@@ -1,0 +1,77 @@
+-- The white space at the end of a value's own lines, character by character from behind.
+use Rattle.std.proofs.Common.{◌≡◌, ◌≢◌, ◌<◌, ℕ, true, false, List, [], ◌∷◌, ◌++◌, length, refl, sym, ap, ◌∙◌, subst, subst₂, append_assoc, append-nil, length-append, arith, chars, IsUtf8, IsCharBoundary, take, drop, ne_eqb, encode_utf8_all}
+use Rattle.std.proofs.lemmas.List.{append_cancel_left}
+use Rattle.std.proofs.lemmas.Str.{encodes-append, encodes-chars, chars-append, IsCharBoundary-from_take}
+use Rattle.std.proofs.Math.Seq.{take-append_seam, drop-append_seam}
+use Rattle.std.specs.List.{list_all}
+use Rattle.ini_text.specs.Grammar.CharacterKinds.{backslash, line_feed, is_inline_white}
+use Rattle.ini_text.specs.Grammar.Positions.{last_or}
+use Rattle.ini_text.specs.Grammar.Places.{Padded, ends_bare}
+use Rattle.ini_text.specs.Inside.PlaceReader.{IsBeforePad}
+use Rattle.ini_text.proofs.StringLemmas.ScanLemmas.{last_or_append}
+
+-- behind `own` white space alone is left of the lines
+pub record PadSoFar (lines own : List ℕ) : Type 0 where
+  pub white : List ℕ
+  pub whole : lines ≡ own ++ white
+  pub all : list_all is_inline_white white ≡ true
+
+pub pad_none : (lines : List ℕ) → PadSoFar lines lines
+pad_none lines = record { white = []; whole = sym (append-nil lines); all = refl }
+
+pub pad_more : {lines own before : List ℕ} (c : ℕ) → PadSoFar lines own → own ≡ before ++ c ∷ [] → is_inline_white c ≡ true → PadSoFar lines before
+pad_more {before = before} c p is white = record {
+  white = c ∷ p.white;
+  whole = p.whole ∙ ap (λ x. x ++ p.white) is ∙ append_assoc before (c ∷ []) p.white;
+  all = rw (white, p.all) refl;
+}
+
+pub pad_escaped : {lines own : List ℕ} (before : List ℕ) (c : ℕ) → PadSoFar lines own → own ≡ before ++ c ∷ [] → c ≡ backslash → IsBeforePad lines lines
+pad_escaped {lines} before c p is slash =
+    let whole = p.whole ∙ ap (λ x. x ++ p.white) is ∙ append_assoc before (c ∷ []) p.white ∙ ap (λ x. before ++ x ∷ p.white) slash in
+    ([], sym (append-nil lines), subst (λ x. Padded x []) (sym whole) (Padded.escaped before p.white p.all))
+
+pub pad_bare : {lines own : List ℕ} (before : List ℕ) (c : ℕ) → PadSoFar lines own → own ≡ before ++ c ∷ [] → c ≢ backslash → is_inline_white c ≡ false → IsBeforePad lines own
+pad_bare before c p is other ink =
+    let last : last_or line_feed (before ++ c ∷ []) ≡ c = last_or_append line_feed c before in
+    let bare : ends_bare (before ++ c ∷ []) ≡ true = rw (last, ink, ne_eqb c 92 other) refl in
+    (p.white, p.whole, subst (λ x. Padded x p.white) (sym is) (Padded.bare bare p.all))
+
+-- all lines are white space
+pub pad_all : {lines own : List ℕ} → PadSoFar lines own → own ≡ [] → IsBeforePad lines own
+pad_all p is = (p.white, p.whole, subst (λ x. Padded x p.white) (sym is) (Padded.bare {own = []} refl p.all))
+
+pub shorter_before : {own : List ℕ} (before : List ℕ) (c : ℕ) → own ≡ before ++ c ∷ [] → length before < length own
+shorter_before before c is = omega (arith, ap length is, length-append before (c ∷ []))
+
+-- the bytes of a text behind a front of it
+behind_bytes : (t f w : List ℕ) → IsUtf8 t → IsUtf8 f → chars t ≡ chars f ++ w → t ≡ f ++ encode_utf8_all w
+behind_bytes t f w u v h =
+    sym (encodes-chars t u) ∙ ap encode_utf8_all h ∙ encodes-append (chars f) w ∙ ap (λ x. x ++ encode_utf8_all w) (encodes-chars f v)
+
+module _ (t f : List ℕ) (u : IsUtf8 t) (v : IsUtf8 f) (before : IsBeforePad (chars t) (chars f)) where
+  bytes : t ≡ f ++ encode_utf8_all before.0
+  bytes = behind_bytes t f before.0 u v before.1
+
+  front_bytes : take (length f) t ≡ f
+  front_bytes = ap (take (length f)) bytes ∙ take-append_seam f (encode_utf8_all before.0)
+
+  pub pad_boundary : IsCharBoundary t (length f)
+  pad_boundary =
+      IsCharBoundary-from_take t (length f) u (omega (arith, ap length bytes, length-append f (encode_utf8_all before.0))) (subst IsUtf8 (sym front_bytes) v)
+
+module _ (t f a b : List ℕ) (u : IsUtf8 t) (v : IsUtf8 f) (before : IsBeforePad (chars t) (chars f)) (front : a ≡ take (length f) t) (back : b ≡ drop (length f) t) where
+  front_is : a ≡ f
+  front_is = front ∙ front_bytes t f u v before
+
+  back_is : b ≡ encode_utf8_all before.0
+  back_is = back ∙ ap (drop (length f)) (bytes t f u v before) ∙ drop-append_seam f (encode_utf8_all before.0)
+
+  pub pad_whole : chars t ≡ chars a ++ chars b
+  pad_whole =
+      ap chars (bytes t f u v before) ∙ chars-append f (encode_utf8_all before.0) v ∙ ap (λ x. chars f ++ chars x) (sym back_is) ∙ ap (λ x. chars x ++ chars b) (sym front_is)
+
+  pub padded_parts : Padded (chars a) (chars b)
+  padded_parts =
+      let behind : chars b ≡ before.0 = append_cancel_left (chars f) (chars b) before.0 (ap (λ x. chars x ++ chars b) (sym front_is) ∙ sym pad_whole ∙ before.1) in
+      subst₂ (λ x y. Padded (chars x) y) (sym front_is) (sym behind) before.2

@@ -1,0 +1,335 @@
+-- The stretches of a pair's source, from the rests that were found, and the element that they make.
+use Rattle.std.proofs.Common.{◌≡◌, ◌≢◌, ◌≤◌, ◌<◌, ℕ, true, not, ◌||◌, ◌==◌, List, [], ◌∷◌, ◌++◌, length, None, Result, MatchResult, Ok, Err, IsErrAnd, refl, sym, ap, ◌∙◌, subst, subst₂, append_assoc, append-nil, length-append, arith, chars}
+use Rattle.std.proofs.lemmas.Bool.{or_parts, not-true}
+use Rattle.std.proofs.lemmas.List.{append_cancel_right}
+use Rattle.std.specs.Char.{is_whitespace}
+use Rattle.std.specs.List.{list_all}
+use Rattle.ini_text.specs.declared.option.ParseOption.{ParseOption}
+use Rattle.ini_text.specs.declared.error.Error.{Error}
+use Rattle.ini_text.specs.declared.error.Error.TheVariants as errors
+use Rattle.ini_text.specs.declared.error.ParseKind.{ParseKind}
+use Rattle.ini_text.specs.declared.parser.fault.Stop.{Stop}
+use Rattle.ini_text.specs.declared.parser.fault.Stop.TheVariants as stops
+use Rattle.ini_text.specs.declared.parser.placed.PlacedElement.{PlacedElement}
+use Rattle.ini_text.specs.Errors.Messages.{HasMessage}
+use Rattle.ini_text.specs.Grammar.CharacterKinds.{open_bracket, is_blank, is_line_end, is_comment_mark, is_inline_white, is_separator, BeginsWith, BeginsWithNo}
+use Rattle.ini_text.specs.Grammar.Elements.{Given, Pair, Element, ElementStops}
+use Rattle.ini_text.specs.Grammar.Keys.{begins_key, begins_indented_key, KeyFront}
+use Rattle.ini_text.specs.Grammar.Places.{Stretches, value_source, pair_source, OwnLines, Padded, Tail, ArePlaced}
+use Rattle.ini_text.specs.Grammar.Positions.{line_of, column_of}
+use Rattle.ini_text.specs.Grammar.Strings.{key_ends}
+use Rattle.ini_text.specs.Grammar.Values.{Value}
+use Rattle.ini_text.specs.Grammar.WhiteSpace.{Lead}
+use Rattle.ini_text.specs.Inside.ElementReader.{element}
+use Rattle.ini_text.specs.Inside.ItemSearch.{StopIsWithin}
+use Rattle.ini_text.specs.Inside.PlaceReader.{HasTail, BeginsPair}
+use Rattle.ini_text.specs.Inside.Reading.{Answer, found, stopped, prepend, StopsBy, fault_of}
+use Rattle.ini_text.specs.Inside.Scans.{run_of, skipped}
+use Rattle.ini_text.specs.Inside.StringReader.{string}
+use Rattle.ini_text.specs.Inside.ValueReader.{value}
+use Rattle.ini_text.specs.Parsing.Fronts.{front_of, IsRest}
+use Rattle.ini_text.specs.Parsing.Parser.{memory, parse, Tells, refusal_of}
+use Rattle.ini_text.specs.Parsing.Places.{gives, HasPlaces, StandsBetween, StopsAfter, RefusesElement}
+use Rattle.ini_text.proofs.GrammarLemmas.ItemLemmas.{element-some}
+use Rattle.ini_text.proofs.GrammarLemmas.KindLemmas.{no_white_no_blank}
+use Rattle.ini_text.proofs.ReaderLemmas.ElementReaderLemmas.{element-says}
+use Rattle.ini_text.proofs.ReaderLemmas.RunReaderLemmas.{run-finds, run-sound}
+use Rattle.ini_text.proofs.ReaderLemmas.StringReaderLemmas.{string-reads}
+use Rattle.ini_text.proofs.ReaderLemmas.ValueReaderLemmas.{value-reads}
+use Rattle.ini_text.proofs.StringLemmas.FrontLemmas.{front_is, front_grows}
+use Rattle.ini_text.proofs.PlaceLemmas.TailLemmas.{found_rest, found_stopped}
+
+pub rest_of : (f r t : List ℕ) → f ++ r ≡ t → IsRest t r
+rest_of f r t h = ap (λ x. x ++ r) (front_is f r t h) ∙ h
+
+pub front_all : {t r : List ℕ} → IsRest t r → r ≡ [] → front_of t r ≡ t
+front_all {t} {r} within none = sym (append-nil (front_of t r)) ∙ ap (λ x. front_of t r ++ x) (sym none) ∙ within
+
+-- what is found isn't a fault
+no_fault : {A : Type 0} {v : List A} {r : List ℕ} {a : Answer A} → a ≡ found v r → (stop : Stop) → StopsBy a stop → fault_of stop ≡ None
+no_fault h stops.Memory s = refl
+no_fault h (stops.Fault fault) s = absurd (found_stopped (sym s ∙ h))
+
+pub memory_only : {A R : Type 0} {v : List A} {x : List ℕ} {a : Answer A} (P : R → Type 0) (stop : Stop) (r : Result R Stop) → IsErrAnd r (λ e. e ≡ stop) → StopsBy a stop → a ≡ found v x
+    → MatchResult r P (λ s. fault_of s ≡ None)
+memory_only P stop (Ok x) h s is = absurd h
+memory_only P stop (Err e) h s is = subst (λ s. fault_of s ≡ None) (sym h) (no_fault is stop s)
+
+-- a pair's source, in its parts
+record PairParts (o : ParseOption) (b s r key v : List ℕ) : Type 0 where
+  pub k : List ℕ
+  pub m : ℕ
+  pub x : List ℕ
+  pub whole : s ≡ k ++ m ∷ x
+  pub front : KeyFront o b k (m ∷ (x ++ r)) key
+  pub some : key ≢ []
+  pub separates : is_separator m ≡ true
+  pub given : Value o x r v
+
+pair_of : {o : ParseOption} {b s r key v : List ℕ} {items : List Given} → Element o b s r items → items ≡ Pair key v ∷ [] → PairParts o b s r key v
+pair_of (Element.gap g) e = cc
+pair_of (Element.comment s one mark all) e = cc
+pair_of (Element.last_comment one mark all) e = cc
+pair_of (Element.header off str) e = cc
+pair_of (Element.bracketed_header on str i) e = cc
+pair_of {o} {b} {r = r} {key} {v} (Element.pair {k = k} {s = x} {key = key2} {v = v2} {m = m} front some sep given) e =
+    let same_key : key2 ≡ key = cc in
+    let same_value : v2 ≡ v = cc in
+    record {
+      k = k;
+      m = m;
+      x = x;
+      whole = refl;
+      front = subst (KeyFront o b k (m ∷ (x ++ r))) same_key front;
+      some = λ q. some (same_key ∙ q);
+      separates = sep;
+      given = subst (Value o x r) same_value given;
+    }
+pair_of (Element.dropped_blanks ind) e = cc
+pair_of (Element.dropped_key ind begins stops) e = cc
+
+key_begins : (t : List ℕ) → BeginsWith begins_key t → skipped is_blank t ≡ t
+key_begins [] begins = cc
+key_begins (c ∷ t) begins =
+    let x = or_parts (is_whitespace c || is_comment_mark c) (c == open_bracket) (not-true _ begins) in
+    let y = or_parts (is_whitespace c) (is_comment_mark c) x.0 in
+    rw (no_white_no_blank c y.0) refl
+
+indented_begins : (t : List ℕ) → BeginsWith begins_indented_key t → BeginsWithNo is_blank t
+indented_begins [] begins = tt
+indented_begins (c ∷ t) begins =
+    let x = or_parts (is_blank c || is_line_end c) (c == open_bracket) (not-true _ begins) in
+    (or_parts (is_blank c) (is_line_end c) x.0).0
+
+-- behind the blanks of its line a key is read as a string
+key_read : {o : ParseOption} {b k x key : List ℕ} {m : ℕ} → KeyFront o b k (m ∷ x) key
+    → (u : List ℕ) × (string o.enabled_escape key_ends (skipped is_blank (k ++ m ∷ x)) ≡ found u (m ∷ x))
+key_read {o} {x = x} {m = m} (KeyFront.unindented {s} {v = v} begins str) =
+    (v, ap (string o.enabled_escape key_ends) (key_begins (s ++ m ∷ x) begins) ∙ (string-reads o.enabled_escape key_ends refl).finds str)
+key_read {o} {x = x} {m = m} (KeyFront.indented {w} {s} {v = v} ind begins str) =
+    let behind : skipped is_blank ((w ++ s) ++ m ∷ x) ≡ s ++ m ∷ x =
+    ap (skipped is_blank) (append_assoc w s (m ∷ x)) ∙ (run-finds is_blank w (s ++ m ∷ x) ind.blank (indented_begins (s ++ m ∷ x) begins)).1 in
+    (v, ap (string o.enabled_escape key_ends) behind ∙ (string-reads o.enabled_escape key_ends refl).finds str)
+
+-- what is read of a pair
+pub record PairRead (o : ParseOption) (t r name : List ℕ) : Type 0 where
+  pub u : List ℕ
+  pub m : ℕ
+  pub k : List ℕ
+  pub behind : List ℕ
+  pub v : List ℕ
+  pub key_is : string o.enabled_escape key_ends name ≡ found u (m ∷ behind)
+  pub value_is : value o behind ≡ found v r
+  pub whole : k ++ m ∷ behind ≡ t
+
+read_of : {o : ParseOption} {t r name b s key v : List ℕ} → name ≡ skipped is_blank t → Element o b s r (Pair key v ∷ []) → s ++ r ≡ t → PairRead o t r name
+read_of {o} {t} {r} {name} {v = v} name_is holds whole =
+    let p = pair_of holds refl in
+    let at_t : p.k ++ p.m ∷ (p.x ++ r) ≡ t = sym (append_assoc p.k (p.m ∷ p.x) r) ∙ ap (λ y. y ++ r) (sym p.whole) ∙ whole in
+    record {
+      u = (key_read p.front).0;
+      m = p.m;
+      k = p.k;
+      behind = p.x ++ r;
+      v = v;
+      key_is = ap (string o.enabled_escape key_ends) (name_is ∙ ap (skipped is_blank) (sym at_t)) ∙ (key_read p.front).1;
+      value_is = (value-reads o).finds p.given;
+      whole = at_t;
+    }
+
+pub pair_read : {o : ParseOption} {t r name : List ℕ} → BeginsPair o t r → name ≡ skipped is_blank t → PairRead o t r name
+pair_read (b, s, key, v, holds, whole) name_is = read_of name_is holds whole
+
+module _ {o : ParseOption} {t r name : List ℕ} (p : PairRead o t r name) where
+  pub key_found : (w : List ℕ) → prepend w (string o.enabled_escape key_ends name) ≡ found (w ++ p.u) (p.m ∷ p.behind)
+  key_found w = ap (prepend w) p.key_is
+
+  module _ {out mark : List ℕ} (read : string o.enabled_escape key_ends name ≡ found out mark) where
+    pub mark_is : mark ≡ p.m ∷ p.behind
+    mark_is = found_rest (sym read ∙ p.key_is)
+
+    pub mark_whole : p.k ++ mark ≡ t
+    mark_whole = ap (λ x. p.k ++ x) mark_is ∙ p.whole
+
+    pub mark_within : IsRest t mark
+    mark_within = rest_of p.k mark t mark_whole
+
+    pub mark_some : mark ≡ [] → ⊥
+    mark_some none = let z : [] ≡ p.m ∷ p.behind = sym none ∙ mark_is in cc
+
+    module _ {after : List ℕ} {sep : ℕ} (splits : mark ≡ sep ∷ after) where
+      pub after_is : after ≡ p.behind
+      after_is = let z : sep ∷ after ≡ p.m ∷ p.behind = sym splits ∙ mark_is in cc
+
+      pub separator_is : sep ≡ p.m
+      separator_is = let z : sep ∷ after ≡ p.m ∷ p.behind = sym splits ∙ mark_is in cc
+
+      pub value_found : value o after ≡ found p.v r
+      value_found = ap (value o) after_is ∙ p.value_is
+
+      pub tail_rest : {start tail : List ℕ} (h : HasTail o after start tail) → h.rest ≡ r
+      tail_rest h = found_rest (sym h.reads ∙ value_found)
+
+      pub tail_within : {start tail : List ℕ} → HasTail o after start tail → IsRest tail r
+      tail_within {tail = tail} h = rest_of h.behind r tail (ap (λ x. h.behind ++ x) (sym (tail_rest h)) ∙ sym h.tail_is)
+
+pub own_within : {o : ParseOption} {after start tail : List ℕ} → HasTail o after start tail → IsRest start tail
+own_within {start = start} {tail} h = rest_of h.own tail start (sym h.own_is)
+
+lead_whole : {after start : List ℕ} → start ≡ skipped is_inline_white after → run_of is_inline_white after ++ start ≡ after
+lead_whole {after} skips = ap (λ x. run_of is_inline_white after ++ x) skips ∙ (run-sound is_inline_white after).whole
+
+pub lead_within : {o : ParseOption} {after start tail : List ℕ} → HasTail o after start tail → IsRest after start
+lead_within {after = after} {start} h = rest_of (run_of is_inline_white after) start after (lead_whole h.skips)
+
+abbrev made_of : List ℕ → ℕ → List ℕ → List ℕ → List ℕ → List ℕ → Stretches
+made_of key_s sep lead_s own pad tail_s = record { key = key_s; separator = sep; lead = lead_s; own = own; pad = pad; tail = tail_s }
+
+-- the stretches, from the rests at which they end
+module _ {o : ParseOption} (t r : List ℕ) {name out mark after start tail own pad key_s lead_s tail_s : List ℕ} {sep : ℕ}
+    (name_is : name ≡ skipped is_blank t) (read : string o.enabled_escape key_ends name ≡ found out mark) (splits : mark ≡ sep ∷ after) (h : HasTail o after start tail)
+    (key_cut : key_s ≡ front_of t mark) (lead_cut : lead_s ≡ front_of after start) (own_cut : front_of start tail ≡ own ++ pad) (padded : Padded own pad)
+    (tail_cut : tail_s ≡ front_of tail r) where
+  own_is : h.own ≡ own ++ pad
+  own_is = sym (front_is h.own tail start (sym h.own_is)) ∙ own_cut
+
+  lead_is : lead_s ≡ run_of is_inline_white after
+  lead_is = lead_cut ∙ front_is (run_of is_inline_white after) start after (lead_whole h.skips)
+
+  module _ {b s key v : List ℕ} (holds : Element o b s r (Pair key v ∷ [])) (whole : s ++ r ≡ t) where
+    abbrev p : PairParts o b s r key v
+    p = pair_of holds refl
+
+    abbrev q : PairRead o t r name
+    q = read_of name_is holds whole
+
+    key_is : p.k ≡ key_s
+    unfolding read_of
+    key_is = sym (key_cut ∙ front_is p.k mark t (mark_whole q read))
+
+    rest_is : h.rest ≡ r
+    rest_is = tail_rest q read splits h
+
+    tail_whole : h.behind ++ r ≡ tail
+    tail_whole = ap (λ x. h.behind ++ x) (sym rest_is) ∙ sym h.tail_is
+
+    tail_is : h.behind ≡ tail_s
+    tail_is = sym (tail_cut ∙ front_is h.behind r tail tail_whole)
+
+    tail_at : tail ≡ tail_s ++ r
+    tail_at = sym tail_whole ∙ ap (λ x. x ++ r) tail_is
+
+    start_at : start ≡ own ++ (pad ++ (tail_s ++ r))
+    start_at = h.own_is ∙ ap (λ x. x ++ tail) own_is ∙ append_assoc own pad tail ∙ ap (λ x. own ++ (pad ++ x)) tail_at
+
+    seam : (own ++ (pad ++ tail_s)) ++ r ≡ own ++ (pad ++ (tail_s ++ r))
+    seam = append_assoc own (pad ++ tail_s) r ∙ ap (λ x. own ++ x) (append_assoc pad tail_s r)
+
+    source_is : p.x ≡ value_source (made_of key_s sep lead_s own pad tail_s)
+    unfolding read_of
+    source_is = append_cancel_right p.x ((value_source (made_of key_s sep lead_s own pad tail_s))) r
+        (sym (after_is q read splits) ∙ sym (lead_whole h.skips) ∙ ap (λ x. x ++ start) (sym lead_is) ∙ ap (λ x. lead_s ++ x) (start_at ∙ sym seam) ∙ sym (append_assoc lead_s (own ++ (pad ++ tail_s)) r))
+
+    sep_is : p.m ≡ sep
+    unfolding read_of
+    sep_is = sym (separator_is q read splits)
+
+    pub placed : (s ≡ pair_source (made_of key_s sep lead_s own pad tail_s)) × ArePlaced o b (made_of key_s sep lead_s own pad tail_s) r key v
+    placed = (
+      p.whole ∙ ap (λ x. p.k ++ p.m ∷ x) source_is ∙ ap (λ x. p.k ++ x ∷ (value_source (made_of key_s sep lead_s own pad tail_s))) sep_is ∙ ap (λ x. x ++ sep ∷ (value_source (made_of key_s sep lead_s own pad tail_s))) key_is,
+      record {
+        key_front = subst (λ y. KeyFront o b y (sep ∷ ((value_source (made_of key_s sep lead_s own pad tail_s)) ++ r)) key) key_is
+            (subst (λ y. KeyFront o b p.k (y ∷ ((value_source (made_of key_s sep lead_s own pad tail_s)) ++ r)) key) sep_is (subst (λ y. KeyFront o b p.k (p.m ∷ (y ++ r)) key) source_is p.front));
+        some = p.some;
+        separates = subst (λ y. is_separator y ≡ true) sep_is p.separates;
+        gives = subst (λ y. Value o y r v) source_is p.given;
+        lead = record {
+          white = subst (λ y. list_all is_inline_white y ≡ true) (sym lead_is) (run-sound is_inline_white after).all;
+          ends = subst (BeginsWithNo is_inline_white) (sym h.skips ∙ start_at) (run-sound is_inline_white after).ends;
+        };
+        own = subst₂ (OwnLines o) own_is tail_at h.own_lines;
+        pad = padded;
+        tail = subst₂ (Tail o) tail_is rest_is h.is_tail;
+      },
+    )
+
+-- what tells a refusal is right, where the refusal is
+module _ (o : ParseOption) (T b : List ℕ) where
+  pub tells_memory : (e : Error) → Tells memory e → RefusesElement o T b e
+  tells_memory (errors.Memory x) t = tt
+  tells_memory (errors.Io x) t = absurd t
+  tells_memory (errors.Parse x) t = absurd t
+  tells_memory errors.NotUtf8 t = absurd t
+  tells_memory errors.NoProgress t = absurd t
+
+  tells_parse : {kind : ParseKind} {line column : ℕ} (message : List ℕ) → StopsAfter o T b kind line column → HasMessage kind message → (e : Error) → Tells (parse kind line column message) e
+      → RefusesElement o T b e
+  tells_parse message stop m (errors.Memory x) t = absurd t
+  tells_parse message stop m (errors.Io x) t = absurd t
+  tells_parse message stop m (errors.Parse x) (kind, line, column, text) = (
+    record {
+      source = stop.source;
+      rest = stop.rest;
+      whole = stop.whole;
+      stops = subst (ElementStops o b stop.source stop.rest) (sym kind) stop.stops;
+      line_is = line ∙ stop.line_is;
+      column_is = column ∙ stop.column_is;
+    },
+    subst₂ HasMessage (sym kind) (sym text) m,
+  )
+  tells_parse message stop m errors.NotUtf8 t = absurd t
+  tells_parse message stop m errors.NoProgress t = absurd t
+
+-- an element at a rest of the text T
+module _ (o : ParseOption) {T rest front cs : List ℕ} {c : ℕ} (within : IsRest T rest) (is : rest ≡ c ∷ cs) (at_front : front ≡ front_of T rest) where
+  pub refuses_element : (stop : Stop) → StopsBy (element o front rest) stop
+      → StopIsWithin T stop × ((e : Error) → Tells (refusal_of T stop) e → RefusesElement o T (front_of T rest) e)
+  refuses_element stops.Memory read = (tt, tells_memory o T (front_of T rest))
+  refuses_element (stops.Fault fault) read =
+      let b = front_of T rest in
+      let (s, holds, whole) = element-says o b is (subst (λ f. element o f rest ≡ stopped (chars fault.rest.now) fault.kind) at_front read) in
+      let grown = front_grows T rest s (chars fault.rest.now) within (sym whole) in (
+        grown.1,
+        tells_parse o T b fault.message.now (record {
+          source = s;
+          rest = chars fault.rest.now;
+          whole = sym (ap (λ x. b ++ x) whole ∙ within);
+          stops = holds;
+          line_is = ap line_of grown.0;
+          column_is = ap column_of grown.0;
+        }) fault.is_of_kind,
+      )
+
+  module _ {after : List ℕ} {items : List Given} (read : element o front rest ≡ found items after) where
+    said : (s : List ℕ) × Element o (front_of T rest) s after items × (s ++ after ≡ rest)
+    said = element-says o (front_of T rest) is (subst (λ f. element o f rest ≡ found items after) at_front read)
+
+    pub source_within : IsRest rest after
+    source_within = rest_of said.0 after rest said.2
+
+    pub begins_pair : {key v : List ℕ} → items ≡ Pair key v ∷ [] → BeginsPair o rest after
+    begins_pair {key} {v} q = (front_of T rest, said.0, key, v, subst (Element o (front_of T rest) said.0 after) q said.1, said.2)
+
+    pub stands : (e : PlacedElement) → chars e.source.now ≡ front_of rest after → items ≡ gives e.content
+        → ((s : List ℕ) → Element o (front_of T rest) s after items → s ++ after ≡ rest → HasPlaces o (front_of T rest) s after e.content)
+        → IsRest T after × StandsBetween o T (front_of T rest) (front_of T after) e
+    stands e cut q places =
+        let b = front_of T rest in
+        let source : said.0 ≡ chars e.source.now = sym (cut ∙ front_is said.0 after rest said.2) in
+        let grown = front_grows T rest said.0 after within (sym said.2) in
+        let some : 1 ≤ length said.0 = element-some said.1 in (
+          grown.1,
+          record {
+            rest = after;
+            whole = sym (ap (λ x. b ++ (x ++ after)) (sym source) ∙ ap (λ x. b ++ x) said.2 ∙ within);
+            reaches = grown.0 ∙ ap (λ x. b ++ x) source;
+            longer = omega (arith, length-append b said.0, ap length grown.0);
+            is_element = subst₂ (λ x y. Element o b x after y) source q said.1;
+            places = subst (λ x. HasPlaces o b x after e.content) source (places said.0 said.1 said.2);
+          },
+        )
+
+-- where nothing but memory can be wanting
+pub refuses_memory : {o : ParseOption} {T b : List ℕ} (stop : Stop) → fault_of stop ≡ None → StopIsWithin T stop × ((e : Error) → Tells (refusal_of T stop) e → RefusesElement o T b e)
+refuses_memory {o} {T} {b} stops.Memory none = (tt, tells_memory o T b)
+refuses_memory (stops.Fault fault) none = cc

@@ -1,0 +1,347 @@
+-- A value's own lines and what stands behind them, line by line.
+use Rattle.std.proofs.Common.{◌≡◌, ◌≢◌, ◌<◌, ℕ, Bool, true, false, ◌==◌, List, [], ◌∷◌, ◌++◌, length, Option, Some, None, inl, inr, refl, sym, ap, ◌∙◌, subst, append_assoc, append-nil, eqb-true, ne_eqb}
+use Rattle.std.proofs.Math.Bool.{or-false}
+use Rattle.std.proofs.lemmas.Bool.{cases_Bool}
+use Rattle.std.proofs.lemmas.List.Folds.{list_all-append}
+use Rattle.std.specs.List.{list_all}
+use Rattle.ini_text.specs.declared.option.ParseOption.{ParseOption}
+use Rattle.ini_text.specs.declared.error.ParseKind.{ParseKind}
+use Rattle.ini_text.specs.Grammar.CharacterKinds.{line_feed, carriage_return, is_blank, is_line_end, is_line_feed, is_inline_white, BeginsWith, BeginsWithNo}
+use Rattle.ini_text.specs.Grammar.WhiteSpace.{Lead, without_outer_line_feeds}
+use Rattle.ini_text.specs.Grammar.Strings.{Closes, plain_ends}
+use Rattle.ini_text.specs.Grammar.Lines.{Line, LineStops}
+use Rattle.ini_text.specs.Grammar.Values.{LineEnd, MoreLines, Value}
+use Rattle.ini_text.specs.Grammar.Places.{LastLine, OwnLines, Tail}
+use Rattle.ini_text.specs.Inside.LineReader.{line}
+use Rattle.ini_text.specs.Inside.PlaceReader.{HasTail}
+use Rattle.ini_text.specs.Inside.Reading.{Answer, found, stopped, prepend, altered}
+use Rattle.ini_text.specs.Inside.Scans.{run_of, skipped}
+use Rattle.ini_text.specs.Inside.ValueReader.{after_end, empty_cr, more_lines, value}
+use Rattle.ini_text.proofs.GrammarLemmas.KindLemmas.{blank_inline}
+use Rattle.ini_text.proofs.ReaderLemmas.ReaderLemmas.{Says, prepend-nil, prepend-prepend, from_nothing}
+use Rattle.ini_text.proofs.ReaderLemmas.LineReaderLemmas.{line-reads}
+use Rattle.ini_text.proofs.ReaderLemmas.RunReaderLemmas.{run-sound}
+use Rattle.ini_text.proofs.ReaderLemmas.ValueReaderLemmas.{EndSays, after_end-sound, Line-closes, MoreLines-finds, empty_line, empty_cr_line, line_goes_on, line_ends, line_stops, value_line, value_ends, value_goes_on}
+
+pub feeds_all : (u : List ℕ) → skipped is_line_feed u ≡ [] → list_all is_line_feed u ≡ true
+feeds_all [] h = refl
+feeds_all (c ∷ cs) h = elim (cases_Bool (is_line_feed c)) [
+  | inl q ↦ rw q (feeds_all cs (rw q at h))
+  | inr n ↦ let z : c ∷ cs ≡ [] = rw n at h in cc
+]
+
+pub feeds_some : {d : ℕ} {ds : List ℕ} (u : List ℕ) → skipped is_line_feed u ≡ d ∷ ds → list_all is_line_feed u ≡ false
+feeds_some [] h = cc
+feeds_some (c ∷ cs) h = elim (cases_Bool (is_line_feed c)) [
+  | inl q ↦ rw q (feeds_some cs (rw q at h))
+  | inr n ↦ rw n refl
+]
+
+all_behind : (u v : List ℕ) → list_all is_line_feed u ≡ true → list_all is_line_feed v ≡ true → list_all is_line_feed (u ++ v) ≡ true
+all_behind u v a b = rw (list_all-append is_line_feed u v, a, b) refl
+
+-- a line that no line end follows ends the text
+no_end : (t : List ℕ) → Closes plain_ends t → after_end t ≡ None → t ≡ []
+no_end [] h n = refl
+no_end (c ∷ cs) h n =
+    let none : BeginsWithNo is_line_end (c ∷ cs) = subst (EndSays (c ∷ cs)) n (after_end-sound (c ∷ cs)) in
+    let z : true ≡ false = sym (rw or-false at h) ∙ none in cc
+
+pub found_rest : {A : Type 0} {v w : List A} {x y : List ℕ} → found v x ≡ found w y → x ≡ y
+found_rest h = cc
+
+pub found_stopped : {A : Type 0} {v : List A} {x y : List ℕ} {k : ParseKind} → stopped x k ≡ found v y → ⊥
+found_stopped h = cc
+
+-- behind the CR of an empty line stands LF
+behind_cr-is : (cs r : List ℕ) → empty_cr cs ≡ found [] r → cs ≡ line_feed ∷ r
+behind_cr-is [] r h = absurd (found_stopped h)
+behind_cr-is (c ∷ cs) r h = elim (cases_Bool (c == line_feed)) [
+  | inl q ↦ let feed : c ≡ line_feed = eqb-true c 10 q in ap (λ x. x ∷ cs) feed ∙ ap (λ x. line_feed ∷ x) (found_rest (rw q at h))
+  | inr n ↦ absurd (found_stopped (rw n at h))
+]
+
+-- a line at the front of a text
+record LineAt (o : ParseOption) (t end u : List ℕ) : Type 0 where
+  pub w : List ℕ
+  pub l : List ℕ
+  pub begins : BeginsWith is_blank w
+  pub lead : Lead w (l ++ end)
+  pub ln : Line o false l end u
+  pub whole : (w ++ l) ++ end ≡ t
+
+module _ (o : ParseOption) where
+  line_at : {t cs start end u : List ℕ} {c : ℕ} → t ≡ c ∷ cs → is_blank c ≡ true → start ≡ skipped is_inline_white t → line o false start ≡ found u end
+      → LineAt o t end u
+  line_at {t} {cs} {start} {end} {u} {c} is b skips read =
+      let (l, ln, h) = subst (Says (Line o false) (LineStops o) start) read ((line-reads o false).sound start) in
+      let split = run-sound is_inline_white t in
+      record {
+        w = run_of is_inline_white t;
+        l = l;
+        begins = subst (λ y. BeginsWith is_blank (run_of is_inline_white y)) (sym is) (rw (blank_inline c b) b);
+        lead = record { white = split.all; ends = subst (BeginsWithNo is_inline_white) (sym (h ∙ skips)) split.ends };
+        ln = ln;
+        whole = append_assoc (run_of is_inline_white t) l end ∙ ap (λ y. run_of is_inline_white t ++ y) (h ∙ skips) ∙ split.whole;
+      }
+
+  -- a row p, of the value u, behind which `next` stands
+  record Row (p next u : List ℕ) : Type 0 where
+    pub last : (s r : List ℕ) → s ++ r ≡ next → LastLine o s r → LastLine o (p ++ s) r
+    pub more : (s r v : List ℕ) → s ++ r ≡ next → MoreLines o s r v → MoreLines o (p ++ s) r (u ++ v)
+
+  lf_row : (next : List ℕ) → Row (line_feed ∷ []) next (line_feed ∷ [])
+  lf_row next = record { last = λ s r e x. LastLine.empty_lf x; more = λ s r v e m. MoreLines.empty_lf m }
+
+  cr_lf_row : (next : List ℕ) → Row (carriage_return ∷ line_feed ∷ []) next (line_feed ∷ [])
+  cr_lf_row next = record { last = λ s r e x. LastLine.empty_cr_lf x; more = λ s r v e m. MoreLines.empty_cr_lf m }
+
+  module _ {t end next u : List ℕ} (here : LineAt o t end u) (e : List ℕ) (le : LineEnd e next) (is : e ++ next ≡ end) where
+    abbrev row_source : List ℕ
+    row_source = here.w ++ (here.l ++ e)
+
+    seam : (s : List ℕ) → row_source ++ s ≡ here.w ++ (here.l ++ (e ++ s))
+    seam s = append_assoc here.w (here.l ++ e) s ∙ ap (λ x. here.w ++ x) (append_assoc here.l e s)
+
+    onward : (s r : List ℕ) → s ++ r ≡ next → end ≡ e ++ (s ++ r)
+    onward s r q = sym is ∙ ap (λ x. e ++ x) (sym q)
+
+    line_row : Row row_source next (line_feed ∷ u)
+    line_row = record {
+      last = λ s r q x. subst (λ y. LastLine o y r) (sym (seam s))
+          (LastLine.continued here.begins (subst (λ y. Lead here.w (here.l ++ y)) (onward s r q) here.lead) (subst (λ y. Line o false here.l y u) (onward s r q) here.ln) (subst (LineEnd e) (sym q) le) x);
+      more = λ s r v q m. subst (λ y. MoreLines o y r (line_feed ∷ (u ++ v))) (sym (seam s))
+          (MoreLines.continued here.begins (subst (λ y. Lead here.w (here.l ++ y)) (onward s r q) here.lead) (subst (λ y. Line o false here.l y u) (onward s r q) here.ln) (subst (LineEnd e) (sym q) le) m);
+    }
+
+    row_whole : t ≡ row_source ++ next
+    row_whole = sym here.whole ∙ ap (λ x. (here.w ++ here.l) ++ x) (sym is) ∙ append_assoc here.w here.l (e ++ next) ∙ sym (seam next)
+
+-- Of a value the own lines are known up to `tail`, and the lines behind them, which give nothing, up to `rest`.
+pub record TailSoFar (o : ParseOption) (text start tail rest : List ℕ) : Type 0 where
+  pub before : List ℕ
+  pub own : List ℕ
+  pub end : List ℕ
+  pub lines : List ℕ
+  pub given : List ℕ
+  pub start_is : start ≡ before ++ rest
+  pub own_is : start ≡ own ++ tail
+  pub tail_is : tail ≡ end ++ (lines ++ rest)
+  pub own_lines : OwnLines o own tail
+  pub ends : LineEnd end (lines ++ rest)
+  pub reads : value o text ≡ altered without_outer_line_feeds (prepend given (more_lines o rest))
+  pub closes : (s r v : List ℕ) → s ++ r ≡ rest → MoreLines o s r v → list_all is_line_feed v ≡ true
+      → (u : List ℕ) × MoreLines o (lines ++ s) r u × (list_all is_line_feed u ≡ true)
+  pub grows : (s r : List ℕ) → s ++ r ≡ rest → LastLine o s r → OwnLines o (before ++ s) r
+
+first_said : (o : ParseOption) {start tail u : List ℕ} → line o true start ≡ found u tail → (l : List ℕ) × Line o true l tail u × (l ++ tail ≡ start)
+first_said o {start} h = subst (Says (Line o true) (LineStops o) start) h ((line-reads o true).sound start)
+
+module _ (o : ParseOption) {text start : List ℕ} (skips : start ≡ skipped is_inline_white text) where
+  pub one_line : {tail u : List ℕ} → o.enabled_indented_mutiline_value ≡ false → line o true start ≡ found u tail → HasTail o text start tail
+  one_line {tail} {u} off h =
+      let (l, ln, whole) = first_said o h in
+      record {
+        own = l;
+        behind = [];
+        rest = tail;
+        gives = u;
+        skips = skips;
+        own_is = sym whole;
+        tail_is = refl;
+        reads = value_line o text skips off ∙ h;
+        own_lines = OwnLines.first ln;
+        is_tail = Tail.line off (Line-closes ln);
+      }
+
+  pub line_to_end : {tail u : List ℕ} → o.enabled_indented_mutiline_value ≡ true → line o true start ≡ found u tail → after_end tail ≡ None → HasTail o text start tail
+  line_to_end {tail} {u} on h none =
+      let (l, ln, whole) = first_said o h in
+      record {
+        own = l;
+        behind = [];
+        rest = tail;
+        gives = without_outer_line_feeds u;
+        skips = skips;
+        own_is = sym whole;
+        tail_is = refl;
+        reads = value_ends o text skips on h none refl;
+        own_lines = OwnLines.first ln;
+        is_tail = subst (Tail o []) (sym (no_end tail (Line-closes ln) none)) (Tail.end on);
+      }
+
+  pub tail_begins : {tail next u : List ℕ} → o.enabled_indented_mutiline_value ≡ true → line o true start ≡ found u tail → after_end tail ≡ Some next → TailSoFar o text start tail next
+  tail_begins {tail} {next} {u} on h some =
+      let (l, ln, whole) = first_said o h in
+      let (e, le, is) = subst (EndSays tail) some (after_end-sound tail) in
+      record {
+        before = l ++ e;
+        own = l;
+        end = e;
+        lines = [];
+        given = u;
+        start_is = sym whole ∙ ap (λ x. l ++ x) (sym is) ∙ sym (append_assoc l e next);
+        own_is = sym whole;
+        tail_is = sym is;
+        own_lines = OwnLines.first ln;
+        ends = le;
+        reads = value_goes_on o text skips on h some;
+        closes = λ s r v q m all. (v, m, all);
+        grows = λ s r q last.
+            subst (λ x. OwnLines o x r) (sym (append_assoc l e s))
+            (OwnLines.more (subst (λ y. Line o true l y u) (sym is ∙ ap (λ x. e ++ x) (sym q)) ln) (subst (LineEnd e) (sym q) le) last);
+      }
+
+  -- a row that gives nothing stays behind the value's own lines
+  tail_row : {tail rest next : List ℕ} (p u : List ℕ) → TailSoFar o text start tail rest → rest ≡ p ++ next → more_lines o rest ≡ prepend u (more_lines o next)
+      → Row o p next u → list_all is_line_feed u ≡ true → TailSoFar o text start tail next
+  tail_row {tail} {rest} {next} p u st is turn row all = record {
+    before = st.before ++ p;
+    own = st.own;
+    end = st.end;
+    lines = st.lines ++ p;
+    given = st.given ++ u;
+    start_is = st.start_is ∙ ap (λ x. st.before ++ x) is ∙ sym (append_assoc st.before p next);
+    own_is = st.own_is;
+    tail_is = st.tail_is ∙ ap (λ x. st.end ++ x) (ap (λ x. st.lines ++ x) is ∙ sym (append_assoc st.lines p next));
+    own_lines = st.own_lines;
+    ends = subst (LineEnd st.end) (ap (λ x. st.lines ++ x) is ∙ sym (append_assoc st.lines p next)) st.ends;
+    reads = st.reads ∙ ap (λ a. altered without_outer_line_feeds (prepend st.given a)) turn ∙ ap (altered without_outer_line_feeds) (prepend-prepend st.given u (more_lines o next));
+    closes = λ s r v q m feeds.
+        let x = st.closes (p ++ s) r (u ++ v) (append_assoc p s r ∙ ap (λ y. p ++ y) q ∙ sym is) (row.more s r v q m) (all_behind u v all feeds) in
+        (x.0, subst (λ y. MoreLines o y r x.0) (sym (append_assoc st.lines p s)) x.1, x.2);
+    grows = λ s r q last.
+        subst (λ y. OwnLines o y r) (sym (append_assoc st.before p s)) (st.grows (p ++ s) r (append_assoc p s r ∙ ap (λ y. p ++ y) q ∙ sym is) (row.last s r q last));
+  }
+
+  pub tail_lf : {tail rest next : List ℕ} {c : ℕ} → TailSoFar o text start tail rest → rest ≡ c ∷ next → c ≡ line_feed → TailSoFar o text start tail next
+  tail_lf {next = next} {c} st is feed =
+      tail_row (line_feed ∷ []) (line_feed ∷ []) st (is ∙ ap (λ x. x ∷ next) feed) (empty_line o is feed) (lf_row o next) refl
+
+  pub tail_cr_lf : {tail rest cs next : List ℕ} {c : ℕ} → TailSoFar o text start tail rest → rest ≡ c ∷ cs → c ≡ carriage_return → empty_cr cs ≡ found [] next → TailSoFar o text start tail next
+  tail_cr_lf {cs = cs} {next} {c} st is cr h =
+      tail_row (carriage_return ∷ line_feed ∷ []) (line_feed ∷ []) st (is ∙ ap (λ x. x ∷ cs) cr ∙ ap (λ x. carriage_return ∷ x) (behind_cr-is cs next h))
+      (empty_cr_line o is cr h) (cr_lf_row o next) refl
+
+  -- reading stops behind what is known
+  pub tail_stops : {tail rest r : List ℕ} {k : ParseKind} → TailSoFar o text start tail rest → more_lines o rest ≡ stopped r k → value o text ≡ stopped r k
+  tail_stops st h = st.reads ∙ ap (λ a. altered without_outer_line_feeds (prepend st.given a)) h
+
+  -- the lines end before r
+  tail_done : {tail rest : List ℕ} → o.enabled_indented_mutiline_value ≡ true → TailSoFar o text start tail rest → (s r v : List ℕ) → s ++ r ≡ rest → MoreLines o s r v
+      → list_all is_line_feed v ≡ true → HasTail o text start tail
+  tail_done {rest = rest} on st s r v q m all =
+      let x = st.closes s r v q m all in
+      let whole : st.lines ++ rest ≡ (st.lines ++ s) ++ r = ap (λ y. st.lines ++ y) (sym q) ∙ sym (append_assoc st.lines s r) in
+      record {
+        own = st.own;
+        behind = st.end ++ (st.lines ++ s);
+        rest = r;
+        gives = without_outer_line_feeds (st.given ++ v);
+        skips = skips;
+        own_is = st.own_is;
+        tail_is = st.tail_is ∙ ap (λ y. st.end ++ y) whole ∙ sym (append_assoc st.end (st.lines ++ s) r);
+        reads = st.reads ∙ ap (λ a. altered without_outer_line_feeds (prepend st.given a)) (ap (more_lines o) (sym q) ∙ MoreLines-finds o s r v m);
+        own_lines = st.own_lines;
+        is_tail = Tail.lines on (subst (LineEnd st.end) whole st.ends) x.1 x.2;
+      }
+
+  tail_ends : {tail rest : List ℕ} → o.enabled_indented_mutiline_value ≡ true → TailSoFar o text start tail rest → BeginsWithNo is_blank rest → BeginsWithNo is_line_end rest
+      → HasTail o text start tail
+  tail_ends {rest = rest} on st n m = tail_done on st [] rest [] refl (MoreLines.done n m) refl
+
+  pub tail_other : {tail rest cs : List ℕ} {c : ℕ} → o.enabled_indented_mutiline_value ≡ true → TailSoFar o text start tail rest → rest ≡ c ∷ cs → c ≢ line_feed → c ≢ carriage_return
+      → is_blank c ≡ false → HasTail o text start tail
+  tail_other {c = c} on st is n m b =
+      tail_ends on st (subst (BeginsWithNo is_blank) (sym is) b) (subst (BeginsWithNo is_line_end) (sym is) (rw (ne_eqb c 10 n, ne_eqb c 13 m) refl))
+
+  pub tail_at_end : {tail rest : List ℕ} → o.enabled_indented_mutiline_value ≡ true → TailSoFar o text start tail rest → rest ≡ [] → HasTail o text start tail
+  tail_at_end on st none = tail_ends on st (subst (BeginsWithNo is_blank) (sym none) tt) (subst (BeginsWithNo is_line_end) (sym none) tt)
+
+  pub tail_line_stops : {tail rest cs behind r : List ℕ} {c : ℕ} {k : ParseKind} → TailSoFar o text start tail rest → rest ≡ c ∷ cs → is_blank c ≡ true
+      → behind ≡ skipped is_inline_white rest → line o false behind ≡ stopped r k → value o text ≡ stopped r k
+  tail_line_stops {rest = rest} st is b from h =
+      tail_stops st (sym (prepend-nil (more_lines o rest)) ∙ line_stops o [] (line_feed ∷ []) is b from refl (ap (prepend (line_feed ∷ [])) h))
+
+  -- a line that begins with a blank
+  module _ {tail rest cs behind end u : List ℕ} {c : ℕ} (on : o.enabled_indented_mutiline_value ≡ true) (st : TailSoFar o text start tail rest) (is : rest ≡ c ∷ cs) (b : is_blank c ≡ true)
+      (from : behind ≡ skipped is_inline_white rest) (read : line o false behind ≡ found u end) where
+    here : LineAt o rest end u
+    here = line_at o is b from read
+
+    own_line : list_all is_line_feed u ≡ false → OwnLines o (st.before ++ (here.w ++ here.l)) end
+    own_line some = st.grows (here.w ++ here.l) end here.whole (LastLine.last here.begins here.lead here.ln some)
+
+    own_whole : start ≡ (st.before ++ (here.w ++ here.l)) ++ end
+    own_whole = st.start_is ∙ ap (λ x. st.before ++ x) (sym here.whole) ∙ sym (append_assoc st.before (here.w ++ here.l) end)
+
+    feed_first : prepend (line_feed ∷ []) (line o false behind) ≡ found (line_feed ∷ u) end
+    feed_first = ap (prepend (line_feed ∷ [])) read
+
+    module _ (none : after_end end ≡ None) where
+      ended : end ≡ []
+      ended = no_end end (Line-closes here.ln) none
+
+      -- it is the last, and gives nothing
+      pub last_line-empty : list_all is_line_feed u ≡ true → HasTail o text start tail
+      last_line-empty all =
+          let lead : Lead here.w here.l = subst (Lead here.w) (ap (λ x. here.l ++ x) ended ∙ append-nil here.l) here.lead in
+          let whole : (here.w ++ here.l) ++ [] ≡ rest = ap (λ x. (here.w ++ here.l) ++ x) (sym ended) ∙ here.whole in
+          tail_done on st (here.w ++ here.l) [] (line_feed ∷ u) whole (MoreLines.last here.begins lead (subst (λ x. Line o false here.l x u) ended here.ln)) all
+
+      pub last_line-own : list_all is_line_feed u ≡ false → HasTail o text start end
+      last_line-own some = record {
+        own = st.before ++ (here.w ++ here.l);
+        behind = [];
+        rest = end;
+        gives = without_outer_line_feeds (st.given ++ (line_feed ∷ u));
+        skips = skips;
+        own_is = own_whole;
+        tail_is = refl;
+        reads = st.reads ∙ ap (λ a. altered without_outer_line_feeds (prepend st.given a)) (sym (prepend-nil (more_lines o rest)) ∙ line_ends o [] (line_feed ∷ []) is b from refl feed_first none);
+        own_lines = own_line some;
+        is_tail = subst (Tail o []) (sym ended) (Tail.end on);
+      }
+
+    module _ {next : List ℕ} (some : after_end end ≡ Some next) where
+      goes : (prepend [] (more_lines o rest) ≡ prepend (line_feed ∷ u) (more_lines o next)) × (length next < length rest)
+      goes = line_goes_on o [] (line_feed ∷ []) is b from refl feed_first some
+
+      turn : more_lines o rest ≡ prepend (line_feed ∷ u) (more_lines o next)
+      turn = sym (prepend-nil (more_lines o rest)) ∙ goes.0
+
+      pub line_shorter : length next < length rest
+      line_shorter = goes.1
+
+      end_said : (e : List ℕ) × LineEnd e next × (e ++ next ≡ end)
+      end_said = subst (EndSays end) some (after_end-sound end)
+
+      pub line-empty : list_all is_line_feed u ≡ true → TailSoFar o text start tail next
+      line-empty all =
+          let (e, le, q) = end_said in tail_row (row_source o here e le q) (line_feed ∷ u) st (row_whole o here e le q) turn (line_row o here e le q) all
+
+      pub line-own : list_all is_line_feed u ≡ false → TailSoFar o text start end next
+      line-own gives =
+          let (e, le, q) = end_said in
+          let p = row_source o here e le q in
+          let row = line_row o here e le q in
+          let moved = tail_row_moved p (row_whole o here e le q) in
+          record {
+            before = st.before ++ p;
+            own = st.before ++ (here.w ++ here.l);
+            end = e;
+            lines = [];
+            given = st.given ++ (line_feed ∷ u);
+            start_is = moved;
+            own_is = own_whole;
+            tail_is = sym q;
+            own_lines = own_line gives;
+            ends = le;
+            reads = st.reads ∙ ap (λ a. altered without_outer_line_feeds (prepend st.given a)) turn ∙ ap (altered without_outer_line_feeds) (prepend-prepend st.given (line_feed ∷ u) (more_lines o next));
+            closes = λ s r v h m all. (v, m, all);
+            grows = λ s r h last.
+                subst (λ y. OwnLines o y r) (sym (append_assoc st.before p s)) (st.grows (p ++ s) r (append_assoc p s r ∙ ap (λ y. p ++ y) h ∙ sym (row_whole o here e le q)) (row.last s r h last));
+          }
+        where
+          tail_row_moved : (p : List ℕ) → rest ≡ p ++ next → start ≡ (st.before ++ p) ++ next
+          tail_row_moved p h = st.start_is ∙ ap (λ x. st.before ++ x) h ∙ sym (append_assoc st.before p next)

@@ -1,0 +1,76 @@
+-- Places: the stretches of which a pair's source is made, in order, and what each holds.
+use Rattle.std.specs.Prelude.{◌≡◌, ◌≢◌, ℕ, Bool, true, false, not, ◌||◌, ◌==◌, List, [], ◌∷◌, ◌++◌}
+use Rattle.std.specs.List.{list_all}
+use Rattle.ini_text.specs.Grammar.CharacterKinds.{line_feed, carriage_return, backslash}
+use Rattle.ini_text.specs.Grammar.CharacterKinds.{is_line_feed, is_blank, is_inline_white, is_separator}
+use Rattle.ini_text.specs.Grammar.CharacterKinds.{BeginsWith}
+use Rattle.ini_text.specs.Grammar.Positions.{last_or}
+use Rattle.ini_text.specs.Grammar.WhiteSpace.{Lead}
+use Rattle.ini_text.specs.Grammar.Strings.{Closes, plain_ends}
+use Rattle.ini_text.specs.Grammar.Lines.{Line}
+use Rattle.ini_text.specs.Grammar.Values.{LineEnd, MoreLines, Value}
+use Rattle.ini_text.specs.Grammar.Keys.{KeyFront}
+use Rattle.ini_text.specs.declared.option.ParseOption.{ParseOption}
+
+-- A pair's stretches: its key, with the blanks that indent it; the separator; the white space before its
+-- value; the value as it is written; the white space behind that; and the lines that give nothing more.
+pub record Stretches : Type 0 where
+  pub key : List ℕ
+  pub separator : ℕ
+  pub lead : List ℕ
+  pub own : List ℕ
+  pub pad : List ℕ
+  pub tail : List ℕ
+
+-- what stands behind the separator
+abbrev pub value_source : Stretches → List ℕ
+value_source p = p.lead ++ (p.own ++ (p.pad ++ p.tail))
+
+abbrev pub pair_source : Stretches → List ℕ
+pair_source p = p.key ++ p.separator ∷ value_source p
+
+-- lines with which a value goes on, before r, of which the last gives more than line feeds
+pub data LastLine (o : ParseOption) : List ℕ → List ℕ → Type 0 where
+  last : {w l r u : List ℕ} → BeginsWith is_blank w → Lead w (l ++ r) → Line o false l r u
+      → list_all is_line_feed u ≡ false → LastLine o (w ++ l) r
+  empty_lf : {t r : List ℕ} → LastLine o t r → LastLine o (line_feed ∷ t) r
+  empty_cr_lf : {t r : List ℕ} → LastLine o t r → LastLine o (carriage_return ∷ line_feed ∷ t) r
+  continued : {w l e t r u : List ℕ} → BeginsWith is_blank w → Lead w (l ++ (e ++ (t ++ r)))
+      → Line o false l (e ++ (t ++ r)) u → LineEnd e (t ++ r) → LastLine o t r
+      → LastLine o (w ++ (l ++ (e ++ t))) r
+
+-- a value's lines before r: the first one, or as many as give more than line feeds
+pub data OwnLines (o : ParseOption) : List ℕ → List ℕ → Type 0 where
+  first : {l r u : List ℕ} → Line o true l r u → OwnLines o l r
+  more : {l e t r u : List ℕ} → Line o true l (e ++ (t ++ r)) u → LineEnd e (t ++ r) → LastLine o t r
+      → OwnLines o (l ++ (e ++ t)) r
+
+-- what stands behind a value's own lines, before r: nothing; or, where values are multiline, their last line
+-- end and lines that give line feeds alone
+pub data Tail (o : ParseOption) : List ℕ → List ℕ → Type 0 where
+  line : {r : List ℕ} → o.enabled_indented_mutiline_value ≡ false → Closes plain_ends r → Tail o [] r
+  end : o.enabled_indented_mutiline_value ≡ true → Tail o [] []
+  lines : {e t r u : List ℕ} → o.enabled_indented_mutiline_value ≡ true → LineEnd e (t ++ r)
+      → MoreLines o t r u → list_all is_line_feed u ≡ true → Tail o (e ++ t) r
+
+-- the last character is neither inline white nor a backslash
+abbrev pub ends_bare : List ℕ → Bool
+ends_bare cs = not (is_inline_white (last_or line_feed cs) || last_or line_feed cs == backslash)
+
+-- Of a value's own lines the white space at their end is the pad, unless a backslash stands before it: then
+-- all is the value's own.
+pub data Padded : List ℕ → List ℕ → Type 0 where
+  bare : {own pad : List ℕ} → ends_bare own ≡ true → list_all is_inline_white pad ≡ true → Padded own pad
+  escaped : (front white : List ℕ) → list_all is_inline_white white ≡ true
+      → Padded (front ++ backslash ∷ white) []
+
+-- behind the front b and before r the stretches are those of a pair of this key and value
+pub record ArePlaced (o : ParseOption) (b : List ℕ) (p : Stretches) (r key value : List ℕ) : Type 0 where
+  pub key_front : KeyFront o b p.key (p.separator ∷ (value_source p ++ r)) key
+  pub some : key ≢ []
+  pub separates : is_separator p.separator ≡ true
+  pub gives : Value o (value_source p) r value
+  pub lead : Lead p.lead (p.own ++ (p.pad ++ (p.tail ++ r)))
+  pub own : OwnLines o (p.own ++ p.pad) (p.tail ++ r)
+  pub pad : Padded p.own p.pad
+  pub tail : Tail o p.tail r

@@ -1,0 +1,257 @@
+//! Elements with their places: what each gives, as `element` reads it, and the stretches of a pair's source.
+//! This file knows what a pair is made of, and no escape.
+ghost use Rattle.std.specs.Prelude.{◌≡◌, ◌++◌, [], chars, None, Ok, IfSome, IsOkAnd, IsErrAnd};
+ghost use Rattle.std.specs.Prelude.{OnErr, MatchResult};
+ghost use Rattle.ini_text.specs.Grammar.Places.{Padded};
+ghost use Rattle.ini_text.specs.Grammar.Positions.{line_of, column_of};
+ghost use Rattle.ini_text.specs.Inside.PlaceReader.{BeginsPair, FindsElement, HasTail};
+ghost use Rattle.ini_text.specs.Inside.PlaceReader.{IsBeforePad, PlacesPair};
+ghost use Rattle.ini_text.specs.Inside.Reading.{StopsBy, fault_of};
+ghost use Rattle.ini_text.specs.Inside.ValueReader.{value};
+ghost use Rattle.ini_text.specs.Parsing.Fronts.{IsRest};
+ghost use Rattle.ini_text.specs.Parsing.Parser.{KeepsRefusal, Tells};
+ghost use Rattle.ini_text.specs.Parsing.Places.{AnswersElement};
+
+use crate::error::Error;
+use crate::item::Item;
+use crate::option::ParseOption;
+use crate::parser::element::read_element;
+use crate::parser::endpoints::Endpoints;
+use crate::parser::fault::Stop;
+use crate::parser::line::read_line;
+use crate::parser::position::position;
+use crate::parser::string::read_string;
+use crate::parser::value::{after_cr, after_line_end};
+use crate::parser::{Parser, told};
+use crate::text::{Class, front_before, skip, split_first, split_last};
+use std::alloc::Global;
+
+/// One element of a text, as it stands there.
+#[derive(Debug, Drop)]
+pub struct PlacedElement<'a> {
+    /// The stretch of the text that the element takes.
+    pub source: &'a str,
+    /// What it gives.
+    pub content: Content<'a>,
+}
+
+/// What an element gives.
+#[derive(Debug, Drop)]
+pub enum Content<'a> {
+    /// Nothing: the element is white space, a comment, or an indented key that the text's end cuts short.
+    Nothing,
+    /// The name of a section that begins here.
+    Header(String),
+    /// A pair of the section that began last.
+    Pair(PlacedPair<'a>),
+}
+
+/// A pair, and where its parts stand.
+#[derive(Debug, Drop)]
+pub struct PlacedPair<'a> {
+    /// The key.
+    pub key: String,
+    /// The value, without quotes and escapes.
+    pub value: String,
+    /// Where the parts stand.
+    pub places: PairPlaces<'a>,
+}
+
+/// The stretches of a pair's source, in order: put together they are the source.
+#[derive(Debug, Clone, Copy)]
+pub struct PairPlaces<'a> {
+    /// The key as it is written, with the blanks before and behind it.
+    pub key: &'a str,
+    /// `=` or `:`.
+    pub separator: char,
+    /// The white space behind the separator.
+    pub lead: &'a str,
+    /// The value as it is written, with its quotes and escapes: what an edit of the value replaces.
+    pub own: &'a str,
+    /// The white space behind the value, up to its line's end. It is the value's own where a backslash
+    /// stands before it.
+    pub pad: &'a str,
+    /// Where values are multiline, the line end behind the value, and the lines behind it that give nothing;
+    /// else nothing: the line end is no part of the pair.
+    pub tail: &'a str,
+}
+
+impl<'a> Parser<'a> {
+    /// The next element, and `None` at the text's end. Their sources put together are the text.
+    ///
+    /// It gives the items that `next_item` gives, one after another, and what stands between them. The text
+    /// is refused as there. After a refusal the parser stands before the refused element, so `position`
+    /// tells where a quote, a bracket or a key stands that isn't ended; and it answers the same refusal from
+    /// then on.
+    pub fn next_element(&mut self) -> Result<Option<PlacedElement<'a>>, Error>
+        ensures option { self.new.option ≡ self.old.option }
+        ensures text { self.new.text ≡ self.old.text }
+        ensures element { self.old.refusal ≡ None
+            → AnswersElement self.old.option self.old.text self.old.front self.new.front result }
+        ensures ended { self.old.refusal ≡ None → self.old.front ≡ self.old.text → result ≡ Ok None }
+        ensures refused_again { IfSome self.old.refusal (λ refusal. IsErrAnd result (Tells refusal)) }
+        ensures refusal { KeepsRefusal self.old.refusal self.new.refusal result }
+        ensures stays { OnErr result (self.new.front ≡ self.old.front) }
+    {
+        if let Some(stop) = self.refusal {
+            return Err(told(self.text, stop));
+        }
+        match find_element(
+            self.alloc,
+            &mut self.scratch,
+            self.text,
+            self.rest,
+            self.option,
+        ) {
+            Ok((element, rest)) => {
+                self.rest = rest;
+                Ok(element)
+            }
+            Err(stop) => {
+                self.refusal = Some(stop);
+                Err(told(self.text, stop))
+            }
+        }
+    }
+
+    /// The line and the column where the parser stands, each counted from one, the column in characters.
+    pub fn position(&self) -> (usize, usize)
+        ensures line { result.0 ≡ line_of self.now.front }
+        ensures column { result.1 ≡ column_of self.now.front }
+    {
+        position(front_before(self.text, self.rest))
+    }
+}
+
+/// The element with which a rest of a text begins, and what follows it.
+fn find_element<'a>(
+    alloc: Global,
+    scratch: &mut String,
+    text: &'a str,
+    start: &'a str,
+    option: ParseOption,
+) -> Result<(Option<PlacedElement<'a>>, &'a str), Stop<'a>>
+    requires { IsRest (chars text.now) (chars start.now) }
+    ensures element { FindsElement option (chars text.now) (chars start.now) result }
+    ensures ended { chars start.now ≡ [] → IsOkAnd result (λ p. p.0 ≡ None) }
+{
+    let Some((c, after)) = split_first(start) else {
+        return Ok((None, start));
+    };
+    let front = front_before(text, start);
+    let (given, rest) = read_element(alloc, scratch, front, start, c, after, option)?;
+    let source = front_before(start, rest);
+    let content = match given {
+        None => Content::Nothing,
+        Some(Item::Header(name)) => Content::Header(name),
+        Some(Item::Pair(key, value)) => {
+            let places = place_pair(alloc, scratch, start, rest, option)?;
+            Content::Pair(PlacedPair { key, value, places })
+        }
+    };
+    Ok((Some(PlacedElement { source, content }), rest))
+}
+
+/// The places of the pair with which a text begins, and which ends at a rest of it.
+fn place_pair<'a>(
+    alloc: Global,
+    scratch: &mut String,
+    text: &'a str,
+    end: &'a str,
+    option: ParseOption,
+) -> Result<PairPlaces<'a>, Stop<'a>>
+    requires { BeginsPair option (chars text.now) (chars end.now) }
+    ensures { MatchResult result
+        (PlacesPair option (chars text.now) (chars end.now)) (λ stop. fault_of stop ≡ None) }
+{
+    let name = skip(text, Class::Blank);
+    let mark = read_string(scratch, name, option.enabled_escape, Endpoints::Key)?;
+    let Some((separator, after)) = split_first(mark) else {
+        unreachable!()
+    };
+    let (start, tail) = find_tail(alloc, scratch, after, option)?;
+    let (own, pad) = split_pad(front_before(start, tail));
+    Ok(PairPlaces {
+        key: front_before(text, mark),
+        separator,
+        lead: front_before(after, start),
+        own,
+        pad,
+        tail: front_before(tail, end),
+    })
+}
+
+/// Where the lines of a value begin that stands behind a separator, and where those end that give more than
+/// line feeds.
+fn find_tail<'a>(
+    alloc: Global,
+    scratch: &mut String,
+    text: &'a str,
+    option: ParseOption,
+) -> Result<(&'a str, &'a str), Stop<'a>>
+    ensures { MatchResult result
+        (λ p. HasTail option (chars text.now) (chars p.0.now) (chars p.1.now))
+        (StopsBy (value option (chars text.now))) }
+{
+    let start = skip(text, Class::InlineWhite);
+    let mut tail = read_line(alloc, scratch, start, option, true)?;
+    if !option.enabled_indented_mutiline_value {
+        return Ok((start, tail));
+    }
+    let Some(next) = after_line_end(tail) else {
+        return Ok((start, tail));
+    };
+    let mut rest = next;
+    'lines: while let Some((c, after)) = split_first(rest) {
+        if c == '\n' {
+            rest = after;
+        } else if c == '\r' {
+            rest = after_cr(after)?;
+        } else if Class::Blank.contain(c) {
+            scratch.clear();
+            let end = read_line(
+                alloc,
+                scratch,
+                skip(rest, Class::InlineWhite),
+                option,
+                false,
+            )?;
+            if let Some(_) = split_first(skip(scratch.as_str(), Class::LineFeed)) {
+                tail = end;
+            }
+            let Some(next) = after_line_end(end) else {
+                return Ok((start, tail));
+            };
+            rest = next;
+        } else {
+            return Ok((start, tail));
+        }
+    }
+    Ok((start, tail))
+}
+
+/// A value's own lines without the white space at their end, and that; all of them where a backslash stands
+/// before it.
+fn split_pad(lines: &str) -> (&str, &str)
+    ensures whole { chars lines.now ≡ chars result.0.now ++ chars result.1.now }
+    ensures pad { Padded (chars result.0.now) (chars result.1.now) }
+{
+    lines.split_at(without_pad(lines).len())
+}
+
+/// What stands before the white space at the end of a value's own lines.
+fn without_pad(lines: &str) -> &str
+    ensures { IsBeforePad (chars lines.now) (chars result.now) }
+{
+    let mut own = lines;
+    'white: while let Some((before, c)) = split_last(own) {
+        if c == '\\' {
+            return lines;
+        }
+        if !Class::InlineWhite.contain(c) {
+            return own;
+        }
+        own = before;
+    }
+    own
+}
