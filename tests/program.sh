@@ -5,7 +5,7 @@
 #
 #     tests/program.sh [INI_TOOL [INI_MERGE]]
 #
-# Each is by default the one that its script builds.
+# Each is by default the one that its script builds; one that is given stands for its script too, where a page shows that.
 set -u
 LC_ALL=C
 export LC_ALL
@@ -14,6 +14,8 @@ room=$(mktemp -d)
 trap 'rm -rf "$room"' EXIT
 program=${1:-}
 merge=${2:-}
+tool_script=$(readlink -f "${1:-"$top/ini_tool.sh"}")
+merge_script=$(readlink -f "${2:-"$top/ini_merge.sh"}")
 if [ -z "$program" ]; then
     "$top/ini_tool.sh" fmt </dev/null || exit 1
     program=$top/crates/ini_tool/out/ini_tool
@@ -415,7 +417,8 @@ examples() {
     here=$room/$(basename "$page" .md)
     mkdir -p "$here/shown"
     cp -r "$top/examples" "$here/examples"
-    ln -s "$top/ini_tool.sh" "$top/ini_merge.sh" "$here"
+    ln -s "$tool_script" "$here/ini_tool.sh"
+    ln -s "$merge_script" "$here/ini_merge.sh"
     awk -v to="$here/shown" '
         /^```console$/ { inside = 1; next }
         /^```/ { inside = 0 }
