@@ -4,5 +4,6 @@ mod calls;
 mod devices;
 mod edits;
 mod files;
+mod large;
 mod refusals;
 mod saving;

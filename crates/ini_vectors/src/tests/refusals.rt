@@ -4,55 +4,65 @@ use std::alloc::AllocError;
 use std::borrow::CowStr;
 use std::io;
 use std::io::ErrorKind;
+use std::process::Abort;
 use std::test::Fail;
 
-fn refused_text() -> ParseError {
-    ParseError {
-        line: 1,
-        col: 2,
-        msg: CowStr::Borrowed("missing key"),
-        kind: ParseKind::MissingKey,
-    }
+// A refusal of a text at this place.
+fn refused_text(line: usize, col: usize, msg: CowStr<'static>, kind: ParseKind) -> Error {
+    Error::Parse(ParseError {
+        line: line.max(1),
+        col: col.max(1),
+        msg,
+        kind,
+    })
+}
+
+/// Asks that the refusal prints so, and is an error of a device of this kind and in these words.
+fn expect_words(
+    rt: &(impl Abort + AllocGlobal),
+    refused: Error,
+    printed: &str,
+    kind: ErrorKind,
+    words: &str,
+) -> Result<(), Fail> {
+    assert!(rt; refused.to_string(rt.alloc())?.as_str() == printed);
+    let told = io::Error::from(refused);
+    assert!(rt; told.kind() == kind, "{words}");
+    assert!(rt; told.to_string(rt.alloc())?.as_str() == words);
+    Ok(())
 }
 
 #[test]
-fn a_refusal_is_an_error_of_a_device(rt: HostRuntime) -> Result<(), Fail> {
-    let rows = [
-        (
-            Error::Parse(refused_text()),
-            ErrorKind::InvalidData,
-            "missing key",
-        ),
-        (
-            Error::NotUtf8,
-            ErrorKind::InvalidData,
-            "the input is not UTF-8",
-        ),
-        (
-            Error::NoProgress,
-            ErrorKind::WriteZero,
-            "a write took no bytes",
-        ),
-        (
-            Error::Memory(AllocError),
-            ErrorKind::OutOfMemory,
-            "out of memory",
-        ),
-    ];
-    for (refused, kind, words) in rows {
-        let printed = refused.to_string(rt.alloc())?;
-        assert!(rt;
-            printed
-                .as_str()
-                .strip_prefix("1:2 ")
-                .unwrap_or(printed.as_str())
-                == words
-        );
-        let told = io::Error::from(refused);
-        assert!(rt; told.kind() == kind, "{words}");
-        assert!(rt; told.to_string(rt.alloc())?.as_str() == words);
-    }
-    Ok(())
+fn a_refused_text_is_an_error_of_a_device(rt: HostRuntime) -> Result<(), Fail> {
+    let invalid = ErrorKind::InvalidData;
+    let missing = CowStr::Borrowed("missing key");
+    let refused = refused_text(1, 2, missing, ParseKind::MissingKey);
+    expect_words(&rt, refused, "1:2 missing key", invalid, "missing key")?;
+    let own = CowStr::Owned(String::from_str(rt.alloc(), "no end of it")?);
+    let refused = refused_text(70_000, 1, own, ParseKind::EndOfText);
+    expect_words(
+        &rt,
+        refused,
+        "70000:1 no end of it",
+        invalid,
+        "no end of it",
+    )
+}
+
+#[test]
+fn other_refusals_are_errors_of_a_device(rt: HostRuntime) -> Result<(), Fail> {
+    let words = "the input is not UTF-8";
+    expect_words(&rt, Error::NotUtf8, words, ErrorKind::InvalidData, words)?;
+    let words = "a write took no bytes";
+    expect_words(&rt, Error::NoProgress, words, ErrorKind::WriteZero, words)?;
+    let words = "out of memory";
+    expect_words(
+        &rt,
+        Error::Memory(AllocError),
+        words,
+        ErrorKind::OutOfMemory,
+        words,
+    )
 }
 
 #[test]

@@ -1,0 +1,176 @@
+//! Large documents, names and texts, past the sizes at which a call might stop: none is told to be out of
+//! memory.
+use crate::{Edit, apply};
+use ini::{Error, Ini, ParseOption, Properties};
+use std::alloc::Global;
+use std::panic::Expect;
+use std::process::Abort;
+use std::test::Fail;
+
+/// How many pairs or sections there are.
+const MANY: usize = 70_000;
+
+/// Asks that this held of the call.
+fn expect(rt: &impl Abort, held: bool, call: &str) {
+    assert!(rt; held, "{call}");
+}
+
+// So many pairs of other keys, the first by insertion.
+fn many_pairs(alloc: Global) -> Result<Properties, Error> {
+    let mut pairs = Properties::new(alloc);
+    for number in 0..MANY {
+        let key = format!(in alloc; "{number}")?;
+        if number < 1000 {
+            pairs.insert(&key, "v")?;
+        } else {
+            pairs.append(&key, "v")?;
+        }
+    }
+    Ok(pairs)
+}
+
+// Whether a copy of so many pairs is as long, and equal.
+fn is_cloned(alloc: Global) -> Result<bool, Error> {
+    let pairs = many_pairs(alloc)?;
+    let copy = pairs.clone()?;
+    Ok(copy.len() == MANY && copy == pairs && copy.get("69999") == Some("v"))
+}
+
+// How many values of a key are taken out.
+fn removed(alloc: Global) -> Result<usize, Error> {
+    let mut pairs = Properties::new(alloc);
+    for _ in 0..MANY {
+        pairs.append("k", "v")?;
+    }
+    let removed = pairs.remove_all("k")?.count();
+    Ok(removed)
+}
+
+#[test]
+fn many_pairs_are_appended_cloned_and_removed(rt: HostRuntime) {
+    let cloned = matches!(is_cloned(rt.alloc()), Ok(true));
+    expect(&rt, cloned, "insert, append, clone");
+    let removed = matches!(removed(rt.alloc()), Ok(MANY));
+    expect(&rt, removed, "remove_all");
+}
+
+// The number as a name.
+fn name(alloc: Global, number: usize) -> Result<String, Error> {
+    Ok(format!(in alloc; "{number}")?)
+}
+
+// Opens so many sections, in turn by each call that may open one.
+fn many_sections(alloc: Global) -> Result<Ini, Error> {
+    let mut document = Ini::new(alloc)?;
+    for number in 0..MANY {
+        let name = name(alloc, number)?;
+        match number % 4 {
+            0 => {
+                document.with_section(Some(&name)).set("k", "v")?;
+            }
+            1 => {
+                document.with_section(Some(&name)).add("k", "v")?;
+            }
+            2 => {
+                let (key, value) = (String::from_str(alloc, "k")?, String::from_str(alloc, "v")?);
+                document.set_to(Some(&name), key, value)?;
+            }
+            _ => {
+                let section = document
+                    .entry(Some(name))
+                    .or_insert(Properties::new(alloc))?;
+                section.append("k", "v")?;
+            }
+        }
+    }
+    Ok(document)
+}
+
+// Whether all of them and their pairs are there, in a copy too.
+fn has_many_sections(alloc: Global) -> Result<bool, Error> {
+    let document = many_sections(alloc)?;
+    let copy = document.clone()?;
+    let all = document.len() == MANY + 1 && copy.len() == MANY + 1;
+    let last = copy.get_from(Some("69999"), "k") == Some("v");
+    Ok(all && last && document.get_from(Some("69998"), "k") == Some("v"))
+}
+
+#[test]
+fn many_sections_are_opened_and_cloned(rt: HostRuntime) {
+    let held = matches!(has_many_sections(rt.alloc()), Ok(true));
+    expect(&rt, held, "set, add, set_to, or_insert, clone");
+}
+
+// Whether a name, a key and a value of so many bytes are set, written and loaded again.
+fn is_kept(alloc: Global, length: usize) -> Result<bool, Error> {
+    let long = "x".repeat(alloc, length)?;
+    let mut document = Ini::new(alloc)?;
+    document.with_section(Some(&long)).set(&long, &long)?;
+    let mut bytes: Vec<u8> = Vec::new(alloc);
+    document.write_to(&mut bytes)?;
+    let back = Ini::read_from(alloc, &mut bytes.as_slice())?;
+    Ok(back.get_from(Some(&long), &long) == Some(long.as_str()))
+}
+
+#[test]
+fn long_names_keys_and_values_are_kept(rt: HostRuntime) {
+    for length in [17, 20, 255, 256, 300, 65_535, 65_536, 70_000, 1_100_000] {
+        let kept = matches!(is_kept(rt.alloc(), length), Ok(true));
+        assert!(rt; kept, "{length} bytes");
+    }
+}
+
+// How many edits are made, each of which opens a section.
+fn edits_made(alloc: Global, count: usize) -> Result<usize, Error> {
+    let mut edits = Vec::new(alloc);
+    for number in 0..count {
+        let (key, value) = (String::from_str(alloc, "k")?, String::from_str(alloc, "v")?);
+        edits.push(Edit::Set(Some(name(alloc, number)?), key, value))?;
+    }
+    let mut document = Ini::new(alloc)?;
+    apply(&mut document, edits.as_slice())?;
+    Ok(document.len())
+}
+
+#[test]
+fn many_edits_are_made(rt: HostRuntime) {
+    for count in [20, 300, MANY] {
+        let made = matches!(edits_made(rt.alloc(), count), Ok(names) if names == count + 1);
+        assert!(rt; made, "{count} edits");
+    }
+}
+
+// The number of pairs of the general section.
+fn general_pairs(document: &Ini) -> usize {
+    match document.section(None) {
+        Some(section) => section.iter().size_hint().0,
+        None => 0,
+    }
+}
+
+// The number of pairs that are read behind a mark.
+fn pairs_read(alloc: Global, text: &str) -> Result<usize, Error> {
+    let marked = format!(in alloc; "\u{FEFF}{text}")?;
+    let option = ParseOption::default();
+    let document = Ini::read_from_bom(alloc, &mut marked.as_bytes(), option)?;
+    Ok(general_pairs(&document))
+}
+
+#[test]
+fn many_pairs_are_read_behind_a_mark(rt: HostRuntime) -> Result<(), Fail> {
+    for count in [17, 20, 300, 65_536, MANY] {
+        let text = "k=v\n".repeat(rt.alloc(), count)?;
+        let pairs = pairs_read(rt.alloc(), &text);
+        assert!(rt; matches!(pairs, Ok(read) if read == count), "{count} pairs");
+    }
+    Ok(())
+}
+
+// Work that grows with the square of the pairs wouldn't end in time.
+#[test]
+fn more_than_a_million_pairs_are_loaded(rt: HostRuntime) -> Result<(), Fail> {
+    let text = "k=v\n".repeat(rt.alloc(), 1_100_000)?;
+    let document = Ini::load_from_str(rt.alloc(), &text)?;
+    assert!(rt; general_pairs(&document) == 1_100_000);
+    Ok(())
+}
