@@ -274,11 +274,7 @@ impl Ini {
     }
 
     // Puts a copy of a section last.
-    pub(crate) fn push_copy(
-        &mut self,
-        name: Option<&str>,
-        pairs: &Properties,
-    ) -> Result<(), Error>
+    pub(crate) fn push_copy(&mut self, name: Option<&str>, pairs: &Properties) -> Result<(), Error>
         ensures pushed { OnOk result (self.new ≡ self.old ++ (str_name name.entry, pairs.now) ∷ []) }
         ensures only_memory { IsOkUnless result (Error.Memory alloc_error) }
     {
@@ -305,11 +301,7 @@ impl Ini {
     /// Puts a section last, whatever sections the name has.
     ///
     /// Refused, for want of memory alone, it hands the properties back, and the document stays as it was.
-    pub fn append_section(
-        &mut self,
-        name: SectionKey,
-        section: Properties,
-    ) -> Result<(), NoRoom>
+    pub fn append_section(&mut self, name: SectionKey, section: Properties) -> Result<(), NoRoom>
         ensures appended { OnOk result (self.new ≡ self.old ++ (name_of name, section) ∷ []) }
         ensures unchanged { OnErr result (self.new ≡ self.old) }
         ensures handed_back { IfErr result (λ refused. refused.value ≡ section) }

@@ -56,12 +56,7 @@ impl Ini {
 }
 
 // Gives the first pair of the key another key.
-fn rename_key(
-    alloc: Global,
-    section: &mut Properties,
-    key: &str,
-    other: &str,
-) -> Result<(), Error>
+fn rename_key(alloc: Global, section: &mut Properties, key: &str, other: &str) -> Result<(), Error>
     ensures renamed { OnOk result (section.new ≡ key_renamed (chars key.now) (chars other.now) section.old) }
     ensures unchanged { OnErr result (section.new ≡ section.old) }
     ensures only_memory { IsOkUnless result (Error.Memory alloc_error) }
