@@ -15,20 +15,25 @@ use Rattle.ini.proofs.WritingLemmas.{same_written}
 is_default : IsDefaultWriteOption default_write_option
 is_default = record { escape_policy = refl; line_separator = refl; kv_separator = refl }
 
-plain_alike : (d : Document) (o : ParseOption) (v w : WriteOption) → v.escape_policy ≡ w.escape_policy → v.kv_separator.now ≡ w.kv_separator.now → IsPlain d v o → IsPlain d w o
+plain_alike : (d : Document) (o : ParseOption) (v w : WriteOption) → v.escape_policy ≡ w.escape_policy
+    → v.kv_separator.now ≡ w.kv_separator.now → IsPlain d v o → IsPlain d w o
 plain_alike d o v w policy separator p = record {
   general = p.general;
   named = p.named;
   sections = p.sections;
-  names = subst (λ (e : EscapePolicy). All (λ s. IsSomeAnd s.0 (λ name. IsPlainName o e name)) p.named) policy p.names;
+  names = subst (λ (e : EscapePolicy). All (λ s. IsSomeAnd s.0
+      (λ name. IsPlainName o e name)) p.named) policy p.names;
   separator = subst (λ (t : List ℕ). IsPlainSeparator (chars t)) separator p.separator;
   pairs = subst (λ (e : EscapePolicy). All (λ s. All (λ q. IsPlainPair o e q.0 q.1) s.1) d) policy p.pairs;
 }
 
-pub default-written : (d : Document) (w : WriteOption) → IsDefaultWriteOption w → written d w ≡ written d default_write_option
+pub default-written : (d : Document) (w : WriteOption) → IsDefaultWriteOption w
+    → written d w ≡ written d default_write_option
 default-written d w is = same_written d w default_write_option is is_default
 
-pub default-plain : (d : Document) (w : WriteOption) (o : ParseOption) → IsDefaultWriteOption w → IsPlain d w o ↔ IsPlain d default_write_option o
-default-plain d w o is = (plain_alike d o w default_write_option is.escape_policy is.kv_separator, plain_alike d o default_write_option w (sym is.escape_policy) (sym is.kv_separator))
+pub default-plain : (d : Document) (w : WriteOption) (o : ParseOption) → IsDefaultWriteOption w
+    → IsPlain d w o ↔ IsPlain d default_write_option o
+default-plain d w o is = (plain_alike d o w default_write_option is.escape_policy is.kv_separator,
+    plain_alike d o default_write_option w (sym is.escape_policy) (sym is.kv_separator))
 
 pub ruleset defaults = (default-written, default-plain)

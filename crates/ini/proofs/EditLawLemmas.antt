@@ -7,7 +7,17 @@ use Rattle.ini.specs.Documents.{Document, first_section}
 use Rattle.ini.specs.Edits.{add_in, delete_in, delete_in_all, replace_in, section_put, set_in}
 use Rattle.ini.specs.EditLaws.{KeepsLaterSections, KeepsNames, KeepsOtherKeysIn, KeepsOtherNames, KeepsOtherSections, KeepsRest}
 use Rattle.ini.proofs.EditLemmas.{edit_section-last}
-use Rattle.ini.proofs.KeepingLemmas.{deleted-last, deleted_from-last, entry-there, first-all_removed, first-all_sections_removed, first-appended, first-deleted, first-edited, first-inserted, first-removed, first-replaced, first-section_removed, first-section_set, inserted-there, later-edited, lent-there, name_refl, named-all_sections_removed, named-deleted, named-edited, named-section_removed, named-section_set, others-appended, others-inserted, others-removed, others-replaced, replace-there, rest-deleted, rest-edited, set-there, there-deleted, there-edited, there-section_set, value-deleted, value-edited, values-all_removed, values-appended, values-inserted, values-removed}
+use Rattle.ini.proofs.KeepingLemmas.{deleted-last, deleted_from-last, entry-there, first-all_removed}
+use Rattle.ini.proofs.KeepingLemmas.{first-all_sections_removed, first-appended, first-deleted}
+use Rattle.ini.proofs.KeepingLemmas.{first-edited, first-inserted, first-removed, first-replaced}
+use Rattle.ini.proofs.KeepingLemmas.{first-section_removed, first-section_set, inserted-there}
+use Rattle.ini.proofs.KeepingLemmas.{later-edited, lent-there, name_refl, named-all_sections_removed}
+use Rattle.ini.proofs.KeepingLemmas.{named-deleted, named-edited, named-section_removed}
+use Rattle.ini.proofs.KeepingLemmas.{named-section_set, others-appended, others-inserted, others-removed}
+use Rattle.ini.proofs.KeepingLemmas.{others-replaced, replace-there, rest-deleted, rest-edited}
+use Rattle.ini.proofs.KeepingLemmas.{set-there, there-deleted, there-edited, there-section_set}
+use Rattle.ini.proofs.KeepingLemmas.{value-deleted, value-edited, values-all_removed, values-appended}
+use Rattle.ini.proofs.KeepingLemmas.{values-inserted, values-removed}
 
 -- the first value of the key is another one
 abbrev pub replaced : Text → Text → Pairs → Pairs
@@ -71,7 +81,8 @@ module _ (name : Option Text) (key value : Text) where
   replace-sections other d apart = named-edited name (replaced key value) [] other refl apart d
 
   pub replace-keys : KeepsOtherKeysIn name key (replace_in name key value)
-  replace-keys other d apart = value-edited name (replaced key value) [] other refl (first-replaced key other apart value) d
+  replace-keys other d apart = value-edited name (replaced key value) [] other refl
+      (first-replaced key other apart value) d
 
   pub replace-there_still : KeepsNames (replace_in name key value)
   replace-there_still = there-edited name (replaced key value) []
@@ -114,7 +125,8 @@ module _ (name : Option Text) (pairs : Pairs) where
   pub entry-there_still : KeepsNames (section_put name pairs)
   entry-there_still = there-edited name (λ _. pairs) ((name, pairs) ∷ [])
 
-  pub entry-last : (d : Document) → first_section name d ≡ None → section_put name pairs d ≡ d ++ (name, pairs) ∷ []
+  pub entry-last : (d : Document) → first_section name d ≡ None
+      → section_put name pairs d ≡ d ++ (name, pairs) ∷ []
   entry-last = edit_section-last name (λ _. pairs) ((name, pairs) ∷ [])
 
 pub ruleset there = (inserted-there, set-there, lent-there, entry-there, replace-there)
@@ -127,41 +139,16 @@ pub ruleset values = (values-inserted, values-appended, values-removed, values-a
 
 pub ruleset pairs = (others-inserted, others-appended, others-removed)
 
-pub ruleset names = (
-  set-names,
-  add-names,
-  first-deleted,
-  delete_from-names,
-  replace-names,
-  first-section_removed,
-  first-all_sections_removed,
-  first-section_set,
-  entry-names,
-)
+pub ruleset names = (set-names, add-names, first-deleted, delete_from-names, replace-names,
+    first-section_removed, first-all_sections_removed, first-section_set, entry-names)
 
-pub ruleset sections = (
-  set-sections,
-  add-sections,
-  named-deleted,
-  delete_from-sections,
-  replace-sections,
-  named-section_removed,
-  named-all_sections_removed,
-  named-section_set,
-  entry-sections,
-)
+pub ruleset sections = (set-sections, add-sections, named-deleted, delete_from-sections,
+    replace-sections, named-section_removed, named-all_sections_removed, named-section_set, entry-sections)
 
 pub ruleset keys_in = (set-keys, add-keys, value-deleted, delete_from-keys, replace-keys)
 
-pub ruleset names_there = (
-  set-there_still,
-  add-there_still,
-  there-deleted,
-  delete_from-there_still,
-  replace-there_still,
-  there-section_set,
-  entry-there_still,
-)
+pub ruleset names_there = (set-there_still, add-there_still, there-deleted, delete_from-there_still,
+    replace-there_still, there-section_set, entry-there_still)
 
 pub ruleset rest = (set-rest, add-rest, delete-rest, delete_from-rest, replace-rest)
 

@@ -61,12 +61,15 @@ pub delete_in-there : (name : Option Text) (key : Text) (d : Document) (pairs : 
     → set_value (is_name name) d (removed key pairs) ≡ delete_in name key d
 delete_in-there name key d pairs there = sym (edit_section-there name (removed key) [] d pairs there)
 
-pub rename_key_in-there : (name : Option Text) (key other : Text) (d : Document) (pairs : Pairs) → first_section name d ≡ Some pairs
+pub rename_key_in-there : (name : Option Text) (key other : Text) (d : Document) (pairs : Pairs)
+    → first_section name d ≡ Some pairs
     → set_value (is_name name) d (key_renamed key other pairs) ≡ rename_key_in name key other d
-rename_key_in-there name key other d pairs there = sym (edit_section-there name (key_renamed key other) [] d pairs there)
+rename_key_in-there name key other d pairs there = sym (edit_section-there name
+    (key_renamed key other) [] d pairs there)
 
 -- a section stays where others are put behind it
-pub first_section-append : (name : Option Text) (d e : Document) → IsSome (first_section name d) → IsSome (first_section name (d ++ e))
+pub first_section-append : (name : Option Text) (d e : Document) → IsSome (first_section name d)
+    → IsSome (first_section name (d ++ e))
 first_section-append name [] e there = absurd (false≢true there)
 first_section-append name (s ∷ d) e there = grind (arith, first_section-append name d e)
 
@@ -77,4 +80,5 @@ stays_there (Ok x) name d e new appended unchanged there =
     subst (λ l. IsSome (first_section name l)) (sym appended) (first_section-append name d e there)
 stays_there (Err x) name d e new appended unchanged there = subst (λ l. IsSome (first_section name l)) (sym unchanged) there
 
-pub ruleset edits = (set_in-there, add_in-there, delete_in-there, rename_key_in-there, edit_section-last, set_section-same, append-nil)
+pub ruleset edits = (set_in-there, add_in-there, delete_in-there, rename_key_in-there,
+    edit_section-last, set_section-same, append-nil)

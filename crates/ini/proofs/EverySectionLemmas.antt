@@ -1,5 +1,6 @@
 -- An edit of every section of a name, one after another.
-use Rattle.std.proofs.Common.{◌≡◌, ◌∙◌, ℕ, zero, suc, ◌<◌, ◌≤◌, Bool, false, cond, List, [], ◌∷◌, length, map, slice_get, Option, None, Some, String, is_some, refl, sym, arith}
+use Rattle.std.proofs.Common.{◌≡◌, ◌∙◌, ℕ, zero, suc, ◌<◌, ◌≤◌, Bool, false, cond, List, [], ◌∷◌, length}
+use Rattle.std.proofs.Common.{map, slice_get, Option, None, Some, String, is_some, refl, sym, arith}
 use Rattle.std.specs.Borrow.{Bor}
 use Rattle.ini_multimap.specs.Keys.{name_fits}
 use Rattle.ini_multimap.specs.Pairs.{set_nth_value, values_at}
@@ -48,7 +49,8 @@ module _ {K V : Type 0} (test : K → Bool) (f : V → V) where
 
 -- the sections of a name go, one after another
 module _ (name : Option Text) where
-  pub removed_all-removed : (d : Document) → all_sections_removed name (section_removed name d) ≡ all_sections_removed name d
+  pub removed_all-removed : (d : Document)
+      → all_sections_removed name (section_removed name d) ≡ all_sections_removed name d
   removed_all-removed [] = refl
   removed_all-removed (s ∷ d) = grind (arith, removed_all-removed d)
 
@@ -56,7 +58,8 @@ module _ (name : Option Text) where
   removed_all-none [] none = refl
   removed_all-none (s ∷ d) none = grind (arith, removed_all-none d)
 
-  pub fewer-removed : (d : Document) (pairs : Pairs) → first_section name d ≡ Some pairs → length (section_removed name d) < length d
+  pub fewer-removed : (d : Document) (pairs : Pairs) → first_section name d ≡ Some pairs
+      → length (section_removed name d) < length d
   fewer-removed [] pairs there =
       let none : ⊥ = cc in
       absurd none
@@ -67,7 +70,9 @@ module _ (name : Option Text) where
   removed-none (s ∷ d) none = grind (arith, removed-none d)
 
   -- once none is there
-  pub all_gone : (start d new : Document) → all_sections_removed name d ≡ all_sections_removed name start → is_some (first_section name d) ≡ false
+  pub all_gone : (start d new : Document)
+      → all_sections_removed name d ≡ all_sections_removed name start
+      → is_some (first_section name d) ≡ false
       → new ≡ section_removed name d → new ≡ all_sections_removed name start
   all_gone start d new same none is =
       let gone = key_none (first_section name d) none in

@@ -3,11 +3,14 @@ use Rattle.std.proofs.Common.{[], ◌∷◌, ◌++◌, Option, None, Some, IsSom
 use Rattle.ini.specs.Texts.{Text}
 use Rattle.ini.specs.Properties.{Pairs}
 use Rattle.ini.specs.Documents.{all_sections_removed, section_removed}
-use Rattle.ini.specs.Edits.{add_in, delete_in, delete_in_all, rename_key_in, replace_in, section_put, section_set, set_in}
+use Rattle.ini.specs.Edits.{add_in, delete_in, delete_in_all, rename_key_in, replace_in, section_put}
+use Rattle.ini.specs.Edits.{section_set, set_in}
 use Rattle.ini.specs.EditLaws.{KeepsGeneral}
-use Rattle.ini.proofs.EditLawLemmas.{add-there_still, delete_from-there_still, entry-there_still, replace-there_still, set-there_still}
+use Rattle.ini.proofs.EditLawLemmas.{add-there_still, delete_from-there_still, entry-there_still}
+use Rattle.ini.proofs.EditLawLemmas.{replace-there_still, set-there_still}
 use Rattle.ini.proofs.EditLemmas.{first_section-append}
-use Rattle.ini.proofs.KeepingLemmas.{first-all_sections_removed, first-section_removed, there-deleted, there-section_set}
+use Rattle.ini.proofs.KeepingLemmas.{first-all_sections_removed, first-section_removed, there-deleted}
+use Rattle.ini.proofs.KeepingLemmas.{there-section_set}
 use Rattle.ini.proofs.RenameLawLemmas.{general-renamed, rename_key-there_still}
 
 module _ (name : Option Text) (key value : Text) where
@@ -45,6 +48,9 @@ module _ (name : Text) where
   delete_section-general d there = subst IsSome (sym (first-section_removed (Some name) None refl d)) there
 
   pub delete_sections-general : KeepsGeneral (all_sections_removed (Some name))
-  delete_sections-general d there = subst IsSome (sym (first-all_sections_removed (Some name) None refl d)) there
+  delete_sections-general d there = subst IsSome (sym (first-all_sections_removed
+      (Some name) None refl d)) there
 
-pub ruleset general = (set-general, add-general, replace-general, rename_key-general, delete-general, delete_from-general, lent-general, entry-general, append-general, delete_section-general, delete_sections-general, general-renamed)
+pub ruleset general = (set-general, add-general, replace-general, rename_key-general, delete-general,
+    delete_from-general, lent-general, entry-general, append-general, delete_section-general,
+    delete_sections-general, general-renamed)

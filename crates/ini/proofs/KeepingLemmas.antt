@@ -5,8 +5,10 @@ use Rattle.std.specs.Cmp.Lexicographic.{nat_list_eq_equiv, options_equiv, bytes_
 use Rattle.std.specs.Map.{set_value}
 use Rattle.ini.specs.Texts.{Text, is_name, is_text}
 use Rattle.ini.specs.Properties.{Pairs, all_removed, first_value, inserted, removed, values}
-use Rattle.ini.specs.Documents.{Document, all_sections_removed, first_section, section_removed, sections_named, value_in}
-use Rattle.ini.specs.Edits.{delete_in, delete_in_all, edit_section, replace_in, section_set, set_in, with_section}
+use Rattle.ini.specs.Documents.{Document, all_sections_removed, first_section, section_removed}
+use Rattle.ini.specs.Documents.{sections_named, value_in}
+use Rattle.ini.specs.Edits.{delete_in, delete_in_all, edit_section, replace_in, section_set, set_in}
+use Rattle.ini.specs.Edits.{with_section}
 use Rattle.ini.specs.EditLaws.{apart_from, values_in}
 
 pub text_refl : (t : Text) → is_text t t ≡ true
@@ -65,7 +67,8 @@ module _ (key other : Text) (apart : is_text other key ≡ false) where
   values-inserted value [] = grind (arith, apart)
   values-inserted value (p ∷ ps) = grind (arith, values-inserted value ps, values-all_removed ps, texts_equal key p.0, apart)
 
-  pub first-replaced : (value : Text) (ps : Pairs) → first_value other (set_value (is_text key) ps value) ≡ first_value other ps
+  pub first-replaced : (value : Text) (ps : Pairs)
+      → first_value other (set_value (is_text key) ps value) ≡ first_value other ps
   first-replaced value [] = refl
   first-replaced value (p ∷ ps) = grind (arith, first-replaced value ps, texts_equal key p.0, apart)
 
@@ -86,7 +89,8 @@ pub others-inserted : (key value : Text) (ps : Pairs) → all_removed key (inser
 others-inserted key value [] = grind (arith, text_refl key)
 others-inserted key value (p ∷ ps) = grind (arith, others-inserted key value ps, others-all_removed key ps)
 
-pub others-replaced : (key value : Text) (ps : Pairs) → all_removed key (set_value (is_text key) ps value) ≡ all_removed key ps
+pub others-replaced : (key value : Text) (ps : Pairs)
+    → all_removed key (set_value (is_text key) ps value) ≡ all_removed key ps
 others-replaced key value [] = refl
 others-replaced key value (p ∷ ps) = grind (arith, others-replaced key value ps)
 
@@ -160,13 +164,17 @@ module _ (name other : Option Text) (apart : is_name other name ≡ false) where
   named-section_removed [] = refl
   named-section_removed (s ∷ d) = grind (arith, named-section_removed d, names_equal name s.0, apart)
 
-  pub first-all_sections_removed : (d : Document) → first_section other (all_sections_removed name d) ≡ first_section other d
+  pub first-all_sections_removed : (d : Document)
+      → first_section other (all_sections_removed name d) ≡ first_section other d
   first-all_sections_removed [] = refl
-  first-all_sections_removed (s ∷ d) = grind (arith, first-all_sections_removed d, names_equal name s.0, apart)
+  first-all_sections_removed (s ∷ d) = grind (arith, first-all_sections_removed d, names_equal name s.0,
+      apart)
 
-  pub named-all_sections_removed : (d : Document) → sections_named other (all_sections_removed name d) ≡ sections_named other d
+  pub named-all_sections_removed : (d : Document)
+      → sections_named other (all_sections_removed name d) ≡ sections_named other d
   named-all_sections_removed [] = refl
-  named-all_sections_removed (s ∷ d) = grind (arith, named-all_sections_removed d, names_equal name s.0, apart)
+  named-all_sections_removed (s ∷ d) = grind (arith, named-all_sections_removed d, names_equal name s.0,
+      apart)
 
   pub first-section_set : (pairs : Pairs) (d : Document) → first_section other (section_set name pairs d) ≡ first_section other d
   first-section_set pairs [] = refl
@@ -195,13 +203,16 @@ pub entry-there : (name : Option Text) (pairs : Pairs) (d : Document) → first_
 entry-there name pairs [] = grind (arith, name_refl name)
 entry-there name pairs (s ∷ d) = grind (arith, entry-there name pairs d)
 
-replaced-there : (key value : Text) (ps : Pairs) → IsSome (first_value key ps) → first_value key (set_value (is_text key) ps value) ≡ Some value
+replaced-there : (key value : Text) (ps : Pairs) → IsSome (first_value key ps)
+    → first_value key (set_value (is_text key) ps value) ≡ Some value
 replaced-there key value [] there = absurd (false≢true there)
 replaced-there key value (p ∷ ps) there = grind (arith, replaced-there key value ps)
 
-pub replace-there : (name : Option Text) (key value : Text) (d : Document) → IsSome (value_in name key d) → value_in name key (replace_in name key value d) ≡ Some value
+pub replace-there : (name : Option Text) (key value : Text) (d : Document)
+    → IsSome (value_in name key d) → value_in name key (replace_in name key value d) ≡ Some value
 replace-there name key value [] there = absurd (false≢true there)
-replace-there name key value (s ∷ d) there = grind (arith, replace-there name key value d, replaced-there key value s.1)
+replace-there name key value (s ∷ d) there = grind (arith, replace-there name key value d,
+    replaced-there key value s.1)
 
 -- the last value of a key goes
 none-of : (key : Text) (ps : Pairs) → length (values key ps) ≡ 0 → first_value key ps ≡ None

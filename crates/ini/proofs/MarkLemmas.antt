@@ -1,5 +1,6 @@
 -- A mark at the front of a text.
-use Rattle.std.proofs.Common.{◌≡◌, ◌≢◌, ◌∙◌, ◌==◌, ℕ, List, [], ◌∷◌, ◌++◌, Bool, true, false, if◌then◌else◌, ap, refl, sym, eqb-true, encode_utf8}
+use Rattle.std.proofs.Common.{◌≡◌, ◌≢◌, ◌∙◌, ◌==◌, ℕ, List, [], ◌∷◌, ◌++◌, Bool, true, false}
+use Rattle.std.proofs.Common.{if◌then◌else◌, ap, refl, sym, eqb-true, encode_utf8}
 use Rattle.std.proofs.lemmas.Bool.{cond_both}
 use Rattle.std.proofs.lemmas.Str.{chars_past_char, encodes-chars}
 use Rattle.std.specs.Str.{IsUtf8, chars}
@@ -8,7 +9,8 @@ use Rattle.ini.specs.Texts.{Text}
 use Rattle.ini.specs.Loading.{unmarked}
 
 -- one is there
-pub unmarked-mark : (text rest : List ℕ) → IsUtf8 text → text ≡ encode 0xFEFF ++ rest → chars rest ≡ unmarked (chars text)
+pub unmarked-mark : (text rest : List ℕ) → IsUtf8 text → text ≡ encode 0xFEFF ++ rest
+    → chars rest ≡ unmarked (chars text)
 unmarked-mark text rest utf8 begins = sym (ap unmarked (chars_past_char text rest 0xFEFF utf8 begins))
 
 -- none is
@@ -18,5 +20,7 @@ unmarked-other (c ∷ T) none = cond_both (c == 0xFEFF) T (c ∷ T) (λ x. c ∷
     (λ e. absurd (none (encodes T) (ap (λ x. encode x ++ encodes T) (eqb-true c 0xFEFF e))))
     (λ _. refl)
 
-pub unmarked-none : (text : List ℕ) → IsUtf8 text → ((rest : List ℕ) → text ≢ encode 0xFEFF ++ rest) → chars text ≡ unmarked (chars text)
-unmarked-none text utf8 none = unmarked-other (chars text) (λ rest e. none rest (sym (encodes-chars text utf8) ∙ e))
+pub unmarked-none : (text : List ℕ) → IsUtf8 text → ((rest : List ℕ) → text ≢ encode 0xFEFF ++ rest)
+    → chars text ≡ unmarked (chars text)
+unmarked-none text utf8 none = unmarked-other (chars text) (λ rest e. none rest (sym
+    (encodes-chars text utf8) ∙ e))

@@ -50,7 +50,8 @@ pub fn one_default()
     ensures written { (document : Document) (write : WriteOption) → IsDefaultWriteOption write
         → written document write ≡ written document default_write_option }
     ensures plain { (document : Document) (write : WriteOption) (read : ParseOption)
-        → IsDefaultWriteOption write → IsPlain document write read ↔ IsPlain document default_write_option read }
+        → IsDefaultWriteOption write
+        → IsPlain document write read ↔ IsPlain document default_write_option read }
 {}
 
 /// Texts are equal as characters exactly where they are equal as bytes, and so are the tests of both.

@@ -41,7 +41,8 @@ pub fn other_keys_stay()
     ensures keys { (name : Option Text) (key other third : Text) (d : Document)
         → is_text third key ≡ false → is_text third other ≡ false
         → value_in name third (rename_key_in name key other d) ≡ value_in name third d }
-    ensures first { (name : Option Text) (key other : Text) → KeepsOtherNames name (rename_key_in name key other) }
+    ensures first { (name : Option Text) (key other : Text)
+        → KeepsOtherNames name (rename_key_in name key other) }
     ensures sections { (name : Option Text) (key other : Text)
         → KeepsOtherSections name (rename_key_in name key other) }
     ensures there { (name : Option Text) (key other : Text) → KeepsNames (rename_key_in name key other) }
