@@ -30,8 +30,8 @@ parse_option o = record {
 abbrev pub policy_of : ℕ → EscapePolicy
 policy_of n =
     if n == 0 then Nothing else if n == 1 then Basics else if n == 2 then BasicsUnicode
-    else if n == 3 then BasicsUnicodeExtended else if n == 4 then Reserved else if n == 5 then ReservedUnicode
-    else if n == 6 then ReservedUnicodeExtended else Everything
+    else if n == 3 then BasicsUnicodeExtended else if n == 4 then Reserved
+    else if n == 5 then ReservedUnicode else if n == 6 then ReservedUnicodeExtended else Everything
 
 abbrev pub line_end_if : Bool → LineSeparator
 line_end_if true = CRLF
@@ -57,7 +57,8 @@ IsTextOf choice None bytes = ⊥
 -- the document's text has so many bytes
 abbrev pub IsCountOf : WriteChoice → Option Document → ℕ → Type 0
 IsCountOf choice (Some d) count =
-    (option : WriteOption) → IsWriteOption choice option → count ≡ length (encode_utf8_all (written d option))
+    (option : WriteOption) → IsWriteOption choice option
+    → count ≡ length (encode_utf8_all (written d option))
 IsCountOf choice None count = ⊥
 
 -- whether the document is plain is told; of no document it is not so

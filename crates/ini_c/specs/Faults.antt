@@ -6,7 +6,8 @@ use Rattle.ini_text.specs.Grammar.Texts.{Stops}
 use Rattle.ini_text.specs.Grammar.Positions.{column_of, line_of}
 use Rattle.ini_text.specs.declared.error.ParseKind.{ParseKind}
 use Rattle.ini_text.specs.declared.error.ParseKind.TheVariants.{EndOfText, BrokenEscape, UnknownCharacter}
-use Rattle.ini_text.specs.declared.error.ParseKind.TheVariants.{InlineComment, MissingKey, CrAlone, HeaderEnd}
+use Rattle.ini_text.specs.declared.error.ParseKind.TheVariants.{InlineComment, MissingKey, CrAlone}
+use Rattle.ini_text.specs.declared.error.ParseKind.TheVariants.{HeaderEnd}
 use Rattle.ini_text.specs.declared.option.ParseOption.{ParseOption}
 use Rattle.ini_c.specs.declared.fault.Fault.{Fault}
 

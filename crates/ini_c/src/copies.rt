@@ -4,7 +4,8 @@ ghost use Rattle.std.specs.Str.{IsUtf8};
 ghost use Rattle.ini.specs.Texts.{str_name};
 ghost use Rattle.ini_c.specs.LookUps.{name_if};
 
-// Copies bytes out, and a 0 behind them, where they fit, and tells whether they did; their count in any case.
+// Copies bytes out, and a 0 behind them, where they fit, and tells whether they did; their count in any
+// case.
 pub(crate) fn copy_out(bytes: &[u8], out: &mut [u8], count: &mut usize) -> bool
     ensures fits { IsTrue result ↔ (length bytes.now < length out.old) }
     ensures count { count.new ≡ length bytes.now }

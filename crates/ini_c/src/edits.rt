@@ -82,8 +82,10 @@ pub(crate) fn delete(document: &mut Ini, named: bool, section: &[u8], key: &[u8]
     ensures not_utf8 { result ≡ not_utf8 ↔ ¬ (AreTexts section.now key.now) }
     ensures deleted { result ≡ ok → document.new
         ≡ delete_in (name_if named section.now) (chars key.now) document.old }
-    ensures there { result ≡ ok → IsSome (value_in (name_if named section.now) (chars key.now) document.old) }
-    ensures absent { result ≡ absent → value_in (name_if named section.now) (chars key.now) document.old ≡ None }
+    ensures there { result ≡ ok →
+        IsSome (value_in (name_if named section.now) (chars key.now) document.old) }
+    ensures absent { result ≡ absent →
+        value_in (name_if named section.now) (chars key.now) document.old ≡ None }
     ensures unchanged { ¬ (result ≡ ok) → document.new ≡ document.old }
     ensures statuses { IsTrue (is_among result (ok ∷ absent ∷ not_utf8 ∷ [])) }
 {

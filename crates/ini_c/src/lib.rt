@@ -15,7 +15,8 @@ ghost use Rattle.ini_c.specs.Choices.{IsCountOf, IsTextOf, TellsPlain, parse_opt
 ghost use Rattle.ini_c.specs.Faults.{IsStopAt};
 ghost use Rattle.ini_c.specs.Held.{held};
 ghost use Rattle.ini_c.specs.LookUps.{AreTexts, HasSection, found_in, name_if};
-ghost use Rattle.ini_c.specs.Statuses.{absent, broken, is_among, no_document, no_memory, no_room, not_utf8, ok};
+ghost use Rattle.ini_c.specs.Statuses.{absent, broken, is_among, no_document};
+ghost use Rattle.ini_c.specs.Statuses.{no_memory, no_room, not_utf8, ok};
 
 mod copies;
 mod document;
@@ -60,8 +61,8 @@ pub extern "C" fn bigrosk_ini_version() -> u32
 /// Loads the document of a text, in place of the one that is there; with `drop_mark` without one mark (the
 /// bytes EF BB BF) at the text's front.
 ///
-/// `NOT_UTF8` if the bytes are no text, and else `BROKEN` where reading it stops: the fault tells kind, line,
-/// column and message. Refused, for that or for want of memory, the document stays.
+/// `NOT_UTF8` if the bytes are no text, and else `BROKEN` where reading it stops: the fault tells kind,
+/// line, column and message. Refused, for that or for want of memory, the document stays.
 #[unsafe(no_mangle)]
 pub extern "C" fn bigrosk_ini_load(
     alloc: Global,
@@ -108,11 +109,13 @@ pub extern "C" fn bigrosk_ini_get(
     ensures no_document { result ≡ no_document ↔ (held document.old ≡ None) }
     ensures not_utf8 { result ≡ not_utf8 ↔
         (IsSome (held document.old) × ¬ (AreTexts section.now key.now)) }
-    ensures absent { result ≡ absent → found_in (name_if named section.now) (chars key.now) (held document.old) ≡ None }
+    ensures absent { result ≡ absent →
+        found_in (name_if named section.now) (chars key.now) (held document.old) ≡ None }
     ensures value { result ≡ ok → found_in (name_if named section.now) (chars key.now) (held document.old)
         ≡ Some (chars (take count.new value.new)) }
     ensures zero { result ≡ ok → slice_get value.new count.new ≡ Some 0 }
-    ensures there { result ≡ no_room → IsSome (found_in (name_if named section.now) (chars key.now) (held document.old)) }
+    ensures there { result ≡ no_room →
+        IsSome (found_in (name_if named section.now) (chars key.now) (held document.old)) }
     ensures no_room { result ≡ no_room → length value.old ≤ count.new }
     ensures rest { ¬ (result ≡ ok) → value.new ≡ value.old }
     ensures statuses { IsTrue (is_among result (ok ∷ absent ∷ no_room ∷ not_utf8 ∷ no_document ∷ [])) }
@@ -138,8 +141,10 @@ pub extern "C" fn bigrosk_ini_has(
     ensures no_document { result ≡ no_document ↔ (held document.old ≡ None) }
     ensures not_utf8 { result ≡ not_utf8 ↔
         (IsSome (held document.old) × ¬ (AreTexts section.now key.now)) }
-    ensures absent { result ≡ absent → found_in (name_if named section.now) (chars key.now) (held document.old) ≡ None }
-    ensures there { result ≡ ok → IsSome (found_in (name_if named section.now) (chars key.now) (held document.old)) }
+    ensures absent { result ≡ absent →
+        found_in (name_if named section.now) (chars key.now) (held document.old) ≡ None }
+    ensures there { result ≡ ok →
+        IsSome (found_in (name_if named section.now) (chars key.now) (held document.old)) }
     ensures statuses { IsTrue (is_among result (ok ∷ absent ∷ not_utf8 ∷ no_document ∷ [])) }
 {
     let Some(kept) = document.take(alloc) else {
@@ -173,8 +178,8 @@ pub extern "C" fn bigrosk_ini_has_section(
     answer
 }
 
-/// Sets the value of the key in the first section of the name: its first pair there takes the value, and later
-/// ones go. Where the key, or the section, is new, it comes last.
+/// Sets the value of the key in the first section of the name: its first pair there takes the value, and
+/// later ones go. Where the key, or the section, is new, it comes last.
 #[unsafe(no_mangle)]
 pub extern "C" fn bigrosk_ini_set(
     alloc: Global,
@@ -188,7 +193,8 @@ pub extern "C" fn bigrosk_ini_set(
     ensures not_utf8 { result ≡ not_utf8 ↔
         (IsSome (held document.old) × ¬ (AreTexts section.now key.now × IsUtf8 value.now)) }
     ensures set { result ≡ ok → held document.new
-        ≡ option_map (set_in (name_if named section.now) (chars key.now) (chars value.now)) (held document.old) }
+        ≡ option_map (set_in (name_if named section.now) (chars key.now) (chars value.now))
+        (held document.old) }
     ensures unchanged { ¬ (result ≡ ok) → held document.new ≡ held document.old }
     ensures statuses { IsTrue (is_among result (ok ∷ not_utf8 ∷ no_memory ∷ no_document ∷ [])) }
 {
@@ -214,7 +220,8 @@ pub extern "C" fn bigrosk_ini_add(
     ensures not_utf8 { result ≡ not_utf8 ↔
         (IsSome (held document.old) × ¬ (AreTexts section.now key.now × IsUtf8 value.now)) }
     ensures added { result ≡ ok → held document.new
-        ≡ option_map (add_in (name_if named section.now) (chars key.now) (chars value.now)) (held document.old) }
+        ≡ option_map (add_in (name_if named section.now) (chars key.now) (chars value.now))
+        (held document.old) }
     ensures unchanged { ¬ (result ≡ ok) → held document.new ≡ held document.old }
     ensures statuses { IsTrue (is_among result (ok ∷ not_utf8 ∷ no_memory ∷ no_document ∷ [])) }
 {
@@ -240,8 +247,10 @@ pub extern "C" fn bigrosk_ini_delete(
         (IsSome (held document.old) × ¬ (AreTexts section.now key.now)) }
     ensures deleted { result ≡ ok → held document.new
         ≡ option_map (delete_in (name_if named section.now) (chars key.now)) (held document.old) }
-    ensures there { result ≡ ok → IsSome (found_in (name_if named section.now) (chars key.now) (held document.old)) }
-    ensures absent { result ≡ absent → found_in (name_if named section.now) (chars key.now) (held document.old) ≡ None }
+    ensures there { result ≡ ok →
+        IsSome (found_in (name_if named section.now) (chars key.now) (held document.old)) }
+    ensures absent { result ≡ absent →
+        found_in (name_if named section.now) (chars key.now) (held document.old) ≡ None }
     ensures unchanged { ¬ (result ≡ ok) → held document.new ≡ held document.old }
     ensures statuses { IsTrue (is_among result (ok ∷ absent ∷ not_utf8 ∷ no_document ∷ [])) }
 {
@@ -278,8 +287,8 @@ pub extern "C" fn bigrosk_ini_delete_section(
     answer
 }
 
-/// Copies the document's text out, and a 0 behind it. `count` is the text's number of bytes, where it fits and
-/// where it doesn't.
+/// Copies the document's text out, and a 0 behind it. `count` is the text's number of bytes, where it fits
+/// and where it doesn't.
 #[unsafe(no_mangle)]
 pub extern "C" fn bigrosk_ini_write(
     alloc: Global,

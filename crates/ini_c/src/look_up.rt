@@ -20,7 +20,8 @@ pub(crate) fn find(
     count: &mut usize,
 ) -> u32
     ensures not_utf8 { result ≡ not_utf8 ↔ ¬ (AreTexts section.now key.now) }
-    ensures absent { result ≡ absent → value_in (name_if named section.now) (chars key.now) document.now ≡ None }
+    ensures absent { result ≡ absent →
+        value_in (name_if named section.now) (chars key.now) document.now ≡ None }
     ensures value { result ≡ ok → value_in (name_if named section.now) (chars key.now) document.now
         ≡ Some (chars (take count.new out.new)) }
     ensures zero { result ≡ ok → slice_get out.new count.new ≡ Some 0 }
@@ -49,8 +50,10 @@ pub(crate) fn find(
 // Whether the first section of the name has the key.
 pub(crate) fn has(document: &Ini, named: bool, section: &[u8], key: &[u8]) -> u32
     ensures not_utf8 { result ≡ not_utf8 ↔ ¬ (AreTexts section.now key.now) }
-    ensures absent { result ≡ absent → value_in (name_if named section.now) (chars key.now) document.now ≡ None }
-    ensures there { result ≡ ok → IsSome (value_in (name_if named section.now) (chars key.now) document.now) }
+    ensures absent { result ≡ absent →
+        value_in (name_if named section.now) (chars key.now) document.now ≡ None }
+    ensures there { result ≡ ok →
+        IsSome (value_in (name_if named section.now) (chars key.now) document.now) }
     ensures statuses { IsTrue (is_among result (ok ∷ absent ∷ not_utf8 ∷ [])) }
 {
     let Ok(section) = str::from_utf8(section) else {

@@ -48,7 +48,8 @@ module _ {M : Type 1} {𝓤 : Ura M} (𝓛 : Logic 𝓤) (at_mem : Memory → SP
   walk z =
       let Post = (walk_of 𝓛 F.ended stayed (F.clauses 𝓛 at_mem run)).post z in
       let a = z.0.3.0 in
-      let made : Kept-handle.Denot = record { is_open = false; at = null_ptr; alloc = a; value = record { document = [] } } in
+      let made : Kept-handle.Denot =
+      record { is_open = false; at = null_ptr; alloc = a; value = record { document = [] } } in
       qed 𝓛 ((‵ ftrue ⊛ ‵ (fsep (Heap.the_row.own_val a z.0.4.0) ftrue)) ∷ raw (emp 𝓤) ∷ []) ∵ split ! $
       drop ! $ fsplit ! $
       handle_tells E.al ! a z.0.4.0 (λ hv ws fa. move ! (1 ∷ 1 ∷ []) $ drop ! $ drop ! $ nothing ! $

@@ -48,7 +48,8 @@ module _ {M : Type 1} {𝓤 : Ura M} (𝓛 : Logic 𝓤) (at_mem : Memory → SP
       qed 𝓛 ((‵ ftrue ⊛ ‵ (fsep ((B E).own_val v z.0.4.0) ftrue)) ∷ raw (emp 𝓤) ∷ []) ∵ split ! $ drop ! $
       fsplit ! $
       box_out E ! v z.0.4.0 (λ b o hv e ws fa. fjoin ! $ move ! (1 ∷ 0 ∷ []) $
-      let made : Kept-handle.Denot = record { is_open = true; at = block_ptr b o; alloc = v.alloc; value = v.value } in
+      let made : Kept-handle.Denot =
+      record { is_open = true; at = block_ptr b o; alloc = v.alloc; value = v.value } in
       let u = word E hv b o in
       handle_in ! made $ move ! (1 ∷ 2 ∷ []) $ drop ! $ drop ! $
       let Γ : List (Item 𝓤) = ‵ (Kept-handle.own_val made (u ∷ [])) ∷ [] in
