@@ -33,7 +33,9 @@ default-written d w is = same_written d w default_write_option is is_default
 
 pub default-plain : (d : Document) (w : WriteOption) (o : ParseOption) → IsDefaultWriteOption w
     → IsPlain d w o ↔ IsPlain d default_write_option o
-default-plain d w o is = (plain_alike d o w default_write_option is.escape_policy is.kv_separator,
-    plain_alike d o default_write_option w (sym is.escape_policy) (sym is.kv_separator))
+default-plain d w o is = (
+  plain_alike d o w default_write_option is.escape_policy is.kv_separator,
+  plain_alike d o default_write_option w (sym is.escape_policy) (sym is.kv_separator),
+)
 
 pub ruleset defaults = (default-written, default-plain)

@@ -139,16 +139,41 @@ pub ruleset values = (values-inserted, values-appended, values-removed, values-a
 
 pub ruleset pairs = (others-inserted, others-appended, others-removed)
 
-pub ruleset names = (set-names, add-names, first-deleted, delete_from-names, replace-names,
-    first-section_removed, first-all_sections_removed, first-section_set, entry-names)
+pub ruleset names = (
+  set-names,
+  add-names,
+  first-deleted,
+  delete_from-names,
+  replace-names,
+  first-section_removed,
+  first-all_sections_removed,
+  first-section_set,
+  entry-names,
+)
 
-pub ruleset sections = (set-sections, add-sections, named-deleted, delete_from-sections,
-    replace-sections, named-section_removed, named-all_sections_removed, named-section_set, entry-sections)
+pub ruleset sections = (
+  set-sections,
+  add-sections,
+  named-deleted,
+  delete_from-sections,
+  replace-sections,
+  named-section_removed,
+  named-all_sections_removed,
+  named-section_set,
+  entry-sections,
+)
 
 pub ruleset keys_in = (set-keys, add-keys, value-deleted, delete_from-keys, replace-keys)
 
-pub ruleset names_there = (set-there_still, add-there_still, there-deleted, delete_from-there_still,
-    replace-there_still, there-section_set, entry-there_still)
+pub ruleset names_there = (
+  set-there_still,
+  add-there_still,
+  there-deleted,
+  delete_from-there_still,
+  replace-there_still,
+  there-section_set,
+  entry-there_still,
+)
 
 pub ruleset rest = (set-rest, add-rest, delete-rest, delete_from-rest, replace-rest)
 

@@ -80,5 +80,12 @@ stays_there (Ok x) name d e new appended unchanged there =
     subst (λ l. IsSome (first_section name l)) (sym appended) (first_section-append name d e there)
 stays_there (Err x) name d e new appended unchanged there = subst (λ l. IsSome (first_section name l)) (sym unchanged) there
 
-pub ruleset edits = (set_in-there, add_in-there, delete_in-there, rename_key_in-there,
-    edit_section-last, set_section-same, append-nil)
+pub ruleset edits = (
+  set_in-there,
+  add_in-there,
+  delete_in-there,
+  rename_key_in-there,
+  edit_section-last,
+  set_section-same,
+  append-nil,
+)

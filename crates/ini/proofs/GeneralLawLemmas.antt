@@ -51,6 +51,17 @@ module _ (name : Text) where
   delete_sections-general d there = subst IsSome (sym (first-all_sections_removed
       (Some name) None refl d)) there
 
-pub ruleset general = (set-general, add-general, replace-general, rename_key-general, delete-general,
-    delete_from-general, lent-general, entry-general, append-general, delete_section-general,
-    delete_sections-general, general-renamed)
+pub ruleset general = (
+  set-general,
+  add-general,
+  replace-general,
+  rename_key-general,
+  delete-general,
+  delete_from-general,
+  lent-general,
+  entry-general,
+  append-general,
+  delete_section-general,
+  delete_sections-general,
+  general-renamed,
+)

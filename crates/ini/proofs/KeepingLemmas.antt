@@ -167,14 +167,22 @@ module _ (name other : Option Text) (apart : is_name other name ≡ false) where
   pub first-all_sections_removed : (d : Document)
       → first_section other (all_sections_removed name d) ≡ first_section other d
   first-all_sections_removed [] = refl
-  first-all_sections_removed (s ∷ d) = grind (arith, first-all_sections_removed d, names_equal name s.0,
-      apart)
+  first-all_sections_removed (s ∷ d) = grind (
+    arith,
+    first-all_sections_removed d,
+    names_equal name s.0,
+    apart,
+  )
 
   pub named-all_sections_removed : (d : Document)
       → sections_named other (all_sections_removed name d) ≡ sections_named other d
   named-all_sections_removed [] = refl
-  named-all_sections_removed (s ∷ d) = grind (arith, named-all_sections_removed d, names_equal name s.0,
-      apart)
+  named-all_sections_removed (s ∷ d) = grind (
+    arith,
+    named-all_sections_removed d,
+    names_equal name s.0,
+    apart,
+  )
 
   pub first-section_set : (pairs : Pairs) (d : Document) → first_section other (section_set name pairs d) ≡ first_section other d
   first-section_set pairs [] = refl
@@ -211,8 +219,11 @@ replaced-there key value (p ∷ ps) there = grind (arith, replaced-there key val
 pub replace-there : (name : Option Text) (key value : Text) (d : Document)
     → IsSome (value_in name key d) → value_in name key (replace_in name key value d) ≡ Some value
 replace-there name key value [] there = absurd (false≢true there)
-replace-there name key value (s ∷ d) there = grind (arith, replace-there name key value d,
-    replaced-there key value s.1)
+replace-there name key value (s ∷ d) there = grind (
+  arith,
+  replace-there name key value d,
+  replaced-there key value s.1,
+)
 
 -- the last value of a key goes
 none-of : (key : Text) (ps : Pairs) → length (values key ps) ≡ 0 → first_value key ps ≡ None

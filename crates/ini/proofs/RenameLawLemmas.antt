@@ -87,12 +87,20 @@ module _ (name : Option Text) (key other : Text) where
 pub general-renamed : (name : Text) (other : Option Text) (d : Document) → HasGeneral d
     → HasGeneral (section_renamed (Some name) other d)
 general-renamed name other [] there = absurd (false≢true there)
-general-renamed name other (s ∷ d) there = grind (arith, general-renamed name other d,
-    names_equal (Some name) s.0)
+general-renamed name other (s ∷ d) there = grind (
+  arith,
+  general-renamed name other d,
+  names_equal (Some name) s.0,
+)
 
 pub ruleset there = (section-there, renamed_key-there)
 
 pub ruleset names = (first-renamed, named-renamed, pairs-renamed)
 
-pub ruleset keys = (keys-renamed, rename_key-names, rename_key-sections, rename_key-there_still,
-    rename_key-later)
+pub ruleset keys = (
+  keys-renamed,
+  rename_key-names,
+  rename_key-sections,
+  rename_key-there_still,
+  rename_key-later,
+)

@@ -36,20 +36,29 @@ scalars-one c below = and_from (scalar c) true (low_scalar c (omega arith)) refl
 module _ {W : Type 0} {contents : W → Option (List ℕ)} where
   -- a text as it is, seen as its characters
   pub SendsText-put : {a b : Watched W} {h i bytes : List ℕ} {r : Result (Unit {0}) Error} → IsUtf8 bytes → Sends contents a b h i r bytes → SendsText contents a b h i r (chars bytes)
-  SendsText-put {bytes = bytes} {r = r} utf8 sent = record { sends = rw
-      (encodes-chars bytes utf8) sent; characters = at_ok r (scalars-chars bytes utf8) }
+  SendsText-put {bytes = bytes} {r = r} utf8 sent = record {
+    sends = rw
+        (encodes-chars bytes utf8) sent;
+    characters = at_ok r (scalars-chars bytes utf8);
+  }
 
   -- a text escaped
   pub SendsText-escaped : {a b : Watched W} {h i bytes : List ℕ} {r : Result (Unit {0}) Error}
       (policy : EscapePolicy) → IsUtf8 bytes → Sends contents a b h i r (escaped_bytes policy bytes)
       → SendsText contents a b h i r (escaped policy (chars bytes))
-  SendsText-escaped {bytes = bytes} {r = r} policy utf8 sent = record { sends = sent; characters =
-      at_ok r (escaped-scalars policy (chars bytes) (scalars-chars bytes utf8)) }
+  SendsText-escaped {bytes = bytes} {r = r} policy utf8 sent = record {
+    sends = sent;
+    characters =
+        at_ok r (escaped-scalars policy (chars bytes) (scalars-chars bytes utf8));
+  }
 
   -- a text of one ASCII character
   pub SendsText-one : {a b : Watched W} {h i : List ℕ} {r : Result (Unit {0}) Error} (c : ℕ) → c < 128 → Sends contents a b h i r (c ∷ []) → SendsText contents a b h i r (c ∷ [])
-  SendsText-one {a} {b} {h} {i} {r} c below sent = record { sends = subst (Sends contents a b h i r)
-      (sym (append-nil (encode c) ∙ encode_ascii c below)) sent; characters = at_ok r (scalars-one c below) }
+  SendsText-one {a} {b} {h} {i} {r} c below sent = record {
+    sends = subst (Sends contents a b h i r)
+        (sym (append-nil (encode c) ∙ encode_ascii c below)) sent;
+    characters = at_ok r (scalars-one c below);
+  }
 
   -- the second text behind the first
   pub SendsText-then : {a b d : Watched W} {h i j : List ℕ} {r : Result (Unit {0}) Error} {xs ys : Text} → SendsText contents a b h i (Ok (tt {0})) xs → SendsText contents b d i j r ys
@@ -61,8 +70,11 @@ module _ {W : Type 0} {contents : W → Option (List ℕ)} where
 
   -- a text that was cut short, and what should have followed
   pub SendsText-cut : {a b : Watched W} {h i : List ℕ} {e : Error} {xs : Text} (ys : Text) → SendsText contents a b h i (Err e) xs → SendsText contents a b h i (Err e) (xs ++ ys)
-  SendsText-cut ys cut = record { sends = rw encodes-append (Sends-cut
-      (encode_utf8_all ys) cut.sends); characters = tt }
+  SendsText-cut ys cut = record {
+    sends = rw encodes-append (Sends-cut
+        (encode_utf8_all ys) cut.sends);
+    characters = tt;
+  }
 
 -- a part of a whole text is written, and the rest is left
 pub record Writing {W : Type 0} (contents : W → Option (List ℕ)) (a b : Watched W) (before held : List ℕ) (whole rest : Text) : Type 0 where
@@ -72,8 +84,15 @@ pub record Writing {W : Type 0} (contents : W → Option (List ℕ)) (a b : Watc
 
 module _ {W : Type 0} {contents : W → Option (List ℕ)} where
   pub Writing-starts : (a : Watched W) (h : List ℕ) {whole : Text} → IsClear a → Writing contents a a h h whole whole
-  Writing-starts a h clear = record { so_far = []; joined = refl; done = record { sends = Sends-nil h
-      clear; characters = refl } }
+  Writing-starts a h clear = record {
+    so_far = [];
+    joined = refl;
+    done = record {
+      sends = Sends-nil h
+          clear;
+      characters = refl;
+    };
+  }
 
   -- a call that was to write the front xs of the rest
   module _ {a b d : Watched W} {h i j : List ℕ} {whole rest xs : Text} (more : Text) (front : rest ≡ xs ++ more) (left : Writing contents a b h i whole rest) where
@@ -121,9 +140,9 @@ pub line-scalars : (policy : EscapePolicy) (first between second end : List ℕ)
 line-scalars policy first between second end a b c d =
     let part = λ (text behind : List ℕ) (u : IsUtf8 text) (v : IsUtf8 behind).
     scalars-append (escaped policy (chars text)) (chars behind) (escaped-scalars policy (chars text)
-        (scalars-chars text u)) (scalars-chars behind v) in
+    (scalars-chars text u)) (scalars-chars behind v) in
     scalars-append (escaped policy (chars first) ++ chars between) (escaped policy
-        (chars second) ++ chars end) (part first between a b) (part second end c d)
+    (chars second) ++ chars end) (part first between a b) (part second end c d)
 
 -- a pair's line and a header by their parts
 pub pair_parts : (w : WriteOption) (key value : Text) → (escaped w.escape_policy key ++ chars w.kv_separator.now) ++ (escaped w.escape_policy value ++ chars (line_end w.line_separator)) ≡ written_pair w (key, value)

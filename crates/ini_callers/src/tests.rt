@@ -56,10 +56,12 @@ fn is_unmarked(alloc: Global) -> Result<bool, Error> {
     let one = Ini::load_from_str_bom(alloc, "\u{FEFF}k=v", option)?;
     let two = Ini::load_from_str_bom(alloc, "\u{FEFF}\u{FEFF}k=v", option)?;
     let none = Ini::load_from_str_bom(alloc, "k=v", option)?;
-    Ok(marked.get_from(None, "k").is_none()
-        && one.get_from(None, "k") == Some("v")
-        && two.get_from(None, "\u{FEFF}k") == Some("v")
-        && none.get_from(None, "k") == Some("v"))
+    Ok(
+        marked.get_from(None, "k").is_none()
+            && one.get_from(None, "k") == Some("v")
+            && two.get_from(None, "\u{FEFF}k") == Some("v")
+            && none.get_from(None, "k") == Some("v"),
+    )
 }
 
 #[test]

@@ -96,12 +96,7 @@ pub fn move_pairs(document: &mut Ini, from: &str, to: &str) -> Result<(), Error>
 }
 
 /// The first value of the key in each section of the name that has it, as the hosts of a list of upstreams.
-pub fn upstreams(
-    alloc: Global,
-    document: &Ini,
-    name: &str,
-    key: &str,
-) -> Result<Vec<String>, Error>
+pub fn upstreams(alloc: Global, document: &Ini, name: &str, key: &str) -> Result<Vec<String>, Error>
     ensures { IfOk result (λ found. texts_of found.items
         ≡ each_first (Some (chars name.now)) (chars key.now) document.now) }
 {

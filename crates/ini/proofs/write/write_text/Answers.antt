@@ -11,7 +11,7 @@ returns-in_err-write_sections-clause-bytes g c =
 pub returns-clause-bytes : goal.returns-clause-bytes
 returns-clause-bytes g c =
     Sends-flushed c.requires c.new-lines.ensures c.in_ok-write_sections.ensures.sends
-        c.flush.ensures.sends c.flush.ensures.empty
+    c.flush.ensures.sends c.flush.ensures.empty
 
 pub returns-clause-characters : goal.returns-clause-characters
 returns-clause-characters g c = at_ok c.flush.result c.in_ok-write_sections.ensures.characters
