@@ -51,6 +51,57 @@ impl Read for SlowReader<'_> {
     }
 }
 
+/// A reader of at most so many bytes in a call, which answers a fault at one of its calls.
+#[derive(Drop)]
+pub(crate) struct StepReader<'a> {
+    rest: &'a [u8],
+    step: usize,
+    fails_at: usize,
+    fault: ErrorKind,
+    pub(crate) calls: usize,
+    /// The fewest bytes that a call asked for.
+    pub(crate) least_asked: usize,
+}
+
+impl<'a> StepReader<'a> {
+    /// A reader of the bytes that never fails.
+    pub(crate) fn new(bytes: &'a [u8], step: usize) -> StepReader<'a> {
+        StepReader::failing(bytes, step, 0, ErrorKind::Other)
+    }
+
+    /// A reader of the bytes whose call of this number, from 1, answers the fault.
+    pub(crate) fn failing(
+        bytes: &'a [u8],
+        step: usize,
+        call: usize,
+        fault: ErrorKind,
+    ) -> StepReader<'a> {
+        StepReader {
+            rest: bytes,
+            step,
+            fails_at: call,
+            fault,
+            calls: 0,
+            least_asked: usize::MAX,
+        }
+    }
+}
+
+impl Read for StepReader<'_> {
+    fn read(&mut self, buf: &mut [u8]) -> io::Result<usize> {
+        self.calls = self.calls.saturating_add(1);
+        self.least_asked = self.least_asked.min(buf.len());
+        if self.calls == self.fails_at {
+            return Err(io::Error::from(self.fault));
+        }
+        let count = buf.len().min(self.rest.len()).min(self.step);
+        let (given, rest) = self.rest.split_at(count);
+        buf[..count].copy_from_slice(given);
+        self.rest = rest;
+        Ok(count)
+    }
+}
+
 /// How much a writer takes: `room` bytes, at most `step` in a call. The call that finds no room answers the
 /// fault or, where there is none, takes no bytes.
 #[derive(Clone, Copy, Debug)]

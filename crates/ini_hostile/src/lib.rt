@@ -6,6 +6,8 @@
 #![tactic(auto)]
 
 #[cfg(test)]
+mod bounded;
+#[cfg(test)]
 mod devices;
 #[cfg(test)]
 mod edits;
@@ -21,6 +23,8 @@ mod long_texts;
 mod multimap;
 #[cfg(test)]
 mod no_memory;
+#[cfg(test)]
+mod no_requests;
 #[cfg(test)]
 mod reading;
 #[cfg(test)]

@@ -1,13 +1,12 @@
 //! Texts longer than two reads: what is read of them from a device, beside what loading the same text gives
 //! or what follows from how the text was made.
-use crate::devices::READ_FAULTS;
+use crate::devices::{READ_FAULTS, StepReader};
 use crate::loading::all_on;
 use crate::show::{multiline, shown};
 use ini::{Error, Ini, ParseKind, ParseOption, Watched};
 use std::alloc::Global;
 use std::fmt::{Debug, Write};
-use std::io;
-use std::io::{ErrorKind, Read};
+use std::io::ErrorKind;
 use std::panic::Expect;
 use std::process::Abort;
 
@@ -16,48 +15,6 @@ const PIECE: usize = 0x1_0000;
 
 /// How many bytes a reader gives at most in a call: all that it is asked for, some, one.
 const STEPS: [usize; 3] = [usize::MAX, 4093, 1];
-
-/// A reader of at most so many bytes in a call, which answers a fault at one of its calls, and then works.
-#[derive(Drop)]
-struct StepReader<'a> {
-    rest: &'a [u8],
-    step: usize,
-    fails_at: usize,
-    fault: ErrorKind,
-    calls: usize,
-}
-
-impl<'a> StepReader<'a> {
-    /// A reader of the bytes that never fails.
-    fn new(bytes: &'a [u8], step: usize) -> StepReader<'a> {
-        StepReader::failing(bytes, step, 0, ErrorKind::Other)
-    }
-
-    /// A reader of the bytes whose call of this number, from 1, answers the fault.
-    fn failing(bytes: &'a [u8], step: usize, call: usize, fault: ErrorKind) -> StepReader<'a> {
-        StepReader {
-            rest: bytes,
-            step,
-            fails_at: call,
-            fault,
-            calls: 0,
-        }
-    }
-}
-
-impl Read for StepReader<'_> {
-    fn read(&mut self, buf: &mut [u8]) -> io::Result<usize> {
-        self.calls = self.calls.saturating_add(1);
-        if self.calls == self.fails_at {
-            return Err(io::Error::from(self.fault));
-        }
-        let count = buf.len().min(self.rest.len()).min(self.step);
-        let (given, rest) = self.rest.split_at(count);
-        buf[..count].copy_from_slice(given);
-        self.rest = rest;
-        Ok(count)
-    }
-}
 
 /// Asks that this held of what is named.
 fn expect(rt: &impl Abort, of: impl Debug + Drop, held: bool) {

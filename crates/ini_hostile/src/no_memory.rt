@@ -10,18 +10,19 @@ use ini_text::Parser;
 use std::panic::Expect;
 use std::process::Abort;
 
-// Asks that this held of the call.
-fn expect(rt: &impl Abort, held: bool, call: &str) {
+/// Asks that this held of the call.
+pub(crate) fn expect(rt: &impl Abort, held: bool, call: &str) {
     assert!(rt; held, "{call}");
 }
 
 /// A document that the calls are made on.
-const TEXT: &'static str = "g=0\n[p]\nk=1\nk=2\nj=3\n[q]\n[p]\nk=4\n";
+pub(crate) const TEXT: &'static str = "g=0\n[p]\nk=1\nk=2\nj=3\n[q]\n[p]\nk=4\n";
 
 /// The name of its second section and of its last.
-const P: Option<&'static str> = Some("p");
+pub(crate) const P: Option<&'static str> = Some("p");
 
-fn look_up(rt: &impl Abort, document: &Ini) {
+/// Look-ups of the document.
+pub(crate) fn look_up(rt: &impl Abort, document: &Ini) {
     let pairs = document.section(P).map(Properties::len);
     expect(
         rt,
@@ -33,7 +34,8 @@ fn look_up(rt: &impl Abort, document: &Ini) {
     expect(rt, document.get_from_or(P, "z", "d") == "d", "get_from_or");
 }
 
-fn walk(rt: &impl Abort, document: &Ini) {
+/// Walks over it.
+pub(crate) fn walk(rt: &impl Abort, document: &Ini) {
     expect(rt, document.section_all(P).count() == 2, "section_all");
     expect(rt, document.sections().count() == 3, "sections");
     expect(rt, document.iter().size_hint() == (4, Some(4)), "iter");
@@ -52,7 +54,8 @@ fn look_ups_of_documents(rt: HostRuntime) {
     expect(&rt, plain, "is_plain");
 }
 
-fn look_up_for_writing(rt: &impl Abort, document: &mut Ini) {
+/// The same for writing.
+pub(crate) fn look_up_for_writing(rt: &impl Abort, document: &mut Ini) {
     expect(rt, document.section_mut(P).is_some(), "section_mut");
     expect(rt, document.get_from_mut(P, "k").is_some(), "get_from_mut");
     expect(
@@ -67,7 +70,8 @@ fn look_up_for_writing(rt: &impl Abort, document: &mut Ini) {
     );
 }
 
-fn walk_for_writing(rt: &impl Abort, document: &mut Ini) {
+/// A walk for writing over all values.
+pub(crate) fn walk_for_writing(rt: &impl Abort, document: &mut Ini) {
     for (_, section) in document {
         for (_, value) in section {
             expect(rt, !value.is_empty(), "a walk for writing");
@@ -172,12 +176,13 @@ fn occupied_entries(rt: HostRuntime) {
     into_mut(&rt, &mut document, third);
 }
 
-// The properties of the first section p.
-fn peer(rt: &(impl Abort + AllocGlobal)) -> Properties {
+/// The properties of the first section p.
+pub(crate) fn peer(rt: &(impl Abort + AllocGlobal)) -> Properties {
     loaded(rt, TEXT).delete(P).expect(rt, "a section")
 }
 
-fn look_up_pairs(rt: &impl Abort, pairs: &Properties, same: &Properties) {
+/// Look-ups of the properties.
+pub(crate) fn look_up_pairs(rt: &impl Abort, pairs: &Properties, same: &Properties) {
     expect(rt, pairs == same, "==");
     expect(rt, pairs.len() == 2 && !pairs.is_empty(), "len, is_empty");
     expect(rt, pairs.contains_key("k"), "contains_key");
@@ -186,7 +191,8 @@ fn look_up_pairs(rt: &impl Abort, pairs: &Properties, same: &Properties) {
     expect(rt, pairs.iter().size_hint() == (3, Some(3)), "iter");
 }
 
-fn remove_none(rt: &impl Abort, pairs: &mut Properties) {
+/// Removals of a key that isn't there.
+pub(crate) fn remove_none(rt: &impl Abort, pairs: &mut Properties) {
     let none = match pairs.remove_all("z") {
         Ok(removed) => removed.count() == 0,
         Err(_) => false,
@@ -217,10 +223,10 @@ fn calls_of_properties(rt: HostRuntime) {
 }
 
 /// Texts under texts.
-type Map = Multimap<String, String>;
+pub(crate) type Map = Multimap<String, String>;
 
-// Two pairs of k, one of j.
-fn texts(rt: &(impl Abort + AllocGlobal)) -> Map {
+/// Two pairs of k, one of j.
+pub(crate) fn texts(rt: &(impl Abort + AllocGlobal)) -> Map {
     let mut map = Multimap::new(rt.alloc());
     for (key, value) in [("k", "1"), ("j", "3"), ("k", "2")] {
         assert!(rt; map.append(text(rt, key), text(rt, value)).is_ok());
@@ -228,7 +234,8 @@ fn texts(rt: &(impl Abort + AllocGlobal)) -> Map {
     map
 }
 
-fn look_up_texts(rt: &impl Abort, map: &Map) {
+/// Look-ups of the multimap.
+pub(crate) fn look_up_texts(rt: &impl Abort, map: &Map) {
     expect(
         rt,
         map.len_pairs() == 3 && map.len_keys() == 2,
@@ -241,7 +248,8 @@ fn look_up_texts(rt: &impl Abort, map: &Map) {
     expect(rt, map.iter().size_hint() == (3, Some(3)), "iter");
 }
 
-fn look_up_texts_for_writing(rt: &impl Abort, map: &mut Map) {
+/// The same for writing.
+pub(crate) fn look_up_texts_for_writing(rt: &impl Abort, map: &mut Map) {
     expect(rt, map.get_mut("k").is_some(), "get_mut");
     expect(rt, map.get_nth_mut("k", 1).is_some(), "get_nth_mut");
     expect(rt, map.get_last_mut().is_some(), "get_last_mut");
@@ -297,8 +305,8 @@ fn edits_of_a_multimap(rt: HostRuntime) {
     expect(&rt, map.is_empty(), "clear");
 }
 
-// Writes the document by each form.
-fn write_document(rt: &impl Abort, document: &Ini, writer: &mut &mut [u8]) {
+/// Writes the document by each form.
+pub(crate) fn write_document(rt: &impl Abort, document: &Ini, writer: &mut &mut [u8]) {
     let policy = EscapePolicy::Everything;
     expect(rt, document.write_to(writer).is_ok(), "write_to");
     expect(
@@ -313,8 +321,8 @@ fn write_document(rt: &impl Abort, document: &Ini, writer: &mut &mut [u8]) {
     expect(rt, watched.is_ok(), "write_watched");
 }
 
-// Writes texts, one escaped and one as it is.
-fn write_texts(rt: &impl Abort, writer: &mut &mut [u8]) {
+/// Writes texts, one escaped and one as it is.
+pub(crate) fn write_texts(rt: &impl Abort, writer: &mut &mut [u8]) {
     let mut out = Watched::new(writer);
     let escaped = write_escaped("\u{e9}", EscapePolicy::Everything, &mut out);
     expect(rt, escaped.is_ok(), "write_escaped");
@@ -334,8 +342,8 @@ fn writing(rt: HostRuntime) {
     expect(&rt, place.starts_with(want.as_bytes()), "what was written");
 }
 
-// Whether the fault behind the line's second column is told.
-fn is_refused(parser: &mut Parser<'_>) -> bool {
+/// Whether the fault behind the line's second column is told.
+pub(crate) fn is_refused(parser: &mut Parser<'_>) -> bool {
     match parser.next_item() {
         Err(Error::Parse(fault)) => {
             fault.kind == ParseKind::InlineComment && (fault.line, fault.col) == (1, 3)

@@ -74,6 +74,42 @@ impl Famine {
         assert!(rt; refused, "memory is left");
     }
 
+    /// Leaves so many blocks of 64 KB that are free, and no other byte.
+    pub(crate) fn leave_blocks(&mut self, rt: &impl Abort, count: usize) {
+        self.take_all(rt);
+        for _ in 0..count {
+            drop(self.reserves.pop().expect(rt, "a reserve"));
+        }
+    }
+
+    /// Leaves one such block.
+    pub(crate) fn leave_block(&mut self, rt: &impl Abort) {
+        self.leave_blocks(rt, 1);
+    }
+
+    /// Takes the block. Whether it was whole: a request of up to a thousand bytes has split it, and what is
+    /// given back of so few bytes isn't joined to it again.
+    pub(crate) fn is_whole(&mut self) -> bool {
+        match Vec::with_capacity(self.alloc, RESERVE) {
+            Ok(block) => self.reserves.push(block).is_ok(),
+            Err(_) => false,
+        }
+    }
+
+    /// Asks that it was whole, so that the call made no request.
+    pub(crate) fn expect_whole(&mut self, rt: &impl Abort, call: &str) {
+        assert!(rt; self.is_whole(), "{call}: memory was asked for");
+    }
+
+    /// Leaves so many bytes, and no other.
+    pub(crate) fn with_room(rt: &(impl Abort + AllocGlobal), size: usize) -> Famine {
+        let mut famine = Famine::new(rt);
+        let room = block(rt, famine.alloc, size);
+        famine.take_all(rt);
+        drop(room);
+        famine
+    }
+
     /// Leaves so many steps of bytes until the block that it answers is dropped.
     pub(crate) fn leave(&mut self, rt: &impl Abort, steps: usize) -> Vec<u8> {
         self.take_all(rt);

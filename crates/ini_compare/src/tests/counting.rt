@@ -1,4 +1,4 @@
-//! What calls on many pairs ask of their keys: each a few times `code` and `==`, however many pairs there are.
+//! What calls on many pairs ask of their keys: `code` and `==` a few times, however many pairs there are.
 ghost use Rattle.std.specs.Prelude.{string_bytes, bytes_eq};
 ghost use Rattle.std.proofs.Common.{rules};
 ghost use Rattle.std.specs.Cmp.Rules.{comparing};

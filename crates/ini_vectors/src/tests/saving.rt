@@ -1,5 +1,5 @@
-//! Files that documents are saved to: what they hold then, and that the file of the name is written, cut, and
-//! stays the same file, by each form of writing.
+//! Files that documents are saved to: what they hold then, and that each form of writing cuts the file of
+//! the name, which stays the same file.
 use ini::{Error, EscapePolicy, Ini, WriteOption};
 use std::fs;
 use std::fs::Permissions;
