@@ -1,5 +1,5 @@
 -- The stretches of a pair's source, from the rests that were found, and the element that they make.
-use Rattle.std.proofs.Common.{◌≡◌, ◌≢◌, ◌≤◌, ◌<◌, ℕ, true, not, ◌||◌, ◌==◌, List, [], ◌∷◌, ◌++◌, length, None, Result, MatchResult, Ok, Err, IsErrAnd, refl, sym, ap, ◌∙◌, subst, subst₂, append_assoc, append-nil, length-append, arith, chars}
+use Rattle.std.proofs.Common.{◌≡◌, ◌≢◌, ◌≤◌, ℕ, true, ◌||◌, ◌==◌, List, [], ◌∷◌, ◌++◌, length, None, Result, MatchResult, Ok, Err, IsErrAnd, refl, sym, ap, ◌∙◌, subst, subst₂, append_assoc, append-nil, length-append, arith, chars}
 use Rattle.std.proofs.lemmas.Bool.{or_parts, not-true}
 use Rattle.std.proofs.lemmas.List.{append_cancel_right}
 use Rattle.std.specs.Char.{is_whitespace}
@@ -19,7 +19,6 @@ use Rattle.ini_text.specs.Grammar.Places.{Stretches, value_source, pair_source, 
 use Rattle.ini_text.specs.Grammar.Positions.{line_of, column_of}
 use Rattle.ini_text.specs.Grammar.Strings.{key_ends}
 use Rattle.ini_text.specs.Grammar.Values.{Value}
-use Rattle.ini_text.specs.Grammar.WhiteSpace.{Lead}
 use Rattle.ini_text.specs.Inside.ElementReader.{element}
 use Rattle.ini_text.specs.Inside.ItemSearch.{StopIsWithin}
 use Rattle.ini_text.specs.Inside.PlaceReader.{HasTail, BeginsPair}

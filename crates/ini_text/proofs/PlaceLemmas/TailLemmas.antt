@@ -1,5 +1,5 @@
 -- A value's own lines and what stands behind them, line by line.
-use Rattle.std.proofs.Common.{◌≡◌, ◌≢◌, ◌<◌, ℕ, Bool, true, false, ◌==◌, List, [], ◌∷◌, ◌++◌, length, Option, Some, None, inl, inr, refl, sym, ap, ◌∙◌, subst, append_assoc, append-nil, eqb-true, ne_eqb}
+use Rattle.std.proofs.Common.{◌≡◌, ◌≢◌, ◌<◌, ℕ, true, false, ◌==◌, List, [], ◌∷◌, ◌++◌, length, Some, None, inl, inr, refl, sym, ap, ◌∙◌, subst, append_assoc, append-nil, eqb-true, ne_eqb}
 use Rattle.std.proofs.Math.Bool.{or-false}
 use Rattle.std.proofs.lemmas.Bool.{cases_Bool}
 use Rattle.std.proofs.lemmas.List.Folds.{list_all-append}
@@ -10,15 +10,15 @@ use Rattle.ini_text.specs.Grammar.CharacterKinds.{line_feed, carriage_return, is
 use Rattle.ini_text.specs.Grammar.WhiteSpace.{Lead, without_outer_line_feeds}
 use Rattle.ini_text.specs.Grammar.Strings.{Closes, plain_ends}
 use Rattle.ini_text.specs.Grammar.Lines.{Line, LineStops}
-use Rattle.ini_text.specs.Grammar.Values.{LineEnd, MoreLines, Value}
+use Rattle.ini_text.specs.Grammar.Values.{LineEnd, MoreLines}
 use Rattle.ini_text.specs.Grammar.Places.{LastLine, OwnLines, Tail}
 use Rattle.ini_text.specs.Inside.LineReader.{line}
 use Rattle.ini_text.specs.Inside.PlaceReader.{HasTail}
-use Rattle.ini_text.specs.Inside.Reading.{Answer, found, stopped, prepend, altered}
+use Rattle.ini_text.specs.Inside.Reading.{found, stopped, prepend, altered}
 use Rattle.ini_text.specs.Inside.Scans.{run_of, skipped}
 use Rattle.ini_text.specs.Inside.ValueReader.{after_end, empty_cr, more_lines, value}
 use Rattle.ini_text.proofs.GrammarLemmas.KindLemmas.{blank_inline}
-use Rattle.ini_text.proofs.ReaderLemmas.ReaderLemmas.{Says, prepend-nil, prepend-prepend, from_nothing}
+use Rattle.ini_text.proofs.ReaderLemmas.ReaderLemmas.{Says, prepend-nil, prepend-prepend}
 use Rattle.ini_text.proofs.ReaderLemmas.LineReaderLemmas.{line-reads}
 use Rattle.ini_text.proofs.ReaderLemmas.RunReaderLemmas.{run-sound}
 use Rattle.ini_text.proofs.ReaderLemmas.ValueReaderLemmas.{EndSays, after_end-sound, Line-closes, MoreLines-finds, empty_line, empty_cr_line, line_goes_on, line_ends, line_stops, value_line, value_ends, value_goes_on}

@@ -1,4 +1,4 @@
-use Rattle.std.proofs.Common.{chars, sym, ◌∙◌}
+use Rattle.std.proofs.Common.{sym, ◌∙◌}
 use Rattle.ini_text.proofs.ReaderLemmas.ReaderLemmas.{read_behind}
 use Rattle.ini_text.proofs.PlaceLemmas.PairLemmas.{memory_only, pair_read, key_found, mark_within, mark_some, value_found, tail_within, own_within, lead_within, placed}
 use Rattle.ini_text.proofs.parser.placed.place_pair.Goals as goal

@@ -1,4 +1,3 @@
-use Rattle.std.proofs.Common.{chars}
 use Rattle.ini_text.proofs.PlaceLemmas.PadLemmas.{pad_boundary, pad_whole, padded_parts}
 use Rattle.ini_text.proofs.parser.placed.split_pad.Goals as goal
 
