@@ -16,7 +16,7 @@ run() {
     shift
     if "$@" >"$room/log" 2>&1; then
         passed=$((passed + 1))
-        tail -n 1 "$room/log" | sed "s/^/$name: /"
+        printf '%s: %s\n' "$name" "$(tail -n 1 "$room/log")"
     else
         failed=$((failed + 1))
         echo "FAILED: $name"

@@ -124,7 +124,7 @@ static void edits(void)
 /* whether the text is refused so, and the document stays */
 static bool is_refused(document *d, const char *text, uint32_t kind, size_t line, size_t column, const char *message)
 {
-    fault f;
+    fault f = { 0, 0, 0, "" };
     bool same = bigrosk_ini_load_str(text, d, &f) == BIGROSK_INI_BROKEN && f.kind == kind && f.line == line
         && f.column == column && !strcmp(f.message, message) && is_value(d, NULL, "kept", "yes");
     if (!same) printf("%s: kind %u at %zu:%zu, %s\n", text, (unsigned)f.kind, f.line, f.column, f.message);
