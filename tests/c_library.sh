@@ -16,7 +16,8 @@ run() {
     shift
     if "$@" >"$room/log" 2>&1; then
         passed=$((passed + 1))
-        printf '%s: %s\n' "$name" "$(tail -n 1 "$room/log")"
+        last=$(tail -n 1 "$room/log")
+        printf '%s: %s\n' "$name" "${last:-done}"
     else
         failed=$((failed + 1))
         echo "FAILED: $name"
