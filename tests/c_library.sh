@@ -16,7 +16,8 @@ run() {
     shift
     if "$@" >"$room/log" 2>&1; then
         passed=$((passed + 1))
-        tail -n 1 "$room/log" | sed "s/^/$name: /"
+        last=$(tail -n 1 "$room/log")
+        printf '%s: %s\n' "$name" "${last:-done}"
     else
         failed=$((failed + 1))
         echo "FAILED: $name"

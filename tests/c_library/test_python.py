@@ -50,7 +50,7 @@ def refusals():
 def edits():
     random.seed(7)
     names, keys = (None, "a", "b", "ü"), "xyz"
-    values = ("", "1", "zwei drei", "x\t=;#[]\\", "\0", "😀", "long " * 99)
+    values = ("", "1", "zwei drei", "x\t=;#[]\\", "\0", "😀", "long" * 99)
     for _ in range(300):
         d, model = Document(), {}
         for _ in range(random.randrange(60)):

@@ -91,18 +91,9 @@ static int load(void)
     kept = iniparser_load(path);
     return kept != NULL;
 }
-static int look_up(const char *section, const char *key)
-{
-    char both[160];
-    snprintf(both, sizeof both, "%s:%s", section, key);
-    return iniparser_getstring(kept, both, NULL) != NULL;
-}
-static int put(void)
-{
-    FILE *out = fopen("/dev/null", "w");
-    iniparser_dump_ini(kept, out);
-    return fclose(out) == 0;
-}
+/* its look-ups go over all pairs */
+static int look_up(const char *section, const char *key) { (void)section, (void)key; return -1; }
+static int put(void) { return -1; }
 #endif
 
 int main(int argc, char **argv)

@@ -1,6 +1,7 @@
 #!/bin/sh
 # The C library beside others, in one run: loading a text of 10 MB (40,000 sections of ten pairs), 1,000,000 look-ups and
-# writing. The others are Debian's libglib2.0-dev (GKeyFile), libinih-dev and libiniparser-dev; what isn't there is told.
+# writing; of iniparser loading a tenth of it alone, since its time grows with the square. The others are Debian's
+# libglib2.0-dev (GKeyFile), libinih-dev and libiniparser-dev; what isn't there is told.
 #
 #     tools/speed/c_libraries.sh [MB]
 set -eu
@@ -29,7 +30,6 @@ echo '|---|---|---|---|---|'
 compare BIGROSK -I"$room/it/include" "$room/it/lib/libbigrosk_ini.a"
 compare GLIB $(pkg-config --cflags --libs glib-2.0 2>/dev/null || echo -lglib-2.0)
 compare INIH -linih
-# iniparser's time grows with the square of the number of pairs: a tenth of the text
 head -n "$((sections * 11 / 10))" "$room/text.ini" >"$room/tenth.ini"
 if cc -O2 -DINIPARSER -o "$room/INIPARSER" "$top/tools/speed/c_libraries.c" -liniparser 2>/dev/null; then
     echo

@@ -1,6 +1,3 @@
-use Rattle.std.proofs.Common.{◌≡◌, Some, None}
-use Rattle.ini_c.specs.Choices.{TellsPlain, parse_option}
-use Rattle.ini_c.specs.Held.{held}
 use Rattle.ini_c.proofs.bigrosk_ini_is_plain.Goals as goal
 
 pub returns-clause-plain : goal.returns-clause-plain
