@@ -1,5 +1,5 @@
-//! Loops over a walk. One that rebuilds keeps "what is built, with what becomes of what is left, is what becomes
-//! of the whole"; one that gathers keeps the same of a list.
+//! Loops over a walk. One that rebuilds keeps "what is built, with what becomes of what is left, is what
+//! becomes of the whole"; one that gathers keeps the same of a list.
 ghost use Rattle.std.specs.Prelude.{◌≡◌, [], IfOk, OnOk, Some, chars, unwrap_or};
 ghost use Rattle.ini.specs.Texts.{is_name, name_of, str_name};
 ghost use Rattle.ini.specs.Properties.{texts_of};

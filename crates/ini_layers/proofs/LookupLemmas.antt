@@ -1,5 +1,7 @@
 -- The last value of a list of documents.
-use Rattle.std.proofs.Common.{◌≡◌, ◌∙◌, ap, sym, subst, refl, arith, ℕ, ◌+◌, ◌-◌, List, [], ◌∷◌, ◌++◌, append_assoc, append-nil, length, length-append, Option, None, Some, IsSome, is_some, true}
+use Rattle.std.proofs.Common.{◌≡◌, ◌∙◌, ap, sym, subst, refl, arith, ℕ, ◌+◌, ◌-◌, List, [], ◌∷◌, ◌++◌}
+use Rattle.std.proofs.Common.{append_assoc, length, length-append, Option, None, Some, IsSome, is_some}
+use Rattle.std.proofs.Common.{true}
 use Rattle.std.specs.List.{cons_option, filter_map, last_or}
 use Rattle.std.proofs.lemmas.Bool.{false≢true}
 use Rattle.std.specs.Option.{option_map, option_or}
@@ -46,7 +48,8 @@ module _ (name : Option Text) (key : Text)
   layered_value-rest is = by_last is
 
 -- a look-up that answers something
-pub some_found : {A B : Type 0} (f : A → B) (r : Option A) (o : Option B) → is_some r ≡ true → option_map f r ≡ o → IsSome o
+pub some_found : {A B : Type 0} (f : A → B) (r : Option A) (o : Option B) → is_some r ≡ true
+    → option_map f r ≡ o → IsSome o
 some_found f None o some is = absurd (false≢true some)
 some_found f (Some a) o some is = subst IsSome is refl
 
@@ -56,7 +59,8 @@ option_or-some (Some a) p some = refl
 
 -- the layers are looked at from the last on: `left` are still to come, as many as `number`, and the others
 -- have no value
-pub record LooksBack (name : Option Text) (key : Text) (layers left : List Document) (number : ℕ) : Type 0 where
+pub record LooksBack (name : Option Text) (key : Text) (layers left : List Document)
+    (number : ℕ) : Type 0 where
   pub later : List Document
   pub split : layers ≡ left ++ later
   pub place : number ≡ length left
@@ -64,9 +68,6 @@ pub record LooksBack (name : Option Text) (key : Text) (layers left : List Docum
   pub none_later : layered_value name key later ≡ None
 
 module _ (name : Option Text) (key : Text) (layers : List Document) where
-  pub LooksBack-starts : (number : ℕ) → number ≡ length layers → LooksBack name key layers layers number
-  LooksBack-starts number all = record { later = []; split = sym (append-nil layers); place = all; same = refl; none_later = refl }
-
   module _ (left rest : List Document) (layer : Document) (number : ℕ) (last : left ≡ rest ++ layer ∷ [])
       (looks : LooksBack name key layers left number) where
     split_here : layers ≡ rest ++ layer ∷ looks.later
@@ -98,6 +99,3 @@ module _ (name : Option Text) (key : Text) (layers : List Document) where
       counts = sym (looks.same ∙ by_last name key left rest layer last refl ∙ option_or-some _ _ there);
       none_later = looks.none_later;
     }
-
-  pub LooksBack-ends : (left : List Document) (number : ℕ) → left ≡ [] → LooksBack name key layers left number → layered_value name key layers ≡ None
-  LooksBack-ends left number none looks = looks.same ∙ ap (layered_value name key) none

@@ -90,8 +90,8 @@ impl Layers {
         None
     }
 
-    /// Which layer gives the value that `get_from` answers: its number, from 0 in the order in which they were
-    /// pushed. Takes no memory.
+    /// Which layer gives the value that `get_from` answers: its number, from 0, in the order in which layers
+    /// were pushed. Takes no memory.
     pub fn origin(&self, name: Option<&str>, key: &str) -> Option<usize>
         ensures origin { IfSome result (IsOrigin (str_name name.entry) (chars key.now) self.now) }
         ensures none { IfNone result (layered_value (str_name name.entry) (chars key.now) self.now ≡ None) }

@@ -3,4 +3,5 @@ use Rattle.ini_callers.specs.Walks.{all_added}
 use Rattle.ini_callers.proofs.walks.add_all.Given as goal
 
 abbrev pub invariant-loop-key : goal.invariant-loop-key
-invariant-loop-key l = all_added (Some (chars l.to)) l.document l.key-iterator ≡ all_added (Some (chars l.to)) l.fn.document l.pairs
+invariant-loop-key l = all_added (Some (chars l.to)) l.document l.key-iterator
+    ≡ all_added (Some (chars l.to)) l.fn.document l.pairs

@@ -3,4 +3,5 @@ use Rattle.ini_callers.specs.Walks.{all_named_anew}
 use Rattle.ini_callers.proofs.walks.rename.Given as goal
 
 abbrev pub invariant-loop-found : goal.invariant-loop-found
-invariant-loop-found l = l.copy ++ all_named_anew (chars l.name) (chars l.other) l.found-iterator ≡ all_named_anew (chars l.name) (chars l.other) l.document
+invariant-loop-found l = l.copy ++ all_named_anew (chars l.name) (chars l.other) l.found-iterator
+    ≡ all_named_anew (chars l.name) (chars l.other) l.document

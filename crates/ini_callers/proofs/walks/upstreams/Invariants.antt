@@ -5,4 +5,6 @@ use Rattle.ini_callers.specs.Walks.{each_first}
 use Rattle.ini_callers.proofs.walks.upstreams.Given as goal
 
 abbrev pub invariant-loop-section : goal.invariant-loop-section
-invariant-loop-section l = texts_of l.found.items ++ filter_map (first_value (chars l.key)) l.section-iterator ≡ each_first (Some (chars l.name)) (chars l.key) l.document
+invariant-loop-section l =
+    texts_of l.found.items ++ filter_map (first_value (chars l.key)) l.section-iterator
+    ≡ each_first (Some (chars l.name)) (chars l.key) l.document
