@@ -1,7 +1,8 @@
 #!/bin/sh
 # Every proof and every test: `rt ci`, and then the programs that it built, over real streams and long texts (tests/program.sh,
 # tests/streams.sh, tests/passing.sh), the scripts that build and run them (tests/scripts.sh), the page of the public calls
-# (tests/pages.sh), and clients of the C library (tests/c_library.sh). Each step ends with the time that it took. The last line is 'N passed, M failed' over all, and the status is
+# (tests/pages.sh), and clients of the C library (tests/c_library.sh). Each step ends with the time that it took. The last line
+# is 'N passed, M failed' over all, and the status is
 # 1 if anything failed.
 set -u
 cd "$(dirname "$0")/.." || exit 1
