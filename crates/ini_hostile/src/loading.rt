@@ -1,7 +1,8 @@
 //! Each request for memory of loading refused in turn, of a text and of a reader's bytes.
 use crate::devices::{SlowReader, is_quiet};
+use crate::reading::{CONTINUED, CONTINUED_SHOWN};
 use crate::scarce::{CALLS, Famine};
-use crate::show::expect_shown;
+use crate::show::{expect_shown, multiline};
 use ini::{Error, Ini, ParseOption, Watched};
 use ini_text::Parser;
 use std::process::Abort;
@@ -27,11 +28,15 @@ pub(crate) fn all_on() -> ParseOption {
 }
 
 // Loads with more and more memory until it is enough. The document, and how often it was refused.
-fn loaded_at_last(rt: &(impl Abort + AllocGlobal)) -> (Ini, usize) {
+fn loaded_at_last(
+    rt: &(impl Abort + AllocGlobal),
+    text: &str,
+    option: ParseOption,
+) -> (Ini, usize) {
     let mut famine = Famine::new(rt);
     for steps in 0..CALLS {
         let rest = famine.leave(rt, steps);
-        let answer = Ini::load_from_str_opt(rt.alloc(), EACH, all_on());
+        let answer = Ini::load_from_str_opt(rt.alloc(), text, option);
         drop(rest);
         match answer {
             Ok(document) => return (document, steps),
@@ -43,9 +48,16 @@ fn loaded_at_last(rt: &(impl Abort + AllocGlobal)) -> (Ini, usize) {
 
 #[test]
 fn each_request_of_loading_is_refused(rt: HostRuntime) {
-    let (document, refused) = loaded_at_last(&rt);
+    let (document, refused) = loaded_at_last(&rt, EACH, all_on());
     assert!(rt; refused > 0);
     expect_shown(&rt, "loading", &document, EACH_SHOWN);
+}
+
+#[test]
+fn each_request_of_loading_continued_lines_is_refused(rt: HostRuntime) {
+    let (document, refused) = loaded_at_last(&rt, CONTINUED, multiline());
+    assert!(rt; refused > 0);
+    expect_shown(&rt, "loading continued lines", &document, CONTINUED_SHOWN);
 }
 
 // Reads what the device gives, with so much memory; none where memory was refused. No fault is counted.
