@@ -9,4 +9,5 @@ returns-in_err-put g c =
     rw (p.1, p.2) (SendsText-cut _ (SendsText-put c.utf8.before c.in_err-put.ensures))
 
 pub returns : goal.returns
-returns g c = SendsText-then (SendsText-put c.utf8.before c.in_ok-put.ensures) (SendsText-escaped Basics c.utf8.text c.put_escaped.ensures)
+returns g c = SendsText-then (SendsText-put c.utf8.before c.in_ok-put.ensures)
+    (SendsText-escaped Basics c.utf8.text c.put_escaped.ensures)
