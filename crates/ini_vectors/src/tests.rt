@@ -7,3 +7,4 @@ mod files;
 mod large;
 mod refusals;
 mod saving;
+mod trivia;
