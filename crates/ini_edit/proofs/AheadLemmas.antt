@@ -1,10 +1,14 @@
--- A row of elements that a line's first character follows stands before other texts too.
-use Rattle.std.proofs.Common.{◌≡◌, ◌≢◌, ℕ, Bool, true, false, not, ◌||◌, eqb, List, [], ◌∷◌, ◌++◌, refl, sym, ap, ◌∙◌, subst, append_assoc, eqb-true}
-use Rattle.std.proofs.lemmas.Bool.{both_ways, false≢true, or_left, or_right, or_from, not-true, false_from_ne_true}
+-- A row of elements that no line end follows stands before other texts too.
+use Rattle.std.proofs.Common.{◌≡◌, ◌≢◌, ℕ, Bool, true, false, not, ◌||◌, eqb, List, [], ◌∷◌, ◌++◌, refl, sym, ap, ◌∙◌}
+use Rattle.std.proofs.Common.{subst, append_assoc, append-nil, eqb-true, inl, inr}
+use Rattle.std.specs.Prelude.{◌⊎◌}
+use Rattle.std.specs.List.{list_all}
+use Rattle.std.proofs.lemmas.Bool.{both_ways, false≢true, and_parts, or_parts, not-true, false_from_ne_true}
 use Rattle.std.proofs.lemmas.List.{append_cancel_left}
 use Rattle.std.specs.Char.{is_whitespace}
 use Rattle.ini_text.specs.declared.option.ParseOption.{ParseOption}
 use Rattle.ini_text.specs.Grammar.CharacterKinds.{open_bracket, is_blank, is_comment_mark, is_line_feed, is_line_end, BeginsWith, BeginsWithNo}
+use Rattle.ini_text.specs.Grammar.Positions.{last_or, is_column_one}
 use Rattle.ini_text.specs.Grammar.Strings.{Closes, Str, bracketed_name_ends, plain_ends}
 use Rattle.ini_text.specs.Grammar.Values.{LineEnd, MoreLines, Value}
 use Rattle.ini_text.specs.Grammar.Keys.{KeyFront, begins_key}
@@ -12,13 +16,30 @@ use Rattle.ini_text.specs.Grammar.Elements.{Given, Gap, Element}
 use Rattle.ini_text.specs.Grammar.Texts.{Reads}
 use Rattle.ini_text.proofs.GrammarLemmas.KindLemmas.{line_end_no_blank}
 use Rattle.ini_text.proofs.LawLemmas.OneAheadLemmas.{Alike, Element-alike, EndedLine-before, KeyFront-alike, Reads-front, Str-alike}
+use Rattle.ini_text.proofs.PlainLemmas.PlainLineLemmas.{column_one_behind}
 use Rattle.ini_text.proofs.PlainLemmas.PlainTrimLemmas.{line_end_is_white}
 use Rattle.ini_edit.specs.Places.{Follows}
 use Rattle.ini_edit.proofs.ValueLemmas.{closes_line_end, line_closes}
 
--- a character that is no line end and no bracket: with such a one a key begins, indented or not
-abbrev pub begins_line : ℕ → Bool
-begins_line c = not (is_line_end c || eqb c open_bracket)
+-- What stands behind the front c: no line end; and a bracket in column one alone, since blanks before one are an
+-- element of their own.
+pub record FollowsFront (c y : List ℕ) : Type 0 where
+  pub some : BeginsWith (λ c. not (is_line_end c)) y
+  pub bracket : BeginsWithNo (λ c. eqb c open_bracket) y ⊎ (is_column_one c ≡ true)
+
+-- blanks don't end in column one
+last_blank : (c : ℕ) (w : List ℕ) → list_all is_blank (c ∷ w) ≡ true → is_line_feed (last_or c w) ≡ false
+last_blank c [] h =
+    let parts = and_parts (is_blank c) true h in
+    false_from_ne_true (is_line_feed c)
+    (λ q. false≢true (subst (λ z. is_blank z ≡ true) (eqb-true c 0x0A q) parts.0))
+last_blank c (d ∷ w) h = last_blank d w (and_parts (is_blank c) (list_all is_blank (d ∷ w)) h).1
+
+blank_no_column : (b w : List ℕ) → BeginsWith is_blank w → list_all is_blank w ≡ true
+    → is_column_one (b ++ w) ≡ true → ⊥
+blank_no_column b [] some all one = false≢true (sym some)
+blank_no_column b (c ∷ w) some all one =
+    both_ways (is_line_feed (last_or c w)) (last_blank c w all) (sym (column_one_behind b c w) ∙ one)
 
 no_line_feed : (x : List ℕ) → BeginsWithNo is_line_end x → BeginsWithNo is_line_feed x
 no_line_feed [] h = tt
@@ -35,10 +56,10 @@ LineEnd-before [] x y h (LineEnd.cr n) = LineEnd.cr (no_line_feed x h)
 LineEnd-before (c ∷ t) x y h (LineEnd.cr n) = LineEnd.cr n
 
 -- no text that closes a line begins so
-closes_no_line : {X : Type 0} (y : List ℕ) → BeginsWith begins_line y → Closes plain_ends y → X
+closes_no_line : {X : Type 0} (y : List ℕ) → BeginsWith (λ c. not (is_line_end c)) y → Closes plain_ends y → X
 closes_no_line [] begins h = absurd (false≢true (sym begins))
 closes_no_line (c ∷ y) begins h =
-    absurd (both_ways (is_line_end c || eqb c open_bracket) (not-true _ begins) (or_left (is_line_end c) (eqb c open_bracket) (closes_line_end c h)))
+    absurd (both_ways (is_line_end c) (not-true (is_line_end c) begins) (closes_line_end c h))
 
 module _ {o : ParseOption} {x : List ℕ} (follows : Follows o x) where
   module _ (on : o.enabled_indented_mutiline_value ≡ true) where
@@ -59,78 +80,92 @@ module _ {o : ParseOption} {x : List ℕ} (follows : Follows o x) where
       let n = EndedLine-before (LineEnd-before t x _ (follows.no_line_end on) le) (record { lead = lead; line = ln; end = le }) in
       Value.lines on n.lead n.line n.end (MoreLines-before on some m)
 
-  y_some : {y : List ℕ} → BeginsWith begins_line y → y ≢ []
-  y_some begins e = false≢true (sym (subst (BeginsWith begins_line) e begins))
+  y_some : {c y : List ℕ} → FollowsFront c y → y ≢ []
+  y_some f e = false≢true (sym (subst (BeginsWith (λ c. not (is_line_end c))) e f.some))
 
-  value_before : {s y v : List ℕ} → BeginsWith begins_line y → Value o s y v → Value o s x v
-  value_before {y = y} begins (Value.one_line off lead ln) = closes_no_line y begins (line_closes ln)
-  value_before begins (Value.to_end on lead ln) = absurd (y_some begins refl)
-  value_before begins (Value.lines on lead ln le m) = Value-before on (y_some begins) (Value.lines on lead ln le m)
+  value_before : {c s y v : List ℕ} → FollowsFront c y → Value o s y v → Value o s x v
+  value_before {y = y} f (Value.one_line off lead ln) = closes_no_line y f.some (line_closes ln)
+  value_before f (Value.to_end on lead ln) = absurd (y_some f refl)
+  value_before f (Value.lines on lead ln le m) = Value-before on (y_some f) (Value.lines on lead ln le m)
 
-  no_bracketed : {X : Type 0} {e : Bool} {s y v : List ℕ} → BeginsWith begins_line y → Str e bracketed_name_ends s y v → X
-  no_bracketed {y = y} begins (Str.closed row h) = at y begins h
+  no_bracketed : {X : Type 0} {c : List ℕ} {e : Bool} {s y v : List ℕ} → FollowsFront c y
+      → Str e bracketed_name_ends s y v → X
+  no_bracketed {y = y} f (Str.closed row h) = at y f.some h
     where
-      at : {X : Type 0} (y : List ℕ) → BeginsWith begins_line y → Closes bracketed_name_ends y → X
+      at : {X : Type 0} (y : List ℕ) → BeginsWith (λ c. not (is_line_end c)) y → Closes bracketed_name_ends y → X
       at [] begins h = absurd (false≢true h)
       at (c ∷ y) begins h = closes_no_line (c ∷ y) begins h
-  no_bracketed begins (Str.lone row h) = absurd (false≢true h)
+  no_bracketed f (Str.lone row h) = absurd (false≢true h)
 
-  Gap-before : {b s y : List ℕ} → BeginsWith begins_line y → Gap b s y → Gap b s x
-  Gap-before begins (Gap.blank_line c i h) = Gap.blank_line c i h
-  Gap-before begins (Gap.before_header i) = absurd (false≢true begins)
-  Gap-before begins (Gap.white h n) = Gap.white h n
+  Gap-before : {b s y : List ℕ} → FollowsFront (b ++ s) y → Gap b s y → Gap b s x
+  Gap-before f (Gap.blank_line c i h) = Gap.blank_line c i h
+  Gap-before {b} f (Gap.before_header {w = w} i) = elim f.bracket [
+    | inl apart ↦ absurd (false≢true (sym apart))
+    | inr one ↦ absurd (blank_no_column b w i.some i.blank one)
+  ]
+  Gap-before f (Gap.white h n) = Gap.white h n
 
-  Element-before : {b s y : List ℕ} {gives : List Given} → BeginsWith begins_line y → Element o b s y gives → Element o b s x gives
-  Element-before begins (Element.gap g) = Element.gap (Gap-before begins g)
-  Element-before begins (Element.comment s one mark all) = Element.comment s one mark all
-  Element-before begins (Element.last_comment one mark all) = absurd (y_some begins refl)
-  Element-before begins (Element.header off str) = Element.header off (Str-alike Alike.same str)
-  Element-before begins (Element.bracketed_header on str i) = no_bracketed begins str
-  Element-before begins (Element.pair front some sep given) =
-      Element.pair (KeyFront-alike Alike.same front) some sep (value_before begins given)
-  Element-before begins (Element.dropped_blanks i) = absurd (y_some begins refl)
-  Element-before begins (Element.dropped_key i begins_key stops) = absurd (y_some begins refl)
+  Element-before : {b s y : List ℕ} {gives : List Given} → FollowsFront (b ++ s) y → Element o b s y gives
+      → Element o b s x gives
+  Element-before f (Element.gap g) = Element.gap (Gap-before f g)
+  Element-before f (Element.comment s one mark all) = Element.comment s one mark all
+  Element-before f (Element.last_comment one mark all) = absurd (y_some f refl)
+  Element-before f (Element.header off str) = Element.header off (Str-alike Alike.same str)
+  Element-before f (Element.bracketed_header on str i) = no_bracketed f str
+  Element-before f (Element.pair front some sep given) =
+      Element.pair (KeyFront-alike Alike.same front) some sep (value_before f given)
+  Element-before f (Element.dropped_blanks i) = absurd (y_some f refl)
+  Element-before f (Element.dropped_key i begins_key stops) = absurd (y_some f refl)
 
   -- elements up to the front c, before x in place of y, and then further elements
-  pub Reads-before_line : {T b c d : List ℕ} {items others : List Given} (y : List ℕ) → BeginsWith begins_line y → T ≡ c ++ y
+  pub Reads-before_line : {T b c d : List ℕ} {items others : List Given} (y : List ℕ) → FollowsFront c y → T ≡ c ++ y
       → Reads o T b items c → Reads o (c ++ x) c others d → Reads o (c ++ x) b (items ++ others) d
-  Reads-before_line y begins h (Reads.stay z q) rest = rest
-  Reads-before_line {b = b} {c} {d} {others = others} y begins h (Reads.step {s = s} {r = z} {gives = gives} {items} q e reads) rest =
+  Reads-before_line y f h (Reads.stay z q) rest = rest
+  Reads-before_line {b = b} {c} {d} {others = others} y f h
+      (Reads.step {s = s} {r = z} {gives = gives} {items} q e reads) rest =
       let front = Reads-front reads in
       let m = front.0 in
       let behind : z ≡ m ++ y = append_cancel_left (b ++ s) z (m ++ y)
       (append_assoc b s z ∙ sym q ∙ h ∙ ap (λ w. w ++ y) (sym front.1) ∙ append_assoc (b ++ s) m y) in
-      let whole : c ++ x ≡ b ++ (s ++ (m ++ x)) = ap (λ w. w ++ x) (sym front.1) ∙ append_assoc (b ++ s) m x ∙ append_assoc b s (m ++ x) in
+      let whole : c ++ x ≡ b ++ (s ++ (m ++ x)) =
+      ap (λ w. w ++ x) (sym front.1) ∙ append_assoc (b ++ s) m x ∙ append_assoc b s (m ++ x) in
       subst (λ w. Reads o (c ++ x) b w d) (sym (append_assoc gives items others))
-      (Reads.step whole (at m (subst (λ w. Element o b s w gives) behind e)) (Reads-before_line y begins h reads rest))
+      (Reads.step whole (at m front.1 (subst (λ w. Element o b s w gives) behind e))
+      (Reads-before_line y f h reads rest))
     where
-      at : {b s : List ℕ} {gives : List Given} (m : List ℕ) → Element o b s (m ++ y) gives → Element o b s (m ++ x) gives
-      at [] e = Element-before begins e
-      at (a ∷ m) e = Element-alike Alike.same e
+      at : {s : List ℕ} {gives : List Given} (m : List ℕ) → (b ++ s) ++ m ≡ c → Element o b s (m ++ y) gives
+          → Element o b s (m ++ x) gives
+      at {s} [] is e =
+          Element-before (subst (λ z. FollowsFront z y) (sym is ∙ append-nil (b ++ s)) f) e
+      at (a ∷ m) is e = Element-alike Alike.same e
 
 -- a key begins so
-pub key_begins : {o : ParseOption} {b k key : List ℕ} (r : List ℕ) → KeyFront o b k r key → BeginsWith begins_line (k ++ r)
-key_begins r (KeyFront.unindented {s = s} begins str) = at (s ++ r) begins
+begins_no_line_end : (c : ℕ) → is_whitespace c ≡ false → not (is_line_end c) ≡ true
+begins_no_line_end c h =
+    ap not (false_from_ne_true (is_line_end c) (λ q. both_ways (is_whitespace c) h (line_end_is_white c q)))
+
+pub key_follows : {o : ParseOption} {b k key : List ℕ} (r : List ℕ) → KeyFront o b k r key
+    → FollowsFront b (k ++ r)
+key_follows {b = b} r (KeyFront.unindented {s = s} begins str) = at (s ++ r) begins
   where
-    at : (x : List ℕ) → BeginsWith begins_key x → BeginsWith begins_line x
-    at [] h = h
-    at (c ∷ x) h =
-        let none : is_whitespace c || is_comment_mark c || eqb c open_bracket ≡ false = not-true _ h in
-        let ends : is_line_end c ≡ false =
-        false_from_ne_true (is_line_end c) (λ q. both_ways (is_whitespace c || is_comment_mark c || eqb c open_bracket) none
-        (or_left (is_whitespace c || is_comment_mark c) (eqb c open_bracket) (or_left (is_whitespace c) (is_comment_mark c) (line_end_is_white c q)))) in
-        let bracket : eqb c open_bracket ≡ false =
-        false_from_ne_true (eqb c open_bracket) (λ q. both_ways (is_whitespace c || is_comment_mark c || eqb c open_bracket) none
-        (or_right (is_whitespace c || is_comment_mark c) (eqb c open_bracket) q)) in
-        ap not (or_from (is_line_end c) (eqb c open_bracket) ends bracket)
-key_begins r (KeyFront.indented {w = w} {s = s} i begins str) = at w i.some
-  where
-    at : (w : List ℕ) → BeginsWith is_blank w → BeginsWith begins_line ((w ++ s) ++ r)
+    at : (x : List ℕ) → BeginsWith begins_key x → FollowsFront b x
     at [] h = absurd (false≢true (sym h))
-    at (c ∷ w) h =
-        ap not (or_from (is_line_end c) (eqb c open_bracket)
-        (false_from_ne_true (is_line_end c) (λ q. both_ways (is_blank c) (line_end_no_blank c q) h))
-        (false_from_ne_true (eqb c open_bracket) (λ q. false≢true (subst (λ z. is_blank z ≡ true) (eqb-true c open_bracket q) h))))
+    at (c ∷ x) h =
+        let parts = or_parts (is_whitespace c || is_comment_mark c) (eqb c open_bracket) (not-true _ h) in
+        record {
+          some = begins_no_line_end c (or_parts (is_whitespace c) (is_comment_mark c) parts.0).0;
+          bracket = inl parts.1;
+        }
+key_follows {b = b} r (KeyFront.indented {w = w} {s = s} i begins str) = at w i.some
+  where
+    at : (w : List ℕ) → BeginsWith is_blank w → FollowsFront b ((w ++ s) ++ r)
+    at [] h = absurd (false≢true (sym h))
+    at (c ∷ w) h = record {
+      some = ap not (false_from_ne_true (is_line_end c) (λ q. both_ways (is_blank c) (line_end_no_blank c q) h));
+      bracket =
+          inl (false_from_ne_true (eqb c open_bracket)
+          (λ q. false≢true (subst (λ z. is_blank z ≡ true) (eqb-true c open_bracket q) h)));
+    }
 
 -- what follows a multiline value
 more_follows : {o : ParseOption} {t r v : List ℕ} → MoreLines o t r v → Follows o r

@@ -54,38 +54,6 @@ section_edited name f last (s ∷ d) ps e same none =
     at true is none more = absurd (let no : Some s.1 ≡ None = none in cc)
     at false is none more = cond-false (is_name name s.0) _ _ is ∙ ap (λ x. s ∷ x) (more none)
 
-pub inserted_at : (key v value : Text) (qs rs : Pairs) → is_text key key ≡ true → Lacks key qs
-    → inserted key value (qs ++ (key, v) ∷ rs) ≡ qs ++ (key, value) ∷ all_removed key rs
-inserted_at key v value [] rs same lacks = cond-true (is_text key key) _ _ same
-inserted_at key v value (q ∷ qs) rs same lacks = at (is_text key q.0) refl lacks (inserted_at key v value qs rs same)
-  where
-    at : (b : Bool) → is_text key q.0 ≡ b → cond b (Some q.1) (first_value key qs) ≡ None
-        → (Lacks key qs → inserted key value (qs ++ (key, v) ∷ rs) ≡ qs ++ (key, value) ∷ all_removed key rs)
-        → inserted key value ((q ∷ qs) ++ (key, v) ∷ rs) ≡ (q ∷ qs) ++ (key, value) ∷ all_removed key rs
-    at true is none more = absurd (let no : Some q.1 ≡ None = none in cc)
-    at false is none more = cond-false (is_text key q.0) _ _ is ∙ ap (λ x. q ∷ x) (more none)
-
-pub removed_at : (key v : Text) (qs rs : Pairs) → is_text key key ≡ true → Lacks key qs
-    → removed key (qs ++ (key, v) ∷ rs) ≡ qs ++ rs
-removed_at key v [] rs same lacks = cond-true (is_text key key) _ _ same
-removed_at key v (q ∷ qs) rs same lacks = at (is_text key q.0) refl lacks (removed_at key v qs rs same)
-  where
-    at : (b : Bool) → is_text key q.0 ≡ b → cond b (Some q.1) (first_value key qs) ≡ None
-        → (Lacks key qs → removed key (qs ++ (key, v) ∷ rs) ≡ qs ++ rs)
-        → removed key ((q ∷ qs) ++ (key, v) ∷ rs) ≡ (q ∷ qs) ++ rs
-    at true is none more = absurd (let no : Some q.1 ≡ None = none in cc)
-    at false is none more = cond-false (is_text key q.0) _ _ is ∙ ap (λ x. q ∷ x) (more none)
-
-pub inserted_new : (key value : Text) (ps : Pairs) → Lacks key ps → inserted key value ps ≡ ps ++ (key, value) ∷ []
-inserted_new key value [] lacks = refl
-inserted_new key value (q ∷ qs) lacks = at (is_text key q.0) refl lacks (inserted_new key value qs)
-  where
-    at : (b : Bool) → is_text key q.0 ≡ b → cond b (Some q.1) (first_value key qs) ≡ None
-        → (Lacks key qs → inserted key value qs ≡ qs ++ (key, value) ∷ [])
-        → inserted key value (q ∷ qs) ≡ (q ∷ qs) ++ (key, value) ∷ []
-    at true is none more = absurd (let no : Some q.1 ≡ None = none in cc)
-    at false is none more = cond-false (is_text key q.0) _ _ is ∙ ap (λ x. q ∷ x) (more none)
-
 -- an edit of the document, where the text derives the section's pairs, and then those edited
 pub edited_document : {name : Option Text} {before : List Given} {d : Document} (f : Pairs → Pairs) (last : Document)
     (ps : Pairs) (rest : List Given) → is_name name name ≡ true → OpensSection name before d → BeginsWithHeader rest

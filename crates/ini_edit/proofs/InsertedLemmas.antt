@@ -18,13 +18,12 @@ use Rattle.ini_text.specs.Options.WriteOptions.{line_end}
 use Rattle.ini_text.proofs.GrammarLemmas.ItemLemmas.{reads-append}
 use Rattle.ini_text.proofs.GrammarLemmas.KindLemmas.{no_white_no_blank}
 use Rattle.ini_text.proofs.LawLemmas.MovedLemmas.{last_or-behind}
-use Rattle.ini_text.proofs.LawLemmas.OneAheadLemmas.{Alike, Reads-alike}
 use Rattle.ini_text.proofs.PlainLemmas.EscapedTextLemmas.{all_read}
 use Rattle.ini_text.proofs.PlainLemmas.PlainLineLemmas.{gaps_of, gaps_read}
 use Rattle.ini_text.proofs.PlainLemmas.PlainPairLemmas.{bare_begins, no_white_no_line_end, inline_blanks, key_front, key_some, line_end-is, line_starts, source-parts}
-use Rattle.ini_edit.specs.Places.{EndsLike, Follows, IsLineStart}
+use Rattle.ini_edit.specs.Places.{EndsLike, Follows, IsLineStart, Tail}
 use Rattle.ini_edit.proofs.BehindLemmas.{Reads-like}
-use Rattle.ini_edit.specs.Places.{Tail}
+use Rattle.ini_edit.proofs.StartLemmas.{column_at, reached}
 use Rattle.ini_edit.proofs.AheadLemmas.{any_follows}
 use Rattle.ini_edit.proofs.ValueLemmas.{value_written}
 
@@ -115,35 +114,12 @@ module _ {o : ParseOption} {policy : EscapePolicy} {key value separator : List �
       by x (IsPlainKey.behind_spaces {key = k} spaces kept off all bare) = any_follows (escaped policy (spaces ++ k) ++ x) off
 
   -- the line put in
-  pub line_inserted : {before after : List Given} (s : LineSeparator) (W r : List ℕ) → IsLineStart o W before → Follows o r
-      → Reads o (W ++ r) W after (W ++ r)
+  pub line_inserted : {before after : List Given} (s : LineSeparator) (W r : List ℕ) → IsLineStart o W r before
+      → Follows o r → Reads o (W ++ r) W after (W ++ r)
       → Derives o (W ++ (line_of_pair s ++ r)) (before ++ (Pair key value ∷ after))
   line_inserted {before} {after} s W r start follows last =
       let l = line_of_pair s in
-      let one = start.column_one in
+      let one = column_at start in
       let rest = Reads-like o (EndsLike-column W (W ++ l) one (line-column s W)) r last in
-      reads-append (start.stands (l ++ r) (line_follows s r)) (reads-append (line_read s W r one follows)
+      reads-append (reached start (l ++ r) (line_follows s r)) (reads-append (line_read s W r one follows)
       (subst (λ z. Reads o z (W ++ l) after z) (append_assoc W l r) rest))
-
--- what reaches a line end reaches what stands behind it, whatever follows
-pub reaches_behind : {o : ParseOption} {V : List ℕ} {before : List Given} (c : ℕ) (e x r : List ℕ)
-    → list_all is_line_end (c ∷ e) ≡ true → Reads o (V ++ (c ∷ e ++ r)) [] before V
-    → Reads o (V ++ (c ∷ e ++ x)) [] before (V ++ c ∷ e)
-reaches_behind {o} {V} {before} c e x r all first =
-    let T = V ++ (c ∷ e ++ x) in
-    let gaps : Reads o T V [] (V ++ c ∷ e) = gaps_read (gaps_of (c ∷ e) all) refl in
-    subst (λ g. Reads o T [] g (V ++ c ∷ e)) (append-nil before) (Reads-alike Alike.same refl first gaps)
-
--- places where a line may be put: behind a line end that elements reach
-pub start_behind_line_end : {o : ParseOption} {V : List ℕ} {items : List Given} (c : ℕ) (e r : List ℕ)
-    → list_all is_line_end (c ∷ e) ≡ true → is_column_one (V ++ c ∷ e) ≡ true → Reads o (V ++ (c ∷ e ++ r)) [] items V
-    → IsLineStart o (V ++ c ∷ e) items
-start_behind_line_end {o} {V} {items} c e r all one first = record {
-  column_one = one;
-  stands = λ x follows.
-      subst (λ z. Reads o z [] items (V ++ c ∷ e)) (sym (append_assoc V (c ∷ e) x)) (reaches_behind c e x r all first);
-}
-
--- at the front of the text
-pub start_at_front : (o : ParseOption) → IsLineStart o [] []
-start_at_front o = record { column_one = refl; stands = λ x follows. Reads.stay x refl }

@@ -6,6 +6,9 @@ pub mod DocumentLemmas
 pub mod InsertLemmas
 pub mod InsertedLemmas
 pub mod PadLemmas
+pub mod PairListLemmas
 pub mod ReplacedLemmas
 pub mod SetLemmas
+pub mod StandsLemmas
+pub mod StartLemmas
 pub mod ValueLemmas

@@ -1,28 +1,44 @@
 -- What an edit of a text makes of its document.
-use Rattle.std.specs.Prelude.{◌≡◌, List, ◌++◌, Option, Some, None}
-use Rattle.ini_text.specs.Grammar.Elements.{Given}
+use Rattle.std.specs.Prelude.{◌≡◌, List, [], ◌∷◌, ◌++◌, Option, Some, None}
+use Rattle.ini_text.specs.Grammar.Elements.{Given, Pair}
+use Rattle.ini_text.specs.Grammar.Texts.{Reads}
 use Rattle.ini_text.specs.Escaping.EscapedTexts.{escaped}
 use Rattle.ini_text.specs.declared.option.ParseOption.{ParseOption}
+use Rattle.ini_text.specs.declared.write.option.WriteOption.{WriteOption}
 use Rattle.ini_text.specs.declared.write.policy.EscapePolicy.{EscapePolicy}
 use Rattle.ini.specs.Texts.{Text}
-use Rattle.ini.specs.Documents.{Document}
-use Rattle.ini.specs.Edits.{set_in, delete_in}
+use Rattle.ini.specs.Properties.{Pairs}
+use Rattle.ini.specs.Documents.{Document, first_section}
+use Rattle.ini.specs.Edits.{add_in, delete_in, set_in}
 use Rattle.ini.specs.Loading.{IsDocumentOf}
-use Rattle.ini.specs.Documents.{first_section}
+use Rattle.ini.specs.SectionItems.{pair_items}
 use Rattle.ini.specs.Written.{written_name, written_pair}
-use Rattle.ini_text.specs.Grammar.Texts.{Reads}
-use Rattle.ini_text.specs.declared.write.option.WriteOption.{WriteOption}
 use Rattle.ini_edit.specs.Places.{Cut, Follows, IsLineStart, Stretches, StandsAt, text_with}
 use Rattle.ini_edit.specs.Targets.{IsSectionEnd, IsTarget, Lacks}
 
--- A value put in the place of that of the first pair of its key, whose later pairs there are none: the text with
--- the one stretch in place of the other loads as the document in which the key is set.
+-- Behind the items `upto` the section goes on, in the text T, with the pairs `later`, and behind those stands
+-- `rest`. The text U is T without those of the pairs that have the key: each was taken out, and nothing else.
+pub data LaterOut (o : ParseOption) (key : Text) (upto rest : List Given) : Text → Pairs → Text → Type 0 where
+  none : {T : Text} {later : Pairs} → Lacks key later → LaterOut o key upto rest T later T
+  out : {T U : Text} (p : Stretches) (r old : Text) (between later : Pairs)
+      → StandsAt o T p key old (upto ++ pair_items between) (pair_items later ++ rest) → Cut o p r
+      → LaterOut o key upto rest (p.front ++ r) (between ++ later) U
+      → LaterOut o key upto rest T (between ++ (key, old) ∷ later) U
+
+-- The value of the first pair of its key is another one, and the later pairs of the key in the section are taken
+-- out. No other byte changes.
 abbrev pub SetsValue : ParseOption → EscapePolicy → Text → Text → Type 0
 SetsValue o policy T value =
     (p : Stretches) (name : Option Text) (key old : Text) (before after : List Given)
-    → StandsAt o T p key old before after → (target : IsTarget name key before after) → Lacks key target.later
-    → (d : Document) → IsDocumentOf o T d
-    → IsDocumentOf o (text_with p (escaped policy value)) (set_in name key value d)
+    → StandsAt o T p key old before after → (target : IsTarget name key before after) → (U : Text)
+    → LaterOut o key (before ++ Pair key value ∷ []) target.rest (text_with p (escaped policy value)) target.later U
+    → (d : Document) → IsDocumentOf o T d → IsDocumentOf o U (set_in name key value d)
+
+-- A pair's own value, written anew in its place: the document stays.
+abbrev pub KeepsValue : ParseOption → EscapePolicy → Text → Text → Type 0
+KeepsValue o policy T value =
+    (p : Stretches) (key : Text) (before after : List Given) → StandsAt o T p key value before after
+    → (d : Document) → IsDocumentOf o T d → IsDocumentOf o (text_with p (escaped policy value)) d
 
 -- The first pair of its key taken out: the text without one stretch loads as the document without the pair.
 abbrev pub Deletes : ParseOption → Text → Type 0
@@ -32,18 +48,32 @@ Deletes o T =
     → (r : Text) → Cut o p r → (d : Document) → IsDocumentOf o T d
     → IsDocumentOf o (p.front ++ r) (delete_in name key d)
 
--- A pair's line put in where the section of its name ends, which has no pair of the key: the text with one stretch
--- more loads as the document in which the key is set.
+-- Between W and r a line may be put in, there the section of the name ends, and the text's document is d.
+pub record EndsAt (o : ParseOption) (W r : Text) (name : Option Text) (d : Document) : Type 0 where
+  pub before : List Given
+  pub after : List Given
+  pub starts : IsLineStart o W r before
+  pub follows : Follows o r
+  pub then : Reads o (W ++ r) W after (W ++ r)
+  pub end : IsSectionEnd name before after
+  pub document : IsDocumentOf o (W ++ r) d
+
+-- A pair's line put in where the section of its name ends, and no byte changed: the pair is added.
+abbrev pub Adds : ParseOption → WriteOption → Text → Text → Type 0
+Adds o w key value =
+    (W r : Text) (name : Option Text) (d : Document) → EndsAt o W r name d
+    → IsDocumentOf o (W ++ (written_pair w (key, value) ++ r)) (add_in name key value d)
+
+-- The same is to set it, where the section has no pair of the key.
 abbrev pub Inserts : ParseOption → WriteOption → Text → Text → Type 0
 Inserts o w key value =
-    (W r : Text) (name : Option Text) (before after : List Given) → IsLineStart o W before → Follows o r
-    → Reads o (W ++ r) W after (W ++ r) → IsSectionEnd name key before after
-    → (d : Document) → IsDocumentOf o (W ++ r) d
+    (W r : Text) (name : Option Text) (d : Document) → (at : EndsAt o W r name d) → Lacks key at.end.pairs
     → IsDocumentOf o (W ++ (written_pair w (key, value) ++ r)) (set_in name key value d)
 
 -- A section's header and a pair's line put behind a text that has no section of the name.
 abbrev pub Appends : ParseOption → WriteOption → Text → Text → Text → Type 0
 Appends o w name key value =
-    (T : Text) (items : List Given) → IsLineStart o T items → (d : Document) → IsDocumentOf o T d
+    (T : Text) (items : List Given) → IsLineStart o T [] items → (d : Document) → IsDocumentOf o T d
     → first_section (Some name) d ≡ None
-    → IsDocumentOf o (T ++ (written_name w (Some name) ++ written_pair w (key, value))) (set_in (Some name) key value d)
+    → IsDocumentOf o (T ++ (written_name w (Some name) ++ written_pair w (key, value)))
+    (set_in (Some name) key value d)

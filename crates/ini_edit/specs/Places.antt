@@ -79,8 +79,12 @@ pub data Cut (o : ParseOption) (p : Stretches) : List ℕ → Type 0 where
   before_line_end : o.enabled_indented_mutiline_value ≡ false → Cut o p p.rest
   whole_lines : o.enabled_indented_mutiline_value ≡ true → EndsLike (up_to_end p) p.front → Cut o p p.rest
 
--- A line may be put in behind the front W: column one is there, and elements that give the items reach it
--- whatever follows that a multiline value doesn't take.
-pub record IsLineStart (o : ParseOption) (W : List ℕ) (items : List Given) : Type 0 where
-  pub column_one : is_column_one W ≡ true
-  pub stands : (x : List ℕ) → Follows o x → Reads o (W ++ x) [] items W
+-- A line may be put in between the front W, which gives the items, and the rest r: at the text's front; in column
+-- one, before a character that ends no line; or behind line ends that stand behind an element.
+pub data IsLineStart (o : ParseOption) : List ℕ → List ℕ → List Given → Type 0 where
+  at_front : {r : List ℕ} → IsLineStart o [] r []
+  before_character : {W : List ℕ} {items : List Given} (c : ℕ) (r : List ℕ) → is_column_one W ≡ true
+      → is_line_end c ≡ false → Reads o (W ++ c ∷ r) [] items W → IsLineStart o W (c ∷ r) items
+  behind_line_end : {r : List ℕ} {items : List Given} (V : List ℕ) (c : ℕ) (e : List ℕ)
+      → list_all is_line_end (c ∷ e) ≡ true → is_column_one (V ++ c ∷ e) ≡ true
+      → Reads o (V ++ (c ∷ (e ++ r))) [] items V → IsLineStart o (V ++ c ∷ e) r items

@@ -31,12 +31,11 @@ pub record IsTarget (name : Option Text) (key : Text) (before after : List Given
   pub after_is : after ≡ pair_items later ++ rest
   pub header : BeginsWithHeader rest
 
--- Between the items before and after the first section of the name ends, and no pair of it has the key.
-pub record IsSectionEnd (name : Option Text) (key : Text) (before after : List Given) : Type 0 where
+-- Between the items before and after the first section of the name ends.
+pub record IsSectionEnd (name : Option Text) (before after : List Given) : Type 0 where
   pub opening : List Given
   pub sections : Document
   pub pairs : Pairs
   pub opens : OpensSection name opening sections
-  pub lacks : Lacks key pairs
   pub before_is : before ≡ opening ++ pair_items pairs
   pub header : BeginsWithHeader after

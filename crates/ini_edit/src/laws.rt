@@ -1,33 +1,44 @@
-//! Laws of edited texts, each the contract of a function that does nothing.
+//! Laws of edited texts, each the contract of a function that does nothing: a caller whose proof needs one calls
+//! it beside the edit.
 ghost use Rattle.std.specs.Prelude.{chars};
 ghost use Rattle.ini_text.specs.Laws.Plain.{IsPlainName, IsPlainPair, IsPlainSeparator, IsPlainValue};
-ghost use Rattle.ini_edit.specs.EditedTexts.{Appends, Deletes, Inserts, SetsValue};
+ghost use Rattle.ini_edit.specs.EditedTexts.{Adds, Appends, Deletes, Inserts, KeepsValue, SetsValue};
 
 use ini_text::{EscapePolicy, ParseOption, WriteOption};
 
-/// A plain value in the place of that of the first pair of its key, which has no later pairs: of the text one
-/// stretch is another, and it loads as the document in which the key is set.
+/// A plain value in the place of that of the first pair of its key, and the later pairs of the key in the
+/// section taken out: the text loads as the document in which the key is set.
 #[tactic(auto, using(crate::proofs::SetLemmas::sets_value))]
 pub fn value_set(text: &str, value: &str, policy: EscapePolicy, read: ParseOption)
     requires plain { IsPlainValue read policy (chars value.now) }
     ensures { SetsValue read policy (chars text.now) (chars value.now) }
 {}
 
-/// A text without the first pair of a key, whose line end goes with it or stays, loads as the document without
-/// the pair.
+/// A plain value that is there, written anew in its own place: the text loads as the same document.
+#[tactic(auto, using(crate::proofs::SetLemmas::keeps_value))]
+pub fn value_kept(text: &str, value: &str, policy: EscapePolicy, read: ParseOption)
+    requires plain { IsPlainValue read policy (chars value.now) }
+    ensures { KeepsValue read policy (chars text.now) (chars value.now) }
+{}
+
+/// The first pair of a key taken out of a text, with its line end or without: the text loads as the document
+/// without the pair.
 #[tactic(auto, using(crate::proofs::DeleteLemmas::deletes))]
 pub fn pair_deleted(text: &str, read: ParseOption)
     ensures { Deletes read (chars text.now) }
 {}
 
-/// A plain pair's line put in where the section of its name ends, which has no pair of the key.
+/// A plain pair's line put in where the section of its name ends: the text loads as the document to which the
+/// pair is added. Where the section has no pair of the key, that is to set it.
 pub fn pair_inserted(key: &str, value: &str, write: &WriteOption, read: ParseOption)
     requires separator { IsPlainSeparator (chars write.now.kv_separator.now) }
     requires plain { IsPlainPair read write.now.escape_policy (chars key.now) (chars value.now) }
-    ensures { Inserts read write.now (chars key.now) (chars value.now) }
+    ensures add { Adds read write.now (chars key.now) (chars value.now) }
+    ensures set { Inserts read write.now (chars key.now) (chars value.now) }
 {}
 
-/// A plain section with one pair put behind a text that has no section of the name.
+/// A plain section with one pair put behind a text that has no section of the name: the text loads as the
+/// document in which the key is set.
 pub fn section_appended(name: &str, key: &str, value: &str, write: &WriteOption, read: ParseOption)
     requires separator { IsPlainSeparator (chars write.now.kv_separator.now) }
     requires name { IsPlainName read write.now.escape_policy (chars name.now) }

@@ -1,4 +1,7 @@
-//! What an edit of a text makes of its document: laws of edited texts, for a caller's proof.
+//! Laws of edited texts: what a text loads as, of which one stretch was changed and every other byte kept. No
+//! call edits a text yet.
 #![tactic(auto)]
 
 pub mod laws;
+#[cfg(test)]
+mod tests;
