@@ -35,7 +35,8 @@ scalars-one c below = and_from (scalar c) true (low_scalar c (omega arith)) refl
 
 module _ {W : Type 0} {contents : W → Option (List ℕ)} where
   -- a text as it is, seen as its characters
-  pub SendsText-put : {a b : Watched W} {h i bytes : List ℕ} {r : Result (Unit {0}) Error} → IsUtf8 bytes → Sends contents a b h i r bytes → SendsText contents a b h i r (chars bytes)
+  pub SendsText-put : {a b : Watched W} {h i bytes : List ℕ} {r : Result (Unit {0}) Error} → IsUtf8 bytes
+      → Sends contents a b h i r bytes → SendsText contents a b h i r (chars bytes)
   SendsText-put {bytes = bytes} {r = r} utf8 sent = record {
     sends = rw
         (encodes-chars bytes utf8) sent;
@@ -53,7 +54,8 @@ module _ {W : Type 0} {contents : W → Option (List ℕ)} where
   }
 
   -- a text of one ASCII character
-  pub SendsText-one : {a b : Watched W} {h i : List ℕ} {r : Result (Unit {0}) Error} (c : ℕ) → c < 128 → Sends contents a b h i r (c ∷ []) → SendsText contents a b h i r (c ∷ [])
+  pub SendsText-one : {a b : Watched W} {h i : List ℕ} {r : Result (Unit {0}) Error} (c : ℕ) → c < 128
+      → Sends contents a b h i r (c ∷ []) → SendsText contents a b h i r (c ∷ [])
   SendsText-one {a} {b} {h} {i} {r} c below sent = record {
     sends = subst (Sends contents a b h i r)
         (sym (append-nil (encode c) ∙ encode_ascii c below)) sent;
@@ -61,7 +63,8 @@ module _ {W : Type 0} {contents : W → Option (List ℕ)} where
   }
 
   -- the second text behind the first
-  pub SendsText-then : {a b d : Watched W} {h i j : List ℕ} {r : Result (Unit {0}) Error} {xs ys : Text} → SendsText contents a b h i (Ok (tt {0})) xs → SendsText contents b d i j r ys
+  pub SendsText-then : {a b d : Watched W} {h i j : List ℕ} {r : Result (Unit {0}) Error} {xs ys : Text}
+      → SendsText contents a b h i (Ok (tt {0})) xs → SendsText contents b d i j r ys
       → SendsText contents a d h j r (xs ++ ys)
   SendsText-then {r = r} {xs = xs} {ys = ys} first second = record {
     sends = rw encodes-append (Sends-then first.sends second.sends);
@@ -69,7 +72,8 @@ module _ {W : Type 0} {contents : W → Option (List ℕ)} where
   }
 
   -- a text that was cut short, and what should have followed
-  pub SendsText-cut : {a b : Watched W} {h i : List ℕ} {e : Error} {xs : Text} (ys : Text) → SendsText contents a b h i (Err e) xs → SendsText contents a b h i (Err e) (xs ++ ys)
+  pub SendsText-cut : {a b : Watched W} {h i : List ℕ} {e : Error} {xs : Text} (ys : Text)
+      → SendsText contents a b h i (Err e) xs → SendsText contents a b h i (Err e) (xs ++ ys)
   SendsText-cut ys cut = record {
     sends = rw encodes-append (Sends-cut
         (encode_utf8_all ys) cut.sends);
@@ -95,7 +99,8 @@ module _ {W : Type 0} {contents : W → Option (List ℕ)} where
   }
 
   -- a call that was to write the front xs of the rest
-  module _ {a b d : Watched W} {h i j : List ℕ} {whole rest xs : Text} (more : Text) (front : rest ≡ xs ++ more) (left : Writing contents a b h i whole rest) where
+  module _ {a b d : Watched W} {h i j : List ℕ} {whole rest xs : Text} (more : Text)
+      (front : rest ≡ xs ++ more) (left : Writing contents a b h i whole rest) where
     pub Writing-goes_on : SendsText contents b d i j (Ok (tt {0})) xs → Writing contents a d h j whole more
     Writing-goes_on step = record {
       so_far = left.so_far ++ xs;
@@ -109,7 +114,8 @@ module _ {W : Type 0} {contents : W → Option (List ℕ)} where
         (SendsText-then left.done (SendsText-cut more cut))
 
 -- the texts of a list's elements, from one of them on
-pub flat_map-drop : {X : Type 0} (f : X → Text) (xs : List X) (i : ℕ) (d : X) → i < length xs → flat_map f (drop i xs) ≡ f (get_or xs i d) ++ flat_map f (drop (i + 1) xs)
+pub flat_map-drop : {X : Type 0} (f : X → Text) (xs : List X) (i : ℕ) (d : X) → i < length xs
+    → flat_map f (drop i xs) ≡ f (get_or xs i d) ++ flat_map f (drop (i + 1) xs)
 flat_map-drop f xs i d below = rw (add-one, drop-cons xs i d) refl
 
 -- the parts of a line, whose bytes are their characters
@@ -131,7 +137,9 @@ chars-line_end CRLF = refl
 pub line_bytes : (policy : EscapePolicy) (first between second end : List ℕ) → IsUtf8 between → IsUtf8 end
     → encode_utf8_all ((escaped policy (chars first) ++ chars between) ++ (escaped policy (chars second) ++ chars end))
     ≡ (escaped_bytes policy first ++ between) ++ (escaped_bytes policy second ++ end)
-line_bytes policy first between second end text more = rw (encodes-append, encodes-append, encodes-append, encodes-chars between text, encodes-chars end more) refl
+line_bytes policy first between second end text more =
+    rw (encodes-append, encodes-append, encodes-append, encodes-chars between text, encodes-chars end more)
+    refl
 
 pub line-scalars : (policy : EscapePolicy) (first between second end : List ℕ) → IsUtf8 first
     → IsUtf8 between → IsUtf8 second → IsUtf8 end
@@ -145,31 +153,46 @@ line-scalars policy first between second end a b c d =
     (chars second) ++ chars end) (part first between a b) (part second end c d)
 
 -- a pair's line and a header by their parts
-pub pair_parts : (w : WriteOption) (key value : Text) → (escaped w.escape_policy key ++ chars w.kv_separator.now) ++ (escaped w.escape_policy value ++ chars (line_end w.line_separator)) ≡ written_pair w (key, value)
+pub pair_parts : (w : WriteOption) (key value : Text)
+    → (escaped w.escape_policy key ++ chars w.kv_separator.now)
+    ++ (escaped w.escape_policy value ++ chars (line_end w.line_separator)) ≡ written_pair w (key, value)
 pair_parts w key value =
     let front = escaped w.escape_policy key ++ chars w.kv_separator.now in
     ap (λ l. front ++ (escaped w.escape_policy value ++ l)) (chars-line_end w.line_separator)
     ∙ sym (append_assoc front (escaped w.escape_policy value) (line_end w.line_separator))
 
-pub header_parts : (w : WriteOption) (name : Text) → ((open_bracket ∷ []) ++ (escaped w.escape_policy name ++ chars (close_bracket ∷ []))) ++ chars (line_end w.line_separator) ≡ written_name w (Some name)
+pub header_parts : (w : WriteOption) (name : Text)
+    → ((open_bracket ∷ []) ++ (escaped w.escape_policy name ++ chars (close_bracket ∷ [])))
+    ++ chars (line_end w.line_separator) ≡ written_name w (Some name)
 header_parts w name =
     rw (chars-close_bracket, chars-line_end w.line_separator)
     (ap (λ l. open_bracket ∷ l) (append_assoc (escaped w.escape_policy name) (close_bracket ∷ []) (line_end w.line_separator)))
 
 -- what is written by options that say the same
-written_alike : (d : Document) (v w : WriteOption) → v.escape_policy ≡ w.escape_policy → v.line_separator ≡ w.line_separator → v.kv_separator.now ≡ w.kv_separator.now → written d v ≡ written d w
+written_alike : (d : Document) (v w : WriteOption) → v.escape_policy ≡ w.escape_policy
+    → v.line_separator ≡ w.line_separator → v.kv_separator.now ≡ w.kv_separator.now
+    → written d v ≡ written d w
 written_alike d v w policy line separator =
-    λ i. written d (record { escape_policy = policy i; line_separator = line i; kv_separator = record v.kv_separator { now = separator i } })
+    λ i. written d (record {
+      escape_policy = policy i;
+      line_separator = line i;
+      kv_separator =
+          record v.kv_separator { now = separator i };
+    })
 
 -- by two default options
 pub same_written : (d : Document) (v w : WriteOption) → IsDefaultWriteOption v → IsDefaultWriteOption w → written d v ≡ written d w
 same_written d v w a b =
-    written_alike d v w (a.escape_policy ∙ sym b.escape_policy) (a.line_separator ∙ sym b.line_separator) (a.kv_separator ∙ sym b.kv_separator)
+    written_alike d v w (a.escape_policy ∙ sym b.escape_policy) (a.line_separator ∙ sym b.line_separator)
+    (a.kv_separator ∙ sym b.kv_separator)
 
 -- by two default options with one policy
-pub same_written_by : (policy : EscapePolicy) (d : Document) (v w : WriteOption) → IsDefaultWriteOption v → IsDefaultWriteOption w → written d (record v { escape_policy = policy }) ≡ written d (record w { escape_policy = policy })
+pub same_written_by : (policy : EscapePolicy) (d : Document) (v w : WriteOption) → IsDefaultWriteOption v
+    → IsDefaultWriteOption w
+    → written d (record v { escape_policy = policy }) ≡ written d (record w { escape_policy = policy })
 same_written_by policy d v w a b =
-    written_alike d (record v { escape_policy = policy }) (record w { escape_policy = policy }) refl (a.line_separator ∙ sym b.line_separator) (a.kv_separator ∙ sym b.kv_separator)
+    written_alike d (record v { escape_policy = policy }) (record w { escape_policy = policy }) refl
+    (a.line_separator ∙ sym b.line_separator) (a.kv_separator ∙ sym b.kv_separator)
 
 -- a line end is sent
 pub gap-scalars : (s : LineSeparator) (r : Result (Unit {0}) Error)

@@ -125,7 +125,9 @@ line_end_element {o = o} {b = b} {s} {r} {Y} c ends e h = at e h
     no_key : {X : Type 0} {k y key : List ℕ} → KeyFront o b k y key → k ++ y ≡ c ∷ Y → X
     no_key (KeyFront.unindented {s = k} {r = y} begins str) e =
         let is = first begins_key (k ++ y) [] begins (append-nil (k ++ y) ∙ e) in
-        absurd (both_ways (begins_key c) (ap not (or_left (is_whitespace c || is_comment_mark c) (eqb c open_bracket) (or_left (is_whitespace c) (is_comment_mark c) white))) is)
+        absurd (both_ways (begins_key c)
+        (ap not (or_left (is_whitespace c || is_comment_mark c) (eqb c open_bracket)
+        (or_left (is_whitespace c) (is_comment_mark c) white))) is)
     no_key (KeyFront.indented {w = w} {s = k} {r = y} i begins str) e =
         no_blank (k ++ y) i (sym (append_assoc w k y) ∙ e)
 

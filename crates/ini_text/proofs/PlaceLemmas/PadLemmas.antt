@@ -19,19 +19,22 @@ pub record PadSoFar (lines own : List ℕ) : Type 0 where
 pub pad_none : (lines : List ℕ) → PadSoFar lines lines
 pad_none lines = record { white = []; whole = sym (append-nil lines); all = refl }
 
-pub pad_more : {lines own before : List ℕ} (c : ℕ) → PadSoFar lines own → own ≡ before ++ c ∷ [] → is_inline_white c ≡ true → PadSoFar lines before
+pub pad_more : {lines own before : List ℕ} (c : ℕ) → PadSoFar lines own → own ≡ before ++ c ∷ []
+    → is_inline_white c ≡ true → PadSoFar lines before
 pad_more {before = before} c p is white = record {
   white = c ∷ p.white;
   whole = p.whole ∙ ap (λ x. x ++ p.white) is ∙ append_assoc before (c ∷ []) p.white;
   all = rw (white, p.all) refl;
 }
 
-pub pad_escaped : {lines own : List ℕ} (before : List ℕ) (c : ℕ) → PadSoFar lines own → own ≡ before ++ c ∷ [] → c ≡ backslash → IsBeforePad lines lines
+pub pad_escaped : {lines own : List ℕ} (before : List ℕ) (c : ℕ) → PadSoFar lines own
+    → own ≡ before ++ c ∷ [] → c ≡ backslash → IsBeforePad lines lines
 pad_escaped {lines} before c p is slash =
     let whole = p.whole ∙ ap (λ x. x ++ p.white) is ∙ append_assoc before (c ∷ []) p.white ∙ ap (λ x. before ++ x ∷ p.white) slash in
     ([], sym (append-nil lines), subst (λ x. Padded x []) (sym whole) (Padded.escaped before p.white p.all))
 
-pub pad_bare : {lines own : List ℕ} (before : List ℕ) (c : ℕ) → PadSoFar lines own → own ≡ before ++ c ∷ [] → c ≢ backslash → is_inline_white c ≡ false → IsBeforePad lines own
+pub pad_bare : {lines own : List ℕ} (before : List ℕ) (c : ℕ) → PadSoFar lines own → own ≡ before ++ c ∷ []
+    → c ≢ backslash → is_inline_white c ≡ false → IsBeforePad lines own
 pad_bare before c p is other ink =
     let last : last_or line_feed (before ++ c ∷ []) ≡ c = last_or_append line_feed c before in
     let bare : ends_bare (before ++ c ∷ []) ≡ true = rw (last, ink, ne_eqb c 92 other) refl in
@@ -58,9 +61,12 @@ module _ (t f : List ℕ) (u : IsUtf8 t) (v : IsUtf8 f) (before : IsBeforePad (c
 
   pub pad_boundary : IsCharBoundary t (length f)
   pad_boundary =
-      IsCharBoundary-from_take t (length f) u (omega (arith, ap length bytes, length-append f (encode_utf8_all before.0))) (subst IsUtf8 (sym front_bytes) v)
+      IsCharBoundary-from_take t (length f) u
+      (omega (arith, ap length bytes, length-append f (encode_utf8_all before.0)))
+      (subst IsUtf8 (sym front_bytes) v)
 
-module _ (t f a b : List ℕ) (u : IsUtf8 t) (v : IsUtf8 f) (before : IsBeforePad (chars t) (chars f)) (front : a ≡ take (length f) t) (back : b ≡ drop (length f) t) where
+module _ (t f a b : List ℕ) (u : IsUtf8 t) (v : IsUtf8 f) (before : IsBeforePad (chars t) (chars f))
+    (front : a ≡ take (length f) t) (back : b ≡ drop (length f) t) where
   front_is : a ≡ f
   front_is = front ∙ front_bytes t f u v before
 
@@ -69,9 +75,12 @@ module _ (t f a b : List ℕ) (u : IsUtf8 t) (v : IsUtf8 f) (before : IsBeforePa
 
   pub pad_whole : chars t ≡ chars a ++ chars b
   pad_whole =
-      ap chars (bytes t f u v before) ∙ chars-append f (encode_utf8_all before.0) v ∙ ap (λ x. chars f ++ chars x) (sym back_is) ∙ ap (λ x. chars x ++ chars b) (sym front_is)
+      ap chars (bytes t f u v before) ∙ chars-append f (encode_utf8_all before.0) v
+      ∙ ap (λ x. chars f ++ chars x) (sym back_is) ∙ ap (λ x. chars x ++ chars b) (sym front_is)
 
   pub padded_parts : Padded (chars a) (chars b)
   padded_parts =
-      let behind : chars b ≡ before.0 = append_cancel_left (chars f) (chars b) before.0 (ap (λ x. chars x ++ chars b) (sym front_is) ∙ sym pad_whole ∙ before.1) in
+      let behind : chars b ≡ before.0 =
+      append_cancel_left (chars f) (chars b) before.0 (ap (λ x. chars x ++ chars b) (sym front_is)
+      ∙ sym pad_whole ∙ before.1) in
       subst₂ (λ x y. Padded (chars x) y) (sym front_is) (sym behind) before.2

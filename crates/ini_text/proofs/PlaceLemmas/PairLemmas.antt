@@ -49,7 +49,8 @@ no_fault : {A : Type 0} {v : List A} {r : List ℕ} {a : Answer A} → a ≡ fou
 no_fault h stops.Memory s = refl
 no_fault h (stops.Fault fault) s = absurd (found_stopped (sym s ∙ h))
 
-pub memory_only : {A R : Type 0} {v : List A} {x : List ℕ} {a : Answer A} (P : R → Type 0) (stop : Stop) (r : Result R Stop) → IsErrAnd r (λ e. e ≡ stop) → StopsBy a stop → a ≡ found v x
+pub memory_only : {A R : Type 0} {v : List A} {x : List ℕ} {a : Answer A} (P : R → Type 0) (stop : Stop)
+    (r : Result R Stop) → IsErrAnd r (λ e. e ≡ stop) → StopsBy a stop → a ≡ found v x
     → MatchResult r P (λ s. fault_of s ≡ None)
 memory_only P stop (Ok x) h s is = absurd h
 memory_only P stop (Err e) h s is = subst (λ s. fault_of s ≡ None) (sym h) (no_fault is stop s)
@@ -65,7 +66,8 @@ record PairParts (o : ParseOption) (b s r key v : List ℕ) : Type 0 where
   pub separates : is_separator m ≡ true
   pub given : Value o x r v
 
-pair_of : {o : ParseOption} {b s r key v : List ℕ} {items : List Given} → Element o b s r items → items ≡ Pair key v ∷ [] → PairParts o b s r key v
+pair_of : {o : ParseOption} {b s r key v : List ℕ} {items : List Given} → Element o b s r items
+    → items ≡ Pair key v ∷ [] → PairParts o b s r key v
 pair_of (Element.gap g) e = cc
 pair_of (Element.comment s one mark all) e = cc
 pair_of (Element.last_comment one mark all) e = cc
@@ -107,7 +109,8 @@ key_read {o} {x = x} {m = m} (KeyFront.unindented {s} {v = v} begins str) =
     (v, ap (string o.enabled_escape key_ends) (key_begins (s ++ m ∷ x) begins) ∙ (string-reads o.enabled_escape key_ends refl).finds str)
 key_read {o} {x = x} {m = m} (KeyFront.indented {w} {s} {v = v} ind begins str) =
     let behind : skipped is_blank ((w ++ s) ++ m ∷ x) ≡ s ++ m ∷ x =
-    ap (skipped is_blank) (append_assoc w s (m ∷ x)) ∙ (run-finds is_blank w (s ++ m ∷ x) ind.blank (indented_begins (s ++ m ∷ x) begins)).1 in
+    ap (skipped is_blank) (append_assoc w s (m ∷ x))
+    ∙ (run-finds is_blank w (s ++ m ∷ x) ind.blank (indented_begins (s ++ m ∷ x) begins)).1 in
     (v, ap (string o.enabled_escape key_ends) behind ∙ (string-reads o.enabled_escape key_ends refl).finds str)
 
 -- what is read of a pair
@@ -121,7 +124,8 @@ pub record PairRead (o : ParseOption) (t r name : List ℕ) : Type 0 where
   pub value_is : value o behind ≡ found v r
   pub whole : k ++ m ∷ behind ≡ t
 
-read_of : {o : ParseOption} {t r name b s key v : List ℕ} → name ≡ skipped is_blank t → Element o b s r (Pair key v ∷ []) → s ++ r ≡ t → PairRead o t r name
+read_of : {o : ParseOption} {t r name b s key v : List ℕ} → name ≡ skipped is_blank t
+    → Element o b s r (Pair key v ∷ []) → s ++ r ≡ t → PairRead o t r name
 read_of {o} {t} {r} {name} {v = v} name_is holds whole =
     let p = pair_of holds refl in
     let at_t : p.k ++ p.m ∷ (p.x ++ r) ≡ t = sym (append_assoc p.k (p.m ∷ p.x) r) ∙ ap (λ y. y ++ r) (sym p.whole) ∙ whole in
@@ -186,8 +190,10 @@ made_of key_s sep lead_s own pad tail_s = record { key = key_s; separator = sep;
 
 -- the stretches, from the rests at which they end
 module _ {o : ParseOption} (t r : List ℕ) {name out mark after start tail own pad key_s lead_s tail_s : List ℕ} {sep : ℕ}
-    (name_is : name ≡ skipped is_blank t) (read : string o.enabled_escape key_ends name ≡ found out mark) (splits : mark ≡ sep ∷ after) (h : HasTail o after start tail)
-    (key_cut : key_s ≡ front_of t mark) (lead_cut : lead_s ≡ front_of after start) (own_cut : front_of start tail ≡ own ++ pad) (padded : Padded own pad)
+    (name_is : name ≡ skipped is_blank t) (read : string o.enabled_escape key_ends name ≡ found out mark)
+    (splits : mark ≡ sep ∷ after) (h : HasTail o after start tail)
+    (key_cut : key_s ≡ front_of t mark) (lead_cut : lead_s ≡ front_of after start)
+    (own_cut : front_of start tail ≡ own ++ pad) (padded : Padded own pad)
     (tail_cut : tail_s ≡ front_of tail r) where
   own_is : h.own ≡ own ++ pad
   own_is = sym (front_is h.own tail start (sym h.own_is)) ∙ own_cut
@@ -227,18 +233,25 @@ module _ {o : ParseOption} (t r : List ℕ) {name out mark after start tail own 
     source_is : p.x ≡ value_source (made_of key_s sep lead_s own pad tail_s)
     unfolding read_of
     source_is = append_cancel_right p.x ((value_source (made_of key_s sep lead_s own pad tail_s))) r
-        (sym (after_is q read splits) ∙ sym (lead_whole h.skips) ∙ ap (λ x. x ++ start) (sym lead_is) ∙ ap (λ x. lead_s ++ x) (start_at ∙ sym seam) ∙ sym (append_assoc lead_s (own ++ (pad ++ tail_s)) r))
+        (sym (after_is q read splits) ∙ sym (lead_whole h.skips) ∙ ap (λ x. x ++ start) (sym lead_is)
+        ∙ ap (λ x. lead_s ++ x) (start_at ∙ sym seam)
+        ∙ sym (append_assoc lead_s (own ++ (pad ++ tail_s)) r))
 
     sep_is : p.m ≡ sep
     unfolding read_of
     sep_is = sym (separator_is q read splits)
 
-    pub placed : (s ≡ pair_source (made_of key_s sep lead_s own pad tail_s)) × ArePlaced o b (made_of key_s sep lead_s own pad tail_s) r key v
+    pub placed : (s ≡ pair_source (made_of key_s sep lead_s own pad tail_s))
+        × ArePlaced o b (made_of key_s sep lead_s own pad tail_s) r key v
     placed = (
-      p.whole ∙ ap (λ x. p.k ++ p.m ∷ x) source_is ∙ ap (λ x. p.k ++ x ∷ (value_source (made_of key_s sep lead_s own pad tail_s))) sep_is ∙ ap (λ x. x ++ sep ∷ (value_source (made_of key_s sep lead_s own pad tail_s))) key_is,
+      p.whole ∙ ap (λ x. p.k ++ p.m ∷ x) source_is
+          ∙ ap (λ x. p.k ++ x ∷ (value_source (made_of key_s sep lead_s own pad tail_s))) sep_is
+          ∙ ap (λ x. x ++ sep ∷ (value_source (made_of key_s sep lead_s own pad tail_s))) key_is,
       record {
         key_front = subst (λ y. KeyFront o b y (sep ∷ ((value_source (made_of key_s sep lead_s own pad tail_s)) ++ r)) key) key_is
-            (subst (λ y. KeyFront o b p.k (y ∷ ((value_source (made_of key_s sep lead_s own pad tail_s)) ++ r)) key) sep_is (subst (λ y. KeyFront o b p.k (p.m ∷ (y ++ r)) key) source_is p.front));
+            (subst (λ y. KeyFront o b p.k
+            (y ∷ ((value_source (made_of key_s sep lead_s own pad tail_s)) ++ r)) key) sep_is
+            (subst (λ y. KeyFront o b p.k (p.m ∷ (y ++ r)) key) source_is p.front));
         some = p.some;
         separates = subst (λ y. is_separator y ≡ true) sep_is p.separates;
         gives = subst (λ y. Value o y r v) source_is p.given;
@@ -261,7 +274,8 @@ module _ (o : ParseOption) (T b : List ℕ) where
   tells_memory errors.NotUtf8 t = absurd t
   tells_memory errors.NoProgress t = absurd t
 
-  tells_parse : {kind : ParseKind} {line column : ℕ} (message : List ℕ) → StopsAfter o T b kind line column → HasMessage kind message → (e : Error) → Tells (parse kind line column message) e
+  tells_parse : {kind : ParseKind} {line column : ℕ} (message : List ℕ) → StopsAfter o T b kind line column
+      → HasMessage kind message → (e : Error) → Tells (parse kind line column message) e
       → RefusesElement o T b e
   tells_parse message stop m (errors.Memory x) t = absurd t
   tells_parse message stop m (errors.Io x) t = absurd t
@@ -280,13 +294,15 @@ module _ (o : ParseOption) (T b : List ℕ) where
   tells_parse message stop m errors.NoProgress t = absurd t
 
 -- an element at a rest of the text T
-module _ (o : ParseOption) {T rest front cs : List ℕ} {c : ℕ} (within : IsRest T rest) (is : rest ≡ c ∷ cs) (at_front : front ≡ front_of T rest) where
+module _ (o : ParseOption) {T rest front cs : List ℕ} {c : ℕ} (within : IsRest T rest) (is : rest ≡ c ∷ cs)
+    (at_front : front ≡ front_of T rest) where
   pub refuses_element : (stop : Stop) → StopsBy (element o front rest) stop
       → StopIsWithin T stop × ((e : Error) → Tells (refusal_of T stop) e → RefusesElement o T (front_of T rest) e)
   refuses_element stops.Memory read = (tt, tells_memory o T (front_of T rest))
   refuses_element (stops.Fault fault) read =
       let b = front_of T rest in
-      let (s, holds, whole) = element-says o b is (subst (λ f. element o f rest ≡ stopped (chars fault.rest.now) fault.kind) at_front read) in
+      let (s, holds, whole) = element-says o b is
+      (subst (λ f. element o f rest ≡ stopped (chars fault.rest.now) fault.kind) at_front read) in
       let grown = front_grows T rest s (chars fault.rest.now) within (sym whole) in (
         grown.1,
         tells_parse o T b fault.message.now (record {
@@ -329,6 +345,7 @@ module _ (o : ParseOption) {T rest front cs : List ℕ} {c : ℕ} (within : IsRe
         )
 
 -- where nothing but memory can be wanting
-pub refuses_memory : {o : ParseOption} {T b : List ℕ} (stop : Stop) → fault_of stop ≡ None → StopIsWithin T stop × ((e : Error) → Tells (refusal_of T stop) e → RefusesElement o T b e)
+pub refuses_memory : {o : ParseOption} {T b : List ℕ} (stop : Stop) → fault_of stop ≡ None
+    → StopIsWithin T stop × ((e : Error) → Tells (refusal_of T stop) e → RefusesElement o T b e)
 refuses_memory {o} {T} {b} stops.Memory none = (tt, tells_memory o T b)
 refuses_memory (stops.Fault fault) none = cc

@@ -71,7 +71,8 @@ record LineAt (o : ParseOption) (t end u : List ℕ) : Type 0 where
   pub whole : (w ++ l) ++ end ≡ t
 
 module _ (o : ParseOption) where
-  line_at : {t cs start end u : List ℕ} {c : ℕ} → t ≡ c ∷ cs → is_blank c ≡ true → start ≡ skipped is_inline_white t → line o false start ≡ found u end
+  line_at : {t cs start end u : List ℕ} {c : ℕ} → t ≡ c ∷ cs → is_blank c ≡ true
+      → start ≡ skipped is_inline_white t → line o false start ≡ found u end
       → LineAt o t end u
   line_at {t} {cs} {start} {end} {u} {c} is b skips read =
       let (l, ln, h) = subst (Says (Line o false) (LineStops o) start) read ((line-reads o false).sound start) in
@@ -109,9 +110,12 @@ module _ (o : ParseOption) where
     line_row : Row row_source next (line_feed ∷ u)
     line_row = record {
       last = λ s r q x. subst (λ y. LastLine o y r) (sym (seam s))
-          (LastLine.continued here.begins (subst (λ y. Lead here.w (here.l ++ y)) (onward s r q) here.lead) (subst (λ y. Line o false here.l y u) (onward s r q) here.ln) (subst (LineEnd e) (sym q) le) x);
+          (LastLine.continued here.begins (subst (λ y. Lead here.w (here.l ++ y)) (onward s r q) here.lead)
+          (subst (λ y. Line o false here.l y u) (onward s r q) here.ln) (subst (LineEnd e) (sym q) le) x);
       more = λ s r v q m. subst (λ y. MoreLines o y r (line_feed ∷ (u ++ v))) (sym (seam s))
-          (MoreLines.continued here.begins (subst (λ y. Lead here.w (here.l ++ y)) (onward s r q) here.lead) (subst (λ y. Line o false here.l y u) (onward s r q) here.ln) (subst (LineEnd e) (sym q) le) m);
+          (MoreLines.continued here.begins
+          (subst (λ y. Lead here.w (here.l ++ y)) (onward s r q) here.lead)
+          (subst (λ y. Line o false here.l y u) (onward s r q) here.ln) (subst (LineEnd e) (sym q) le) m);
     }
 
     row_whole : t ≡ row_source ++ next
@@ -134,11 +138,13 @@ pub record TailSoFar (o : ParseOption) (text start tail rest : List ℕ) : Type 
       → (u : List ℕ) × MoreLines o (lines ++ s) r u × (list_all is_line_feed u ≡ true)
   pub grows : (s r : List ℕ) → s ++ r ≡ rest → LastLine o s r → OwnLines o (before ++ s) r
 
-first_said : (o : ParseOption) {start tail u : List ℕ} → line o true start ≡ found u tail → (l : List ℕ) × Line o true l tail u × (l ++ tail ≡ start)
+first_said : (o : ParseOption) {start tail u : List ℕ} → line o true start ≡ found u tail
+    → (l : List ℕ) × Line o true l tail u × (l ++ tail ≡ start)
 first_said o {start} h = subst (Says (Line o true) (LineStops o) start) h ((line-reads o true).sound start)
 
 module _ (o : ParseOption) {text start : List ℕ} (skips : start ≡ skipped is_inline_white text) where
-  pub one_line : {tail u : List ℕ} → o.enabled_indented_mutiline_value ≡ false → line o true start ≡ found u tail → HasTail o text start tail
+  pub one_line : {tail u : List ℕ} → o.enabled_indented_mutiline_value ≡ false
+      → line o true start ≡ found u tail → HasTail o text start tail
   one_line {tail} {u} off h =
       let (l, ln, whole) = first_said o h in
       record {
@@ -154,7 +160,8 @@ module _ (o : ParseOption) {text start : List ℕ} (skips : start ≡ skipped is
         is_tail = Tail.line off (Line-closes ln);
       }
 
-  pub line_to_end : {tail u : List ℕ} → o.enabled_indented_mutiline_value ≡ true → line o true start ≡ found u tail → after_end tail ≡ None → HasTail o text start tail
+  pub line_to_end : {tail u : List ℕ} → o.enabled_indented_mutiline_value ≡ true
+      → line o true start ≡ found u tail → after_end tail ≡ None → HasTail o text start tail
   line_to_end {tail} {u} on h none =
       let (l, ln, whole) = first_said o h in
       record {
@@ -170,7 +177,8 @@ module _ (o : ParseOption) {text start : List ℕ} (skips : start ≡ skipped is
         is_tail = subst (Tail o []) (sym (no_end tail (Line-closes ln) none)) (Tail.end on);
       }
 
-  pub tail_begins : {tail next u : List ℕ} → o.enabled_indented_mutiline_value ≡ true → line o true start ≡ found u tail → after_end tail ≡ Some next → TailSoFar o text start tail next
+  pub tail_begins : {tail next u : List ℕ} → o.enabled_indented_mutiline_value ≡ true
+      → line o true start ≡ found u tail → after_end tail ≡ Some next → TailSoFar o text start tail next
   tail_begins {tail} {next} {u} on h some =
       let (l, ln, whole) = first_said o h in
       let (e, le, is) = subst (EndSays tail) some (after_end-sound tail) in
@@ -193,7 +201,8 @@ module _ (o : ParseOption) {text start : List ℕ} (skips : start ≡ skipped is
       }
 
   -- a row that gives nothing stays behind the value's own lines
-  tail_row : {tail rest next : List ℕ} (p u : List ℕ) → TailSoFar o text start tail rest → rest ≡ p ++ next → more_lines o rest ≡ prepend u (more_lines o next)
+  tail_row : {tail rest next : List ℕ} (p u : List ℕ) → TailSoFar o text start tail rest → rest ≡ p ++ next
+      → more_lines o rest ≡ prepend u (more_lines o next)
       → Row o p next u → list_all is_line_feed u ≡ true → TailSoFar o text start tail next
   tail_row {tail} {rest} {next} p u st is turn row all = record {
     before = st.before ++ p;
@@ -206,29 +215,37 @@ module _ (o : ParseOption) {text start : List ℕ} (skips : start ≡ skipped is
     tail_is = st.tail_is ∙ ap (λ x. st.end ++ x) (ap (λ x. st.lines ++ x) is ∙ sym (append_assoc st.lines p next));
     own_lines = st.own_lines;
     ends = subst (LineEnd st.end) (ap (λ x. st.lines ++ x) is ∙ sym (append_assoc st.lines p next)) st.ends;
-    reads = st.reads ∙ ap (λ a. altered without_outer_line_feeds (prepend st.given a)) turn ∙ ap (altered without_outer_line_feeds) (prepend-prepend st.given u (more_lines o next));
+    reads = st.reads ∙ ap (λ a. altered without_outer_line_feeds (prepend st.given a)) turn
+        ∙ ap (altered without_outer_line_feeds) (prepend-prepend st.given u (more_lines o next));
     closes = λ s r v q m feeds.
-        let x = st.closes (p ++ s) r (u ++ v) (append_assoc p s r ∙ ap (λ y. p ++ y) q ∙ sym is) (row.more s r v q m) (all_behind u v all feeds) in
+        let x = st.closes (p ++ s) r (u ++ v) (append_assoc p s r ∙ ap (λ y. p ++ y) q ∙ sym is)
+        (row.more s r v q m) (all_behind u v all feeds) in
         (x.0, subst (λ y. MoreLines o y r x.0) (sym (append_assoc st.lines p s)) x.1, x.2);
     grows = λ s r q last.
-        subst (λ y. OwnLines o y r) (sym (append_assoc st.before p s)) (st.grows (p ++ s) r (append_assoc p s r ∙ ap (λ y. p ++ y) q ∙ sym is) (row.last s r q last));
+        subst (λ y. OwnLines o y r) (sym (append_assoc st.before p s))
+        (st.grows (p ++ s) r (append_assoc p s r ∙ ap (λ y. p ++ y) q ∙ sym is) (row.last s r q last));
   }
 
-  pub tail_lf : {tail rest next : List ℕ} {c : ℕ} → TailSoFar o text start tail rest → rest ≡ c ∷ next → c ≡ line_feed → TailSoFar o text start tail next
+  pub tail_lf : {tail rest next : List ℕ} {c : ℕ} → TailSoFar o text start tail rest → rest ≡ c ∷ next
+      → c ≡ line_feed → TailSoFar o text start tail next
   tail_lf {next = next} {c} st is feed =
       tail_row (line_feed ∷ []) (line_feed ∷ []) st (is ∙ ap (λ x. x ∷ next) feed) (empty_line o is feed) (lf_row o next) refl
 
-  pub tail_cr_lf : {tail rest cs next : List ℕ} {c : ℕ} → TailSoFar o text start tail rest → rest ≡ c ∷ cs → c ≡ carriage_return → empty_cr cs ≡ found [] next → TailSoFar o text start tail next
+  pub tail_cr_lf : {tail rest cs next : List ℕ} {c : ℕ} → TailSoFar o text start tail rest → rest ≡ c ∷ cs
+      → c ≡ carriage_return → empty_cr cs ≡ found [] next → TailSoFar o text start tail next
   tail_cr_lf {cs = cs} {next} {c} st is cr h =
-      tail_row (carriage_return ∷ line_feed ∷ []) (line_feed ∷ []) st (is ∙ ap (λ x. x ∷ cs) cr ∙ ap (λ x. carriage_return ∷ x) (behind_cr-is cs next h))
+      tail_row (carriage_return ∷ line_feed ∷ []) (line_feed ∷ []) st
+      (is ∙ ap (λ x. x ∷ cs) cr ∙ ap (λ x. carriage_return ∷ x) (behind_cr-is cs next h))
       (empty_cr_line o is cr h) (cr_lf_row o next) refl
 
   -- reading stops behind what is known
-  pub tail_stops : {tail rest r : List ℕ} {k : ParseKind} → TailSoFar o text start tail rest → more_lines o rest ≡ stopped r k → value o text ≡ stopped r k
+  pub tail_stops : {tail rest r : List ℕ} {k : ParseKind} → TailSoFar o text start tail rest
+      → more_lines o rest ≡ stopped r k → value o text ≡ stopped r k
   tail_stops st h = st.reads ∙ ap (λ a. altered without_outer_line_feeds (prepend st.given a)) h
 
   -- the lines end before r
-  tail_done : {tail rest : List ℕ} → o.enabled_indented_mutiline_value ≡ true → TailSoFar o text start tail rest → (s r v : List ℕ) → s ++ r ≡ rest → MoreLines o s r v
+  tail_done : {tail rest : List ℕ} → o.enabled_indented_mutiline_value ≡ true
+      → TailSoFar o text start tail rest → (s r v : List ℕ) → s ++ r ≡ rest → MoreLines o s r v
       → list_all is_line_feed v ≡ true → HasTail o text start tail
   tail_done {rest = rest} on st s r v q m all =
       let x = st.closes s r v q m all in
@@ -241,30 +258,38 @@ module _ (o : ParseOption) {text start : List ℕ} (skips : start ≡ skipped is
         skips = skips;
         own_is = st.own_is;
         tail_is = st.tail_is ∙ ap (λ y. st.end ++ y) whole ∙ sym (append_assoc st.end (st.lines ++ s) r);
-        reads = st.reads ∙ ap (λ a. altered without_outer_line_feeds (prepend st.given a)) (ap (more_lines o) (sym q) ∙ MoreLines-finds o s r v m);
+        reads = st.reads ∙ ap (λ a. altered without_outer_line_feeds (prepend st.given a))
+            (ap (more_lines o) (sym q) ∙ MoreLines-finds o s r v m);
         own_lines = st.own_lines;
         is_tail = Tail.lines on (subst (LineEnd st.end) whole st.ends) x.1 x.2;
       }
 
-  tail_ends : {tail rest : List ℕ} → o.enabled_indented_mutiline_value ≡ true → TailSoFar o text start tail rest → BeginsWithNo is_blank rest → BeginsWithNo is_line_end rest
+  tail_ends : {tail rest : List ℕ} → o.enabled_indented_mutiline_value ≡ true
+      → TailSoFar o text start tail rest → BeginsWithNo is_blank rest → BeginsWithNo is_line_end rest
       → HasTail o text start tail
   tail_ends {rest = rest} on st n m = tail_done on st [] rest [] refl (MoreLines.done n m) refl
 
-  pub tail_other : {tail rest cs : List ℕ} {c : ℕ} → o.enabled_indented_mutiline_value ≡ true → TailSoFar o text start tail rest → rest ≡ c ∷ cs → c ≢ line_feed → c ≢ carriage_return
+  pub tail_other : {tail rest cs : List ℕ} {c : ℕ} → o.enabled_indented_mutiline_value ≡ true
+      → TailSoFar o text start tail rest → rest ≡ c ∷ cs → c ≢ line_feed → c ≢ carriage_return
       → is_blank c ≡ false → HasTail o text start tail
   tail_other {c = c} on st is n m b =
-      tail_ends on st (subst (BeginsWithNo is_blank) (sym is) b) (subst (BeginsWithNo is_line_end) (sym is) (rw (ne_eqb c 10 n, ne_eqb c 13 m) refl))
+      tail_ends on st (subst (BeginsWithNo is_blank) (sym is) b)
+      (subst (BeginsWithNo is_line_end) (sym is) (rw (ne_eqb c 10 n, ne_eqb c 13 m) refl))
 
-  pub tail_at_end : {tail rest : List ℕ} → o.enabled_indented_mutiline_value ≡ true → TailSoFar o text start tail rest → rest ≡ [] → HasTail o text start tail
+  pub tail_at_end : {tail rest : List ℕ} → o.enabled_indented_mutiline_value ≡ true
+      → TailSoFar o text start tail rest → rest ≡ [] → HasTail o text start tail
   tail_at_end on st none = tail_ends on st (subst (BeginsWithNo is_blank) (sym none) tt) (subst (BeginsWithNo is_line_end) (sym none) tt)
 
-  pub tail_line_stops : {tail rest cs behind r : List ℕ} {c : ℕ} {k : ParseKind} → TailSoFar o text start tail rest → rest ≡ c ∷ cs → is_blank c ≡ true
+  pub tail_line_stops : {tail rest cs behind r : List ℕ} {c : ℕ} {k : ParseKind}
+      → TailSoFar o text start tail rest → rest ≡ c ∷ cs → is_blank c ≡ true
       → behind ≡ skipped is_inline_white rest → line o false behind ≡ stopped r k → value o text ≡ stopped r k
   tail_line_stops {rest = rest} st is b from h =
-      tail_stops st (sym (prepend-nil (more_lines o rest)) ∙ line_stops o [] (line_feed ∷ []) is b from refl (ap (prepend (line_feed ∷ [])) h))
+      tail_stops st (sym (prepend-nil (more_lines o rest))
+      ∙ line_stops o [] (line_feed ∷ []) is b from refl (ap (prepend (line_feed ∷ [])) h))
 
   -- a line that begins with a blank
-  module _ {tail rest cs behind end u : List ℕ} {c : ℕ} (on : o.enabled_indented_mutiline_value ≡ true) (st : TailSoFar o text start tail rest) (is : rest ≡ c ∷ cs) (b : is_blank c ≡ true)
+  module _ {tail rest cs behind end u : List ℕ} {c : ℕ} (on : o.enabled_indented_mutiline_value ≡ true)
+      (st : TailSoFar o text start tail rest) (is : rest ≡ c ∷ cs) (b : is_blank c ≡ true)
       (from : behind ≡ skipped is_inline_white rest) (read : line o false behind ≡ found u end) where
     here : LineAt o rest end u
     here = line_at o is b from read
@@ -287,7 +312,8 @@ module _ (o : ParseOption) {text start : List ℕ} (skips : start ≡ skipped is
       last_line-empty all =
           let lead : Lead here.w here.l = subst (Lead here.w) (ap (λ x. here.l ++ x) ended ∙ append-nil here.l) here.lead in
           let whole : (here.w ++ here.l) ++ [] ≡ rest = ap (λ x. (here.w ++ here.l) ++ x) (sym ended) ∙ here.whole in
-          tail_done on st (here.w ++ here.l) [] (line_feed ∷ u) whole (MoreLines.last here.begins lead (subst (λ x. Line o false here.l x u) ended here.ln)) all
+          tail_done on st (here.w ++ here.l) [] (line_feed ∷ u) whole
+          (MoreLines.last here.begins lead (subst (λ x. Line o false here.l x u) ended here.ln)) all
 
       pub last_line-own : list_all is_line_feed u ≡ false → HasTail o text start end
       last_line-own some = record {
@@ -298,7 +324,9 @@ module _ (o : ParseOption) {text start : List ℕ} (skips : start ≡ skipped is
         skips = skips;
         own_is = own_whole;
         tail_is = refl;
-        reads = st.reads ∙ ap (λ a. altered without_outer_line_feeds (prepend st.given a)) (sym (prepend-nil (more_lines o rest)) ∙ line_ends o [] (line_feed ∷ []) is b from refl feed_first none);
+        reads = st.reads ∙ ap (λ a. altered without_outer_line_feeds (prepend st.given a))
+            (sym (prepend-nil (more_lines o rest))
+            ∙ line_ends o [] (line_feed ∷ []) is b from refl feed_first none);
         own_lines = own_line some;
         is_tail = subst (Tail o []) (sym ended) (Tail.end on);
       }
@@ -318,7 +346,9 @@ module _ (o : ParseOption) {text start : List ℕ} (skips : start ≡ skipped is
 
       pub line-empty : list_all is_line_feed u ≡ true → TailSoFar o text start tail next
       line-empty all =
-          let (e, le, q) = end_said in tail_row (row_source o here e le q) (line_feed ∷ u) st (row_whole o here e le q) turn (line_row o here e le q) all
+          let (e, le, q) = end_said in
+          tail_row (row_source o here e le q) (line_feed ∷ u) st (row_whole o here e le q) turn
+          (line_row o here e le q) all
 
       pub line-own : list_all is_line_feed u ≡ false → TailSoFar o text start end next
       line-own gives =
@@ -337,10 +367,14 @@ module _ (o : ParseOption) {text start : List ℕ} (skips : start ≡ skipped is
             tail_is = sym q;
             own_lines = own_line gives;
             ends = le;
-            reads = st.reads ∙ ap (λ a. altered without_outer_line_feeds (prepend st.given a)) turn ∙ ap (altered without_outer_line_feeds) (prepend-prepend st.given (line_feed ∷ u) (more_lines o next));
+            reads = st.reads ∙ ap (λ a. altered without_outer_line_feeds (prepend st.given a)) turn
+                ∙ ap (altered without_outer_line_feeds)
+                (prepend-prepend st.given (line_feed ∷ u) (more_lines o next));
             closes = λ s r v h m all. (v, m, all);
             grows = λ s r h last.
-                subst (λ y. OwnLines o y r) (sym (append_assoc st.before p s)) (st.grows (p ++ s) r (append_assoc p s r ∙ ap (λ y. p ++ y) h ∙ sym (row_whole o here e le q)) (row.last s r h last));
+                subst (λ y. OwnLines o y r) (sym (append_assoc st.before p s))
+                (st.grows (p ++ s) r (append_assoc p s r ∙ ap (λ y. p ++ y) h
+                ∙ sym (row_whole o here e le q)) (row.last s r h last));
           }
         where
           tail_row_moved : (p : List ℕ) → rest ≡ p ++ next → start ≡ (st.before ++ p) ++ next

@@ -84,7 +84,13 @@ module _ (b : List ℕ) where
       → MatchOption (behind_line_end rest) (BeginsNone (w ++ rest)) (λ after. IsBehind (w ++ rest) after)
   blanks-say w [] ind other = λ o s r q t. no_blank_line w [] s r ind tt tt (kind (t (0x61 ∷ []))) q
   blanks-say w (c ∷ cs) ind other = elim (cases_Bool (is_line_end c)) [
-    | inl h ↦ rw h (record { source = w ++ c ∷ []; whole = sym (append_assoc w (c ∷ []) cs); some = omega (arith, length-append w (c ∷ [])); trivia = λ o r. Element.gap (Gap.blank_line c ind h) })
+    | inl h ↦ rw h (record {
+      source = w ++ c ∷ [];
+      whole = sym (append_assoc w (c ∷ []) cs);
+      some =
+          omega (arith, length-append w (c ∷ []));
+      trivia = λ o r. Element.gap (Gap.blank_line c ind h);
+    })
     | inr n ↦ rw n (λ o s r q t. no_blank_line w (c ∷ cs) s r ind other n (kind (t (0x61 ∷ []))) q)
   ]
 
@@ -113,13 +119,20 @@ module _ (b : List ℕ) where
         rw h (subst (λ y. MatchOption (behind_line_end rest) (BeginsNone (c ∷ y)) (λ after. IsBehind (c ∷ y) after)) split.whole
         (blanks-say w rest ind split.ends))
     | inr n ↦ elim (cases_Bool (is_whitespace c)) [
-      | inl w ↦ rw (n, w) (record { source = c ∷ []; whole = refl; some = omega arith; trivia = λ o r. Element.gap (Gap.white {c = c} w (λ h. rw h at n)) })
+      | inl w ↦ rw (n, w) (record {
+        source = c ∷ [];
+        whole = refl;
+        some = omega arith;
+        trivia =
+            λ o r. Element.gap (Gap.white {c = c} w (λ h. rw h at n));
+      })
       | inr x ↦ elim (cases_Bool (is_comment_mark c && is_column_one b)) [
         | inl m ↦
             let two = and_parts (is_comment_mark c) (is_column_one b) m in
             let split = run-sound is_comment_part cs in
             let rest = skipped is_comment_part cs in
-            rw (n, x, m) (subst (λ y. MatchOption (behind_line_feed rest) (BeginsNone (c ∷ y)) (λ after. IsBehind (c ∷ y) after)) split.whole
+            rw (n, x, m) (subst (λ y. MatchOption (behind_line_feed rest) (BeginsNone (c ∷ y))
+            (λ after. IsBehind (c ∷ y) after)) split.whole
             (comment-says c (run_of is_comment_part cs) rest two.1 two.0 split.all split.ends))
         | inr m ↦ rw (n, x, m) (λ o s r q t. no_first c cs s r x m (kind (t (0x61 ∷ []))) q)
       ]

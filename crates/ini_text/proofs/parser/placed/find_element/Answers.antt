@@ -9,18 +9,30 @@ use Rattle.ini_text.proofs.parser.placed.find_element.Goals.{in-None, in-Some-He
 use Rattle.ini_text.proofs.parser.placed.find_element.Goals as goal
 
 pub returns-in_default-clause-element : goal.returns-in_default-clause-element
-returns-in_default-clause-element c = (c.requires, (front_all c.requires c.in_default.ensures.characters, front_all c.requires c.in_default.ensures.characters))
+returns-in_default-clause-element c = (
+  c.requires,
+  (
+    front_all c.requires c.in_default.ensures.characters,
+    front_all c.requires
+        c.in_default.ensures.characters,
+  ),
+)
 
 pub returns-in_err-given-clause-element : goal.returns-in_err-given-clause-element
 returns-in_err-given-clause-element c =
     let p = err_from_is_err_and c.from_residual.result c.from_residual.ensures.1 in
-    rw (p.1, p.2) (refuses_element c.args.option c.requires c.in-Some.ensures.characters c.front_before-front.ensures _ c.in_err-given.ensures)
+    rw (p.1, p.2) (refuses_element c.args.option c.requires c.in-Some.ensures.characters
+    c.front_before-front.ensures _ c.in_err-given.ensures)
 
 pub front_before-source-requires : goal.front_before-source-requires
-front_before-source-requires c = source_within c.args.option c.requires c.in-Some.ensures.characters c.front_before-front.ensures c.in_ok-given.ensures
+front_before-source-requires c =
+    source_within c.args.option c.requires c.in-Some.ensures.characters c.front_before-front.ensures
+    c.in_ok-given.ensures
 
 pub place_pair-requires : goal.place_pair-requires
-place_pair-requires c = begins_pair c.args.option c.requires c.in-Some.ensures.characters c.front_before-front.ensures c.in_ok-given.ensures (ap given c.in-Some-Pair.is ∙ ap (λ i. item_of i ∷ []) c.in-Some-Pair.field-0-is)
+place_pair-requires c = begins_pair c.args.option c.requires c.in-Some.ensures.characters
+    c.front_before-front.ensures c.in_ok-given.ensures
+    (ap given c.in-Some-Pair.is ∙ ap (λ i. item_of i ∷ []) c.in-Some-Pair.field-0-is)
 
 pub returns-clause-element : goal.returns-clause-element
 returns-clause-element c =
@@ -29,11 +41,19 @@ returns-clause-element c =
     let r = chars c.in_ok-given.rest.now in
     elim c.match-given.branch [
       | in-None w ↦
-          rw w.content-is (stands o c.requires c.in-Some.ensures.characters c.front_before-front.ensures c.in_ok-given.ensures _ c.front_before-source.ensures (ap given w.in-None.is) (λ s holds whole. tt))
+          rw w.content-is (stands o c.requires c.in-Some.ensures.characters c.front_before-front.ensures
+          c.in_ok-given.ensures _ c.front_before-source.ensures (ap given w.in-None.is)
+          (λ s holds whole. tt))
       | in-Some-Header w ↦
-          rw w.content-is (stands o c.requires c.in-Some.ensures.characters c.front_before-front.ensures c.in_ok-given.ensures _ c.front_before-source.ensures (ap given w.in-Some-Header.is ∙ ap (λ i. item_of i ∷ []) w.in-Some-Header.field-0-is)
+          rw w.content-is (stands o c.requires c.in-Some.ensures.characters c.front_before-front.ensures
+          c.in_ok-given.ensures _ c.front_before-source.ensures
+          (ap given w.in-Some-Header.is ∙ ap (λ i. item_of i ∷ []) w.in-Some-Header.field-0-is)
           (λ s holds whole. tt))
       | in-Some-Pair+in_ok-places-in-Some-Pair w ↦
-          rw w.content-is (stands o c.requires c.in-Some.ensures.characters c.front_before-front.ensures c.in_ok-given.ensures _ c.front_before-source.ensures (ap given w.in-Some-Pair.is ∙ ap (λ i. item_of i ∷ []) w.in-Some-Pair.field-0-is)
-          (λ s holds whole. w.in_ok-places-in-Some-Pair.ensures b s _ _ (subst (Element o b s r) (ap given w.in-Some-Pair.is ∙ ap (λ i. item_of i ∷ []) w.in-Some-Pair.field-0-is) holds) whole))
+          rw w.content-is (stands o c.requires c.in-Some.ensures.characters c.front_before-front.ensures
+          c.in_ok-given.ensures _ c.front_before-source.ensures
+          (ap given w.in-Some-Pair.is ∙ ap (λ i. item_of i ∷ []) w.in-Some-Pair.field-0-is)
+          (λ s holds whole. w.in_ok-places-in-Some-Pair.ensures b s _ _
+          (subst (Element o b s r)
+          (ap given w.in-Some-Pair.is ∙ ap (λ i. item_of i ∷ []) w.in-Some-Pair.field-0-is) holds) whole))
     ]

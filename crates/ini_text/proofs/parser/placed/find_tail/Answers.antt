@@ -11,19 +11,23 @@ use Rattle.ini_text.proofs.parser.placed.find_tail.Goals as goal
 
 pub returns-in_err-tail : goal.returns-in_err-tail
 returns-in_err-tail c =
-    passed _ _ _ c.from_residual.ensures.1 c.in_err-tail.ensures (λ r k h. value_stops c.args.option _ c.skip-start.ensures (stopped_behind _ _ h))
+    passed _ _ _ c.from_residual.ensures.1 c.in_err-tail.ensures
+    (λ r k h. value_stops c.args.option _ c.skip-start.ensures (stopped_behind _ _ h))
 
 pub returns-then-not-option : goal.returns-then-not-option
-returns-then-not-option c = one_line c.args.option c.skip-start.ensures (not-true _ c.if-not-option.true) (read_behind _ _ c.in_ok-tail.ensures).1
+returns-then-not-option c = one_line c.args.option c.skip-start.ensures (not-true _ c.if-not-option.true)
+    (read_behind _ _ c.in_ok-tail.ensures).1
 
 pub returns-in_default : goal.returns-in_default
-returns-in_default c = line_to_end c.args.option c.skip-start.ensures (not-false _ c.if-not-option.false) (read_behind _ _ c.in_ok-tail.ensures).1 c.in_default.ensures
+returns-in_default c = line_to_end c.args.option c.skip-start.ensures (not-false _ c.if-not-option.false)
+    (read_behind _ _ c.in_ok-tail.ensures).1 c.in_default.ensures
 
 pub lines-init : goal.lines-init
 lines-init c = record {
   tail_text = search rules;
   text = search rules;
-  known = tail_begins c.args.option c.skip-start.ensures (not-false _ c.if-not-option.false) (read_behind _ _ c.in_ok-tail.ensures).1 c.in-Some.ensures;
+  known = tail_begins c.args.option c.skip-start.ensures (not-false _ c.if-not-option.false)
+      (read_behind _ _ c.in_ok-tail.ensures).1 c.in-Some.ensures;
 }
 
 pub lines-preserved-then-c-eq10 : goal.lines-preserved-then-c-eq10
@@ -36,19 +40,22 @@ lines-preserved-then-c-eq10 c = record {
 pub returns-in_err-rest : goal.returns-in_err-rest
 returns-in_err-rest c =
     passed _ _ _ c.from_residual-in_err-rest.ensures.1 c.in_err-rest.ensures
-    (λ r k h. tail_stops c.args.option c.skip-start.ensures c.lines.invariant.known (empty_cr_stops c.args.option c.in-Some-split_first.ensures.characters c.if-c-eq13.true h))
+    (λ r k h. tail_stops c.args.option c.skip-start.ensures c.lines.invariant.known
+    (empty_cr_stops c.args.option c.in-Some-split_first.ensures.characters c.if-c-eq13.true h))
 
 pub lines-preserved-then-c-eq13 : goal.lines-preserved-then-c-eq13
 lines-preserved-then-c-eq13 c = record {
   tail_text = search rules;
   text = search rules;
-  known = tail_cr_lf c.args.option c.skip-start.ensures c.lines.invariant.known c.in-Some-split_first.ensures.characters c.if-c-eq13.true c.in_ok-rest.ensures;
+  known = tail_cr_lf c.args.option c.skip-start.ensures c.lines.invariant.known
+      c.in-Some-split_first.ensures.characters c.if-c-eq13.true c.in_ok-rest.ensures;
 }
 
 pub returns-in_err-end : goal.returns-in_err-end
 returns-in_err-end c =
     passed _ _ _ c.from_residual-in_err-end.ensures.1 c.in_err-end.ensures
-    (λ r k h. tail_line_stops c.args.option c.skip-start.ensures c.lines.invariant.known c.in-Some-split_first.ensures.characters (sym c.contain.ensures ∙ c.if-contain.true) c.skip.ensures
+    (λ r k h. tail_line_stops c.args.option c.skip-start.ensures c.lines.invariant.known
+    c.in-Some-split_first.ensures.characters (sym c.contain.ensures ∙ c.if-contain.true) c.skip.ensures
     (sym (from_nothing _ c.clear.ensures.bytes) ∙ h))
 
 pub returns-in_default-after_line_end : goal.returns-in_default-after_line_end
@@ -57,17 +64,28 @@ returns-in_default-after_line_end c =
     let feeds = sym (c.skip-then-contain.ensures ∙ ap (λ b. skipped is_line_feed (chars b)) c.as_str.ensures.value) in
     elim c.match-split_first-2.branch [
       | in-Some-split_first-2 w ↦
-          rw w.tail-is (last_line-own c.args.option c.skip-start.ensures (not-false _ c.if-not-option.false) c.lines.invariant.known c.in-Some-split_first.ensures.characters
-          (sym c.contain.ensures ∙ c.if-contain.true) c.skip.ensures read c.in_default-after_line_end.ensures (feeds_some (string_text c.read_line-then-contain.new.out) (feeds ∙ w.in-Some-split_first-2.ensures.characters)))
+          rw w.tail-is (last_line-own c.args.option c.skip-start.ensures
+          (not-false _ c.if-not-option.false) c.lines.invariant.known
+          c.in-Some-split_first.ensures.characters
+          (sym c.contain.ensures ∙ c.if-contain.true) c.skip.ensures read
+          c.in_default-after_line_end.ensures
+          (feeds_some (string_text c.read_line-then-contain.new.out)
+          (feeds ∙ w.in-Some-split_first-2.ensures.characters)))
       | in_default-split_first-2 w ↦
-          rw w.tail-is (last_line-empty c.args.option c.skip-start.ensures (not-false _ c.if-not-option.false) c.lines.invariant.known c.in-Some-split_first.ensures.characters
-          (sym c.contain.ensures ∙ c.if-contain.true) c.skip.ensures read c.in_default-after_line_end.ensures (feeds_all (string_text c.read_line-then-contain.new.out) (feeds ∙ w.in_default-split_first-2.ensures.characters)))
+          rw w.tail-is (last_line-empty c.args.option c.skip-start.ensures
+          (not-false _ c.if-not-option.false) c.lines.invariant.known
+          c.in-Some-split_first.ensures.characters
+          (sym c.contain.ensures ∙ c.if-contain.true) c.skip.ensures read
+          c.in_default-after_line_end.ensures
+          (feeds_all (string_text c.read_line-then-contain.new.out)
+          (feeds ∙ w.in_default-split_first-2.ensures.characters)))
     ]
 
 pub lines-smaller : goal.lines-smaller
 lines-smaller c =
     let read = sym (from_nothing _ c.clear.ensures.bytes) ∙ c.in_ok-end.ensures in
-    line_shorter c.args.option c.skip-start.ensures (not-false _ c.if-not-option.false) c.lines.invariant.known c.in-Some-split_first.ensures.characters
+    line_shorter c.args.option c.skip-start.ensures (not-false _ c.if-not-option.false)
+    c.lines.invariant.known c.in-Some-split_first.ensures.characters
     (sym c.contain.ensures ∙ c.if-contain.true) c.skip.ensures read c.in-Some-after_line_end.ensures
 
 pub lines-preserved : goal.lines-preserved
@@ -79,22 +97,32 @@ lines-preserved c =
           rw w.tail-is record {
             tail_text = search rules;
             text = search rules;
-            known = line-own c.args.option c.skip-start.ensures (not-false _ c.if-not-option.false) c.lines.invariant.known c.in-Some-split_first.ensures.characters
-                (sym c.contain.ensures ∙ c.if-contain.true) c.skip.ensures read c.in-Some-after_line_end.ensures (feeds_some (string_text c.read_line-then-contain.new.out) (feeds ∙ w.in-Some-split_first-2.ensures.characters));
+            known = line-own c.args.option c.skip-start.ensures (not-false _ c.if-not-option.false)
+                c.lines.invariant.known c.in-Some-split_first.ensures.characters
+                (sym c.contain.ensures ∙ c.if-contain.true) c.skip.ensures read
+                c.in-Some-after_line_end.ensures
+                (feeds_some (string_text c.read_line-then-contain.new.out)
+                (feeds ∙ w.in-Some-split_first-2.ensures.characters));
           }
       | in_default-split_first-2 w ↦
           rw w.tail-is record {
             tail_text = search rules;
             text = search rules;
-            known = line-empty c.args.option c.skip-start.ensures (not-false _ c.if-not-option.false) c.lines.invariant.known c.in-Some-split_first.ensures.characters
-                (sym c.contain.ensures ∙ c.if-contain.true) c.skip.ensures read c.in-Some-after_line_end.ensures (feeds_all (string_text c.read_line-then-contain.new.out) (feeds ∙ w.in_default-split_first-2.ensures.characters));
+            known = line-empty c.args.option c.skip-start.ensures (not-false _ c.if-not-option.false)
+                c.lines.invariant.known c.in-Some-split_first.ensures.characters
+                (sym c.contain.ensures ∙ c.if-contain.true) c.skip.ensures read
+                c.in-Some-after_line_end.ensures
+                (feeds_all (string_text c.read_line-then-contain.new.out)
+                (feeds ∙ w.in_default-split_first-2.ensures.characters));
           }
     ]
 
 pub returns-else-contain : goal.returns-else-contain
 returns-else-contain c =
-    tail_other c.args.option c.skip-start.ensures (not-false _ c.if-not-option.false) c.lines.invariant.known c.in-Some-split_first.ensures.characters c.if-c-eq10.false c.if-c-eq13.false
+    tail_other c.args.option c.skip-start.ensures (not-false _ c.if-not-option.false)
+    c.lines.invariant.known c.in-Some-split_first.ensures.characters c.if-c-eq10.false c.if-c-eq13.false
     (sym c.contain.ensures ∙ c.if-contain.false)
 
 pub returns : goal.returns
-returns c = tail_at_end c.args.option c.skip-start.ensures (not-false _ c.if-not-option.false) c.lines.invariant.known c.in_default-split_first.ensures.characters
+returns c = tail_at_end c.args.option c.skip-start.ensures (not-false _ c.if-not-option.false)
+    c.lines.invariant.known c.in_default-split_first.ensures.characters

@@ -8,7 +8,9 @@ returns-in_err-mark c =
     memory_only _ _ _ c.from_residual.ensures.1 c.in_err-mark.ensures (key_found (pair_read c.requires c.skip-name.ensures) _)
 
 pub unreachable-requires : goal.unreachable-requires
-unreachable-requires c = mark_some (pair_read c.requires c.skip-name.ensures) (read_behind _ _ c.in_ok-mark.ensures).1 c.in_default.ensures.characters
+unreachable-requires c =
+    mark_some (pair_read c.requires c.skip-name.ensures) (read_behind _ _ c.in_ok-mark.ensures).1
+    c.in_default.ensures.characters
 
 pub returns-in_err-start : goal.returns-in_err-start
 returns-in_err-start c =
@@ -25,9 +27,12 @@ pub front_before-requires-3 : goal.front_before-requires-3
 front_before-requires-3 c = lead_within c.in_ok-start.ensures
 
 pub front_before-requires-4 : goal.front_before-requires-4
-front_before-requires-4 c = tail_within (pair_read c.requires c.skip-name.ensures) (read_behind _ _ c.in_ok-mark.ensures).1 c.in-Some.ensures.characters c.in_ok-start.ensures
+front_before-requires-4 c =
+    tail_within (pair_read c.requires c.skip-name.ensures) (read_behind _ _ c.in_ok-mark.ensures).1
+    c.in-Some.ensures.characters c.in_ok-start.ensures
 
 pub returns : goal.returns
 returns c = λ b s key value holds whole.
-    placed _ _ c.skip-name.ensures (read_behind _ _ c.in_ok-mark.ensures).1 c.in-Some.ensures.characters c.in_ok-start.ensures c.front_before-2.ensures c.front_before-3.ensures
+    placed _ _ c.skip-name.ensures (read_behind _ _ c.in_ok-mark.ensures).1 c.in-Some.ensures.characters
+    c.in_ok-start.ensures c.front_before-2.ensures c.front_before-3.ensures
     (sym c.front_before.ensures ∙ c.split_pad.ensures.whole) c.split_pad.ensures.pad c.front_before-4.ensures holds whole

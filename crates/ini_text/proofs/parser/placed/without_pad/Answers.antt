@@ -10,7 +10,8 @@ returns-then-c-eq92 c = pad_escaped (chars c.in-Some.before.now) c.in-Some.c c.w
 
 pub returns-then-not-contain : goal.returns-then-not-contain
 returns-then-not-contain c =
-    pad_bare (chars c.in-Some.before.now) c.in-Some.c c.white.invariant.pad c.in-Some.ensures c.if-c-eq92.false (sym c.contain.ensures ∙ c.if-not-contain.true)
+    pad_bare (chars c.in-Some.before.now) c.in-Some.c c.white.invariant.pad c.in-Some.ensures
+    c.if-c-eq92.false (sym c.contain.ensures ∙ c.if-not-contain.true)
 
 pub white-smaller : goal.white-smaller
 white-smaller c = shorter_before (chars c.in-Some.before.now) c.in-Some.c c.in-Some.ensures
