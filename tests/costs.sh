@@ -1,0 +1,111 @@
+#!/bin/sh
+# Counts the instructions of the built programs, by valgrind, since neither a clause nor an output shows what something costs:
+# a text, a section or a document of twice the size costs twice as much, a call on a document eight times as large hardly more,
+# and long lines cost few instructions a byte. Where there is no valgrind it says that it skipped all. Each case that fails is
+# told. The last line is 'N passed, M failed', and the status is 1 if a case failed.
+#
+#     tests/costs.sh [INI_TOOL [INI_CALLS]]
+#
+# The programs are by default those that tools/run.sh builds.
+set -u
+LC_ALL=C
+export LC_ALL
+top=$(cd "$(dirname "$0")/.." && pwd)
+room=$(mktemp -d)
+trap 'rm -rf "$room"' EXIT
+passed=0
+failed=0
+if ! command -v valgrind >/dev/null 2>&1; then
+    echo "skipped: all, since valgrind isn't there"
+    echo '0 passed, 0 failed'
+    exit 0
+fi
+tool=${1:-}
+calls=${2:-}
+if [ -z "$tool" ]; then
+    "$top/tools/run.sh" ini_tool fmt </dev/null || exit 1
+    tool=$top/crates/ini_tool/out/ini_tool
+fi
+if [ -z "$calls" ]; then
+    "$top/tools/run.sh" ini_calls </dev/null || exit 1
+    calls=$top/crates/ini_calls/out/ini_calls
+fi
+
+# instructions STATUS COMMAND ..: how many the command takes over the file `in`, in thousands; nothing where it
+# ends otherwise, or takes two minutes
+instructions() {
+    wanted=$1
+    shift
+    timeout 120 valgrind --tool=cachegrind --cache-sim=no --cachegrind-out-file=/dev/null "$@" \
+        <"$room/in" >"$room/out" 2>"$room/err"
+    [ $? -eq "$wanted" ] && sed -n 's/^==[0-9]*== I *refs: *//p' "$room/err" | tr -d , | awk '{ printf "%d\n", $1 / 1000 }'
+}
+
+# at_most NAME COUNT BOUND: whether the count is a number and within its bound
+at_most() {
+    if [ -n "$2" ] && [ -n "$3" ] && [ "$2" -gt 0 ] && [ "$2" -le "$3" ]; then
+        passed=$((passed + 1))
+    else
+        failed=$((failed + 1))
+        echo "FAILED: $1: ${2:-no count} thousand instructions, and at most ${3:-none} are wanted"
+    fi
+}
+
+# What the program itself takes: it is taken off each count.
+: >"$room/in"
+own=$(instructions 0 "$tool" fmt)
+
+# doubles NAME STATUS MAKE N WORD ..: of the text that MAKE gives for twice N the program takes at most 2.5 times what it takes
+# for N
+doubles() {
+    name=$1 status=$2 make=$3 n=$4
+    shift 4
+    "$make" "$n" >"$room/in"
+    one=$(instructions "$status" "$tool" "$@")
+    "$make" $((2 * n)) >"$room/in"
+    two=$(instructions "$status" "$tool" "$@")
+    at_most "$name, twice the size" "${two:+$((two - own))}" "${one:+$(((one - own) * 5 / 2))}"
+}
+
+pairs() { awk -v n="$1" 'BEGIN { for (i = 0; i < n; i++) printf "key%d = value %d\n", i, i }'; }
+sections() { awk -v n="$1" 'BEGIN { for (i = 0; i < n; i++) printf "[section %d]\nkey = %d\n", i, i }'; }
+repeated() { awk -v n="$1" 'BEGIN { for (i = 0; i < n; i++) printf "[s]\nk = %d\n", i }'; }
+quoted() { awk -v n="$1" 'BEGIN { printf "k = \""; for (i = 0; i < n; i++) printf "line %d\n", i % 10; print "\"" }'; }
+comments() { awk -v n="$1" 'BEGIN { for (i = 0; i < n; i++) printf "; %d\n", i % 10; print "k = v" }'; }
+refused() { pairs "$1"; echo '= v'; }
+escapes() { awk -v n="$1" 'BEGIN { printf "k = "; for (i = 0; i < n; i++) printf "a\\tb\\x0041"; print "" }'; }
+
+doubles 'pairs of one section' 0 pairs 20000 fmt
+doubles 'sections' 0 sections 10000 fmt
+doubles 'sections of one name' 0 repeated 10000 fmt
+doubles 'a quoted value over many lines' 0 quoted 150000 fmt
+doubles 'comments' 0 comments 150000 fmt
+doubles 'a value full of escapes' 0 escapes 50000 fmt
+doubles 'pairs of one section, one set' 0 pairs 20000 set key7 v
+doubles 'pairs of one section, listed' 0 pairs 20000 list
+doubles 'a text that is refused at its end' 3 refused 20000 fmt
+
+# A call on a document of 8,000 keys or sections costs at most four times what it costs on one of 1,000: what 2,000 more calls
+# take, beside the making of the document.
+call() {
+    echo "$1 $2 $3 2000" >"$room/in"
+    first=$(instructions 0 "$calls")
+    echo "$1 $2 $3 4000" >"$room/in"
+    second=$(instructions 0 "$calls")
+    [ -n "$first" ] && [ -n "$second" ] && echo $((second - first))
+}
+for shape in keys sections; do
+    for it in get_from set_there set_new append section setter; do
+        small=$(call $it $shape 1000)
+        large=$(call $it $shape 8000)
+        at_most "$it, $shape, eight times as many" "$large" "${small:+$((small * 4))}"
+    done
+done
+
+# Few instructions a byte, where lines are long.
+awk 'BEGIN { for (i = 0; i < 4000; i++) x = x "x"; for (i = 0; i < 250; i++) print "key" i "=" x }' >"$room/in"
+long=$(instructions 0 "$tool" fmt)
+at_most 'lines of 4,000 bytes, a megabyte' "${long:+$((long - own))}" 7500
+
+echo "$passed passed, $failed failed"
+[ "$failed" -eq 0 ]
