@@ -102,6 +102,11 @@ for shape in keys sections; do
     done
 done
 
+# Few instructions a pair.
+pairs 40000 >"$room/in"
+short=$(instructions 0 "$tool" fmt)
+at_most '40,000 pairs' "${short:+$((short - own))}" 120000
+
 # Few instructions a byte, where lines are long.
 awk 'BEGIN { for (i = 0; i < 4000; i++) x = x "x"; for (i = 0; i < 250; i++) print "key" i "=" x }' >"$room/in"
 long=$(instructions 0 "$tool" fmt)
