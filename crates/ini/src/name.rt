@@ -57,8 +57,8 @@ pub(crate) fn is_same_name(one: Option<&str>, other: Option<&str>) -> bool
     }
 }
 
-/// What stands for the name of a section. It is public since setters name it in their type. Anyone may implement it, to no
-/// use: `with_section` makes setters by `LentName` alone.
+/// What stands for the name of a section. It is public since setters name it in their type. Anyone may
+/// implement it, to no use: `with_section` makes setters by `LentName` alone.
 pub trait SectionName: Copy + Drop {
     // The name that it stands for.
     ghost section_name: { Self → Option Text };
