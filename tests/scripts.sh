@@ -201,6 +201,29 @@ checkout
 status=$?
 built 'a build with standard error closed' 1
 
+# A program that is only built.
+checkout
+script tools/run.sh --build ini_tool
+is 'only built: status 0, and the program did not run' 'status 0, ' "status $status, $(cat "$room/out")"
+is 'what the first build costs is told, and then how far it is' "building $top/crates/ini_tool/out/ini_tool: each function is proved\
+ first, which the first time takes about 23 minutes of processor time (some 8 minutes on four cores), up to 4 GB of memory and\
+ 2.5 GB of disk
+so far: 1 of 2 functions" "$(cat "$room/err")"
+script tools/run.sh --build ini_tool
+is 'only built, where it is built: nothing is told' 'status 0, ' "status $status, $(cat "$room/out" "$room/err")"
+script ini_tool.sh
+built 'a run of what was only built' 1
+touch "$top/crates/second/src/lib.rt"
+mode fails
+script tools/run.sh --build ini_tool
+refused 'only built, and the build fails' 'ini_tool could not be built: mend '
+script tools/run.sh --build
+refused 'only built, without a name' 'which program? '
+script tools/run.sh --build ini_tool fmt
+refused 'only built, with words' 'words for a program '
+script tools/run.sh --build first
+refused 'only built: a library' 'first is no program of crates.txt'
+
 # What makes a program too old, and what does not.
 for it in ini_tool/src/main.rt ini_tool/src/new.rt ini_tool/specs/Lib.antt first/src/lib.rt second/src/lib.rt second/proofs/new.antt; do
     checkout

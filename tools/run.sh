@@ -1,16 +1,20 @@
 #!/bin/sh
-# Runs a program of this repository with the given words, over this shell's input and output:
+# Runs a program of this repository with the given words, over this shell's input and output, or only builds it:
 #
 #     tools/run.sh NAME [WORD ..]
+#     tools/run.sh --build NAME
 #
 # The first time, and where its sources or those of a library that it uses have changed, the program is proved and built,
-# which tells on standard error how far it is; it then lies in crates/NAME/out/NAME. The status is the program's own, or 125
-# where it could not be built: what went wrong, and a line on what to do, stand on standard error then.
+# which tells on standard error what it costs and how far it is; it then lies in crates/NAME/out/NAME. The status is the
+# program's own (0 where it is only built), or 125 where it could not be built: what went wrong, and a line on what to do,
+# stand on standard error then.
 set -u
 top=$(dirname "$(dirname "$(readlink -f "$0")")")
 room=
 builder=
 shower=
+# what the first build of a program takes, where no library of it is proved
+cost='about 23 minutes of processor time (some 8 minutes on four cores), up to 4 GB of memory and 2.5 GB of disk'
 
 say() {
     printf '%s\n' "$1" >&2 || true
@@ -90,7 +94,7 @@ show() {
 # Proves and builds the program. Its time is then that of the build's start, so that a file that was changed meanwhile is newer.
 build() {
     look_ahead
-    say "building $program: each function is proved first, which takes some minutes the first time"
+    say "building $program: each function is proved first, which the first time takes $cost"
     for signal in HUP INT TERM; do
         # shellcheck disable=SC2064
         trap "interrupted $signal" "$signal"
@@ -116,11 +120,17 @@ build() {
     trap - HUP INT TERM EXIT
 }
 
-[ $# -gt 0 ] || give_up 'which program? tools/run.sh NAME [WORD ..]'
+is_run=yes
+if [ "${1-}" = --build ]; then
+    is_run=no
+    shift
+fi
+[ $# -gt 0 ] || give_up 'which program? tools/run.sh NAME [WORD ..], or tools/run.sh --build NAME'
 name=$1
 shift
+[ "$is_run" = yes ] || [ $# -eq 0 ] || give_up 'words for a program that is only built: tools/run.sh --build NAME'
 program=$top/crates/$name/out/$name
 crates=$(crates_of "$name")
 { [ -n "$crates" ] && [ -f "$top/crates/$name/src/main.rt" ]; } || give_up "$name is no program of crates.txt"
 is_built || build
-exec "$program" "$@"
+[ "$is_run" = no ] || exec "$program" "$@"
