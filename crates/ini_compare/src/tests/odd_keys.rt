@@ -1,5 +1,5 @@
 //! Keys that are equal without case: the key that stays, and walks that are dropped half way.
-use super::calls::text;
+use super::calls::{expect_pairs, text};
 use crate::NoCase;
 use ini_multimap::Multimap;
 use std::panic::Expect;
@@ -16,16 +16,6 @@ fn sample(rt: &(impl Abort + AllocGlobal)) -> Multimap<NoCase, u32> {
         assert!(rt; map.append(key(rt, letter), value).is_ok());
     }
     map
-}
-
-// Asks that the multimap has the pairs, in order.
-fn expect_pairs(rt: &(impl Abort + AllocGlobal), map: &Multimap<NoCase, u32>, want: &str) {
-    let mut got = String::new(rt.alloc());
-    for (key, value) in map {
-        let pair = format!(in rt.alloc(); "{} {value};", key.0).expect(rt, "memory");
-        got.push_str(&pair).expect(rt, "memory");
-    }
-    assert!(rt; got.as_str() == want, "{got}, and not {want}");
 }
 
 // Asks that the multimap has the distinct keys, in order.

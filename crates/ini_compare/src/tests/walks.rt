@@ -23,6 +23,18 @@ impl Order {
         }
     }
 
+    // Item number `turn` of the reading.
+    fn take<I: DoubleEndedIterator>(self, walk: &mut I, turn: usize) -> Option<I::Item>
+        requires front { I.can_next walk.old }
+        requires back { I.can_next_back walk.old }
+    {
+        if self.is_from_back(turn) {
+            walk.next_back()
+        } else {
+            walk.next()
+        }
+    }
+
     // Where that item stands among `len` items.
     fn index(self, turn: usize, len: usize) -> usize {
         let from_its_end = match self {
@@ -51,11 +63,7 @@ pub fn same_pairs<K: TextKey>(
 ) {
     let mut got = map.iter();
     for turn in 0..want.len() {
-        let item = if order.is_from_back(turn) {
-            got.next_back()
-        } else {
-            got.next()
-        };
+        let item = order.take(&mut got, turn);
         let same = match (item, want.get(order.index(turn, want.len()))) {
             (Some((key, value)), Some(want)) => key.text() == want.0.text() && *value == want.1,
             _ => false,
@@ -75,11 +83,7 @@ pub fn same_pairs_mut<K: TextKey>(
 ) {
     let mut got = map.iter_mut();
     for turn in 0..want.len() {
-        let item = if order.is_from_back(turn) {
-            got.next_back()
-        } else {
-            got.next()
-        };
+        let item = order.take(&mut got, turn);
         let same = match (item, want.get(order.index(turn, want.len()))) {
             (Some((key, value)), Some(want)) => key.text() == want.0.text() && *value == want.1,
             _ => false,
@@ -94,11 +98,7 @@ pub fn same_pairs_mut<K: TextKey>(
 pub fn same_keys<K: TextKey>(rt: &impl Abort, order: Order, map: &Multimap<K, u32>, want: &[&K]) {
     let mut got = map.keys();
     for turn in 0..want.len() {
-        let item = if order.is_from_back(turn) {
-            got.next_back()
-        } else {
-            got.next()
-        };
+        let item = order.take(&mut got, turn);
         let same = match (item, want.get(order.index(turn, want.len()))) {
             (Some(key), Some(want)) => key.text() == want.text(),
             _ => false,
@@ -143,11 +143,7 @@ pub fn same_items<K: TextKey>(
 ) {
     let mut got = map.into_iter();
     for turn in 0..want.len() {
-        let item = if order.is_from_back(turn) {
-            got.next_back()
-        } else {
-            got.next()
-        };
+        let item = order.take(&mut got, turn);
         let same = match (item, want.get(order.index(turn, want.len()))) {
             (Some((key, value)), Some(want)) => key.text() == want.0.text() && value == want.1,
             _ => false,

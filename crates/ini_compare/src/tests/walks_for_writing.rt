@@ -24,16 +24,23 @@ fn sample(rt: &(impl Abort + AllocGlobal), keys: &str) -> Multimap<String, u32> 
     m
 }
 
-// Adds 100 to what the walk over one key lends; each letter of `ends` is a step from the front or from the
-// back.
+// A step of a walk: from the front where the letter is `f`, else from the back.
+fn step<I: DoubleEndedIterator>(walk: &mut I, end: char) -> Option<I::Item>
+    requires front { I.can_next walk.old }
+    requires back { I.can_next_back walk.old }
+{
+    if end == 'f' {
+        walk.next()
+    } else {
+        walk.next_back()
+    }
+}
+
+// Adds 100 to what the walk over one key lends; each letter of `ends` is a step.
 fn write_values(m: &mut Multimap<String, u32>, key: &str, ends: &str) {
     let mut walk = m.get_all_mut(key);
     for end in ends.chars() {
-        let lent = if end == 'f' {
-            walk.next()
-        } else {
-            walk.next_back()
-        };
+        let lent = step(&mut walk, end);
         if let Some(value) = lent {
             *value = value.wrapping_add(100);
         }
@@ -44,11 +51,7 @@ fn write_values(m: &mut Multimap<String, u32>, key: &str, ends: &str) {
 fn write_pairs(m: &mut Multimap<String, u32>, ends: &str) {
     let mut walk = m.iter_mut();
     for end in ends.chars() {
-        let lent = if end == 'f' {
-            walk.next()
-        } else {
-            walk.next_back()
-        };
+        let lent = step(&mut walk, end);
         if let Some((_, value)) = lent {
             *value = value.wrapping_add(100);
         }
