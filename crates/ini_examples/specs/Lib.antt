@@ -1,3 +1,4 @@
 pub mod Services
 pub mod Migrations
 pub mod Reports
+pub mod Walks

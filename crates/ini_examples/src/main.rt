@@ -1,7 +1,8 @@
 //! Examples of the library, run one after another. Each is a file of its own, to be read and copied; this
-//! file knows what they print and no more.
+//! file knows what they print and no more. Those in `callers` are proved and not run.
 #![tactic(auto)]
 
+mod callers;
 mod faults;
 mod fleet;
 mod migration;

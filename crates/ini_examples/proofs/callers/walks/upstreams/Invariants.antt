@@ -1,8 +1,8 @@
 use Rattle.std.proofs.Common.{◌≡◌, ◌++◌, Some, chars}
 use Rattle.std.specs.List.{filter_map}
 use Rattle.ini.specs.Properties.{first_value, texts_of}
-use Rattle.ini_callers.specs.Walks.{each_first}
-use Rattle.ini_callers.proofs.walks.upstreams.Given as goal
+use Rattle.ini_examples.specs.Walks.{each_first}
+use Rattle.ini_examples.proofs.callers.walks.upstreams.Given as goal
 
 abbrev pub invariant-loop-section : goal.invariant-loop-section
 invariant-loop-section l =

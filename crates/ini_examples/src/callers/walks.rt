@@ -4,7 +4,7 @@ ghost use Rattle.std.specs.Prelude.{◌≡◌, [], IfOk, OnOk, Some, chars, unwr
 ghost use Rattle.ini.specs.Texts.{is_name, name_of, str_name};
 ghost use Rattle.ini.specs.Properties.{texts_of};
 ghost use Rattle.ini.specs.Documents.{first_section, section_removed};
-ghost use Rattle.ini_callers.specs.Walks.{all_added, all_named_anew, each_first, kept};
+ghost use Rattle.ini_examples.specs.Walks.{all_added, all_named_anew, each_first, kept};
 
 use ini::laws::same_characters;
 use ini::{Error, Ini, Properties, SectionKey};

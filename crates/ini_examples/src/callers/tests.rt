@@ -1,5 +1,5 @@
 //! The calls that append, delete, rename and write, and the loops over a walk, with ample memory.
-use crate::{keep, move_pairs, rename, upstreams};
+use super::walks::{keep, move_pairs, rename, upstreams};
 use ini::{Error, Ini, ParseOption, Properties, WriteOption};
 use std::alloc::Global;
 
