@@ -94,6 +94,16 @@ struct bigrosk_ini_fault {
     char message[64]; /* ends in 0 */
 };
 
+/* How much a listing takes: so many bytes, and so many counts. */
+struct bigrosk_ini_sizes {
+    size_t bytes;
+    size_t counts;
+};
+#define BIGROSK_INI_NO_SIZES { 0, 0 }
+
+/* In what bigrosk_ini_items lists, the count of the general section's name, which is none. */
+#define BIGROSK_INI_UNNAMED SIZE_MAX
+
 /* 10000 * major + 100 * minor */
 uint32_t bigrosk_ini_version(void);
 
@@ -114,6 +124,28 @@ void bigrosk_ini_free(struct bigrosk_ini_document *document);
  * OK; ABSENT; NO_ROOM where the buffer has room for no more than count bytes: it is then as it was; NOT_UTF8; NO_DOCUMENT. */
 uint32_t bigrosk_ini_get(struct bigrosk_ini_document *document, bool named, const uint8_t *section, size_t section_count,
                          const uint8_t *key, size_t key_count, uint8_t *value, size_t room, size_t *count);
+
+/* The next three list texts in order: in `bytes` one text behind another, each with a 0 behind it, and in `counts` how many bytes
+ * each has, its 0 not counted. `sizes` says how much of both buffers that takes, with OK and with NO_ROOM; with anything but OK
+ * the buffers are as they were. bigrosk_ini_text goes over a listing. */
+
+/* Lists all values of the key: the number of its pairs is sizes->counts.
+ * OK; ABSENT; NO_ROOM; NOT_UTF8; NO_MEMORY; NO_DOCUMENT. */
+uint32_t bigrosk_ini_get_all(struct bigrosk_ini_document *document, bool named, const uint8_t *section,
+                             size_t section_count, const uint8_t *key, size_t key_count, uint8_t *bytes, size_t bytes_room,
+                             size_t *counts, size_t counts_room, struct bigrosk_ini_sizes *sizes);
+
+/* Lists all pairs of the section: of each the key, and then the value.
+ * OK; ABSENT where no section has the name; NO_ROOM; NOT_UTF8; NO_MEMORY; NO_DOCUMENT. */
+uint32_t bigrosk_ini_pairs(struct bigrosk_ini_document *document, bool named, const uint8_t *section,
+                           size_t section_count, uint8_t *bytes, size_t bytes_room, size_t *counts, size_t counts_room,
+                           struct bigrosk_ini_sizes *sizes);
+
+/* Lists the whole document, in which two sections may have one name: of each section the name, among `counts` the number of its pairs (a number
+ * without a text), and then its pairs. The general section has no text there, and BIGROSK_INI_UNNAMED in place of a count.
+ * OK; NO_ROOM; NO_MEMORY; NO_DOCUMENT. */
+uint32_t bigrosk_ini_items(struct bigrosk_ini_document *document, uint8_t *bytes, size_t bytes_room, size_t *counts,
+                           size_t counts_room, struct bigrosk_ini_sizes *sizes);
 
 /* Whether the section has the key: OK, ABSENT, NOT_UTF8 or NO_DOCUMENT. */
 uint32_t bigrosk_ini_has(struct bigrosk_ini_document *document, bool named, const uint8_t *section, size_t section_count,
@@ -172,6 +204,23 @@ static inline uint32_t bigrosk_ini_get_str(struct bigrosk_ini_document *document
                            count ? count : &unused);
 }
 
+static inline uint32_t bigrosk_ini_get_all_str(struct bigrosk_ini_document *document, const char *section,
+                                               const char *key, uint8_t *bytes, size_t bytes_room, size_t *counts,
+                                               size_t counts_room, struct bigrosk_ini_sizes *sizes)
+{
+    return bigrosk_ini_get_all(document, section != NULL, bigrosk_ini_bytes(section), bigrosk_ini_count(section),
+                               bigrosk_ini_bytes(key), bigrosk_ini_count(key), bytes, bytes_room, counts, counts_room,
+                               sizes);
+}
+
+static inline uint32_t bigrosk_ini_pairs_str(struct bigrosk_ini_document *document, const char *section, uint8_t *bytes,
+                                             size_t bytes_room, size_t *counts, size_t counts_room,
+                                             struct bigrosk_ini_sizes *sizes)
+{
+    return bigrosk_ini_pairs(document, section != NULL, bigrosk_ini_bytes(section), bigrosk_ini_count(section), bytes,
+                             bytes_room, counts, counts_room, sizes);
+}
+
 static inline uint32_t bigrosk_ini_has_str(struct bigrosk_ini_document *document, const char *section, const char *key)
 {
     return bigrosk_ini_has(document, section != NULL, bigrosk_ini_bytes(section), bigrosk_ini_count(section),
@@ -210,6 +259,37 @@ static inline uint32_t bigrosk_ini_delete_section_str(struct bigrosk_ini_documen
 {
     return bigrosk_ini_delete_section(document, section != NULL, bigrosk_ini_bytes(section),
                                       bigrosk_ini_count(section));
+}
+
+/* A walk over what a call has listed. */
+struct bigrosk_ini_walk {
+    const uint8_t *at;
+    const size_t *counts, *end;
+};
+
+static inline struct bigrosk_ini_walk bigrosk_ini_walk_over(const uint8_t *bytes, const size_t *counts,
+                                                            struct bigrosk_ini_sizes sizes)
+{
+    struct bigrosk_ini_walk walk = { bytes, counts, counts + sizes.counts };
+    return walk;
+}
+
+/* Whether nothing is left. */
+static inline bool bigrosk_ini_is_over(const struct bigrosk_ini_walk *walk) { return walk->counts == walk->end; }
+
+/* The next number; something must be left. */
+static inline size_t bigrosk_ini_number(struct bigrosk_ini_walk *walk) { return *walk->counts++; }
+
+/* The next text, which ends in 0, or NULL for the general section's name; count, where it isn't NULL, is how many bytes it has.
+ * Something must be left. */
+static inline const char *bigrosk_ini_text(struct bigrosk_ini_walk *walk, size_t *count)
+{
+    const char *text = (const char *)walk->at;
+    size_t bytes = bigrosk_ini_number(walk);
+    if (count) *count = bytes;
+    if (bytes == BIGROSK_INI_UNNAMED) return NULL;
+    walk->at += bytes + 1;
+    return text;
 }
 
 #ifdef __cplusplus

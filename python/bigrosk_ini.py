@@ -6,6 +6,11 @@
     "paths" in document                 # True
     del document["paths"]["cache"]
     document[None]                      # the general section, which stands before the first header
+    list(document)                      # [None, "paths"]: each name once, in order
+    list(document["paths"].items())     # each key once, with its first value
+    document["paths"].get_all("log")    # all values of a key that is there more than once
+    document["paths"].pairs()           # all pairs, repeated keys too
+    document.walk()                     # all sections with their pairs, repeated names too
     str(document)                       # the text
 
 The shared library is the one that BIGROSK_INI_LIBRARY names, or libbigrosk_ini.so. A text that is refused raises Broken, which
@@ -13,9 +18,11 @@ has .line, .column, .kind and .message.
 """
 import ctypes
 import os
+from collections.abc import MutableMapping
 
 _library = ctypes.CDLL(os.environ.get("BIGROSK_INI_LIBRARY", "libbigrosk_ini.so"))
 _OK, _ABSENT, _NO_ROOM, _BROKEN, _NOT_UTF8, _NO_MEMORY, _NO_DOCUMENT = range(7)
+_UNNAMED = ctypes.c_size_t(-1).value
 KINDS = (None, "end of text", "broken escape", "unknown character", "inline comment", "missing key", "CR alone", "header end")
 
 
@@ -30,6 +37,10 @@ class _Fault(ctypes.Structure):
         ("column", ctypes.c_size_t),
         ("message", ctypes.c_char * 64),
     ]
+
+
+class _Sizes(ctypes.Structure):
+    _fields_ = [("bytes", ctypes.c_size_t), ("counts", ctypes.c_size_t)]
 
 
 class ReadOption(ctypes.Structure):
@@ -54,11 +65,15 @@ _document = ctypes.POINTER(_Document)
 _text = [ctypes.c_char_p, ctypes.c_size_t]
 _name = [ctypes.c_bool] + _text
 _out = [ctypes.c_char_p, ctypes.c_size_t, ctypes.POINTER(ctypes.c_size_t)]
+_list = [ctypes.c_char_p, ctypes.c_size_t, ctypes.POINTER(ctypes.c_size_t), ctypes.c_size_t, ctypes.POINTER(_Sizes)]
 _read, _write = ctypes.POINTER(ReadOption), ctypes.POINTER(WriteOption)
 for _call, _arguments, _result in [
     ("load", _text + [ctypes.c_bool, _read, _document, ctypes.POINTER(_Fault)], ctypes.c_uint32),
     ("free", [_document], None),
     ("get", [_document] + _name + _text + _out, ctypes.c_uint32),
+    ("get_all", [_document] + _name + _text + _list, ctypes.c_uint32),
+    ("pairs", [_document] + _name + _list, ctypes.c_uint32),
+    ("items", [_document] + _list, ctypes.c_uint32),
     ("has", [_document] + _name + _text, ctypes.c_uint32),
     ("has_section", [_document] + _name, ctypes.c_uint32),
     ("set", [_document] + _name + _text + _text, ctypes.c_uint32),
@@ -109,6 +124,44 @@ def _copied(call, *words):
         room = count.value + 1
 
 
+class _Listing:
+    """Texts and numbers that a call lists; none where it is absent."""
+
+    def __init__(self, call, *words):
+        room = _Sizes(4096, 512)
+        while True:
+            out, counts, sizes = ctypes.create_string_buffer(room.bytes), (ctypes.c_size_t * room.counts)(), _Sizes()
+            status = call(*words, out, room.bytes, counts, room.counts, sizes)
+            if status != _NO_ROOM:
+                break
+            room = _Sizes(max(sizes.bytes, 1), max(sizes.counts, 1))
+        is_there = _is_done(status)
+        self._bytes, self._at = out.raw[: sizes.bytes] if is_there else b"", 0
+        self._counts, self._next = counts[: sizes.counts] if is_there else [], 0
+
+    def is_over(self):
+        return self._next == len(self._counts)
+
+    def number(self):
+        self._next += 1
+        return self._counts[self._next - 1]
+
+    def text(self):
+        """The next text, or None for the name of the general section."""
+        count, start = self.number(), self._at
+        if count == _UNNAMED:
+            return None
+        self._at += count + 1
+        return self._bytes[start : start + count].decode()
+
+    def texts(self):
+        while not self.is_over():
+            yield self.text()
+
+    def pairs(self, number):
+        return [(self.text(), self.text()) for _ in range(number)]
+
+
 class Document:
     """A document: its sections by name, None for the general one. A name that is there twice stands for its first section."""
 
@@ -128,6 +181,13 @@ class Document:
     def __contains__(self, section):
         return _is_done(_library.bigrosk_ini_has_section(self._it, *_texts(section)))
 
+    def __iter__(self):
+        """Each section's name once, in the order of first occurrence."""
+        return iter(dict.fromkeys(name for name, _ in self.walk()))
+
+    def __len__(self):
+        return sum(1 for _ in self)
+
     def __getitem__(self, section):
         return Section(self, section)
 
@@ -146,6 +206,13 @@ class Document:
         """Puts the pair last in the section, also where the key is there."""
         _is_done(_library.bigrosk_ini_add(self._it, *_texts(section, key, value)))
 
+    def walk(self):
+        """All sections in order, each its name and the list of its pairs; two may have one name."""
+        listing, sections = _Listing(_library.bigrosk_ini_items, self._it), []
+        while not listing.is_over():
+            sections.append((listing.text(), listing.pairs(listing.number())))
+        return sections
+
     def text(self, option=None):
         return _copied(_library.bigrosk_ini_write, self._it, option or WriteOption())
 
@@ -156,8 +223,9 @@ class Document:
         return _library.bigrosk_ini_is_plain(self._it, write or WriteOption(), read or ReadOption())
 
 
-class Section:
-    """The first section of a name. It need not be there: then it has no keys, and is opened by its first pair."""
+class Section(MutableMapping):
+    """The first section of a name, as a mapping of each key to its first value. It need not be there: then it has no keys, and is
+    opened by its first pair."""
 
     def __init__(self, document, name):
         self._document, self.name = document, name
@@ -178,8 +246,24 @@ class Section:
         if not _is_done(_library.bigrosk_ini_delete(self._document._it, *_texts(self.name, key))):
             raise KeyError(key)
 
+    def __iter__(self):
+        """Each key once, in the order of first occurrence."""
+        return iter(dict.fromkeys(key for key, _ in self.pairs()))
+
+    def __len__(self):
+        return sum(1 for _ in self)
+
     def get(self, key, default=None):
         return self._document.get(self.name, key, default)
+
+    def get_all(self, key):
+        """All values of the key, in order."""
+        return list(_Listing(_library.bigrosk_ini_get_all, self._document._it, *_texts(self.name, key)).texts())
+
+    def pairs(self):
+        """All pairs in order; two may have one key."""
+        texts = _Listing(_library.bigrosk_ini_pairs, self._document._it, *_texts(self.name)).texts()
+        return list(zip(texts, texts))
 
 
 def version():

@@ -6,7 +6,8 @@
 set -u
 cd "$(dirname "$0")/.." || exit 1
 log=$(mktemp)
-trap 'rm -f "$log"' EXIT
+start=$(mktemp)
+trap 'rm -f "$log" "$start"' EXIT
 
 # run COMMAND..: shows what it writes, and adds the numbers of its last line to those of the commands before it
 passed=0
@@ -28,6 +29,11 @@ run() {
 }
 
 run rt ci
+# what it proved, the library for C goes over
+if [ "$failed" -eq 0 ]; then
+    BIGROSK_PROVED_SINCE=$start
+    export BIGROSK_PROVED_SINCE
+fi
 run tests/program.sh
 run tests/streams.sh
 run tests/passing.sh

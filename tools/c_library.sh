@@ -9,7 +9,8 @@
 # The library asks for memory by three functions. By default they are those of c/heap.c, over malloc, realloc and free; with
 # --kit-heap those of the Rattle kit; with --no-heap the static library has none, so that the program brings its own, and no
 # shared library is made. It takes the kit's command rt, and a C compiler, CC (by default cc). The crate is proved first, where
-# crates/ini_c/out has no proof of it yet.
+# crates/ini_c/out has no proof of it yet. The gate, which has just proved the crates below it, names a file that it made before
+# in BIGROSK_PROVED_SINCE, and they aren't proved again.
 set -eu
 top=$(dirname "$(dirname "$(readlink -f "$0")")")
 prefix=${1:?'usage: tools/c_library.sh PREFIX [--kit-heap | --no-heap]'}
@@ -22,17 +23,48 @@ room=$(mktemp -d)
 trap 'rm -rf "$room"' EXIT
 built=$top/crates/ini_c/out/libini_c.a
 
+# the files that the library is made of, where they are newer than this one
+newer_than() {
+    (cd "$top" && find crates.txt crates/ini_multimap crates/ini_text crates/ini crates/ini_c -name out -prune -o \
+        -name must-fail -prune -o -name wrong-bodies -prune -o -name '*.md' -prune -o -type f -newer "$1" -print)
+}
+
 # whether the library is there and no older than its sources and those of the crates below it
 is_built() {
-    [ -f "$built" ] || return 1
-    changed=$(cd "$top" && find crates.txt crates/ini_multimap crates/ini_text crates/ini crates/ini_c -name out -prune -o \
-        -name must-fail -prune -o -name wrong-bodies -prune -o -name '*.md' -prune -o -type f -newer "$built" -print)
-    [ -z "$changed" ]
+    [ -f "$built" ] && [ -z "$(newer_than "$built")" ]
+}
+
+# whether `rt ci` has proved the crates below since BIGROSK_PROVED_SINCE was made, and no source is newer than that file. It leaves
+# them where there was no work of `rt lib`, and without the stamp by which `rt lib` would take them over.
+is_proved_below() {
+    since=${BIGROSK_PROVED_SINCE:-}
+    [ -n "$since" ] && [ -f "$since" ] || return 1
+    for it in ini_multimap ini_text ini; do
+        made=$top/crates/$it/out/rlib
+        [ -n "$(find "$made/$it.rlib/format" -newer "$since" 2>/dev/null)" ] && [ ! -f "$made/stamp" ] || return 1
+    done
+    [ -z "$(newer_than "$since")" ]
+}
+
+# proves ini_c alone, over those crates, and builds the library: what `rt lib` does once the crates below are proved
+build_over() {
+    kit=$(dirname "$(rt doc)")
+    set -- --crate-name ini_c src/lib.rt -L "dependency=$kit/rlibs" --extern "std=$kit/rlibs/std.rlib"
+    for it in $(sed -n 's/^ini_c staticlib://p' "$top/crates.txt"); do
+        if [ -d "$top/crates/$it" ]; then it=$it=$top/crates/$it/out/rlib/$it.rlib; else it=$it=$kit/rlibs/$it.rlib; fi
+        set -- "$@" --extern "$it"
+    done
+    for it in ini_multimap ini_text ini; do set -- "$@" -L "dependency=$top/crates/$it/out/rlib"; done
+    mkdir -p "$top/crates/ini_c/out"
+    (cd "$top/crates/ini_c" && "$kit/bin/rattle" build "$@" --antt-project "$kit/rattle/logic/antt-project.json" \
+        --logic-built "$kit/logic_built" --links ini_c= --crate-type staticlib --jobs 2 --toolchain "$kit/toolchain" -o "$built")
 }
 
 if ! is_built; then
+    how=build_over
+    is_proved_below || how='rt lib'
     echo 'proving and building the library, which takes some minutes the first time' >&2
-    (cd "$top/crates/ini_c" && rt lib) >"$room/log" 2>&1 || { tail -n 40 "$room/log" >&2; exit 1; }
+    (cd "$top/crates/ini_c" && $how) >"$room/log" 2>&1 || { tail -n 40 "$room/log" >&2; exit 1; }
     [ -f "$built" ] || { tail -n 40 "$room/log" >&2; exit 1; }
     touch "$built"
 fi

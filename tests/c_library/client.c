@@ -1,6 +1,7 @@
 /* A program that uses the library as a stranger would. The last line is 'N checks, M failed'. */
 #include <stdio.h>
 #include <stdlib.h>
+#include <time.h>
 #include "bigrosk_ini.h"
 
 static int checks, failed;
@@ -43,6 +44,11 @@ static void nothing_is_loaded(void)
     char text[16] = "as it was";
     size_t count = 77;
     CHECK(bigrosk_ini_get_str(&d, NULL, "port", text, sizeof text, &count) == BIGROSK_INI_NO_DOCUMENT);
+    struct bigrosk_ini_sizes sizes = { 7, 8 };
+    CHECK(bigrosk_ini_get_all_str(&d, NULL, "port", (uint8_t *)text, sizeof text, &count, 1, &sizes)
+        == BIGROSK_INI_NO_DOCUMENT);
+    CHECK(bigrosk_ini_pairs_str(&d, NULL, (uint8_t *)text, sizeof text, &count, 1, &sizes) == BIGROSK_INI_NO_DOCUMENT);
+    CHECK(bigrosk_ini_items(&d, (uint8_t *)text, sizeof text, &count, 1, &sizes) == BIGROSK_INI_NO_DOCUMENT);
     CHECK(bigrosk_ini_has_str(&d, NULL, "port") == BIGROSK_INI_NO_DOCUMENT);
     CHECK(bigrosk_ini_has_section_str(&d, NULL) == BIGROSK_INI_NO_DOCUMENT);
     CHECK(bigrosk_ini_set_str(&d, NULL, "port", "1") == BIGROSK_INI_NO_DOCUMENT);
@@ -173,6 +179,98 @@ static void options(void)
     bigrosk_ini_free(&d);
 }
 
+/* whether the walk's next text is this */
+static bool is_next(struct bigrosk_ini_walk *walk, const char *want)
+{
+    size_t count;
+    if (bigrosk_ini_is_over(walk)) return false;
+    const char *text = bigrosk_ini_text(walk, &count);
+    if (!text || !want) return text == want && count == BIGROSK_INI_UNNAMED;
+    return !strcmp(text, want) && count == strlen(want);
+}
+
+static void walks(void)
+{
+    document d = BIGROSK_INI_EMPTY;
+    fault f;
+    uint8_t bytes[64];
+    size_t counts[16];
+    struct bigrosk_ini_sizes sizes = BIGROSK_INI_NO_SIZES;
+    struct bigrosk_ini_walk walk;
+    CHECK(bigrosk_ini_load_str("a=1\n[s]\nk=one\nj=\nk=two\n[]\n[s]\nk=gr\xc3\xbcn\n", &d, &f) == BIGROSK_INI_OK);
+
+    /* all values of a key; what doesn't fit leaves both buffers */
+    memset(bytes, 'x', sizeof bytes);
+    counts[0] = 77;
+    CHECK(bigrosk_ini_get_all_str(&d, "s", "k", bytes, 0, counts, 0, &sizes) == BIGROSK_INI_NO_ROOM);
+    CHECK(sizes.bytes == 8 && sizes.counts == 2);
+    CHECK(bigrosk_ini_get_all_str(&d, "s", "k", bytes, 7, counts, 2, &sizes) == BIGROSK_INI_NO_ROOM);
+    CHECK(bigrosk_ini_get_all_str(&d, "s", "k", bytes, 8, counts, 1, &sizes) == BIGROSK_INI_NO_ROOM);
+    CHECK(bytes[0] == 'x' && counts[0] == 77 && sizes.bytes == 8 && sizes.counts == 2);
+    CHECK(bigrosk_ini_get_all_str(&d, "s", "k", bytes, 8, counts, 2, &sizes) == BIGROSK_INI_OK && bytes[8] == 'x');
+    walk = bigrosk_ini_walk_over(bytes, counts, sizes);
+    CHECK(is_next(&walk, "one") && is_next(&walk, "two") && bigrosk_ini_is_over(&walk));
+    CHECK(bigrosk_ini_get_all_str(&d, "s", "z", bytes, 64, counts, 16, &sizes) == BIGROSK_INI_ABSENT);
+    CHECK(bigrosk_ini_get_all_str(&d, "t", "k", bytes, 64, counts, 16, &sizes) == BIGROSK_INI_ABSENT);
+    CHECK(bigrosk_ini_get_all_str(&d, "s", "\xff", bytes, 64, counts, 16, &sizes) == BIGROSK_INI_NOT_UTF8);
+
+    /* a section's pairs */
+    CHECK(bigrosk_ini_pairs_str(&d, "s", bytes, 64, counts, 16, &sizes) == BIGROSK_INI_OK && sizes.counts == 6);
+    walk = bigrosk_ini_walk_over(bytes, counts, sizes);
+    CHECK(is_next(&walk, "k") && is_next(&walk, "one") && is_next(&walk, "j") && is_next(&walk, ""));
+    CHECK(is_next(&walk, "k") && is_next(&walk, "two") && bigrosk_ini_is_over(&walk));
+    CHECK(bigrosk_ini_pairs_str(&d, "", bytes, 0, counts, 0, &sizes) == BIGROSK_INI_OK && sizes.counts == 0);
+    CHECK(bigrosk_ini_pairs_str(&d, "t", bytes, 64, counts, 16, &sizes) == BIGROSK_INI_ABSENT);
+    CHECK(bigrosk_ini_pairs_str(&d, "\xff", bytes, 64, counts, 16, &sizes) == BIGROSK_INI_NOT_UTF8);
+    CHECK(bigrosk_ini_pairs_str(&d, NULL, bytes, 3, counts, 2, &sizes) == BIGROSK_INI_NO_ROOM && sizes.bytes == 4);
+
+    /* the document, in which two sections have one name */
+    CHECK(bigrosk_ini_items(&d, bytes, 64, counts, 16, &sizes) == BIGROSK_INI_NO_ROOM && sizes.counts == 18);
+    size_t more[18];
+    CHECK(bigrosk_ini_items(&d, bytes, 64, more, 18, &sizes) == BIGROSK_INI_OK);
+    walk = bigrosk_ini_walk_over(bytes, more, sizes);
+    CHECK(is_next(&walk, NULL) && bigrosk_ini_number(&walk) == 1 && is_next(&walk, "a") && is_next(&walk, "1"));
+    CHECK(is_next(&walk, "s") && bigrosk_ini_number(&walk) == 3 && is_next(&walk, "k") && is_next(&walk, "one"));
+    CHECK(is_next(&walk, "j") && is_next(&walk, "") && is_next(&walk, "k") && is_next(&walk, "two"));
+    CHECK(is_next(&walk, "") && bigrosk_ini_number(&walk) == 0);
+    CHECK(is_next(&walk, "s") && bigrosk_ini_number(&walk) == 1 && is_next(&walk, "k") && is_next(&walk, "gr\xc3\xbcn"));
+    CHECK(bigrosk_ini_is_over(&walk));
+    bigrosk_ini_free(&d);
+}
+
+/* 100,000 pairs of one section are walked in under a second, after a pair was taken out, too */
+static void long_walk(void)
+{
+    enum { pairs = 100000 };
+    document d = BIGROSK_INI_EMPTY;
+    fault f;
+    struct bigrosk_ini_sizes sizes;
+    char *text = malloc(32 * pairs), *end = text;
+    uint8_t *bytes = malloc(32 * pairs);
+    size_t *counts = malloc(2 * pairs * sizeof *counts), found = 0;
+    for (int i = 0; i < pairs; i++) end += sprintf(end, "key%d=value%d\n", i, i);
+    CHECK(bigrosk_ini_load_str(text, &d, &f) == BIGROSK_INI_OK);
+    CHECK(bigrosk_ini_delete_str(&d, NULL, "key7") == BIGROSK_INI_OK);
+    clock_t start = clock();
+    CHECK(bigrosk_ini_pairs_str(&d, NULL, bytes, 32 * pairs, counts, 2 * pairs, &sizes) == BIGROSK_INI_OK);
+    struct bigrosk_ini_walk walk = bigrosk_ini_walk_over(bytes, counts, sizes);
+    while (!bigrosk_ini_is_over(&walk)) bigrosk_ini_text(&walk, NULL);
+    CHECK(clock() - start < CLOCKS_PER_SEC);
+    walk = bigrosk_ini_walk_over(bytes, counts, sizes);
+    for (int i = 0; !bigrosk_ini_is_over(&walk); i++) {
+        char key[32], value[32];
+        if (i == 7) i++;
+        sprintf(key, "key%d", i);
+        sprintf(value, "value%d", i);
+        found += is_next(&walk, key) && is_next(&walk, value);
+    }
+    CHECK(found == pairs - 1);
+    bigrosk_ini_free(&d);
+    free(text);
+    free(bytes);
+    free(counts);
+}
+
 /* as many documents as one likes; a document may be moved, and loaded over */
 static void many(void)
 {
@@ -202,6 +300,8 @@ int main(void)
     edits();
     refusals();
     options();
+    walks();
+    long_walk();
     many();
     printf("%d checks, %d failed\n", checks, failed);
     return failed != 0;

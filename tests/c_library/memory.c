@@ -39,7 +39,7 @@ void rattle_dealloc(void *at)
     free(at);
 }
 
-enum { load, set, add, write, calls };
+enum { load, set, add, write, all, pairs, items, calls };
 
 /* one call with n requests granted */
 static uint32_t call(int which, long n, struct bigrosk_ini_document *d)
@@ -47,13 +47,17 @@ static uint32_t call(int which, long n, struct bigrosk_ini_document *d)
     static const struct bigrosk_ini_write_option option = BIGROSK_INI_WRITE_DEFAULT;
     struct bigrosk_ini_fault f;
     uint8_t text[512];
-    size_t count;
+    size_t count, counts[32];
+    struct bigrosk_ini_sizes sizes;
     uint32_t status;
     left = n;
     switch (which) {
     case load: status = bigrosk_ini_load_str("x=1\n[t]\ny=2\n[u]\nz=3\nlong = a value that is longer\n", d, &f); break;
     case set: status = bigrosk_ini_set_str(d, "a new section", "a new key", "a new value"); break;
     case add: status = bigrosk_ini_add_str(d, "s", "c", "another value of the key"); break;
+    case all: status = bigrosk_ini_get_all_str(d, "s", "c", text, sizeof text, counts, 32, &sizes); break;
+    case pairs: status = bigrosk_ini_pairs_str(d, "s", text, sizeof text, counts, 32, &sizes); break;
+    case items: status = bigrosk_ini_items(d, text, sizeof text, counts, 32, &sizes); break;
     default: status = bigrosk_ini_write(d, &option, text, sizeof text, &count); break;
     }
     left = 1000000;
@@ -80,7 +84,9 @@ int main(void)
             if (status == BIGROSK_INI_NO_MEMORY) {
                 refusals++;
                 CHECK(count == then && !memcmp(before, after, count));
-            } else if (which != write) {
+            } else if (which >= write) {
+                CHECK(count == then && !memcmp(before, after, count));
+            } else {
                 CHECK(count != then || memcmp(before, after, count));
             }
             left = 0; /* these take no memory */

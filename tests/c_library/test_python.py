@@ -1,6 +1,7 @@
 """The Python module: each call, refusals, and random runs of edits against a dict."""
 import random
 import resource
+import time
 from bigrosk_ini import Broken, Document, WriteOption, version
 
 
@@ -40,6 +41,27 @@ def calls():
     assert d.text(WriteOption(crlf=True, separator=3)) == "port: 9090\r\n\r\n[paths]\r\ncache: a b\r\ncache: c\r\n"
 
 
+def walks():
+    d = Document("a=1\n[s]\nk=one\nj=\nk=two\n[]\n[s]\nk=grün\n")
+    assert list(d) == [None, "s", ""] and len(d) == 3
+    assert d.walk() == [(None, [("a", "1")]), ("s", [("k", "one"), ("j", ""), ("k", "two")]), ("", []), ("s", [("k", "grün")])]
+    assert d["s"].pairs() == [("k", "one"), ("j", ""), ("k", "two")]
+    assert list(d["s"]) == ["k", "j"] and len(d["s"]) == 2 and list(d["s"].keys()) == ["k", "j"]
+    assert dict(d["s"]) == {"k": "one", "j": ""} and d["s"] == {"k": "one", "j": ""}
+    assert d["s"].get_all("k") == ["one", "two"] and d["s"].get_all("z") == [] and d["t"].get_all("k") == []
+    assert list(d["t"]) == [] and len(d["t"]) == 0 and d["t"].pairs() == [] and d[""].pairs() == []
+    d["t"].update(x="1", y="2")
+    assert d["t"].pop("x") == "1" and list(d["t"].items()) == [("y", "2")]
+    # longer than any buffer at first, with a pair taken out before
+    d = Document("".join(f"key{i}=value{i}\n" for i in range(100000)))
+    del d[None]["key7"]
+    start = time.process_time()
+    pairs = d[None].pairs()
+    assert time.process_time() - start < 1
+    assert pairs == [(f"key{i}", f"value{i}") for i in range(100000) if i != 7]
+    assert d.walk() == [(None, pairs)] and len(d[None]) == 99999
+
+
 def refusals():
     assert refusal("a=1\n =v") == (2, 3, "missing key", "missing key")
     assert refusal("a=\\xD800")[:3] == (1, 9, "unknown character")
@@ -67,6 +89,7 @@ def edits():
                 assert (not is_raised(KeyError, lambda: d.__delitem__(name))) == there
         for name in names + ("c",):
             assert (name in d) == (name is None or name in model)
+            assert dict(d[name]) == model.get(name, {}) and list(d[name]) == list(model.get(name, {}))
             for key in keys:
                 assert d[name].get(key) == model.get(name, {}).get(key)
                 assert (key in d[name]) == (key in model.get(name, {}))
@@ -82,6 +105,6 @@ def memory():
     assert grown < 5000, f"grown by {grown} KB"
 
 
-for part in (calls, refusals, edits, memory):
+for part in (calls, walks, refusals, edits, memory):
     part()
 print("all of the Python module")

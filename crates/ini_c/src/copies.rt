@@ -1,8 +1,20 @@
-//! Bytes to C, and names from C. This file knows no document.
-ghost use Rattle.std.specs.Prelude.{◌≡◌, ◌<◌, ◌↔◌, IsTrue, IsSome, IfSome, Some, length, slice_get, take};
-ghost use Rattle.std.specs.Str.{IsUtf8};
+//! Bytes and listings to C, and names, keys and values from C. This file knows no document.
+ghost use Rattle.std.specs.Prelude.{◌≡◌, ◌<◌, ◌≤◌, ◌↔◌, IsTrue, IsSome, IfSome, Some, length, slice_get, take};
+ghost use Rattle.std.specs.Str.{IsUtf8, chars};
 ghost use Rattle.ini.specs.Texts.{str_name};
-ghost use Rattle.ini_c.specs.LookUps.{name_if};
+ghost use Rattle.ini_c.specs.Inside.Gathered.{listed};
+ghost use Rattle.ini_c.specs.Listings.{AreSizesOf, copied, fits};
+ghost use Rattle.ini_c.specs.LookUps.{AreTexts, name_if};
+
+use crate::listing::Listing;
+
+/// How much a listing takes: so many bytes, and so many numbers.
+#[repr(C)]
+#[derive(Drop)]
+pub struct Sizes {
+    pub bytes: usize,
+    pub counts: usize,
+}
 
 // Copies bytes out, and a 0 behind them, where they fit, and tells whether they did; their count in any
 // case.
@@ -28,4 +40,76 @@ pub(crate) fn name_of<'a>(named: bool, section: &'a str) -> Option<&'a str>
     ensures { str_name result ≡ name_if named section.now }
 {
     if named { Some(section) } else { None }
+}
+
+// A section's name and a key, of UTF-8.
+pub(crate) fn place_of<'a>(
+    named: bool,
+    section: &'a [u8],
+    key: &'a [u8],
+) -> Option<(Option<&'a str>, &'a str)>
+    ensures texts { IsSome result ↔ AreTexts section.now key.now }
+    ensures name { IfSome result (λ t. str_name t.0 ≡ name_if named section.now) }
+    ensures key { IfSome result (λ t. t.1.now ≡ key.now) }
+{
+    let Ok(section) = str::from_utf8(section) else {
+        return None;
+    };
+    let Ok(key) = str::from_utf8(key) else {
+        return None;
+    };
+    Some((name_of(named, section), key))
+}
+
+// The same, and a value.
+pub(crate) fn pair_of<'a>(
+    named: bool,
+    section: &'a [u8],
+    key: &'a [u8],
+    value: &'a [u8],
+) -> Option<(Option<&'a str>, &'a str, &'a str)>
+    ensures texts { IsSome result ↔ (AreTexts section.now key.now × IsUtf8 value.now) }
+    ensures name { IfSome result (λ t. str_name t.0 ≡ name_if named section.now) }
+    ensures key { IfSome result (λ t. t.1.now ≡ key.now) }
+    ensures value { IfSome result (λ t. t.2.now ≡ value.now) }
+{
+    let Some((name, key)) = place_of(named, section, key) else {
+        return None;
+    };
+    let Ok(value) = str::from_utf8(value) else {
+        return None;
+    };
+    Some((name, key, value))
+}
+
+// Copies to the front of a buffer.
+fn put_front<T: Copy>(list: &[T], out: &mut [T])
+    requires { length list.now ≤ length out.old }
+    ensures { take (length list.now) out.new ≡ list.now }
+{
+    let (front, _) = out.split_at_mut(list.len());
+    front.copy_from_slice(list);
+}
+
+// Copies a listing out, where both of its parts fit, and tells whether they did; its sizes in any case.
+pub(crate) fn copy_listing(
+    listing: &Listing,
+    bytes: &mut [u8],
+    counts: &mut [usize],
+    sizes: &mut Sizes,
+) -> bool
+    ensures fits { result ≡ fits sizes.new bytes.old counts.old }
+    ensures sizes { AreSizesOf sizes.new (listed listing.now) }
+    ensures whole { IsTrue result → listed listing.now ≡ copied sizes.new bytes.new counts.new }
+    ensures bytes_stay { ¬ (IsTrue result) → bytes.new ≡ bytes.old }
+    ensures counts_stay { ¬ (IsTrue result) → counts.new ≡ counts.old }
+{
+    sizes.bytes = listing.bytes.len();
+    sizes.counts = listing.counts.len();
+    if bytes.len() < sizes.bytes || counts.len() < sizes.counts {
+        return false;
+    }
+    put_front(listing.bytes.as_slice(), bytes);
+    put_front(listing.counts.as_slice(), counts);
+    true
 }

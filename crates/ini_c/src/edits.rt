@@ -7,7 +7,7 @@ ghost use Rattle.ini.specs.Edits.{add_in, delete_in, set_in};
 ghost use Rattle.ini_c.specs.LookUps.{AreTexts, name_if};
 ghost use Rattle.ini_c.specs.Statuses.{absent, is_among, no_memory, not_utf8, ok};
 
-use crate::copies::name_of;
+use crate::copies::{name_of, pair_of, place_of};
 use crate::{ABSENT, NO_MEMORY, NOT_UTF8, OK};
 use ini::{Error, Ini};
 
@@ -29,16 +29,10 @@ pub(crate) fn set(document: &mut Ini, named: bool, section: &[u8], key: &[u8], v
     ensures unchanged { ¬ (result ≡ ok) → document.new ≡ document.old }
     ensures statuses { IsTrue (is_among result (ok ∷ not_utf8 ∷ no_memory ∷ [])) }
 {
-    let Ok(section) = str::from_utf8(section) else {
+    let Some((name, key, value)) = pair_of(named, section, key, value) else {
         return NOT_UTF8;
     };
-    let Ok(key) = str::from_utf8(key) else {
-        return NOT_UTF8;
-    };
-    let Ok(value) = str::from_utf8(value) else {
-        return NOT_UTF8;
-    };
-    match set_text(document, name_of(named, section), key, value) {
+    match set_text(document, name, key, value) {
         Ok(_) => OK,
         Err(_) => NO_MEMORY,
     }
@@ -62,16 +56,10 @@ pub(crate) fn add(document: &mut Ini, named: bool, section: &[u8], key: &[u8], v
     ensures unchanged { ¬ (result ≡ ok) → document.new ≡ document.old }
     ensures statuses { IsTrue (is_among result (ok ∷ not_utf8 ∷ no_memory ∷ [])) }
 {
-    let Ok(section) = str::from_utf8(section) else {
+    let Some((name, key, value)) = pair_of(named, section, key, value) else {
         return NOT_UTF8;
     };
-    let Ok(key) = str::from_utf8(key) else {
-        return NOT_UTF8;
-    };
-    let Ok(value) = str::from_utf8(value) else {
-        return NOT_UTF8;
-    };
-    match add_text(document, name_of(named, section), key, value) {
+    match add_text(document, name, key, value) {
         Ok(_) => OK,
         Err(_) => NO_MEMORY,
     }
@@ -89,13 +77,9 @@ pub(crate) fn delete(document: &mut Ini, named: bool, section: &[u8], key: &[u8]
     ensures unchanged { ¬ (result ≡ ok) → document.new ≡ document.old }
     ensures statuses { IsTrue (is_among result (ok ∷ absent ∷ not_utf8 ∷ [])) }
 {
-    let Ok(section) = str::from_utf8(section) else {
+    let Some((name, key)) = place_of(named, section, key) else {
         return NOT_UTF8;
     };
-    let Ok(key) = str::from_utf8(key) else {
-        return NOT_UTF8;
-    };
-    let name = name_of(named, section);
     if document.get_from(name, key).is_none() {
         return ABSENT;
     }

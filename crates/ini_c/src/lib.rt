@@ -5,7 +5,7 @@
 #![tactic(auto)]
 
 ghost use Rattle.std.specs.Prelude.{◌≡◌, ◌∷◌, [], ◌≤◌, ◌↔◌, IsTrue, IsSome, IsSomeAnd, None, length, take};
-ghost use Rattle.std.specs.Prelude.{Some, slice_get};
+ghost use Rattle.std.specs.Prelude.{Some, false, slice_get};
 ghost use Rattle.std.specs.Option.{option_and_then, option_map};
 ghost use Rattle.std.specs.Str.{IsUtf8, chars};
 ghost use Rattle.ini.specs.Documents.{first_section, section_removed};
@@ -14,6 +14,8 @@ ghost use Rattle.ini.specs.Loading.{IsDocumentOf, text_bytes};
 ghost use Rattle.ini_c.specs.Choices.{IsCountOf, IsTextOf, TellsPlain, parse_option};
 ghost use Rattle.ini_c.specs.Faults.{IsStopAt};
 ghost use Rattle.ini_c.specs.Held.{held};
+ghost use Rattle.ini_c.specs.Listings.{AreSizesOf, all_found_in, copied, document_listed, fits};
+ghost use Rattle.ini_c.specs.Listings.{pairs_found_in, pairs_listed, values_listed};
 ghost use Rattle.ini_c.specs.LookUps.{AreTexts, HasSection, found_in, name_if};
 ghost use Rattle.ini_c.specs.Statuses.{absent, broken, is_among, no_document};
 ghost use Rattle.ini_c.specs.Statuses.{no_memory, no_room, not_utf8, ok};
@@ -24,12 +26,15 @@ mod edits;
 mod fault;
 mod handle;
 mod keeping;
+mod listing;
 mod loading;
 mod look_up;
 mod options;
 mod parts;
+mod walks;
 mod writing;
 
+pub use crate::copies::Sizes;
 pub use crate::document::{Document, Kept};
 pub use crate::fault::Fault;
 pub use crate::options::{ReadChoice, WriteChoice};
@@ -174,6 +179,122 @@ pub extern "C" fn bigrosk_ini_has_section(
         return NO_DOCUMENT;
     };
     let answer = look_up::has_section(&kept.document, named, section);
+    document.put(alloc, kept);
+    answer
+}
+
+/// Copies all values of the key in the first section of the name out, in order: in `bytes` one behind
+/// another, each with a 0 behind it, and in `counts` how many bytes each has. `sizes` has how much of both
+/// that takes, where it fits and where it doesn't.
+#[unsafe(no_mangle)]
+pub extern "C" fn bigrosk_ini_get_all(
+    alloc: Global,
+    document: &mut Document,
+    named: bool,
+    section: &[u8],
+    key: &[u8],
+    bytes: &mut [u8],
+    counts: &mut [usize],
+    sizes: &mut Sizes,
+) -> u32
+    ensures stays { held document.new ≡ held document.old }
+    ensures no_document { result ≡ no_document ↔ (held document.old ≡ None) }
+    ensures not_utf8 { result ≡ not_utf8 ↔
+        (IsSome (held document.old) × ¬ (AreTexts section.now key.now)) }
+    ensures absent { result ≡ absent →
+        found_in (name_if named section.now) (chars key.now) (held document.old) ≡ None }
+    ensures there { result ≡ ok →
+        IsSome (found_in (name_if named section.now) (chars key.now) (held document.old)) }
+    ensures listed { result ≡ ok → option_map values_listed
+        (all_found_in (name_if named section.now) (chars key.now) (held document.old))
+        ≡ Some (copied sizes.new bytes.new counts.new) }
+    ensures sizes { result ≡ no_room → IsSomeAnd (option_map values_listed
+        (all_found_in (name_if named section.now) (chars key.now) (held document.old)))
+        (AreSizesOf sizes.new) }
+    ensures no_room { result ≡ no_room → fits sizes.new bytes.old counts.old ≡ false }
+    ensures bytes_stay { ¬ (result ≡ ok) → bytes.new ≡ bytes.old }
+    ensures counts_stay { ¬ (result ≡ ok) → counts.new ≡ counts.old }
+    ensures statuses { IsTrue
+        (is_among result (ok ∷ absent ∷ no_room ∷ not_utf8 ∷ no_memory ∷ no_document ∷ [])) }
+{
+    let Some(kept) = document.take(alloc) else {
+        return NO_DOCUMENT;
+    };
+    let answer = walks::values(
+        alloc,
+        &kept.document,
+        named,
+        section,
+        key,
+        bytes,
+        counts,
+        sizes,
+    );
+    document.put(alloc, kept);
+    answer
+}
+
+/// Copies all pairs of the first section of the name out, in order, as `bigrosk_ini_get_all` copies values:
+/// of each pair the key and then the value.
+#[unsafe(no_mangle)]
+pub extern "C" fn bigrosk_ini_pairs(
+    alloc: Global,
+    document: &mut Document,
+    named: bool,
+    section: &[u8],
+    bytes: &mut [u8],
+    counts: &mut [usize],
+    sizes: &mut Sizes,
+) -> u32
+    ensures stays { held document.new ≡ held document.old }
+    ensures no_document { result ≡ no_document ↔ (held document.old ≡ None) }
+    ensures not_utf8 { result ≡ not_utf8 ↔ (IsSome (held document.old) × ¬ (IsUtf8 section.now)) }
+    ensures absent { result ≡ absent → ¬ (HasSection (name_if named section.now) (held document.old)) }
+    ensures listed { result ≡ ok → option_map pairs_listed
+        (pairs_found_in (name_if named section.now) (held document.old))
+        ≡ Some (copied sizes.new bytes.new counts.new) }
+    ensures sizes { result ≡ no_room → IsSomeAnd (option_map pairs_listed
+        (pairs_found_in (name_if named section.now) (held document.old))) (AreSizesOf sizes.new) }
+    ensures no_room { result ≡ no_room → fits sizes.new bytes.old counts.old ≡ false }
+    ensures bytes_stay { ¬ (result ≡ ok) → bytes.new ≡ bytes.old }
+    ensures counts_stay { ¬ (result ≡ ok) → counts.new ≡ counts.old }
+    ensures statuses { IsTrue
+        (is_among result (ok ∷ absent ∷ no_room ∷ not_utf8 ∷ no_memory ∷ no_document ∷ [])) }
+{
+    let Some(kept) = document.take(alloc) else {
+        return NO_DOCUMENT;
+    };
+    let answer = walks::pairs(alloc, &kept.document, named, section, bytes, counts, sizes);
+    document.put(alloc, kept);
+    answer
+}
+
+/// Copies the whole document out, in order, as `bigrosk_ini_get_all` copies values: of each section the name
+/// (of the general one no byte, and the greatest number as its count), in `counts` the number of its pairs,
+/// and then its pairs.
+#[unsafe(no_mangle)]
+pub extern "C" fn bigrosk_ini_items(
+    alloc: Global,
+    document: &mut Document,
+    bytes: &mut [u8],
+    counts: &mut [usize],
+    sizes: &mut Sizes,
+) -> u32
+    ensures stays { held document.new ≡ held document.old }
+    ensures no_document { result ≡ no_document ↔ (held document.old ≡ None) }
+    ensures listed { result ≡ ok → option_map document_listed (held document.old)
+        ≡ Some (copied sizes.new bytes.new counts.new) }
+    ensures sizes { result ≡ no_room →
+        IsSomeAnd (option_map document_listed (held document.old)) (AreSizesOf sizes.new) }
+    ensures no_room { result ≡ no_room → fits sizes.new bytes.old counts.old ≡ false }
+    ensures bytes_stay { ¬ (result ≡ ok) → bytes.new ≡ bytes.old }
+    ensures counts_stay { ¬ (result ≡ ok) → counts.new ≡ counts.old }
+    ensures statuses { IsTrue (is_among result (ok ∷ no_room ∷ no_memory ∷ no_document ∷ [])) }
+{
+    let Some(kept) = document.take(alloc) else {
+        return NO_DOCUMENT;
+    };
+    let answer = walks::items(alloc, &kept.document, bytes, counts, sizes);
     document.put(alloc, kept);
     answer
 }

@@ -6,7 +6,7 @@ ghost use Rattle.ini.specs.Documents.{first_section, value_in};
 ghost use Rattle.ini_c.specs.LookUps.{AreTexts, name_if};
 ghost use Rattle.ini_c.specs.Statuses.{absent, is_among, no_room, not_utf8, ok};
 
-use crate::copies::{copy_out, name_of};
+use crate::copies::{copy_out, name_of, place_of};
 use crate::{ABSENT, NO_ROOM, NOT_UTF8, OK};
 use ini::Ini;
 
@@ -31,13 +31,10 @@ pub(crate) fn find(
     ensures stays { ¬ (result ≡ ok) → out.new ≡ out.old }
     ensures statuses { IsTrue (is_among result (ok ∷ absent ∷ no_room ∷ not_utf8 ∷ [])) }
 {
-    let Ok(section) = str::from_utf8(section) else {
+    let Some((name, key)) = place_of(named, section, key) else {
         return NOT_UTF8;
     };
-    let Ok(key) = str::from_utf8(key) else {
-        return NOT_UTF8;
-    };
-    let Some(value) = document.get_from(name_of(named, section), key) else {
+    let Some(value) = document.get_from(name, key) else {
         return ABSENT;
     };
     if copy_out(value.as_bytes(), out, count) {
@@ -56,13 +53,10 @@ pub(crate) fn has(document: &Ini, named: bool, section: &[u8], key: &[u8]) -> u3
         IsSome (value_in (name_if named section.now) (chars key.now) document.now) }
     ensures statuses { IsTrue (is_among result (ok ∷ absent ∷ not_utf8 ∷ [])) }
 {
-    let Ok(section) = str::from_utf8(section) else {
+    let Some((name, key)) = place_of(named, section, key) else {
         return NOT_UTF8;
     };
-    let Ok(key) = str::from_utf8(key) else {
-        return NOT_UTF8;
-    };
-    match document.get_from(name_of(named, section), key) {
+    match document.get_from(name, key) {
         Some(_) => OK,
         None => ABSENT,
     }

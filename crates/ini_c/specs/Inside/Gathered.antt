@@ -1,0 +1,6 @@
+-- What a listing holds.
+use Rattle.ini_c.specs.Listings.{Listed}
+use Rattle.ini_c.specs.declared.listing.Listing.{Listing}
+
+abbrev pub listed : Listing → Listed
+listed l = record { bytes = l.bytes.items; counts = l.counts.items }
