@@ -1,5 +1,5 @@
 -- Slots whose keys all have their values.
-use Rattle.std.proofs.Common.{◌≡◌, ℕ, zero, suc, ◌+◌, ◌≤◌, Bool, true, cond, List, [], ◌∷◌, ◌++◌, length, length-append, Option, None, Some, IsSome, is_some, false, refl, sym, ap, ◌∙◌, arith, true≢false}
+use Rattle.std.proofs.Common.{◌≡◌, ℕ, zero, suc, ◌+◌, ◌≤◌, Bool, cond, List, [], ◌∷◌, ◌++◌, length, length-append, Option, None, Some, IsSome, is_some, false, refl, sym, ap, ◌∙◌, arith, true≢false}
 use Rattle.std.specs.Global.{Box}
 use Rattle.std.specs.List.{list_any}
 use Rattle.std.proofs.lemmas.Bool.{OnTrue_at, OnTrue_from}
@@ -12,7 +12,7 @@ use Rattle.ini_multimap.specs.declared.slots.chains.Chains.{Chains}
 use Rattle.ini_multimap.proofs.SlotLemmas.{holes_push, holes_set, none_is_some, pairs_last}
 
 module _ {K V : Type 0} where
-  few_pairs : (ks : List (Option K)) (vs : List (Option V)) → length (pairs_in ks vs) + holes_in ks ≤ length ks
+  pub few_pairs : (ks : List (Option K)) (vs : List (Option V)) → length (pairs_in ks vs) + holes_in ks ≤ length ks
   few_pairs [] vs = omega arith
   few_pairs (None ∷ ks) [] = omega (arith, few_pairs ks [])
   few_pairs (Some k ∷ ks) [] = omega (arith, few_pairs ks [])
@@ -75,14 +75,15 @@ module _ {K V : Type 0} where
   paired_set ks vs s w h p = omega (arith, p, same_pairs ks vs s w h)
 
   -- a value that is written where one was
-  pub filled_set : (code : K → ℕ) (ks : List (Option K)) (vs : List (Option V))
-      (index : Option (Box Chains)) (holes : ℕ) (b : Bool) (s : ℕ) (w : V) → IsSome (value_in vs s)
-      → AreFilled code ks vs index holes b → AreFilled code ks (set vs s (Some w)) index holes b
-  filled_set code ks vs index holes b s w h filled = record {
+  pub filled_set : (eq : K → K → Bool) (code : K → ℕ) (ks : List (Option K)) (vs : List (Option V))
+      (index : Option (Box Chains)) (holes : ℕ) (b i : Bool) (s : ℕ) (w : V) → IsSome (value_in vs s)
+      → AreFilled eq code ks vs index holes b i → AreFilled eq code ks (set vs s (Some w)) index holes b i
+  filled_set eq code ks vs index holes b i s w h filled = record {
     long = length-set vs s (Some w) ∙ filled.long;
     indexed = filled.indexed;
     counted = filled.counted;
     paired = OnTrue_from b _ (λ e. paired_set ks vs s w h (OnTrue_at e filled.paired));
+    injective = filled.injective;
   }
 
   -- what the key of a pair in a slot tells

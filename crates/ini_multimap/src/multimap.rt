@@ -17,7 +17,8 @@ ghost use Rattle.ini_multimap.specs.Inside.Fits.{without_nth};
 use crate::iter::{IntoIter, Iter, IterMut, Keys, Removed, Values, ValuesMut};
 use crate::key::{MapKey, Probe};
 use crate::slots::{
-    Chains, close_holes, count_holes, is_sparse, last_slot, link_last, make_room, nth_slot, unlink,
+    Chains, close_holes, count_holes, is_injective, is_sparse, last_slot, link_last, make_room,
+    nth_slot, unlink,
 };
 use std::alloc::{AllocError, Global};
 use std::marker::Model;
@@ -47,6 +48,8 @@ pub struct Multimap<K: MapKey, V> {
     // Whether each key is known to have its value. What a walk for writing leaves isn't followed, so it
     // forgets that, until holes are closed.
     is_paired: bool,
+    // Whether each code in the index is known to be that of one key. It isn't where there is no index.
+    is_injective: bool,
 }
 
 impl<K: MapKey, V> Model for Multimap<K, V> {
@@ -62,7 +65,8 @@ impl<K: MapKey, V> Model for Multimap<K, V> {
 
     ghost view = { λ m. pairs_in m.keys.items m.values.items };
 
-    ghost invariant = { λ m. AreFilled K.key_code m.keys.items m.values.items m.index m.holes m.is_paired };
+    ghost invariant = { λ m. AreFilled K.eq K.key_code m.keys.items m.values.items m.index m.holes m.is_paired
+        m.is_injective };
 }
 
 impl<K: MapKey, V> Multimap<K, V> {
@@ -76,6 +80,7 @@ impl<K: MapKey, V> Multimap<K, V> {
             index: None,
             holes: 0,
             is_paired: true,
+            is_injective: false,
         }
     }
 
@@ -94,7 +99,10 @@ impl<K: MapKey, V> Multimap<K, V> {
     pub fn len_keys(&self) -> usize
         ensures { result ≡ length (distinct_keys K.eq self.now) }
     {
-        self.keys().count()
+        match &self.index {
+            Some(chains) if self.is_paired && self.is_injective => chains.codes(),
+            _ => self.keys().count(),
+        }
     }
 
     /// Whether there are no pairs.
@@ -111,10 +119,13 @@ impl<K: MapKey, V> Multimap<K, V> {
         ensures key_handed_back { IfErr result (λ refused. refused.key ≡ key) }
         ensures value_handed_back { IfErr result (λ refused. refused.value ≡ value) }
     {
+        let had_none = self.index.is_none();
         match make_room(&mut self.keys, &mut self.values, &mut self.index) {
             Err(_) => Err(Refused { key, value }),
             Ok(()) => {
-                link_last(self.keys.as_slice(), &mut self.index, &key);
+                let keys = self.keys.as_slice();
+                let is_known = is_injective(keys, &self.index, had_none, self.is_injective);
+                self.is_injective = link_last(keys, &mut self.index, &key, is_known);
                 self.keys.push_reserved(Some(key));
                 self.values.push_reserved(Some(value));
                 Ok(())
@@ -276,6 +287,7 @@ impl<K: MapKey, V> Multimap<K, V> {
         self.index = None;
         self.holes = 0;
         self.is_paired = true;
+        self.is_injective = false;
     }
 
     /// Every pair in order.
@@ -316,6 +328,7 @@ impl<K: MapKey + Drop, V: Drop> Drop for Multimap<K, V> {
             index,
             holes: _,
             is_paired: _,
+            is_injective: _,
         } = self;
         drop(keys);
         drop(values);
@@ -361,6 +374,7 @@ impl<K: MapKey + Drop, V: Drop> IntoIterator for Multimap<K, V> {
             index: _,
             holes: _,
             is_paired: _,
+            is_injective: _,
         } = self;
         IntoIter::new(keys, values)
     }

@@ -1,6 +1,6 @@
 -- Which slots hold pairs, and pairs that fit. Private functions say it.
-use Rattle.std.specs.Prelude.{◌≡◌, ℕ, zero, suc, ◌+◌, ◌-◌, ◌≤◌, Bool, true, false, cond, List, [], ◌∷◌}
-use Rattle.std.specs.Prelude.{length, take, drop, Option, Some, None, MatchOption}
+use Rattle.std.specs.Prelude.{◌≡◌, ℕ, zero, suc, ◌+◌, ◌-◌, ◌≤◌, Bool, true, false, cond, List, [], ◌∷◌, ◌++◌}
+use Rattle.std.specs.Prelude.{length, take, drop, Option, Some, None, MatchOption, IfSome}
 use Rattle.std.specs.Option.{option_map}
 use Rattle.ini_multimap.specs.Pairs.{without, fresh}
 use Rattle.ini_multimap.specs.Slots.{with_cell, pairs_in}
@@ -21,6 +21,23 @@ abbrev pub holes_in : {K : Type 0} → List (Option K) → ℕ
 holes_in [] = 0
 holes_in (None ∷ ks) = suc (holes_in ks)
 holes_in (Some k ∷ ks) = holes_in ks
+
+-- keys of one code are equal: the code tells a key from the others
+abbrev pub IsInjective : {K : Type 0} → (K → K → Bool) → (K → ℕ) → List (Option K) → Type 0
+IsInjective {K} eq code ks = (i j : ℕ) (x y : K) → value_in ks i ≡ Some x → value_in ks j ≡ Some y
+    → code x ≡ code y → eq x y ≡ true
+
+-- the key is equal to that in slot s, where there is one
+abbrev pub IsKeyOf : {K : Type 0} → (K → K → Bool) → List (Option K) → Option ℕ → K → Type 0
+IsKeyOf {K} eq ks s key = IfSome s (λ i. (x : K) → value_in ks i ≡ Some x → eq x key ≡ true)
+
+-- the key in slot s, where there is one, is equal to that in slot `before`
+abbrev pub IsTold : {K : Type 0} → (K → K → Bool) → List (Option K) → Option ℕ → ℕ → Type 0
+IsTold {K} eq ks before s = (x : K) → value_in ks s ≡ Some x → IsKeyOf eq ks before x
+
+-- where its code tells each key from the others, it still does behind this key
+abbrev pub IsToldBy : {K : Type 0} → (K → K → Bool) → (K → ℕ) → List (Option K) → K → Type 0
+IsToldBy eq code ks key = IsInjective eq code ks → IsInjective eq code (ks ++ Some key ∷ [])
 
 -- the code in slot k
 abbrev pub code_at : {K : Type 0} → (K → ℕ) → List (Option K) → ℕ → Option ℕ

@@ -3,8 +3,9 @@
 ghost use Rattle.std.specs.Prelude.{◌≡◌, ◌<◌, ℕ, ◌∷◌, ◌++◌, [], nat_eq, length, slice_set, Some, None};
 ghost use Rattle.std.specs.Prelude.{OnOk, IfSome};
 ghost use Rattle.std.specs.Prelude.{IsSome, vec_capacity};
-ghost use Rattle.std.specs.HashMap.{get, spare};
-ghost use Rattle.ini_multimap.specs.Inside.Fits.{code_at};
+ghost use Rattle.std.specs.Bool.{OnTrue};
+ghost use Rattle.std.specs.HashMap.{IsUnique, get, hash_map_len, spare};
+ghost use Rattle.ini_multimap.specs.Inside.Fits.{IsInjective, IsKeyOf, IsTold, IsToldBy, code_at};
 ghost use Rattle.ini_multimap.specs.Inside.Chains.{AreChained, AreClosed, AreSet, HasRoom, IsNextSet};
 ghost use Rattle.ini_multimap.specs.Inside.Chains.{IsPrevSet, IsPutLast};
 ghost use Rattle.ini_multimap.specs.Inside.Chains.{first_of, last_of, named, next_at, no_slot, prev_at};
@@ -89,6 +90,20 @@ fn put_last(ends: &mut HashMap<u64, (u32, u32)>, code: u64, at: u32) -> Option<u
     }
 }
 
+// Whether the key is that in slot `at`, where there is one.
+fn is_key_of<K: MapKey>(keys: &[Option<K>], at: Option<u32>, key: &K) -> bool
+    requires { IfSome at (λ s. s < length keys.now) }
+    ensures { OnTrue result (IsKeyOf K.eq keys.now at key.now) }
+{
+    let Some(s) = at else {
+        return true;
+    };
+    match &keys[s as usize] {
+        Some(other) => *other == *key,
+        None => true,
+    }
+}
+
 // A code that is there gets other ends, without memory.
 pub(super) fn replace_ends(ends: &mut HashMap<u64, (u32, u32)>, code: u64, both: (u32, u32))
     requires { IsSome (get nat_eq ends.old code) }
@@ -166,6 +181,39 @@ impl Chains {
         }
     }
 
+    // How many codes there are.
+    pub(crate) fn codes(&self) -> usize
+        ensures count { result ≡ hash_map_len self.now.ends }
+        ensures unique { IsUnique nat_eq self.now.ends }
+    {
+        self.ends.len()
+    }
+
+    // Whether each code is that of one key.
+    pub(super) fn is_injective<K: MapKey>(&self, keys: &[Option<K>]) -> bool
+        requires { AreChained K.key_code keys.now self.now }
+        ensures { OnTrue result (IsInjective K.eq K.key_code keys.now) }
+    {
+        for s in 0..keys.len() {
+            if !self.is_told(keys, s) {
+                return false;
+            }
+        }
+        true
+    }
+
+    // Whether the key in slot s, where there is one, is that in the slot before it of its code.
+    fn is_told<K: MapKey>(&self, keys: &[Option<K>], s: usize) -> bool
+        requires chained { AreChained K.key_code keys.now self.now }
+        requires within { s < length keys.now }
+        ensures { OnTrue result (IsTold K.eq keys.now (prev_at self.now.links.items s) s) }
+    {
+        match &keys[s] {
+            Some(key) => is_key_of(keys, slot_of(self.links[s].prev), key),
+            None => true,
+        }
+    }
+
     // Room for one more slot. A number names so many slots and no more.
     pub(super) fn make_room(&mut self) -> Result<(), AllocError>
         ensures links { self.new.links.items ≡ self.old.links.items }
@@ -180,11 +228,13 @@ impl Chains {
         Ok(())
     }
 
-    // A slot with the key comes after the others, and is the last of its code.
-    pub(crate) fn link_last<K: MapKey>(&mut self, keys: &[Option<K>], key: &K)
+    // A slot with the key comes after the others, and is the last of its code. Whether the key is that of
+    // the last before it comes back.
+    pub(super) fn link_last<K: MapKey>(&mut self, keys: &[Option<K>], key: &K) -> bool
         requires chained { AreChained K.key_code keys.now self.old }
         requires room { HasRoom self.old }
-        ensures { AreChained K.key_code (keys.now ++ Some key.now ∷ []) self.new }
+        ensures chained { AreChained K.key_code (keys.now ++ Some key.now ∷ []) self.new }
+        ensures same { OnTrue result (IsToldBy K.eq K.key_code keys.now key.now) }
     {
         let at = keys.len() as u32;
         let code = key.code();
@@ -194,6 +244,7 @@ impl Chains {
             prev: link_to(last),
             next: NO_SLOT,
         });
+        is_key_of(keys, last, key)
     }
 
     // Slot s, which has the code, is to be a hole.

@@ -21,6 +21,7 @@ pub(crate) fn close_holes<K: MapKey + Drop, V>(
     ensures long { length values.new.items ≡ length keys.new.items }
     ensures indexed { IsIndexed K.key_code keys.new.items index.new }
     ensures pairs { pairs_in keys.new.items values.new.items ≡ pairs_in keys.old.items values.old.items }
+    ensures moves { MovesDown keys.old.items keys.new.items }
 {
     move_down(keys, values);
     drop_last_holes(keys, values);

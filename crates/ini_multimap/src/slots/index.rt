@@ -2,7 +2,8 @@
 //! and else each of the few. Whoever asks doesn't know of it.
 ghost use Rattle.std.specs.Prelude.{◌≡◌, ◌<◌, ◌≤◌, ◌^◌, ◌∷◌, ◌++◌, [], Some, None, suc, length, slice_set};
 ghost use Rattle.std.specs.Prelude.{IfSome, OnOk, vec_len, vec_capacity};
-ghost use Rattle.ini_multimap.specs.Inside.Fits.{code_at};
+ghost use Rattle.std.specs.Bool.{OnTrue};
+ghost use Rattle.ini_multimap.specs.Inside.Fits.{IsInjective, code_at};
 ghost use Rattle.ini_multimap.specs.Inside.Chains.{HasRoom, IsIndexed};
 ghost use Rattle.ini_multimap.specs.Inside.Chains.{after_in, before_in, first_in, last_in};
 
@@ -104,14 +105,40 @@ pub(crate) fn make_room<K: MapKey, V>(
     }
 }
 
-// A slot with the key is to come last.
-pub(crate) fn link_last<K: MapKey>(keys: &[Option<K>], index: &mut Option<Box<Chains>>, key: &K)
-    requires indexed { IsIndexed K.key_code keys.now index.old }
-    requires room { IfSome index.old (λ chains. HasRoom chains.value) }
-    ensures { IsIndexed K.key_code (keys.now ++ Some key.now ∷ []) index.new }
+// Whether each code is known to be that of one key: as it was known, or by a look at chains that are new.
+// Nothing is known without chains.
+pub(crate) fn is_injective<K: MapKey>(
+    keys: &[Option<K>],
+    index: &Option<Box<Chains>>,
+    is_new: bool,
+    was_injective: bool,
+) -> bool
+    requires indexed { IsIndexed K.key_code keys.now index.now }
+    requires known { OnTrue was_injective (IsInjective K.eq K.key_code keys.now) }
+    ensures { OnTrue result (IsInjective K.eq K.key_code keys.now) }
 {
-    if let Some(chains) = index {
-        chains.link_last(keys, key);
+    match index {
+        Some(chains) if is_new => chains.is_injective(keys),
+        _ => was_injective,
+    }
+}
+
+// A slot with the key is to come last. Whether each code is still known to be that of one key comes back.
+pub(crate) fn link_last<K: MapKey>(
+    keys: &[Option<K>],
+    index: &mut Option<Box<Chains>>,
+    key: &K,
+    was_injective: bool,
+) -> bool
+    requires indexed { IsIndexed K.key_code keys.now index.old }
+    requires known { OnTrue was_injective (IsInjective K.eq K.key_code keys.now) }
+    requires room { IfSome index.old (λ chains. HasRoom chains.value) }
+    ensures indexed { IsIndexed K.key_code (keys.now ++ Some key.now ∷ []) index.new }
+    ensures known { OnTrue result (IsInjective K.eq K.key_code (keys.now ++ Some key.now ∷ [])) }
+{
+    match index {
+        Some(chains) => chains.link_last(keys, key) && was_injective,
+        None => false,
     }
 }
 

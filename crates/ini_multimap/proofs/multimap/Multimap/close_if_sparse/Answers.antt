@@ -1,8 +1,9 @@
 use Rattle.std.proofs.Common.{◌≡◌, ◌-◌, ◌∙◌, ap, arith, length}
-use Rattle.std.proofs.lemmas.Bool.{OnTrue_from}
+use Rattle.std.proofs.lemmas.Bool.{OnTrue_at, OnTrue_from}
 use Rattle.std.proofs.lemmas.Bool.Decides.{Decides-eqb}
 use Rattle.ini_multimap.specs.Slots.{pairs_in}
 use Rattle.ini_multimap.specs.Inside.Fits.{holes_in}
+use Rattle.ini_multimap.proofs.InjectiveLemmas.{injective_moved}
 use Rattle.ini_multimap.proofs.SlotLemmas.{holes_le}
 use Rattle.ini_multimap.proofs.multimap.Multimap.close_if_sparse.Goals as goal
 
@@ -36,4 +37,7 @@ invariant_of-self g c =
       counted = counted;
       paired = OnTrue_from _ _ (λ e. let same = (Decides-eqb pairs (c.len.result - holes)).0 e in
           omega (arith, same, all, counted, holes_le ks, c.len.ensures, c.close_holes.new.keys.ok.0));
+      injective = OnTrue_from c.self.inside.is_injective _
+          (λ e. injective_moved g.K.PartialEq.eq g.K.MapKey.key_code c.self.inside.keys.items ks c.close_holes.ensures.moves
+          (OnTrue_at e c.self.invariant.injective));
     }

@@ -40,3 +40,11 @@ relink-requires-clause-stale g c =
     subst Q (sym c.as_slice.ensures.value)
     (subst R (sym c.deref_mut.ensures.value)
     (stale_of code (length new) ks new c.in-Some.chains.value chained moves))
+
+pub returns-in-Some-clause-moves : goal.returns-in-Some-clause-moves
+returns-in-Some-clause-moves g c = then_down c.args.keys.now.items c.move_down.new.keys.items c.drop_last_holes.new.keys.items
+    c.move_down.ensures.keys c.drop_last_holes.ensures.keys
+
+pub returns-in_default-clause-moves : goal.returns-in_default-clause-moves
+returns-in_default-clause-moves g c = then_down c.args.keys.now.items c.move_down.new.keys.items c.drop_last_holes.new.keys.items
+    c.move_down.ensures.keys c.drop_last_holes.ensures.keys

@@ -1,13 +1,15 @@
 use Rattle.std.proofs.Common.{◌≡◌, ◌++◌, ◌∷◌, [], ℕ, Option, List, Some, sym, ◌∙◌, ap, subst, refl, arith, length, length-append, nat_eq}
 use Rattle.std.specs.HashMap.{get}
-use Rattle.ini_multimap.specs.Inside.Chains.{IsLinked, IsNextSet, IsPutLast, last_of, next_at, prev_at}
+use Rattle.std.proofs.lemmas.Bool.{OnTrue_at, OnTrue_from}
+use Rattle.ini_multimap.specs.Inside.Chains.{IsPrev, IsLinked, IsNextSet, IsPutLast, last_of, next_at, prev_at}
 use Rattle.ini_multimap.specs.Inside.Fits.{code_at}
 use Rattle.ini_multimap.specs.declared.slots.chains.Link.{Link}
+use Rattle.ini_multimap.proofs.InjectiveLemmas.{injective_push}
 use Rattle.ini_multimap.proofs.LinkLemmas.{linked_push}
 use Rattle.ini_multimap.proofs.slots.chains.Chains.link_last.Goals as goal
 
-pub returns : goal.returns
-returns g c =
+pub returns-clause-chained : goal.returns-clause-chained
+returns-clause-chained g c =
     let code = g.K.MapKey.key_code in
     let ks = c.args.keys.now in
     let key = c.args.key.now in
@@ -38,3 +40,14 @@ returns g c =
           (subst N is_last c.link_after.ensures.links) refl (c.link_to.ensures ∙ is_last)
           (subst E c.code-code.ensures c.put_last-last.ensures.ends));
     }
+
+pub returns-clause-same : goal.returns-clause-same
+returns-clause-same g c =
+    let code = g.K.MapKey.key_code in
+    let ks = c.args.keys.now in
+    let key = c.args.key.now in
+    let P : Option ℕ → Type 0 = IsPrev (code_at code ks) (code key) (length ks) in
+    let is_last = c.put_last-last.ensures.last ∙ ap (last_of (get nat_eq c.args.self.now.ends)) c.code-code.ensures in
+    OnTrue_from c.is_key_of.result _
+    (λ e. injective_push g.K.PartialEq.eq code g.met.K.Eq.laws ks key c.put_last-last.result
+    (subst P (sym is_last) (c.requires.chained.linked.lasts (code key))) (OnTrue_at e c.is_key_of.ensures))
