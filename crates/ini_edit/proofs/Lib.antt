@@ -3,10 +3,16 @@ pub mod BehindLemmas
 pub mod CutLemmas
 pub mod DeleteLemmas
 pub mod DocumentLemmas
+pub mod EndedLemmas
+pub mod EndingLemmas
+pub mod GlueLemmas
+pub mod GluedLemmas
 pub mod InsertLemmas
 pub mod InsertedLemmas
 pub mod PadLemmas
 pub mod PairListLemmas
+pub mod PlaceLemmas
+pub mod PlacedLemmas
 pub mod ReplacedLemmas
 pub mod SetLemmas
 pub mod StandsLemmas

@@ -1,3 +1,5 @@
 pub mod EditedTexts
+pub mod Endings
+pub mod LinePlaces
 pub mod Places
 pub mod Targets

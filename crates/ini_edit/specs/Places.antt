@@ -10,6 +10,7 @@ use Rattle.ini_text.specs.Grammar.Keys.{KeyFront}
 use Rattle.ini_text.specs.Grammar.Elements.{Given}
 use Rattle.ini_text.specs.Grammar.Texts.{Reads}
 use Rattle.ini_text.specs.declared.option.ParseOption.{ParseOption}
+use Rattle.ini_edit.specs.Endings.{Ending, IsElementEnd, ending}
 
 -- A pair's stretches in a text: what stands before its element; its key's source, and the separator; white
 -- space before the value; the value's own source; white space behind it; where values are multiline, the
@@ -80,7 +81,8 @@ pub data Cut (o : ParseOption) (p : Stretches) : List ℕ → Type 0 where
   whole_lines : o.enabled_indented_mutiline_value ≡ true → EndsLike (up_to_end p) p.front → Cut o p p.rest
 
 -- A line may be put in between the front W, which gives the items, and the rest r: at the text's front; in column
--- one, before a character that ends no line; or behind line ends that stand behind an element.
+-- one, before a character that ends no line; behind line ends that stand behind an element; or behind an element
+-- that ends with an LF which no backslash takes.
 pub data IsLineStart (o : ParseOption) : List ℕ → List ℕ → List Given → Type 0 where
   at_front : {r : List ℕ} → IsLineStart o [] r []
   before_character : {W : List ℕ} {items : List Given} (c : ℕ) (r : List ℕ) → is_column_one W ≡ true
@@ -88,3 +90,5 @@ pub data IsLineStart (o : ParseOption) : List ℕ → List ℕ → List Given �
   behind_line_end : {r : List ℕ} {items : List Given} (V : List ℕ) (c : ℕ) (e : List ℕ)
       → list_all is_line_end (c ∷ e) ≡ true → is_column_one (V ++ c ∷ e) ≡ true
       → Reads o (V ++ (c ∷ (e ++ r))) [] items V → IsLineStart o (V ++ c ∷ e) r items
+  behind_line : {W r : List ℕ} {items : List Given} → ending W ≡ Ending.line → IsElementEnd o (W ++ r) W items
+      → IsLineStart o W r items

@@ -4,6 +4,8 @@ use std::alloc::Global;
 use std::process::Abort;
 use std::test::Fail;
 
+mod places;
+
 /// An edit of a document.
 #[derive(Clone, Copy, Debug)]
 enum Change {
