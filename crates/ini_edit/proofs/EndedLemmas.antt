@@ -1,15 +1,15 @@
 -- Elements behind which a line may stand as it is: those that end with an LF that no backslash takes.
-use Rattle.std.proofs.Common.{◌≡◌, ◌≢◌, ℕ, Bool, true, false, not, List, [], ◌∷◌, ◌++◌, refl, sym, ap, ◌∙◌, subst, append_assoc, append-nil}
-use Rattle.std.proofs.lemmas.Bool.{cases_Bool, false≢true, both_ways, and_parts, not-true}
+use Rattle.std.proofs.Common.{◌≡◌, ◌≢◌, ℕ, Bool, true, false, not, List, [], ◌∷◌, ◌++◌, refl, sym, ap, ◌∙◌, append_assoc, append-nil}
+use Rattle.std.proofs.lemmas.Bool.{false≢true, both_ways, and_parts, not-true}
 use Rattle.std.specs.List.{list_all}
 use Rattle.ini_text.specs.declared.option.ParseOption.{ParseOption}
-use Rattle.ini_text.specs.Grammar.CharacterKinds.{line_feed, open_bracket, is_blank, is_comment_mark, is_line_feed, is_separator, BeginsWith, BeginsWithNo}
-use Rattle.ini_text.specs.Grammar.Positions.{last_or, is_column_one}
-use Rattle.ini_text.specs.Grammar.Strings.{Row, Str, bracketed_name_ends}
+use Rattle.ini_text.specs.Grammar.CharacterKinds.{line_feed, open_bracket, is_blank, is_comment_mark, is_line_feed, is_separator, BeginsWith}
+use Rattle.ini_text.specs.Grammar.Positions.{last_or}
+use Rattle.ini_text.specs.Grammar.Strings.{Str, bracketed_name_ends}
 use Rattle.ini_text.specs.Grammar.Values.{LineEnd, MoreLines, Value}
 use Rattle.ini_text.specs.Grammar.Elements.{Given, Gap, Element}
 use Rattle.ini_text.proofs.LawLemmas.MovedLemmas.{last_or-behind}
-use Rattle.ini_text.proofs.LawLemmas.OneAheadLemmas.{Alike, Alike-some, EndedLine-before, KeyFront-alike, Str-alike}
+use Rattle.ini_text.proofs.LawLemmas.OneAheadLemmas.{Alike, EndedLine-before, KeyFront-alike, Str-alike}
 use Rattle.ini_text.proofs.PlainLemmas.PlainPairLemmas.{inline_blanks}
 use Rattle.ini_edit.specs.Endings.{Ending, IsIndentedKey, ending, ending_from}
 use Rattle.ini_edit.specs.Places.{Follows}

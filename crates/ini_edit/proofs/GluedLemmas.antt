@@ -1,21 +1,21 @@
 -- Values with a line end put in behind them: the text's end, or what followed them, is a line further down.
-use Rattle.std.proofs.Common.{◌≡◌, ◌≢◌, ℕ, Bool, true, false, not, ◌&&◌, eqb, cond, List, [], ◌∷◌, ◌++◌, length, refl, sym, ap, ◌∙◌, subst, append_assoc, append-nil, inl, inr}
+use Rattle.std.proofs.Common.{◌≡◌, ◌≢◌, ℕ, Bool, true, false, ◌&&◌, eqb, cond, List, [], ◌∷◌, ◌++◌, length, refl, sym, ap, ◌∙◌, subst, append_assoc, append-nil, inl, inr}
 use Rattle.std.specs.Prelude.{◌⊎◌}
 use Rattle.std.proofs.lemmas.Bool.{cases_Bool, cond-true, cond-false, eqb-false, false≢true, both_ways, and_parts, and_from}
 use Rattle.std.specs.Char.{is_whitespace}
 use Rattle.std.specs.List.{list_all}
-use Rattle.std.specs.Str.{skip_leading_whitespace, drop_trailing_whitespace}
+use Rattle.std.specs.Str.{drop_trailing_whitespace}
 use Rattle.ini_text.specs.declared.option.ParseOption.{ParseOption}
 use Rattle.ini_text.specs.declared.write.option.LineSeparator.{LineSeparator}
 use Rattle.ini_text.specs.declared.write.option.LineSeparator.TheVariants.{SystemDefault, CR, CRLF}
 use Rattle.ini_text.specs.Grammar.CharacterKinds.{backslash, letter_x, line_feed, space, is_blank, is_inline_white, is_line_feed, is_mark, BeginsWith, BeginsWithNo}
-use Rattle.ini_text.specs.Grammar.WhiteSpace.{Lead, trimmed, end_trimmed, drop_line_feeds, skip_line_feeds, without_outer_line_feeds}
+use Rattle.ini_text.specs.Grammar.WhiteSpace.{Lead, trimmed, end_trimmed, drop_line_feeds, without_outer_line_feeds}
 use Rattle.ini_text.specs.Grammar.EscapeSequences.{EscapeSequence}
 use Rattle.ini_text.specs.Grammar.Strings.{Closes, Ends, Row, Str, plain_ends}
-use Rattle.ini_text.specs.Grammar.Lines.{Quoted, Line, BeginsPlain, plain_value}
+use Rattle.ini_text.specs.Grammar.Lines.{Line, plain_value}
 use Rattle.ini_text.specs.Grammar.Values.{LineEnd, MoreLines, Value}
 use Rattle.ini_text.specs.Options.WriteOptions.{line_end}
-use Rattle.ini_text.proofs.LawLemmas.OneAheadLemmas.{Alike, Alike-some, Lead-alike, Line-alike, Alike-behind}
+use Rattle.ini_text.proofs.LawLemmas.OneAheadLemmas.{Alike, Lead-alike, Line-alike, Alike-behind}
 use Rattle.ini_text.proofs.PlainLemmas.PlainPairLemmas.{line_end-is}
 use Rattle.ini_edit.specs.Endings.{Ending, Closing, ending_from}
 use Rattle.ini_edit.specs.Places.{Follows}
@@ -218,32 +218,80 @@ module _ {o : ParseOption} (sep : LineSeparator) {x : List ℕ} (follows : Follo
       where
         at : (s : LineSeparator) → EndedGlued o (0x0D ∷ []) [] r (line_end s) x []
         at SystemDefault = record {
-          end = 0x0D ∷ (0x0A ∷ []); lines = []; value = []; feeds = []; whole = refl; alike = Alike.same;
-          is_end = LineEnd.cr_lf; more = done; is = refl; all = refl;
+          end = 0x0D ∷ (0x0A ∷ []);
+          lines = [];
+          value = [];
+          feeds = [];
+          whole = refl;
+          alike = Alike.same;
+          is_end = LineEnd.cr_lf;
+          more = done;
+          is = refl;
+          all = refl;
         }
         at CR = record {
-          end = 0x0D ∷ (0x0A ∷ []); lines = []; value = []; feeds = []; whole = refl; alike = Alike.same;
-          is_end = LineEnd.cr_lf; more = done; is = refl; all = refl;
+          end = 0x0D ∷ (0x0A ∷ []);
+          lines = [];
+          value = [];
+          feeds = [];
+          whole = refl;
+          alike = Alike.same;
+          is_end = LineEnd.cr_lf;
+          more = done;
+          is = refl;
+          all = refl;
         }
         at CRLF = record {
-          end = 0x0D ∷ []; lines = 0x0D ∷ (0x0A ∷ []); value = 0x0A ∷ []; feeds = 0x0A ∷ []; whole = refl;
-          alike = Alike.same; is_end = LineEnd.cr refl; more = MoreLines.empty_cr_lf done; is = refl; all = refl;
+          end = 0x0D ∷ [];
+          lines = 0x0D ∷ (0x0A ∷ []);
+          value = 0x0A ∷ [];
+          feeds = 0x0A ∷ [];
+          whole = refl;
+          alike = Alike.same;
+          is_end = LineEnd.cr refl;
+          more = MoreLines.empty_cr_lf done;
+          is = refl;
+          all = refl;
         }
 
     ended_glued : {e : List ℕ} (t r v : List ℕ) → LineEnd e (t ++ r) → MoreLines o t r v
         → Closing o (ending_from Ending.inside (e ++ t)) c → MoreGlued o t g x v → EndedGlued o e t r g x v
     ended_glued t r v LineEnd.lf m k n = record {
-      end = line_feed ∷ []; lines = t ++ g; value = n.value; feeds = n.feeds; whole = refl; alike = Alike.same;
-      is_end = LineEnd.lf; more = n.more; is = n.is; all = n.all;
+      end = line_feed ∷ [];
+      lines = t ++ g;
+      value = n.value;
+      feeds = n.feeds;
+      whole = refl;
+      alike = Alike.same;
+      is_end = LineEnd.lf;
+      more = n.more;
+      is = n.is;
+      all = n.all;
     }
     ended_glued t r v LineEnd.cr_lf m k n = record {
-      end = 0x0D ∷ (0x0A ∷ []); lines = t ++ g; value = n.value; feeds = n.feeds; whole = refl; alike = Alike.same;
-      is_end = LineEnd.cr_lf; more = n.more; is = n.is; all = n.all;
+      end = 0x0D ∷ (0x0A ∷ []);
+      lines = t ++ g;
+      value = n.value;
+      feeds = n.feeds;
+      whole = refl;
+      alike = Alike.same;
+      is_end = LineEnd.cr_lf;
+      more = n.more;
+      is = n.is;
+      all = n.all;
     }
     ended_glued [] r v (LineEnd.cr h) m k n = behind_cr (closing_inside k) (no_lines m refl)
     ended_glued (a ∷ t) r v (LineEnd.cr h) m k n = record {
-      end = 0x0D ∷ []; lines = (a ∷ t) ++ g; value = n.value; feeds = n.feeds; whole = refl; alike = Alike.same;
-      is_end = LineEnd.cr h; more = n.more; is = n.is; all = n.all;
+      end = 0x0D ∷ [];
+      lines = (a ∷ t) ++ g;
+      value = n.value;
+      feeds = n.feeds;
+      whole = refl;
+      alike = Alike.same;
+      is_end = LineEnd.cr h;
+      more = n.more;
+      is = n.is;
+      all = n.all;
     }
 
     -- how the lines behind a line end end

@@ -1,5 +1,5 @@
 -- At a place elements reach the line that is put in, and behind it the text is read as before.
-use Rattle.std.proofs.Common.{◌≤◌, ◌≡◌, ℕ, Bool, true, false, not, List, [], ◌∷◌, ◌++◌, length, refl, sym, ap, ◌∙◌, subst, append_assoc, append-nil, inl, inr, arith}
+use Rattle.std.proofs.Common.{◌≤◌, ◌≡◌, ℕ, true, List, [], ◌∷◌, ◌++◌, length, refl, sym, ap, ◌∙◌, subst, append_assoc, append-nil, inl, inr, arith}
 use Rattle.std.proofs.lemmas.Bool.{cases_Bool, both_ways}
 use Rattle.std.proofs.lemmas.List.{append_cancel_left}
 use Rattle.ini_text.specs.declared.option.ParseOption.{ParseOption}
@@ -13,7 +13,7 @@ use Rattle.ini_text.specs.Options.WriteOptions.{line_end}
 use Rattle.ini_text.proofs.GrammarLemmas.ItemLemmas.{element-some}
 use Rattle.ini_text.proofs.PlainLemmas.PlainPairLemmas.{line_starts}
 use Rattle.ini_edit.specs.Endings.{Closing, ending}
-use Rattle.ini_edit.specs.Places.{EndsLike, Follows, IsLineStart}
+use Rattle.ini_edit.specs.Places.{EndsLike, Follows}
 use Rattle.ini_edit.specs.LinePlaces.{IsPlace}
 use Rattle.ini_edit.proofs.BehindLemmas.{EndsLike-one, Reads-like}
 use Rattle.ini_edit.proofs.GlueLemmas.{element_glued}

@@ -1,6 +1,6 @@
 -- The document of a text in which a line, or a section, was put at a place.
 use Rattle.std.proofs.Common.{◌≡◌, ◌∙◌, List, [], ◌∷◌, ◌++◌, ap, sym, subst, refl, append_assoc, append-nil, chars, Option}
-use Rattle.std.proofs.Common.{Some, None, fold, false, true}
+use Rattle.std.proofs.Common.{Some, None, false, true}
 use Rattle.std.proofs.lemmas.Grind.{fold-append}
 use Rattle.ini_text.specs.Grammar.CharacterKinds.{open_bracket, close_bracket}
 use Rattle.ini_text.specs.Grammar.Positions.{is_column_one}
@@ -18,7 +18,7 @@ use Rattle.ini_text.proofs.LawLemmas.ExportedLemmas as text_laws
 use Rattle.ini_text.proofs.LawLemmas.ExportedLemmas.{element_then_gaps-gives}
 use Rattle.ini.specs.Texts.{Text}
 use Rattle.ini.specs.Properties.{inserted}
-use Rattle.ini.specs.Documents.{Document, document_of, first_section, with_item}
+use Rattle.ini.specs.Documents.{Document, document_of, with_item}
 use Rattle.ini.specs.Edits.{add_in, set_in}
 use Rattle.ini.specs.Written.{written_name, written_pair}
 use Rattle.ini.proofs.EditLemmas.{edit_section-last}
@@ -26,7 +26,7 @@ use Rattle.ini_edit.specs.Endings.{IsElementEnd}
 use Rattle.ini_edit.specs.Places.{Follows}
 use Rattle.ini_edit.specs.LinePlaces.{AddsAtPlace, AppendsAtPlace, EndsAtPlace, InsertsAtPlace, IsPlace}
 use Rattle.ini_edit.proofs.InsertLemmas.{new_at, pair_is, with_section_last}
-use Rattle.ini_edit.proofs.InsertedLemmas.{line-column, line_follows, line_of_pair, line_read}
+use Rattle.ini_edit.proofs.InsertedLemmas.{line-column, line_follows, line_read}
 use Rattle.ini_edit.proofs.PairListLemmas.{inserted_new}
 use Rattle.ini_edit.proofs.PlaceLemmas.{place_column, place_reached, place_rest}
 use Rattle.ini_edit.proofs.StandsLemmas.{derives_one}

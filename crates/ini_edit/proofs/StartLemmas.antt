@@ -1,7 +1,5 @@
 -- Places where a line may be put in: elements reach them, whatever follows that a multiline value doesn't take.
-use Rattle.std.proofs.Common.{◌≡◌, ℕ, true, not, List, [], ◌∷◌, ◌++◌, refl, sym, ap, ◌∙◌, subst, append_assoc, append-nil, eqb, inl, inr}
-use Rattle.std.proofs.Common.{eqb-true}
-use Rattle.std.proofs.lemmas.Bool.{cases_Bool}
+use Rattle.std.proofs.Common.{◌≡◌, ℕ, true, not, List, [], ◌∷◌, ◌++◌, refl, sym, ap, ◌∙◌, subst, append_assoc, append-nil, inr}
 use Rattle.std.specs.List.{list_all}
 use Rattle.ini_text.specs.declared.option.ParseOption.{ParseOption}
 use Rattle.ini_text.specs.Grammar.CharacterKinds.{is_line_end}
@@ -11,7 +9,7 @@ use Rattle.ini_text.specs.Grammar.Texts.{Reads}
 use Rattle.ini_text.proofs.LawLemmas.OneAheadLemmas.{Alike, Alike-some, Reads-alike}
 use Rattle.ini_text.proofs.PlainLemmas.PlainLineLemmas.{gaps_of, gaps_read}
 use Rattle.ini_text.proofs.GrammarLemmas.ItemLemmas.{element-some}
-use Rattle.ini_edit.specs.Endings.{Ending, IsElementEnd, IsIndentedKey, ending}
+use Rattle.ini_edit.specs.Endings.{IsElementEnd, IsIndentedKey, ending}
 use Rattle.ini_edit.specs.Places.{Follows, IsLineStart}
 use Rattle.ini_edit.proofs.AheadLemmas.{FollowsFront, Reads-before_line}
 use Rattle.ini_edit.proofs.EndedLemmas.{Element-ended}

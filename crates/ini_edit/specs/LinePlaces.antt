@@ -1,5 +1,5 @@
 -- Places where a line may be put in: between a front and a rest, behind a line end where that is wanted.
-use Rattle.std.specs.Prelude.{◌≡◌, false, List, [], ◌∷◌, ◌++◌, Option, Some, None}
+use Rattle.std.specs.Prelude.{◌≡◌, false, List, [], ◌++◌, Option, Some, None}
 use Rattle.ini_text.specs.Grammar.CharacterKinds.{is_blank, BeginsWithNo}
 use Rattle.ini_text.specs.Grammar.Positions.{starts_line}
 use Rattle.ini_text.specs.Grammar.Elements.{Given}

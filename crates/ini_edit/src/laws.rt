@@ -59,7 +59,13 @@ pub fn pair_inserted_at_place(key: &str, value: &str, write: &WriteOption, read:
 
 /// A plain section with one pair put at a place behind which the text gives nothing, where it has no section of
 /// the name: the text loads as the document in which the key is set.
-pub fn section_appended_at_place(name: &str, key: &str, value: &str, write: &WriteOption, read: ParseOption)
+pub fn section_appended_at_place(
+    name: &str,
+    key: &str,
+    value: &str,
+    write: &WriteOption,
+    read: ParseOption,
+)
     requires separator { IsPlainSeparator (chars write.now.kv_separator.now) }
     requires name { IsPlainName read write.now.escape_policy (chars name.now) }
     requires plain { IsPlainPair read write.now.escape_policy (chars key.now) (chars value.now) }

@@ -1,5 +1,5 @@
 //! Where a line goes in: texts that end, or go on, in all the ways that decide it.
-use super::{expect_edits, Change};
+use super::{Change, expect_edits};
 use std::test::Fail;
 
 // What ends the last pair's line ends the new one, or stays behind it.
@@ -28,7 +28,13 @@ fn at_the_text_s_end(rt: HostRuntime) -> Result<(), Fail> {
         &rt,
         &[
             ("qe", "[a]", set, "[a]\nk=v\n", "general [a] <k|v>"),
-            ("qe", "[a]j=w", set, "[a]j=w\nk=v\n", "general [a] <j|w> <k|v>"),
+            (
+                "qe",
+                "[a]j=w",
+                set,
+                "[a]j=w\nk=v\n",
+                "general [a] <j|w> <k|v>",
+            ),
             ("qe", "[a]j=\\", set, "[a]j=\\\\\nk=v\n", backslash),
             ("q", "[a]j=\\", set, "[a]j=\\ \nk=v\n", backslash),
             ("qem", "[a]j=\\", set, "[a]j=\\\\\r\nk=v\r\n", backslash),
@@ -42,8 +48,20 @@ fn at_the_text_s_end(rt: HostRuntime) -> Result<(), Fail> {
                 "general [a] <j|w\nx\\> <k|v>",
             ),
             // a folded line end
-            ("qe", "[a]j=\\\n", set, "[a]j=\\\n\nk=v\n", "general [a] <j|> <k|v>"),
-            ("qem", "[a]j=\\\n", set, "[a]j=\\\n\nk=v\n", "general [a] <j|> <k|v>"),
+            (
+                "qe",
+                "[a]j=\\\n",
+                set,
+                "[a]j=\\\n\nk=v\n",
+                "general [a] <j|> <k|v>",
+            ),
+            (
+                "qem",
+                "[a]j=\\\n",
+                set,
+                "[a]j=\\\n\nk=v\n",
+                "general [a] <j|> <k|v>",
+            ),
         ],
     )
 }
@@ -76,14 +94,44 @@ fn before_a_comment_or_a_header(rt: HostRuntime) -> Result<(), Fail> {
         &rt,
         &[
             ("qem", "[a]\nj=w\n[b]", set, "[a]\nj=w\nk=v\n[b]", both),
-            ("qem", "[a]\nj=w\n\n#\n[b]", set, "[a]\nj=w\n\nk=v\n#\n[b]", both),
+            (
+                "qem",
+                "[a]\nj=w\n\n#\n[b]",
+                set,
+                "[a]\nj=w\n\nk=v\n#\n[b]",
+                both,
+            ),
             ("qem", "[a]\nj=w\r[b]", set, "[a]\nj=w\r\nk=v\n[b]", both),
-            ("qem", "[a]\nj=w\r[b]", set, "[a]\nj=w\r\r\nk=v\r\n[b]", both),
-            ("qem", "[a]\nj=w\n", set, "[a]\nj=w\nk=v\n", "general [a] <j|w> <k|v>"),
+            (
+                "qem",
+                "[a]\nj=w\r[b]",
+                set,
+                "[a]\nj=w\r\r\nk=v\r\n[b]",
+                both,
+            ),
+            (
+                "qem",
+                "[a]\nj=w\n",
+                set,
+                "[a]\nj=w\nk=v\n",
+                "general [a] <j|w> <k|v>",
+            ),
             ("qem", "[a]\n  [b]", set, "[a]\n  \nk=v\n[b]", want),
             ("qem", "[a]\n\r\r[b]", set, "[a]\n\r\r\nk=v\n[b]", want),
-            ("qem", "[a]\n\n  \n#\n[b]", set, "[a]\n\n  \nk=v\n#\n[b]", want),
-            ("qem", "[a]\n \t", set, "[a]\n \t\nk=v\n", "general [a] <k|v>"),
+            (
+                "qem",
+                "[a]\n\n  \n#\n[b]",
+                set,
+                "[a]\n\n  \nk=v\n#\n[b]",
+                want,
+            ),
+            (
+                "qem",
+                "[a]\n \t",
+                set,
+                "[a]\n \t\nk=v\n",
+                "general [a] <k|v>",
+            ),
             (
                 "qem",
                 "  [b]",
@@ -116,7 +164,13 @@ fn a_section_behind_any_text(rt: HostRuntime) -> Result<(), Fail> {
             ("qem", "j=w\n \\\n", set, "j=w\n \\\n\n[a]\nk=v\n", both),
             ("qe", "  junk", set, "[a]\nk=v\n  junk", alone),
             ("qe", "j=w\n  junk", set, "j=w\n[a]\nk=v\n  junk", both),
-            ("qe", "j=w\r  junk\n", set, "j=w\r\n[a]\nk=v\n  junk\n", both),
+            (
+                "qe",
+                "j=w\r  junk\n",
+                set,
+                "j=w\r\n[a]\nk=v\n  junk\n",
+                both,
+            ),
         ],
     )
 }
