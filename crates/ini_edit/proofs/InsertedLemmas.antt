@@ -21,7 +21,8 @@ use Rattle.ini_text.proofs.LawLemmas.MovedLemmas.{last_or-behind}
 use Rattle.ini_text.proofs.PlainLemmas.EscapedTextLemmas.{all_read}
 use Rattle.ini_text.proofs.PlainLemmas.PlainLineLemmas.{gaps_of, gaps_read}
 use Rattle.ini_text.proofs.PlainLemmas.PlainPairLemmas.{bare_begins, no_white_no_line_end, inline_blanks, key_front, key_some, line_end-is, line_starts, source-parts}
-use Rattle.ini_edit.specs.Places.{EndsLike, Follows, IsLineStart, Tail}
+use Rattle.ini_text.specs.Grammar.Places.{Tail}
+use Rattle.ini_edit.specs.Places.{EndsLike, Follows, IsLineStart}
 use Rattle.ini_edit.proofs.BehindLemmas.{Reads-like}
 use Rattle.ini_edit.proofs.StartLemmas.{column_at, reached}
 use Rattle.ini_edit.proofs.AheadLemmas.{any_follows}

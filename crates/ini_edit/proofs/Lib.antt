@@ -5,6 +5,7 @@ pub mod DeleteLemmas
 pub mod DocumentLemmas
 pub mod EndedLemmas
 pub mod EndingLemmas
+pub mod FindLemmas
 pub mod GlueLemmas
 pub mod GluedLemmas
 pub mod InsertLemmas
@@ -18,3 +19,4 @@ pub mod SetLemmas
 pub mod StandsLemmas
 pub mod StartLemmas
 pub mod ValueLemmas
+pub mod WalkLemmas

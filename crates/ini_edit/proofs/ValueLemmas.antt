@@ -18,7 +18,7 @@ use Rattle.ini_text.specs.Laws.Plain.{IsPlainValue}
 use Rattle.ini_text.proofs.PlainLemmas.EscapedTextLemmas.{AllRead, all_read, row_escaped}
 use Rattle.ini_text.proofs.PlainLemmas.PlainPairLemmas.{escaped_begins, value_no_end, line_end_no_mark}
 use Rattle.ini_text.proofs.PlainLemmas.PlainTrimLemmas.{trimmed_begins, without_line_feeds-trimmed}
-use Rattle.ini_edit.specs.Places.{Tail}
+use Rattle.ini_text.specs.Grammar.Places.{Tail}
 use Rattle.ini_edit.proofs.PadLemmas.{trimmed-white, white_both, white_row}
 
 pub closes_line_end : (c : ℕ) → is_endpoint plain_ends c ≡ true → is_line_end c ≡ true

@@ -1,11 +1,11 @@
 -- Where a pair stands in a text, and the text with another value in its place.
 use Rattle.std.specs.Prelude.{◌≡◌, ◌≢◌, ℕ, true, false, List, [], ◌∷◌, ◌++◌}
 use Rattle.std.specs.List.{list_all}
-use Rattle.ini_text.specs.Grammar.CharacterKinds.{is_blank, is_inline_white, is_line_end, is_line_feed}
+use Rattle.ini_text.specs.Grammar.CharacterKinds.{is_blank, is_inline_white, is_line_end}
 use Rattle.ini_text.specs.Grammar.CharacterKinds.{is_separator, BeginsWithNo}
 use Rattle.ini_text.specs.Grammar.Positions.{starts_line, is_column_one}
-use Rattle.ini_text.specs.Grammar.Strings.{Closes, plain_ends}
-use Rattle.ini_text.specs.Grammar.Values.{LineEnd, MoreLines, Value}
+use Rattle.ini_text.specs.Grammar.Values.{Value}
+use Rattle.ini_text.specs.Grammar.Places.{Tail}
 use Rattle.ini_text.specs.Grammar.Keys.{KeyFront}
 use Rattle.ini_text.specs.Grammar.Elements.{Given}
 use Rattle.ini_text.specs.Grammar.Texts.{Reads}
@@ -38,14 +38,6 @@ pair_of p = pair_with p p.own
 
 abbrev pub up_to_end : Stretches → List ℕ
 up_to_end p = p.front ++ pair_of p
-
--- what is kept behind a value, before r: nothing; or, where values are multiline, its last line end and
--- lines that give line feeds alone
-pub data Tail (o : ParseOption) : List ℕ → List ℕ → Type 0 where
-  line : {r : List ℕ} → o.enabled_indented_mutiline_value ≡ false → Closes plain_ends r → Tail o [] r
-  end : o.enabled_indented_mutiline_value ≡ true → Tail o [] []
-  lines : {e t r u : List ℕ} → o.enabled_indented_mutiline_value ≡ true → LineEnd e (t ++ r)
-      → MoreLines o t r u → list_all is_line_feed u ≡ true → Tail o (e ++ t) r
 
 -- The stretches are those of a pair of the text, which gives the items before it, and those after it.
 pub record StandsAt (o : ParseOption) (T : List ℕ) (p : Stretches) (key value : List ℕ)
