@@ -1,7 +1,6 @@
 -- A stretch that was taken out of a text.
 use Rattle.std.proofs.Common.{◌≡◌, ◌∙◌, List, [], ◌∷◌, ◌++◌, ℕ, ap, sym, subst, append_assoc}
 use Rattle.ini_text.specs.declared.option.ParseOption.{ParseOption}
-use Rattle.ini_text.specs.Grammar.CharacterKinds.{BeginsWith}
 use Rattle.ini_text.specs.Grammar.Elements.{Given}
 use Rattle.ini_text.specs.Grammar.Strings.{Closes, plain_ends}
 use Rattle.ini_text.specs.Grammar.Texts.{Reads, Derives}

@@ -4,12 +4,12 @@ use Rattle.std.proofs.lemmas.Bool.{cond-true, cond-false}
 use Rattle.std.proofs.lemmas.Grind.{fold-append}
 use Rattle.ini_text.specs.Grammar.Elements.{Given, Header, Pair}
 use Rattle.ini_text.specs.Laws.PlainLaws.{BeginsWithHeader}
-use Rattle.ini.specs.Texts.{Text, is_name, is_text}
-use Rattle.ini.specs.Properties.{Pairs, inserted, removed, all_removed, first_value}
+use Rattle.ini.specs.Texts.{Text, is_name}
+use Rattle.ini.specs.Properties.{Pairs}
 use Rattle.ini.specs.Documents.{Document, document_of, first_section, with_item}
 use Rattle.ini.specs.SectionItems.{pair_items}
 use Rattle.ini.specs.Edits.{edit_section}
-use Rattle.ini_edit.specs.Targets.{Lacks, OpensSection}
+use Rattle.ini_edit.specs.Targets.{OpensSection}
 use Rattle.ini.proofs.PlainTextLemmas.{items-behind, pairs_make}
 
 pub pair_items-append : (ps qs : Pairs) → pair_items (ps ++ qs) ≡ pair_items ps ++ pair_items qs

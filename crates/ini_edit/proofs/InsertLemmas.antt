@@ -43,7 +43,7 @@ module _ {name : Option Text} {before after : List Given} (t : IsSectionEnd name
       ap (λ l. l ++ (Pair key value ∷ after)) t.before_is
       ∙ section_items t.opening after t.pairs ((key, value) ∷ [])
 
-  new_at : (f : Pairs → Pairs) (last : Document) (key value : Text) → f t.pairs ≡ t.pairs ++ (key, value) ∷ []
+  pub new_at : (f : Pairs → Pairs) (last : Document) (key value : Text) → f t.pairs ≡ t.pairs ++ (key, value) ∷ []
       → edit_section name f last (document_of (before ++ after)) ≡ document_of (before ++ (Pair key value ∷ after))
   new_at f last key value is =
       ap (λ l. edit_section name f last (document_of l)) items_end
@@ -52,7 +52,7 @@ module _ {name : Option Text} {before after : List Given} (t : IsSectionEnd name
       ∙ ap document_of (sym (items_more key value))
 
 -- a written pair, in three parts
-pair_is : (w : WriteOption) (key value : Text) → written_pair w (key, value)
+pub pair_is : (w : WriteOption) (key value : Text) → written_pair w (key, value)
     ≡ escaped w.escape_policy key ++ (chars w.kv_separator.now ++ (escaped w.escape_policy value ++ line_end w.line_separator))
 pair_is w key value = simp append_assoc
 
@@ -94,7 +94,7 @@ module _ (o : ParseOption) (w : WriteOption) (key value : Text) (sep : IsPlainSe
   }
 
 -- a section that is opened last
-with_section_last : (d : Document) (name key value : Text)
+pub with_section_last : (d : Document) (name key value : Text)
     → fold with_item d (Header name ∷ Pair key value ∷ []) ≡ d ++ (Some name, (key, value) ∷ []) ∷ []
 with_section_last d name key value = at d
   where

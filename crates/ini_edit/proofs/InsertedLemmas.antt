@@ -21,29 +21,30 @@ use Rattle.ini_text.proofs.LawLemmas.MovedLemmas.{last_or-behind}
 use Rattle.ini_text.proofs.PlainLemmas.EscapedTextLemmas.{all_read}
 use Rattle.ini_text.proofs.PlainLemmas.PlainLineLemmas.{gaps_of, gaps_read}
 use Rattle.ini_text.proofs.PlainLemmas.PlainPairLemmas.{bare_begins, no_white_no_line_end, inline_blanks, key_front, key_some, line_end-is, line_starts, source-parts}
-use Rattle.ini_edit.specs.Places.{EndsLike, Follows, IsLineStart, Tail}
+use Rattle.ini_text.specs.Grammar.Places.{Tail}
+use Rattle.ini_edit.specs.Places.{EndsLike, Follows, IsLineStart}
 use Rattle.ini_edit.proofs.BehindLemmas.{Reads-like}
 use Rattle.ini_edit.proofs.StartLemmas.{column_at, reached}
 use Rattle.ini_edit.proofs.AheadLemmas.{any_follows}
 use Rattle.ini_edit.proofs.ValueLemmas.{value_written}
 
-line_end-all : (s : LineSeparator) → list_all is_line_end (line_end s) ≡ true
+pub line_end-all : (s : LineSeparator) → list_all is_line_end (line_end s) ≡ true
 line_end-all SystemDefault = refl
 line_end-all CR = refl
 line_end-all CRLF = refl
 
-line_end-closes : (s : LineSeparator) (r : List ℕ) → Closes plain_ends (line_end s ++ r)
+pub line_end-closes : (s : LineSeparator) (r : List ℕ) → Closes plain_ends (line_end s ++ r)
 line_end-closes SystemDefault r = refl
 line_end-closes CR r = refl
 line_end-closes CRLF r = refl
 
-line_end-column : (s : LineSeparator) (x : List ℕ) → is_column_one (x ++ line_end s) ≡ true
+pub line_end-column : (s : LineSeparator) (x : List ℕ) → is_column_one (x ++ line_end s) ≡ true
 line_end-column SystemDefault x = ap is_line_feed (last_or-behind line_feed line_feed x [])
 line_end-column CR x = ap is_line_feed (last_or-behind line_feed line_feed x [])
 line_end-column CRLF x = ap is_line_feed (last_or-behind line_feed carriage_return x (line_feed ∷ []))
 
 -- both are in column one
-EndsLike-column : (b c : List ℕ) → is_column_one b ≡ true → is_column_one c ≡ true → EndsLike b c
+pub EndsLike-column : (b c : List ℕ) → is_column_one b ≡ true → is_column_one c ≡ true → EndsLike b c
 EndsLike-column b c one two = record { line = line_starts b one ∙ sym (line_starts c two); column = λ _. two }
 
 module _ {o : ParseOption} {policy : EscapePolicy} {key value separator : List ℕ} (sep : IsPlainSeparator separator)
@@ -91,7 +92,7 @@ module _ {o : ParseOption} {policy : EscapePolicy} {key value separator : List �
         (Reads.step whole element gaps)
   ]
 
-  line-column : (s : LineSeparator) (b : List ℕ) → is_column_one (b ++ line_of_pair s) ≡ true
+  pub line-column : (s : LineSeparator) (b : List ℕ) → is_column_one (b ++ line_of_pair s) ≡ true
   line-column s b =
       let source = escaped policy key ++ (separator ++ escaped policy value) in
       let split : (b ++ source) ++ line_end s ≡ b ++ line_of_pair s = simp append_assoc in

@@ -1,5 +1,5 @@
 -- Edits of a section's pairs, at the place of a key's first pair.
-use Rattle.std.proofs.Common.{◌≡◌, ◌∙◌, Bool, true, false, not, cond, List, [], ◌∷◌, ◌++◌, ap, refl, Option, None, Some}
+use Rattle.std.proofs.Common.{◌≡◌, ◌∙◌, Bool, true, false, not, cond, [], ◌∷◌, ◌++◌, ap, refl, None, Some}
 use Rattle.std.proofs.lemmas.Bool.{cond-true, cond-false}
 use Rattle.ini.specs.Texts.{Text, is_text}
 use Rattle.ini.specs.Properties.{Pairs, inserted, removed, all_removed, first_value}

@@ -11,7 +11,8 @@ use Rattle.ini_text.specs.Escaping.EscapedTexts.{escaped}
 use Rattle.ini_text.specs.Laws.Plain.{IsPlainValue}
 use Rattle.ini_text.proofs.LawLemmas.OneAheadLemmas.{Alike, KeyFront-alike, Reads-alike}
 use Rattle.ini_edit.proofs.BehindLemmas.{EndsLike-one, Reads-like, Reads-line_end, nothing_left}
-use Rattle.ini_edit.specs.Places.{StandsAt, Stretches, Tail, pair_of, pair_with, text_with}
+use Rattle.ini_text.specs.Grammar.Places.{Tail}
+use Rattle.ini_edit.specs.Places.{StandsAt, Stretches, pair_of, pair_with, text_with}
 use Rattle.ini_edit.proofs.ValueLemmas.{closes_line_end, value_written}
 
 module _ (o : ParseOption) where

@@ -1,5 +1,5 @@
 -- The document of a text in which a value was replaced, and later pairs of its key were taken out.
-use Rattle.std.proofs.Common.{◌≡◌, ◌∙◌, true, List, [], ◌∷◌, ◌++◌, ap, sym, subst, append_assoc, Option}
+use Rattle.std.proofs.Common.{◌≡◌, ◌∙◌, List, [], ◌∷◌, ◌++◌, ap, sym, subst, append_assoc, Option}
 use Rattle.ini_text.specs.Grammar.Elements.{Given, Pair}
 use Rattle.ini_text.specs.Grammar.Texts.{Derives}
 use Rattle.ini_text.specs.Escaping.EscapedTexts.{escaped}

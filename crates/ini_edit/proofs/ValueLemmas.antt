@@ -18,7 +18,7 @@ use Rattle.ini_text.specs.Laws.Plain.{IsPlainValue}
 use Rattle.ini_text.proofs.PlainLemmas.EscapedTextLemmas.{AllRead, all_read, row_escaped}
 use Rattle.ini_text.proofs.PlainLemmas.PlainPairLemmas.{escaped_begins, value_no_end, line_end_no_mark}
 use Rattle.ini_text.proofs.PlainLemmas.PlainTrimLemmas.{trimmed_begins, without_line_feeds-trimmed}
-use Rattle.ini_edit.specs.Places.{Tail}
+use Rattle.ini_text.specs.Grammar.Places.{Tail}
 use Rattle.ini_edit.proofs.PadLemmas.{trimmed-white, white_both, white_row}
 
 pub closes_line_end : (c : ℕ) → is_endpoint plain_ends c ≡ true → is_line_end c ≡ true
@@ -36,11 +36,11 @@ tail_closes (Tail.lines on LineEnd.lf more all) = refl
 tail_closes (Tail.lines on LineEnd.cr_lf more all) = refl
 tail_closes (Tail.lines on (LineEnd.cr n) more all) = refl
 
-closes_no_mark : (r : List ℕ) → Closes plain_ends r → BeginsWithNo is_mark r
+pub closes_no_mark : (r : List ℕ) → Closes plain_ends r → BeginsWithNo is_mark r
 closes_no_mark [] h = tt
 closes_no_mark (c ∷ r) h = line_end_no_mark c (closes_line_end c h)
 
-closes_no_inline : (r : List ℕ) → Closes plain_ends r → BeginsWithNo is_inline_white r
+pub closes_no_inline : (r : List ℕ) → Closes plain_ends r → BeginsWithNo is_inline_white r
 closes_no_inline [] h = tt
 closes_no_inline (c ∷ r) h = and_right (is_whitespace c) _ (ap not (closes_line_end c h))
 

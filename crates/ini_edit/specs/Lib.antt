@@ -1,3 +1,7 @@
 pub mod EditedTexts
+pub mod Endings
+pub mod FirstPairs
+pub mod Inside
+pub mod LinePlaces
 pub mod Places
 pub mod Targets

@@ -1,15 +1,16 @@
 -- Where a pair stands in a text, and the text with another value in its place.
 use Rattle.std.specs.Prelude.{◌≡◌, ◌≢◌, ℕ, true, false, List, [], ◌∷◌, ◌++◌}
 use Rattle.std.specs.List.{list_all}
-use Rattle.ini_text.specs.Grammar.CharacterKinds.{is_blank, is_inline_white, is_line_end, is_line_feed}
+use Rattle.ini_text.specs.Grammar.CharacterKinds.{is_blank, is_inline_white, is_line_end}
 use Rattle.ini_text.specs.Grammar.CharacterKinds.{is_separator, BeginsWithNo}
 use Rattle.ini_text.specs.Grammar.Positions.{starts_line, is_column_one}
-use Rattle.ini_text.specs.Grammar.Strings.{Closes, plain_ends}
-use Rattle.ini_text.specs.Grammar.Values.{LineEnd, MoreLines, Value}
+use Rattle.ini_text.specs.Grammar.Values.{Value}
+use Rattle.ini_text.specs.Grammar.Places.{Tail}
 use Rattle.ini_text.specs.Grammar.Keys.{KeyFront}
 use Rattle.ini_text.specs.Grammar.Elements.{Given}
 use Rattle.ini_text.specs.Grammar.Texts.{Reads}
 use Rattle.ini_text.specs.declared.option.ParseOption.{ParseOption}
+use Rattle.ini_edit.specs.Endings.{Ending, IsElementEnd, ending}
 
 -- A pair's stretches in a text: what stands before its element; its key's source, and the separator; white
 -- space before the value; the value's own source; white space behind it; where values are multiline, the
@@ -37,14 +38,6 @@ pair_of p = pair_with p p.own
 
 abbrev pub up_to_end : Stretches → List ℕ
 up_to_end p = p.front ++ pair_of p
-
--- what is kept behind a value, before r: nothing; or, where values are multiline, its last line end and
--- lines that give line feeds alone
-pub data Tail (o : ParseOption) : List ℕ → List ℕ → Type 0 where
-  line : {r : List ℕ} → o.enabled_indented_mutiline_value ≡ false → Closes plain_ends r → Tail o [] r
-  end : o.enabled_indented_mutiline_value ≡ true → Tail o [] []
-  lines : {e t r u : List ℕ} → o.enabled_indented_mutiline_value ≡ true → LineEnd e (t ++ r)
-      → MoreLines o t r u → list_all is_line_feed u ≡ true → Tail o (e ++ t) r
 
 -- The stretches are those of a pair of the text, which gives the items before it, and those after it.
 pub record StandsAt (o : ParseOption) (T : List ℕ) (p : Stretches) (key value : List ℕ)
@@ -80,7 +73,8 @@ pub data Cut (o : ParseOption) (p : Stretches) : List ℕ → Type 0 where
   whole_lines : o.enabled_indented_mutiline_value ≡ true → EndsLike (up_to_end p) p.front → Cut o p p.rest
 
 -- A line may be put in between the front W, which gives the items, and the rest r: at the text's front; in column
--- one, before a character that ends no line; or behind line ends that stand behind an element.
+-- one, before a character that ends no line; behind line ends that stand behind an element; or behind an element
+-- that ends with an LF which no backslash takes.
 pub data IsLineStart (o : ParseOption) : List ℕ → List ℕ → List Given → Type 0 where
   at_front : {r : List ℕ} → IsLineStart o [] r []
   before_character : {W : List ℕ} {items : List Given} (c : ℕ) (r : List ℕ) → is_column_one W ≡ true
@@ -88,3 +82,5 @@ pub data IsLineStart (o : ParseOption) : List ℕ → List ℕ → List Given �
   behind_line_end : {r : List ℕ} {items : List Given} (V : List ℕ) (c : ℕ) (e : List ℕ)
       → list_all is_line_end (c ∷ e) ≡ true → is_column_one (V ++ c ∷ e) ≡ true
       → Reads o (V ++ (c ∷ (e ++ r))) [] items V → IsLineStart o (V ++ c ∷ e) r items
+  behind_line : {W r : List ℕ} {items : List Given} → ending W ≡ Ending.line → IsElementEnd o (W ++ r) W items
+      → IsLineStart o W r items

@@ -3,6 +3,7 @@
 ghost use Rattle.std.specs.Prelude.{chars};
 ghost use Rattle.ini_text.specs.Laws.Plain.{IsPlainName, IsPlainPair, IsPlainSeparator, IsPlainValue};
 ghost use Rattle.ini_edit.specs.EditedTexts.{Adds, Appends, Deletes, Inserts, KeepsValue, SetsValue};
+ghost use Rattle.ini_edit.specs.LinePlaces.{AddsAtPlace, AppendsAtPlace, InsertsAtPlace};
 
 use ini_text::{EscapePolicy, ParseOption, WriteOption};
 
@@ -44,4 +45,29 @@ pub fn section_appended(name: &str, key: &str, value: &str, write: &WriteOption,
     requires name { IsPlainName read write.now.escape_policy (chars name.now) }
     requires plain { IsPlainPair read write.now.escape_policy (chars key.now) (chars value.now) }
     ensures { Appends read write.now (chars name.now) (chars key.now) (chars value.now) }
+{}
+
+/// A plain pair's line put in where the section of its name ends, behind a line end where the text wants one: the
+/// text loads as the document to which the pair is added. Where the section has no pair of the key, that is to
+/// set it.
+pub fn pair_inserted_at_place(key: &str, value: &str, write: &WriteOption, read: ParseOption)
+    requires separator { IsPlainSeparator (chars write.now.kv_separator.now) }
+    requires plain { IsPlainPair read write.now.escape_policy (chars key.now) (chars value.now) }
+    ensures add { AddsAtPlace read write.now (chars key.now) (chars value.now) }
+    ensures set { InsertsAtPlace read write.now (chars key.now) (chars value.now) }
+{}
+
+/// A plain section with one pair put at a place behind which the text gives nothing, where it has no section of
+/// the name: the text loads as the document in which the key is set.
+pub fn section_appended_at_place(
+    name: &str,
+    key: &str,
+    value: &str,
+    write: &WriteOption,
+    read: ParseOption,
+)
+    requires separator { IsPlainSeparator (chars write.now.kv_separator.now) }
+    requires name { IsPlainName read write.now.escape_policy (chars name.now) }
+    requires plain { IsPlainPair read write.now.escape_policy (chars key.now) (chars value.now) }
+    ensures { AppendsAtPlace read write.now (chars name.now) (chars key.now) (chars value.now) }
 {}

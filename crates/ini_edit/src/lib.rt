@@ -2,6 +2,10 @@
 //! call edits a text yet.
 #![tactic(auto)]
 
+mod find;
 pub mod laws;
 #[cfg(test)]
 mod tests;
+mod walk;
+
+pub use find::{FoundPair, find_pair};

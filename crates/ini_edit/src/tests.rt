@@ -4,6 +4,9 @@ use std::alloc::Global;
 use std::process::Abort;
 use std::test::Fail;
 
+mod find;
+mod places;
+
 /// An edit of a document.
 #[derive(Clone, Copy, Debug)]
 enum Change {

@@ -1,0 +1,120 @@
+-- Elements behind which a line may stand as it is: those that end with an LF that no backslash takes.
+use Rattle.std.proofs.Common.{◌≡◌, ◌≢◌, ℕ, Bool, true, false, not, List, [], ◌∷◌, ◌++◌, refl, sym, ap, ◌∙◌, append_assoc, append-nil}
+use Rattle.std.proofs.lemmas.Bool.{false≢true, both_ways, and_parts, not-true}
+use Rattle.std.specs.List.{list_all}
+use Rattle.ini_text.specs.declared.option.ParseOption.{ParseOption}
+use Rattle.ini_text.specs.Grammar.CharacterKinds.{line_feed, open_bracket, is_blank, is_comment_mark, is_line_feed, is_separator, BeginsWith}
+use Rattle.ini_text.specs.Grammar.Positions.{last_or}
+use Rattle.ini_text.specs.Grammar.Strings.{Str, bracketed_name_ends}
+use Rattle.ini_text.specs.Grammar.Values.{LineEnd, MoreLines, Value}
+use Rattle.ini_text.specs.Grammar.Elements.{Given, Gap, Element}
+use Rattle.ini_text.proofs.LawLemmas.MovedLemmas.{last_or-behind}
+use Rattle.ini_text.proofs.LawLemmas.OneAheadLemmas.{Alike, EndedLine-before, KeyFront-alike, Str-alike}
+use Rattle.ini_text.proofs.PlainLemmas.PlainPairLemmas.{inline_blanks}
+use Rattle.ini_edit.specs.Endings.{Ending, IsIndentedKey, ending, ending_from}
+use Rattle.ini_edit.specs.Places.{Follows}
+use Rattle.ini_edit.proofs.EndingLemmas.{IsInner, column_ending, ending-behind, ending-lead, ending-line, ending-row, ending-white, inner_by, line_no_line}
+
+-- no text of blanks ends so, and no comment without LF
+pub ending-blanks : (b w : List ℕ) → BeginsWith is_blank w → list_all is_blank w ≡ true
+    → ending (b ++ w) ≡ Ending.inside
+ending-blanks b [] some all = absurd (false≢true (sym some))
+ending-blanks b (c ∷ w) some all =
+    let parts = and_parts (is_blank c) (list_all is_blank w) all in
+    ending-behind Ending.line b c w (inner_by is_blank c refl refl some)
+    ∙ ap (ending_from Ending.inside) (sym (append-nil w)) ∙ ending-white w [] (inline_blanks w parts.1)
+
+last_no_feed : (c : ℕ) (s : List ℕ) → is_line_feed c ≡ false → list_all (λ c. not (is_line_feed c)) s ≡ true
+    → is_line_feed (last_or c s) ≡ false
+last_no_feed c [] h all = h
+last_no_feed c (d ∷ s) h all =
+    let parts = and_parts (not (is_line_feed d)) (list_all (λ c. not (is_line_feed c)) s) all in
+    last_no_feed d s (not-true (is_line_feed d) parts.0) parts.1
+
+comment_no_line : (b : List ℕ) (m : ℕ) (s : List ℕ) → is_comment_mark m ≡ true
+    → list_all (λ c. not (is_line_feed c)) s ≡ true → ending (b ++ m ∷ s) ≢ Ending.line
+comment_no_line b m s mark all h =
+    let inner : IsInner m = inner_by is_comment_mark m refl refl mark in
+    both_ways (is_line_feed (last_or m s)) (last_no_feed m s inner.no_line_feed all)
+    (ap is_line_feed (sym (last_or-behind line_feed m b s)) ∙ column_ending (b ++ m ∷ s) h)
+
+-- a pair's source from its separator on
+pub ending-separator : (b k : List ℕ) (m : ℕ) (z : List ℕ) → is_separator m ≡ true
+    → ending (b ++ (k ++ m ∷ z)) ≡ ending_from Ending.inside z
+ending-separator b k m z h =
+    ap ending (sym (append_assoc b k (m ∷ z)))
+    ∙ ending-behind Ending.line (b ++ k) m z (inner_by is_separator m refl refl h)
+
+pub row_no_line : (b : List ℕ) {e : Bool} {s r v : List ℕ} → Str e bracketed_name_ends s r v
+    → ending (b ++ open_bracket ∷ s) ≡ Ending.inside
+row_no_line b {s = s} (Str.closed row h) =
+    ending-behind Ending.line b open_bracket s (record { no_backslash = refl; no_line_feed = refl })
+    ∙ ap (ending_from Ending.inside) (sym (append-nil s)) ∙ ending-row [] refl row
+row_no_line b (Str.lone row h) = absurd (false≢true h)
+
+-- behind a character the text ends so, whether a line starts before it or not
+pub from_line : (t : List ℕ) → ending_from Ending.inside t ≡ Ending.line → ending_from Ending.line t ≡ Ending.line
+from_line [] h = cc
+from_line (c ∷ t) h = h
+
+pub line_end-some-behind : {e : List ℕ} (z y : List ℕ) → LineEnd e y → (e ++ z) ≢ []
+line_end-some-behind z y LineEnd.lf h = cc
+line_end-some-behind z y LineEnd.cr_lf h = cc
+line_end-some-behind z y (LineEnd.cr n) h = cc
+
+module _ {o : ParseOption} {x : List ℕ} (follows : Follows o x) where
+  -- a line end, and how what follows it ends
+  LineEnd-ended : {e : List ℕ} (t r : List ℕ) → LineEnd e (t ++ r) → ending_from Ending.inside (e ++ t) ≡ Ending.line
+      → LineEnd e (t ++ x) × (ending_from Ending.line t ≡ Ending.line)
+  LineEnd-ended t r LineEnd.lf h = (LineEnd.lf, h)
+  LineEnd-ended t r LineEnd.cr_lf h = (LineEnd.cr_lf, h)
+  LineEnd-ended [] r (LineEnd.cr n) h = cc
+  LineEnd-ended (c ∷ t) r (LineEnd.cr n) h = (LineEnd.cr n, h)
+
+  MoreLines-ended : {t r v : List ℕ} → o.enabled_indented_mutiline_value ≡ true → MoreLines o t r v
+      → ending_from Ending.line t ≡ Ending.line → MoreLines o t x v
+  MoreLines-ended on (MoreLines.done n m) h = MoreLines.done (follows.no_blank on) (follows.no_line_end on)
+  MoreLines-ended on (MoreLines.empty_lf m) h = MoreLines.empty_lf (MoreLines-ended on m h)
+  MoreLines-ended on (MoreLines.empty_cr_lf m) h = MoreLines.empty_cr_lf (MoreLines-ended on m h)
+  MoreLines-ended on (MoreLines.continued {w} {l} {e} {t} {r} b lead ln le m) h =
+      let is : ending_from Ending.inside (e ++ t) ≡ Ending.line =
+      sym (ending-line (e ++ t) (line_end-some-behind (t ++ r) (t ++ r) le) ln)
+      ∙ sym (ending-lead Ending.line w (l ++ (e ++ t)) b lead.white) ∙ h in
+      let end = LineEnd-ended t r le is in
+      let n = EndedLine-before end.0 (record { lead = lead; line = ln; end = le }) in
+      MoreLines.continued b n.lead n.line n.end (MoreLines-ended on m end.1)
+  MoreLines-ended on (MoreLines.last {w} {l} b lead ln) h =
+      absurd (line_no_line ln (sym (ending-lead Ending.line w l b lead.white) ∙ h))
+
+  Value-ended : {s r v : List ℕ} → Value o s r v → ending_from Ending.inside s ≡ Ending.line → Value o s x v
+  Value-ended (Value.one_line {w} {l} off lead ln) h =
+      absurd (line_no_line ln (sym (ending-white w l lead.white) ∙ h))
+  Value-ended (Value.to_end {w} {l} on lead ln) h =
+      absurd (line_no_line ln (sym (ending-white w l lead.white) ∙ h))
+  Value-ended (Value.lines {w} {l} {e} {t} {r} on lead ln le m) h =
+      let is : ending_from Ending.inside (e ++ t) ≡ Ending.line =
+      sym (ending-line (e ++ t) (line_end-some-behind (t ++ r) (t ++ r) le) ln)
+      ∙ sym (ending-white w (l ++ (e ++ t)) lead.white) ∙ h in
+      let end = LineEnd-ended t r le is in
+      let n = EndedLine-before end.0 (record { lead = lead; line = ln; end = le }) in
+      Value.lines on n.lead n.line n.end (MoreLines-ended on m end.1)
+
+  -- an element that ends so stands before another text
+  pub Element-ended : {b s r : List ℕ} {gives : List Given} → Element o b s r gives → (gives ≡ [] → ¬ IsIndentedKey s)
+      → ending (b ++ s) ≡ Ending.line → Element o b s x gives
+  Element-ended (Element.gap (Gap.blank_line c i e)) whole h = Element.gap (Gap.blank_line c i e)
+  Element-ended {b} (Element.gap (Gap.before_header {w = w} i)) whole h =
+      let no : Ending.inside ≡ Ending.line = sym (ending-blanks b w i.some i.blank) ∙ h in cc
+  Element-ended (Element.gap (Gap.white w n)) whole h = Element.gap (Gap.white w n)
+  Element-ended (Element.comment s one mark all) whole h = Element.comment s one mark all
+  Element-ended {b} (Element.last_comment {m} {s} one mark all) whole h = absurd (comment_no_line b m s mark all h)
+  Element-ended (Element.header off str) whole h = Element.header off (Str-alike Alike.same str)
+  Element-ended {b} (Element.bracketed_header on str i) whole h =
+      let no : Ending.inside ≡ Ending.line = sym (row_no_line b str) ∙ h in cc
+  Element-ended {b} (Element.pair {k} {s} {m = m} front some sep given) whole h =
+      Element.pair (KeyFront-alike Alike.same front) some sep
+      (Value-ended given (sym (ending-separator b k m s sep) ∙ h))
+  Element-ended {b} (Element.dropped_blanks {w} i) whole h =
+      let no : Ending.inside ≡ Ending.line = sym (ending-blanks b w i.some i.blank) ∙ h in cc
+  Element-ended (Element.dropped_key {w} {s} i begins stops) whole h =
+      absurd (whole refl (record { blanks = w; key = s; whole = refl; some = i.some; blank = i.blank; begins = begins }))
