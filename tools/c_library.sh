@@ -26,7 +26,8 @@ built=$top/crates/ini_c/out/libini_c.a
 # the files that the library is made of, where they are newer than this one
 newer_than() {
     (cd "$top" && find crates.txt crates/ini_multimap crates/ini_text crates/ini crates/ini_c -name out -prune -o \
-        -name must-fail -prune -o -name wrong-bodies -prune -o -name '*.md' -prune -o -type f -newer "$1" -print)
+        -name must-fail -prune -o -name wrong-bodies -prune -o -name tests -prune -o -name tests.rt -prune -o -name '*.md' -prune \
+        -o -type f -newer "$1" -print)
 }
 
 # whether the library is there and no older than its sources and those of the crates below it
@@ -61,10 +62,10 @@ build_over() {
 }
 
 if ! is_built; then
-    how=build_over
-    is_proved_below || how='rt lib'
     echo 'proving and building the library, which takes some minutes the first time' >&2
-    (cd "$top/crates/ini_c" && $how) >"$room/log" 2>&1 || { tail -n 40 "$room/log" >&2; exit 1; }
+    if ! is_proved_below || ! build_over >"$room/log" 2>&1; then
+        (cd "$top/crates/ini_c" && rt lib) >"$room/log" 2>&1 || { tail -n 40 "$room/log" >&2; exit 1; }
+    fi
     [ -f "$built" ] || { tail -n 40 "$room/log" >&2; exit 1; }
     touch "$built"
 fi

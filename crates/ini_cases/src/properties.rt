@@ -4,6 +4,7 @@
 //! from the front and `b` from the back.
 use crate::show::{flag, pairs, value};
 use crate::token::{Token, text_of, unreadable};
+use crate::walk::step;
 use ini::{Error, Properties};
 use std::alloc::Global;
 use std::mem;
@@ -91,17 +92,11 @@ impl List {
         let mut out = String::new(self.alloc);
         let mut walk = self.properties.iter();
         for end in ends.chars() {
-            let given = if end == 'f' {
-                walk.next()
-            } else {
-                walk.next_back()
-            };
+            let given = step(&mut walk, end);
             let (key, value) = given.unwrap_or(("", "none"));
             out.push_str(format!(in self.alloc; "{key}{value} ")?.as_str())?;
         }
-        let (least, most) = walk.size_hint();
-        let left = format!(in self.alloc; "{least} {}", most == Some(least))?;
-        out.push_str(left.as_str())?;
+        push_left(&mut out, self.alloc, walk.size_hint())?;
         Ok(out)
     }
 
@@ -110,11 +105,7 @@ impl List {
         let mut out = String::new(self.alloc);
         let mut walk = self.properties.clone()?.into_iter();
         for end in ends.chars() {
-            let given = if end == 'f' {
-                walk.next()
-            } else {
-                walk.next_back()
-            };
+            let given = step(&mut walk, end);
             match given {
                 Some((key, value)) => out.push_str(format!(in self.alloc;
                     "{key}{value} "
@@ -122,9 +113,7 @@ impl List {
                 None => out.push_str("none ")?,
             }
         }
-        let (least, most) = walk.size_hint();
-        let left = format!(in self.alloc; "{least} {}", most == Some(least))?;
-        out.push_str(left.as_str())?;
+        push_left(&mut out, self.alloc, walk.size_hint())?;
         Ok(out)
     }
 
@@ -133,11 +122,7 @@ impl List {
         let mut out = String::new(self.alloc);
         let mut walk = self.properties.get_all(key);
         for end in ends.chars() {
-            let given = if end == 'f' {
-                walk.next()
-            } else {
-                walk.next_back()
-            };
+            let given = step(&mut walk, end);
             out.push_str(given.unwrap_or("none"))?;
             out.push(' ')?;
         }
@@ -149,11 +134,7 @@ impl List {
         let mut out = String::new(self.alloc);
         let mut walk = self.properties.remove_all(key)?;
         for end in ends.chars() {
-            let given = if end == 'f' {
-                walk.next()
-            } else {
-                walk.next_back()
-            };
+            let given = step(&mut walk, end);
             out.push_str(given.as_deref().unwrap_or("none"))?;
             out.push(' ')?;
         }
@@ -172,20 +153,14 @@ impl List {
         let mut out = String::new(self.alloc);
         let mut walk = self.properties.iter_mut();
         for end in ends.chars() {
-            let lent = if end == 'f' {
-                walk.next()
-            } else {
-                walk.next_back()
-            };
+            let lent = step(&mut walk, end);
             if let Some((key, value)) = lent {
                 value.clear();
                 out.push_str(key)?;
                 out.push(' ')?;
             }
         }
-        let (least, most) = walk.size_hint();
-        let left = format!(in self.alloc; "{least} {}", most == Some(least))?;
-        out.push_str(left.as_str())?;
+        push_left(&mut out, self.alloc, walk.size_hint())?;
         Ok(out)
     }
 
@@ -197,6 +172,17 @@ impl List {
         }
         Ok(String::new(self.alloc))
     }
+}
+
+// How many pairs are left of a walk, and whether its hint is exact.
+fn push_left(
+    out: &mut String,
+    alloc: Global,
+    (least, most): (usize, Option<usize>),
+) -> Result<(), Error> {
+    let left = format!(in alloc; "{least} {}", most == Some(least))?;
+    out.push_str(left.as_str())?;
+    Ok(())
 }
 
 fn indexed<'a>(properties: &'a Properties, key: &str) -> Option<&'a str> {

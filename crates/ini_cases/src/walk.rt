@@ -4,6 +4,18 @@ use crate::show::pairs;
 use ini::{Error, Ini, Properties};
 use std::alloc::Global;
 
+/// A step of a walk: from the front where the letter is `f`, else from the back.
+pub fn step<I: DoubleEndedIterator>(walk: &mut I, end: char) -> Option<I::Item>
+    requires front { I.can_next walk.old }
+    requires back { I.can_next_back walk.old }
+{
+    if end == 'f' {
+        walk.next()
+    } else {
+        walk.next_back()
+    }
+}
+
 fn push_section(
     out: &mut String,
     alloc: Global,
@@ -33,11 +45,7 @@ pub fn iter(alloc: Global, document: &Ini, ends: &str) -> Result<String, Error> 
     let mut out = String::new(alloc);
     let mut walk = document.iter();
     for end in ends.chars() {
-        let given = if end == 'f' {
-            walk.next()
-        } else {
-            walk.next_back()
-        };
+        let given = step(&mut walk, end);
         match given {
             Some((name, section)) => push_section(&mut out, alloc, name, section)?,
             None => out.push_str("none;")?,
@@ -52,11 +60,7 @@ pub fn into_iter(alloc: Global, document: &Ini, ends: &str) -> Result<String, Er
     let mut out = String::new(alloc);
     let mut walk = document.clone()?.into_iter();
     for end in ends.chars() {
-        let given = if end == 'f' {
-            walk.next()
-        } else {
-            walk.next_back()
-        };
+        let given = step(&mut walk, end);
         match given {
             Some((name, section)) => push_section(&mut out, alloc, name.as_deref(), &section)?,
             None => out.push_str("none;")?,
@@ -71,11 +75,7 @@ pub fn names(alloc: Global, document: &Ini, ends: &str) -> Result<String, Error>
     let mut out = String::new(alloc);
     let mut walk = document.sections();
     for end in ends.chars() {
-        let given = if end == 'f' {
-            walk.next()
-        } else {
-            walk.next_back()
-        };
+        let given = step(&mut walk, end);
         match given {
             Some(name) => out.push_str(name.unwrap_or("general"))?,
             None => out.push_str("none")?,
@@ -95,11 +95,7 @@ pub fn section_all(
     let mut out = String::new(alloc);
     let mut walk = document.section_all(name);
     for end in ends.chars() {
-        let given = if end == 'f' {
-            walk.next()
-        } else {
-            walk.next_back()
-        };
+        let given = step(&mut walk, end);
         match given {
             Some(section) => push_section(&mut out, alloc, name, section)?,
             None => out.push_str("none;")?,
@@ -118,11 +114,7 @@ pub fn section_all_mut(
     let mut out = String::new(alloc);
     let mut walk = document.section_all_mut(name);
     for end in ends.chars() {
-        let lent = if end == 'f' {
-            walk.next()
-        } else {
-            walk.next_back()
-        };
+        let lent = step(&mut walk, end);
         match lent {
             Some(section) => {
                 let _ = section.remove("k");
@@ -139,11 +131,7 @@ pub fn iter_mut(alloc: Global, document: &mut Ini, ends: &str) -> Result<String,
     let mut out = String::new(alloc);
     let mut walk = document.iter_mut();
     for end in ends.chars() {
-        let lent = if end == 'f' {
-            walk.next()
-        } else {
-            walk.next_back()
-        };
+        let lent = step(&mut walk, end);
         match lent {
             Some((name, section)) => {
                 let _ = section.remove("k");
