@@ -2,10 +2,12 @@
 //! and every other byte kept. No call edits a text yet.
 #![tactic(auto)]
 
+mod error;
 mod find;
 pub mod laws;
 #[cfg(test)]
 mod tests;
 mod walk;
 
+pub use error::EditError;
 pub use find::{FoundPair, find_pair};

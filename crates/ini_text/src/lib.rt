@@ -20,7 +20,7 @@ pub use lines::whole_lines;
 pub use option::ParseOption;
 pub use parser::Parser;
 pub use parser::placed::{Content, PairPlaces, PlacedElement, PlacedPair};
-pub use plain::{is_plain_name, is_plain_pair, is_plain_separator};
+pub use plain::{is_plain_name, is_plain_pair, is_plain_separator, is_plain_value};
 pub use text::front_before;
 pub use write::gather::Gatherer;
 pub use write::option::{LineSeparator, WriteOption};

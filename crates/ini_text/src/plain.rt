@@ -5,12 +5,12 @@ ghost use Rattle.std.specs.Prelude.{◌≡◌, ◌&&◌, ◌↔◌, IsTrue, char
 ghost use Rattle.std.specs.Char.{is_whitespace};
 ghost use Rattle.std.specs.List.{list_all};
 ghost use Rattle.ini_text.specs.Grammar.CharacterKinds.{is_blank, is_mark, is_separator};
-ghost use Rattle.ini_text.specs.Laws.Plain.{IsPlainName, IsPlainPair, IsPlainSeparator};
+ghost use Rattle.ini_text.specs.Laws.Plain.{IsPlainName, IsPlainPair, IsPlainSeparator, IsPlainValue};
 ghost use Rattle.ini_text.specs.Escaping.Policies.{is_escaped};
 ghost use Rattle.ini_text.specs.Inside.PlainTests.{begins, escapes_nothing, has_no_close_bracket};
 ghost use Rattle.ini_text.specs.Inside.PlainTests.{has_no_escapes, has_no_raw_separator, has_read_escapes};
 ghost use Rattle.ini_text.specs.Inside.PlainTests.{is_bare_key, is_end_trimmed, is_indented_by_escape};
-ghost use Rattle.ini_text.specs.Inside.PlainTests.{is_plain_key, is_plain_value, is_read_back};
+ghost use Rattle.ini_text.specs.Inside.PlainTests.{is_plain_key, is_read_back};
 ghost use Rattle.ini_text.specs.Inside.PlainTests.{is_read_escaped, is_read_raw, is_trimmed};
 ghost use Rattle.ini_text.specs.Inside.PlainTests.{may_begin_key, may_indent};
 
@@ -54,6 +54,15 @@ pub fn is_plain_pair(key: &str, value: &str, policy: EscapePolicy, read: ParseOp
     is_plain_key(key, policy, read)
         && is_read_back(key, policy, read)
         && is_plain_value(value, policy, read)
+}
+
+/// Whether a value is plain: what `is_plain_pair` asks of a pair's value alone, behind any key.
+pub fn is_plain_value(value: &str, policy: EscapePolicy, read: ParseOption) -> bool
+    ensures { IsTrue result ↔ IsPlainValue read policy (chars value.now) }
+{
+    is_trimmed(value)
+        && (!read.enabled_quote || !begins_with_mark(value))
+        && is_read_back(value, policy, read)
 }
 
 fn is_separator(c: char) -> bool
@@ -202,14 +211,6 @@ fn has_no_raw_separator(key: &str, policy: EscapePolicy) -> bool
 {
     key.chars()
         .all(|c| !is_separator(c) || policy.should_escape(c))
-}
-
-fn is_plain_value(value: &str, policy: EscapePolicy, read: ParseOption) -> bool
-    ensures { result ≡ is_plain_value read policy (chars value.now) }
-{
-    is_trimmed(value)
-        && (!read.enabled_quote || !begins_with_mark(value))
-        && is_read_back(value, policy, read)
 }
 
 fn begins_with_mark(value: &str) -> bool

@@ -149,7 +149,7 @@ module _ (o : ParseOption) (policy : EscapePolicy) where
       at true = let none = begins_no_decides is_mark value in (λ e on. none.0 e, λ h. none.1 (h refl))
       at false = (λ e on. absurd (false≢true on), λ h. refl)
 
-  value_decides : (value : List ℕ) → all_scalars value ≡ true → Decides (is_plain_value o policy value) (IsPlainValue o policy value)
+  pub value_decides : (value : List ℕ) → all_scalars value ≡ true → Decides (is_plain_value o policy value) (IsPlainValue o policy value)
   value_decides value valid =
       Decides-like _ (λ e. record { is_trimmed = e.0; no_mark = e.1.0; read_back = e.1.1 }) (λ v. (v.is_trimmed, (v.no_mark, v.read_back)))
       (Decides-and _ _ (trimmed_decides value) (Decides-and _ _ (no_mark_decides value) (read_back_decides value valid)))
