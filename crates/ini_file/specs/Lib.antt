@@ -1,0 +1,4 @@
+pub mod Requests
+pub mod Words
+pub mod Outputs
+pub mod Runs

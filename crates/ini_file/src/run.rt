@@ -1,0 +1,117 @@
+//! The program as a function of its words, of a file's bytes and of what they are written to. This file knows
+//! how a run ends, and what is told of it; of files it knows their names alone.
+ghost use Rattle.std.specs.Prelude.{◌≡◌, ◌+◌, ◌↔◌, ◌⊎◌, IfSome, None};
+ghost use Rattle.ini_text.specs.Device.Watched.{AppendsFront, IsClear, SameDevice};
+ghost use Rattle.ini_text.specs.Device.Watched.{device_now, failure_count, stall_count};
+ghost use Rattle.ini_file.specs.Runs.{IsDone, IsNotFound, IsUsage, OnNotUtf8, OnParse, OnSilent};
+ghost use Rattle.ini_file.specs.Runs.{IsOutput, IsStop, IsText, WritesOutput, WritesOutputFront};
+ghost use Rattle.ini_file.specs.Runs.{asked_by, failures_of, stalls_of, status_of, usage_line};
+
+use crate::command::answer;
+use crate::words::{USAGE, parse};
+use ini::{Error, Ini, Watched, write_raw};
+use std::alloc::Global;
+use std::io::{Read, Write};
+
+/// How a run ended.
+#[derive(Debug, Drop)]
+pub enum Outcome {
+    /// What the command asks of the document was written.
+    Done,
+    /// The pair that `get` names or the section that `keys` names is not there; nothing was written.
+    NotFound,
+    /// The words are none of the program's; nothing was read, and nothing was written.
+    Usage,
+    /// The text, its bytes, a device or the memory refused.
+    Refused(Error),
+}
+
+/// The exit status: 0 done, 1 not found, 2 usage, 3 a refused text, 4 a device that failed or memory that
+/// was refused.
+pub fn status(outcome: &Outcome) -> u8
+    ensures { result ≡ status_of outcome.now }
+{
+    match outcome {
+        Outcome::Done => 0,
+        Outcome::NotFound => 1,
+        Outcome::Usage => 2,
+        Outcome::Refused(Error::Parse(_) | Error::NotUtf8) => 3,
+        Outcome::Refused(Error::Io(_) | Error::Memory(_) | Error::NoProgress) => 4,
+    }
+}
+
+/// Reads a file's document as the words' options say, and writes what their command asks of it. A mark (EF BB BF)
+/// at the front of the input is dropped.
+///
+/// Words that are none of the program's are `Usage`, before anything is read. `Usage`, `NotFound`, a
+/// refused text, a reader that failed and want of memory have written nothing; where the writer failed, a
+/// front of what is asked for was written.
+pub fn run<R: Read, W: Write>(
+    alloc: Global,
+    words: &[String],
+    reader: &mut Watched<'_, R>,
+    writer: &mut Watched<'_, W>,
+) -> Outcome
+    requires reader { IsClear reader.old }
+    requires writer { IsClear writer.old }
+    ensures same_reader { SameDevice reader.old reader.new }
+    ensures same_writer { SameDevice writer.old writer.new }
+    ensures usage { IsUsage result ↔ (asked_by words.now ≡ None) }
+    ensures usage_reads_nothing { IsUsage result → device_now reader.new ≡ device_now reader.old }
+
+    // What is read decides what is written, and which refusal is told.
+    ensures done { IsDone result
+        → WritesOutput W.contents words.now (R.remaining (device_now reader.old)) writer.old writer.new }
+    ensures not_found { IsNotFound result
+        → IfSome (R.remaining (device_now reader.old)) (λ bytes. IsOutput words.now bytes None) }
+    ensures fault { OnParse result
+        (λ e. IfSome (R.remaining (device_now reader.old)) (IsStop words.now e)) }
+    ensures not_utf8 { OnNotUtf8 result
+        (IfSome (R.remaining (device_now reader.old)) (λ bytes. ¬ (IsText bytes))) }
+
+    // Otherwise nothing is written, and where the writer failed a front.
+    ensures silent { OnSilent result (device_now writer.new ≡ device_now writer.old) }
+    ensures reader_failed { failure_count reader.new ≡ 1 → device_now writer.new ≡ device_now writer.old }
+    ensures front { failure_count writer.new + stall_count writer.new ≡ 1
+        → WritesOutputFront W.contents words.now (R.remaining (device_now reader.old))
+        writer.old writer.new }
+
+    // A device's fault is told, and no call follows it.
+    ensures failures { failure_count reader.new + failure_count writer.new ≡ failures_of result }
+    ensures stalls { stall_count writer.new ≡ stalls_of result }
+    ensures reader_stalls { stall_count reader.new ≡ 0 }
+{
+    let Some((options, _, command)) = parse(words) else {
+        return Outcome::Usage;
+    };
+    let document = match Ini::read_watched(alloc, reader, options.reading, true) {
+        Ok(document) => document,
+        Err(refusal) => return Outcome::Refused(refusal),
+    };
+    match answer(command, &document, options.write_option(), writer) {
+        Ok(true) => Outcome::Done,
+        Ok(false) => Outcome::NotFound,
+        Err(refusal) => Outcome::Refused(refusal),
+    }
+}
+
+/// Prints how a run over a file ended, where there is something to say: the usage; or the file, the place and
+/// the fault of a text that was refused; or the program's name, the file and the refusal. A fault of the
+/// writer is dropped.
+pub fn tell<W: Write>(file: &str, outcome: &Outcome, err: &mut W)
+    ensures quiet { (IsDone outcome.now ⊎ IsNotFound outcome.now) → err.new ≡ err.old }
+    ensures usage { IsUsage outcome.now → AppendsFront (W.contents err.old) (W.contents err.new) usage_line }
+{
+    match outcome {
+        Outcome::Done | Outcome::NotFound => {}
+        Outcome::Usage => {
+            let _ = write_raw(USAGE, &mut Watched::new(err));
+        }
+        Outcome::Refused(Error::Parse(fault)) => {
+            let _ = writeln!(err, "{file}:{}:{}: {}", fault.line, fault.col, fault.msg);
+        }
+        Outcome::Refused(refusal) => {
+            let _ = writeln!(err, "ini_file: {file}: {refusal}");
+        }
+    }
+}

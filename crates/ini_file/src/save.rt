@@ -1,0 +1,49 @@
+//! A file's new bytes, put in its place whole or not at all. This file knows no text and no document.
+use ini::Error;
+use std::alloc::Global;
+use std::fs::{self, File, OpenFile, Permissions};
+use std::io::{self, Write};
+use std::rt::Files;
+
+/// Puts bytes in the place of those of a file. They are written to a new file beside it, its name and `.lock`,
+/// which gets the permissions of the old one, is brought to the disk, and then takes its name. Where the name
+/// is a symbolic link, the file that it stands for is replaced, and the link stays.
+///
+/// # Errors
+///
+/// `Io` of the kind `AlreadyExists` where the file beside it is there, as while another program saves; `Io`
+/// where a call of the system fails; `Memory`. Until the last call, which renames, the old file stands whole;
+/// where a call fails, the new one is taken away.
+pub fn save<R: Files + AllocGlobal>(
+    rt: &R,
+    alloc: Global,
+    path: &str,
+    bytes: &[u8],
+) -> Result<(), Error> {
+    let target = fs::canonicalize(rt, path).map_err(Error::Io)?;
+    let permissions = fs::metadata(rt, target.as_str())
+        .map_err(Error::Io)?
+        .permissions();
+    let beside = format!(in alloc; "{}.lock", target.as_str())?;
+    let file = File::create_new(rt, beside.as_str()).map_err(Error::Io)?;
+    let saved = match fill(file, permissions, bytes) {
+        Ok(()) => fs::rename(rt, beside.as_str(), target.as_str()),
+        Err(fault) => Err(fault),
+    };
+    if saved.is_err() {
+        let _ = fs::remove_file(rt, beside.as_str());
+    }
+    saved.map_err(Error::Io)
+}
+
+// Gives a new file its permissions and its bytes, brings it to the disk, and closes it.
+fn fill<F: Write + OpenFile + Drop>(
+    file: F,
+    permissions: Permissions,
+    bytes: &[u8],
+) -> io::Result<()> {
+    let mut file = file;
+    file.set_permissions(permissions)?;
+    file.write_all(bytes)?;
+    file.sync_all()
+}

@@ -1,8 +1,0 @@
-use Rattle.ini_tool.specs.Outputs.{listed}
-use Rattle.ini_text.specs.Device.HeldBack.{held}
-use Rattle.ini.proofs.WritingLemmas.{Writing}
-use Rattle.ini_tool.proofs.command.list_sections.Given as goal
-
-abbrev pub invariant-loop-name : goal.invariant-loop-name
-invariant-loop-name g l =
-    Writing g.W.Write.contents l.fn.out l.out (held l.fn.lines) (held l.lines) (listed l.document) (listed l.name-iterator)
