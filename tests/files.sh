@@ -127,6 +127,15 @@ saving() {
     { printf 'status 4\nini_file: settings.ini: File exists (os error 17)\nmine'; printf "$source"; } >"$room/want"
     count 'a lock that is there'
     fresh
+    rm settings.ini
+    mkfifo settings.ini
+    printf "$source" >settings.ini &
+    case_of 'format of a pipe' 4 '' 'ini_file: settings.ini: not a regular file' format settings.ini
+    wait
+    [ -p settings.ini ] && echo a pipe >"$room/have"
+    echo a pipe >"$room/want"
+    count 'the pipe stays'
+    fresh
     printf 'a = 1\n  =v\n' >settings.ini
     case_of 'format of a refused text' 3 '' 'settings.ini:2:4: missing key
   =v

@@ -3,7 +3,7 @@
 # runs of ini_merge below it, and the commands that README.md and docs/PROGRAM.md show. Each case that fails is told. The last
 # line is 'N passed, M failed', and the status is 1 if a case failed.
 #
-#     tests/program.sh [INI_TOOL [INI_MERGE]]
+#     tests/program.sh [INI_TOOL [INI_MERGE [INI_FILE]]]
 #
 # Each is by default the one that its script builds; one that is given stands for its script too, where a page shows that.
 set -u
@@ -14,6 +14,7 @@ room=$(mktemp -d)
 trap 'rm -rf "$room"' EXIT
 program=${1:-}
 merge=${2:-}
+file=${3:-}
 tool_script=$(readlink -f "${1:-"$top/ini_tool.sh"}")
 merge_script=$(readlink -f "${2:-"$top/ini_merge.sh"}")
 if [ -z "$program" ]; then
@@ -24,11 +25,16 @@ if [ -z "$merge" ]; then
     "$top/ini_merge.sh" /dev/null || exit 1
     merge=$top/crates/ini_merge/out/ini_merge
 fi
+if [ -z "$file" ]; then
+    "$top/ini_file.sh" list - </dev/null || exit 1
+    file=$top/crates/ini_file/out/ini_file
+fi
 program=$(readlink -f "$program")
 merge=$(readlink -f "$merge")
 mkdir "$room/bin"
 ln -s "$program" "$room/bin/ini_tool"
 ln -s "$merge" "$room/bin/ini_merge"
+ln -s "$(readlink -f "$file")" "$room/bin/ini_file"
 passed=0
 failed=0
 options='[--noescape] [--noquote] [--multiline] [--indent] [--brackets] [--crlf] [--policy NAME]'

@@ -11,8 +11,9 @@ use std::rt::Files;
 ///
 /// # Errors
 ///
-/// `Io` of the kind `AlreadyExists` where the file beside it is there, as while another program saves; `Io`
-/// where a call of the system fails; `Memory`. Until the last call, which renames, the old file stands whole;
+/// `Io` of the kind `AlreadyExists` where the file beside it is there, as while another program saves, and of
+/// the kind `InvalidInput` where the name is a pipe's or a device's; `Io` where a call of the system fails;
+/// `Memory`. Until the last call, which renames, the old file stands whole;
 /// where a call fails, the new one is taken away.
 pub fn save<R: Files + AllocGlobal>(
     rt: &R,
@@ -21,12 +22,13 @@ pub fn save<R: Files + AllocGlobal>(
     bytes: &[u8],
 ) -> Result<(), Error> {
     let target = fs::canonicalize(rt, path).map_err(Error::Io)?;
-    let permissions = fs::metadata(rt, target.as_str())
-        .map_err(Error::Io)?
-        .permissions();
+    let metadata = fs::metadata(rt, target.as_str()).map_err(Error::Io)?;
+    if !metadata.is_file() {
+        return Err(Error::Io(io::Error::new(io::ErrorKind::InvalidInput, "not a regular file")));
+    }
     let beside = format!(in alloc; "{}.lock", target.as_str())?;
     let file = File::create_new(rt, beside.as_str()).map_err(Error::Io)?;
-    let saved = match fill(file, permissions, bytes) {
+    let saved = match fill(file, metadata.permissions(), bytes) {
         Ok(()) => fs::rename(rt, beside.as_str(), target.as_str()),
         Err(fault) => Err(fault),
     };
