@@ -1,6 +1,6 @@
 -- Words that are no command, by the number of their arguments.
-use Rattle.std.proofs.Common.{◌≡◌, ◌≤◌, ◌<◌, List, [], ◌∷◌, length, map, string_bytes, String, Global, None, false}
-use Rattle.std.proofs.Common.{codes, rules, arith}
+use Rattle.std.proofs.Common.{◌≡◌, ◌≤◌, ◌<◌, List, [], ◌∷◌, length, map, string_bytes, String, Global}
+use Rattle.std.proofs.Common.{None, false, codes, rules, arith}
 use Rattle.ini.specs.Texts.{is_text}
 use Rattle.ini_options.specs.Words.{Word}
 use Rattle.ini_file.specs.Words.{requested}

@@ -25,6 +25,7 @@ request_of command.Sections = Sections
 request_of (command.Keys section) = Keys (str_name section)
 request_of (command.Get key section) = Get (str_text key) (str_name section)
 
--- what a parse of the words answers: the options, the file's name, and the request that the command stands for
+-- what a parse of the words answers: the options, the file's name, and the request that the command stands
+-- for
 abbrev pub given_by : Option (Options × Bor (List ℕ) × Command) → Option (Options × Word × Request)
 given_by parsed = option_map (λ p. (p.0, p.1.now, request_of p.2)) parsed

@@ -111,4 +111,5 @@ status_of (Refused NoProgress) = 4
 abbrev pub usage_line : List ℕ
 usage_line =
     codes "usage: ini_file [--noescape] [--noquote] [--multiline] [--indent] [--brackets] [--crlf] "
-    ++ codes "[--policy NAME] get FILE KEY [SECTION]|keys FILE [SECTION]|sections FILE|list FILE|format FILE\n"
+    ++ codes "[--policy NAME] get FILE KEY [SECTION]|keys FILE [SECTION]|sections FILE|list FILE"
+    ++ codes "|format FILE\n"

@@ -29,7 +29,7 @@ abbrev pub commanded : Options → List Word → Option (Options × Word × Requ
 commanded o (command ∷ file ∷ arguments) = option_map (λ r. (o, file, r)) (requested command arguments)
 commanded o _ = None
 
--- the options, the file and the request that words give, where `o` holds before them; None where the words are
--- none of the program's
+-- the options, the file and the request that words give, where `o` holds before them; None where the words
+-- are none of the program's
 abbrev pub asked : Options → List Word → Option (Options × Word × Request)
 asked o words = option_and_then (λ p. commanded p.0 p.1) (given o words)

@@ -1,7 +1,8 @@
-//! The program: reads an INI file, and writes to standard output, or into the file's place, what its words ask.
+//! The program: reads an INI file, and writes to standard output, or into the file's place, what its words
+//! ask.
 //!
-//! `run` is the program as a function of its words, of a file's bytes and of what they are written to; this file
-//! hands it the bytes of a file and memory, and then hands on what is written there.
+//! `run` is the program as a function of its words, of a file's bytes and of what they are written to; this
+//! file hands it the bytes of a file and memory, and then hands on what is written there.
 #![tactic(auto)]
 
 mod command;

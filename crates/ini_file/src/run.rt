@@ -1,5 +1,5 @@
-//! The program as a function of its words, of a file's bytes and of what they are written to. This file knows
-//! how a run ends, and what is told of it; of files it knows their names alone.
+//! The program as a function of its words, of a file's bytes and of what is written. This file knows how a
+//! run ends, and what is told of it; of files it knows their names alone.
 ghost use Rattle.std.specs.Prelude.{◌≡◌, ◌+◌, ◌↔◌, ◌⊎◌, IfSome, None};
 ghost use Rattle.ini_text.specs.Device.Watched.{AppendsFront, IsClear, SameDevice};
 ghost use Rattle.ini_text.specs.Device.Watched.{device_now, failure_count, stall_count};
@@ -40,8 +40,8 @@ pub fn status(outcome: &Outcome) -> u8
     }
 }
 
-/// Reads a file's document as the words' options say, and writes what their command asks of it. A mark (EF BB BF)
-/// at the front of the input is dropped.
+/// Reads a file's document as the words' options say, and writes what their command asks of it. A mark
+/// (EF BB BF) at the front of the input is dropped.
 ///
 /// Words that are none of the program's are `Usage`, before anything is read. `Usage`, `NotFound`, a
 /// refused text, a reader that failed and want of memory have written nothing; where the writer failed, a

@@ -5,16 +5,16 @@ use std::fs::{self, File, OpenFile, Permissions};
 use std::io::{self, Write};
 use std::rt::Files;
 
-/// Puts bytes in the place of those of a file. They are written to a new file beside it, its name and `.lock`,
-/// which gets the permissions of the old one, is brought to the disk, and then takes its name. Where the name
-/// is a symbolic link, the file that it stands for is replaced, and the link stays.
+/// Puts bytes in the place of those of a file. They are written to a new file beside it, its name and
+/// `.lock`, which gets the permissions of the old one, is brought to the disk, and then takes its name. Where
+/// the name is a symbolic link, the file that it stands for is replaced, and the link stays.
 ///
 /// # Errors
 ///
-/// `Io` of the kind `AlreadyExists` where the file beside it is there, as while another program saves, and of
-/// the kind `InvalidInput` where the name is a pipe's or a device's; `Io` where a call of the system fails;
-/// `Memory`. Until the last call, which renames, the old file stands whole;
-/// where a call fails, the new one is taken away.
+/// `Io` of the kind `AlreadyExists` where the file beside it is there, as while another program saves, and
+/// of the kind `InvalidInput` where the name is a pipe's or a device's; `Io` where a call of the system
+/// fails; `Memory`. Until the last call, which renames, the old file stands whole; where a call fails, the
+/// new one is taken away.
 pub fn save<R: Files + AllocGlobal>(
     rt: &R,
     alloc: Global,

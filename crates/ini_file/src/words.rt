@@ -67,9 +67,9 @@ fn command_of<'a>(word: &'a str, arguments: &'a [String]) -> Option<Command<'a>>
     }
 }
 
-/// The options, the file and the command that the words are, if they are the program's: options in any order,
-/// each as often as one likes, of which the last `--policy` holds, and then a command, the name of a file, and
-/// the command's arguments. Takes no memory.
+/// The options, the file and the command that the words are, if they are the program's: options in any
+/// order, each as often as one likes, of which the last `--policy` holds, and then a command, the name of a
+/// file, and the command's arguments. Takes no memory.
 pub fn parse(words: &[String]) -> Option<(Options, &str, Command<'_>)>
     ensures { given_by result ≡ asked default_options (map string_bytes words.now) }
 {

@@ -9,8 +9,8 @@ ghost use Rattle.ini_text.specs.Device.Watched.{IsClear, WritesBytes};
 ghost use Rattle.ini_text.specs.declared.write.policy.EscapePolicy.TheVariants.{Basics};
 ghost use Rattle.ini.specs.Texts.{str_name};
 ghost use Rattle.ini.specs.Inside.SentTexts.{SendsText};
-ghost use Rattle.ini_lines.specs.Lines.{escaped_line, key_lines, lines_of_keys, listed, listed_pair, name_line};
-ghost use Rattle.ini_lines.specs.Lines.{name_lines, value_line};
+ghost use Rattle.ini_lines.specs.Lines.{escaped_line, key_lines, lines_of_keys, listed, listed_pair};
+ghost use Rattle.ini_lines.specs.Lines.{name_line, name_lines, value_line};
 ghost use Rattle.ini_lines.specs.Prints.{Prints, part_text};
 
 use ini::{Error, EscapePolicy, Gatherer, Ini, Properties, Watched};
@@ -40,8 +40,8 @@ pub fn get<W: Write>(
     Ok(true)
 }
 
-/// Writes a line for each pair: its section's name in brackets, the key and the value, with tabs between them.
-/// The answer is `true`; the errors are those of `get`.
+/// Writes a line for each pair: its section's name in brackets, the key and the value, with tabs between
+/// them. The answer is `true`; the errors are those of `get`.
 pub fn list<W: Write>(document: &Ini, out: &mut Watched<'_, W>) -> Result<bool, Error>
     requires { IsClear out.old }
     ensures { Prints W.contents out.old out.new result (Some (listed document.now)) }

@@ -4,7 +4,8 @@ use Rattle.ini_file.proofs.words.command_of.Goals as goal
 pub returns-in_default-word : goal.returns-in_default-word
 returns-in_default-word c =
     without_arguments _ _ c.in-empty.len_below
-    c.in_default-word.not-format c.in_default-word.not-list c.in_default-word.not-sections c.in_default-word.not-keys
+    c.in_default-word.not-format c.in_default-word.not-list
+    c.in_default-word.not-sections c.in_default-word.not-keys
 
 pub returns-in_default-word-2 : goal.returns-in_default-word-2
 returns-in_default-word-2 c =
