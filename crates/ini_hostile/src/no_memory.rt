@@ -1,5 +1,5 @@
-//! The calls that take no memory, each made where not one byte is left, and again where one block is free: it
-//! is whole afterwards, so none of them asked for memory and passed the refusal over.
+//! The calls that take no memory, each made where not one byte is left, and again where one block is free:
+//! it is whole afterwards, so none of them asked for memory and passed the refusal over.
 use crate::scarce::{FREE, Famine};
 use crate::show::{expect_shown, loaded, text};
 use ini::{

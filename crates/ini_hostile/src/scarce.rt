@@ -98,8 +98,8 @@ impl Famine {
         }
     }
 
-    /// Asks that a call held, and that the free blocks are whole, so that it made no request. As many are left
-    /// again.
+    /// Asks that a call held, and that the free blocks are whole, so that it made no request. As many are
+    /// left again.
     pub(crate) fn expect(&mut self, rt: &impl Abort, held: bool, call: &str) {
         assert!(rt; held, "{call}");
         for _ in 0..self.free {
