@@ -60,16 +60,14 @@ fn documents_that_are_dropped_give_their_memory_back(rt: HostRuntime) {
     let mut famine = Famine::new(&rt);
     famine.leave_blocks(&rt, BLOCKS);
     for _ in 0..MANY {
-        assert!(rt; is_dropped(alloc, &text), "dropped");
-    }
-    for _ in 0..MANY {
-        assert!(rt; is_walked(alloc, &text), "walked");
-    }
-    for _ in 0..MANY {
-        assert!(rt; is_cleared(alloc, &text), "cleared");
-    }
-    for _ in 0..MANY {
-        assert!(rt; is_emptied(alloc, &text), "emptied");
+        assert!(rt;
+            is_dropped(alloc, &text) && is_walked(alloc, &text),
+            "dropped, walked"
+        );
+        assert!(rt;
+            is_cleared(alloc, &text) && is_emptied(alloc, &text),
+            "cleared, emptied"
+        );
     }
 }
 
@@ -91,7 +89,7 @@ fn holes_take_no_more_memory_than_pairs(rt: HostRuntime) {
             assert!(rt; pairs.append(&key, "value").is_ok());
         }
         let mut famine = Famine::new(&rt);
-        famine.leave_block(&rt);
+        famine.leave_blocks(&rt, 1);
         assert!(rt; append_and_remove(&mut pairs, 20_000).is_ok());
     }
 }

@@ -24,8 +24,6 @@ mod multimap;
 #[cfg(test)]
 mod no_memory;
 #[cfg(test)]
-mod no_requests;
-#[cfg(test)]
 mod reading;
 #[cfg(test)]
 mod scarce;

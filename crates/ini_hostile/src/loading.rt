@@ -131,7 +131,7 @@ fn wants_memory(parser: &mut Parser<'_>) -> bool {
 
 #[test]
 fn want_of_memory_is_told_from_then_on(rt: HostRuntime) {
-    let famine = Famine::total(&rt);
+    let famine = Famine::leaving(&rt, 0);
     let mut parser = Parser::new(rt.alloc(), "key=value\n", ParseOption::default());
     assert!(rt; wants_memory(&mut parser));
     drop(famine);

@@ -1,5 +1,6 @@
-//! The calls that take no memory, each made where not one byte is left.
-use crate::scarce::Famine;
+//! The calls that take no memory, each made where not one byte is left, and again where one block is free:
+//! it is whole afterwards, so none of them asked for memory and passed the refusal over.
+use crate::scarce::{FREE, Famine};
 use crate::show::{expect_shown, loaded, text};
 use ini::{
     Error, EscapePolicy, Ini, ParseKind, ParseOption, Properties, SectionEntry, Watched,
@@ -7,226 +8,255 @@ use ini::{
 };
 use ini_multimap::Multimap;
 use ini_text::Parser;
+use std::alloc::Global;
+use std::fmt::Write;
 use std::panic::Expect;
 use std::process::Abort;
 
-/// Asks that this held of the call.
-pub(crate) fn expect(rt: &impl Abort, held: bool, call: &str) {
-    assert!(rt; held, "{call}");
-}
-
 /// A document that the calls are made on.
-pub(crate) const TEXT: &'static str = "g=0\n[p]\nk=1\nk=2\nj=3\n[q]\n[p]\nk=4\n";
+const TEXT: &'static str = "g=0\n[p]\nk=1\nk=2\nj=3\n[q]\n[p]\nk=4\n";
 
 /// The name of its second section and of its last.
-pub(crate) const P: Option<&'static str> = Some("p");
+const P: Option<&'static str> = Some("p");
 
-/// Look-ups of the document.
-pub(crate) fn look_up(rt: &impl Abort, document: &Ini) {
-    let pairs = document.section(P).map(Properties::len);
-    expect(
-        rt,
-        document.len() == 3 && !document.is_empty(),
-        "len, is_empty",
-    );
-    expect(rt, pairs == Some(2), "section");
-    expect(rt, document.get_from(P, "k") == Some("1"), "get_from");
-    expect(rt, document.get_from_or(P, "z", "d") == "d", "get_from_or");
-}
-
-/// Walks over it.
-pub(crate) fn walk(rt: &impl Abort, document: &Ini) {
-    expect(rt, document.section_all(P).count() == 2, "section_all");
-    expect(rt, document.sections().count() == 3, "sections");
-    expect(rt, document.iter().size_hint() == (4, Some(4)), "iter");
-    for (name, section) in document {
-        expect(rt, section.is_empty() == (name == Some("q")), "a walk");
+#[test]
+fn a_request_is_noticed(rt: HostRuntime) {
+    let mut famine = Famine::new(&rt);
+    for size in [1, 1000] {
+        famine.leave_blocks(&rt, 1);
+        assert!(rt; Vec::<u8>::with_capacity(rt.alloc(), size).is_ok());
+        assert!(rt; !famine.is_whole(), "{size}");
     }
 }
 
-#[test]
-fn look_ups_of_documents(rt: HostRuntime) {
-    let document = loaded(&rt, TEXT);
-    let _famine = Famine::total(&rt);
-    look_up(&rt, &document);
-    walk(&rt, &document);
-    let plain = document.is_plain(&WriteOption::default(), ParseOption::default());
-    expect(&rt, plain, "is_plain");
+// `len`, `is_empty`, `section`, `get_from`, `get_from_or`.
+fn is_looked_up(document: &Ini) -> bool {
+    let counted = document.len() == 3 && !document.is_empty();
+    let found = match document.section(P) {
+        Some(section) => section.len() == 2,
+        None => false,
+    };
+    let there = document.get_from(P, "k") == Some("1");
+    counted && found && there && document.get_from_or(P, "z", "d") == "d"
 }
 
-/// The same for writing.
-pub(crate) fn look_up_for_writing(rt: &impl Abort, document: &mut Ini) {
-    expect(rt, document.section_mut(P).is_some(), "section_mut");
-    expect(rt, document.get_from_mut(P, "k").is_some(), "get_from_mut");
-    expect(
-        rt,
-        document.section_all_mut(P).count() == 2,
-        "section_all_mut",
-    );
-    expect(
-        rt,
-        document.iter_mut().size_hint() == (4, Some(4)),
-        "iter_mut",
-    );
+// `section_all`, `sections`, `iter`.
+fn is_walked(document: &Ini) -> bool {
+    let counted = document.section_all(P).count() == 2 && document.sections().count() == 3;
+    let mut held = counted && document.iter().size_hint() == (4, Some(4));
+    for (name, section) in document {
+        held = held && section.is_empty() == (name == Some("q"));
+    }
+    held
 }
 
-/// A walk for writing over all values.
-pub(crate) fn walk_for_writing(rt: &impl Abort, document: &mut Ini) {
+// `section_mut`, `get_from_mut`, `section_all_mut`, `iter_mut`.
+fn is_looked_up_for_writing(document: &mut Ini) -> bool {
+    let section = document.section_mut(P).is_some();
+    let value = document.get_from_mut(P, "k").is_some();
+    let counted = document.section_all_mut(P).count() == 2;
+    section && value && counted && document.iter_mut().size_hint() == (4, Some(4))
+}
+
+// A walk for writing over all values.
+fn is_walked_for_writing(document: &mut Ini) -> bool {
+    let mut held = true;
     for (_, section) in document {
         for (_, value) in section {
-            expect(rt, !value.is_empty(), "a walk for writing");
+            held = held && !value.is_empty();
         }
     }
+    held
 }
 
-fn walk_by_value(rt: &impl Abort, document: Ini) {
+fn is_walked_by_value(document: Ini) -> bool {
+    let mut held = true;
     for (_, section) in document {
         for (key, _) in section {
-            expect(rt, !key.is_empty(), "a walk by value");
+            held = held && !key.is_empty();
         }
     }
+    held
 }
 
 #[test]
-fn look_ups_for_writing(rt: HostRuntime) {
-    let mut document = loaded(&rt, TEXT);
-    let _famine = Famine::total(&rt);
-    look_up_for_writing(&rt, &mut document);
-    walk_for_writing(&rt, &mut document);
-    walk_by_value(&rt, document);
-}
-
-// Sets the value of j, and looks it up by setters.
-fn replace(rt: &impl Abort, famine: &mut Famine, document: &mut Ini, key: String, value: String) {
-    famine.take_all(rt);
-    expect(
-        rt,
-        document.set_to(P, key, value).is_ok(),
-        "set_to of a key that is there",
-    );
-    famine.take_all(rt);
-    expect(
-        rt,
-        document.with_section(P).get("j") == Some("v"),
-        "with_section, get",
-    );
-    let general = document.with_general_section().get("g") == Some("0");
-    expect(rt, general, "with_general_section");
-}
-
-fn delete(rt: &impl Abort, famine: &mut Famine, document: &mut Ini) {
-    let _ = document.with_section(P).delete("k");
-    famine.take_all(rt);
-    expect(rt, document.delete_from(P, "k").is_some(), "delete_from");
-    famine.take_all(rt);
-    expect(rt, document.delete(P).is_some(), "delete");
-}
-
-#[test]
-fn removals_and_replacements(rt: HostRuntime) {
-    let mut document = loaded(&rt, TEXT);
-    let (key, value) = (text(&rt, "j"), text(&rt, "v"));
-    let mut famine = Famine::new(&rt);
-    replace(&rt, &mut famine, &mut document, key, value);
-    delete(&rt, &mut famine, &mut document);
-    drop(famine);
-    expect_shown(&rt, "delete", &document, "general: <g|0> [q]: [p]: ");
-    let _famine = Famine::total(&rt);
-    document.clear();
-    expect(&rt, document.is_empty(), "clear");
-}
-
-// The name p.
-fn name(rt: &(impl Abort + AllocGlobal)) -> Option<String> {
-    Some(text(rt, "p"))
-}
-
-fn or_insert(rt: &(impl Abort + AllocGlobal), document: &mut Ini, name: Option<String>) {
-    match document.entry(name).or_insert(Properties::new(rt.alloc())) {
-        Ok(section) => expect(rt, section.len() == 2, "or_insert"),
-        Err(_) => panic!(rt; "or_insert"),
+fn look_ups_and_walks_of_documents(rt: HostRuntime) {
+    for free in FREE {
+        let mut document = loaded(&rt, TEXT);
+        let mut famine = Famine::leaving(&rt, free);
+        famine.expect(&rt, is_looked_up(&document), "look-ups");
+        famine.expect(&rt, is_walked(&document), "walks");
+        let plain = document.is_plain(&WriteOption::default(), ParseOption::default());
+        famine.expect(&rt, plain, "is_plain");
+        let found = is_looked_up_for_writing(&mut document);
+        famine.expect(&rt, found, "look-ups for writing");
+        famine.expect(
+            &rt,
+            is_walked_for_writing(&mut document),
+            "walks for writing",
+        );
+        famine.expect(&rt, is_walked_by_value(document), "walks by value");
     }
 }
 
-fn or_insert_with(rt: &(impl Abort + AllocGlobal), document: &mut Ini, name: Option<String>) {
-    let alloc = rt.alloc();
-    let entry = document.entry(name);
+// Setters that look up.
+fn is_got(document: &mut Ini) -> bool {
+    let got = document.with_section(P).get("j") == Some("v");
+    got && document.with_general_section().get("g") == Some("0")
+}
+
+#[test]
+fn replacements_and_removals(rt: HostRuntime) {
+    for free in FREE {
+        let mut document = loaded(&rt, TEXT);
+        let (key, value) = (text(&rt, "j"), text(&rt, "v"));
+        let mut famine = Famine::leaving(&rt, free);
+        let set = document.set_to(P, key, value).is_ok();
+        famine.expect(&rt, set, "set_to of a key that is there");
+        famine.expect(
+            &rt,
+            is_got(&mut document),
+            "with_section, with_general_section, get",
+        );
+        let _ = document.with_section(P).delete("k");
+        famine.expect(&rt, true, "delete of a setter");
+        let deleted = document.delete_from(P, "k").is_some();
+        famine.expect(&rt, deleted, "delete_from");
+        let deleted = document.delete(P).is_some();
+        famine.expect(&rt, deleted, "delete");
+        drop(famine);
+        expect_shown(&rt, "delete", &document, "general: <g|0> [q]: [p]: ");
+        let mut famine = Famine::leaving(&rt, free);
+        document.clear();
+        famine.expect(&rt, document.is_empty(), "clear");
+    }
+}
+
+// A section p of 40 pairs, which are more than those that have no index.
+fn many_pairs(rt: &(impl Abort + AllocGlobal)) -> Ini {
+    let mut text = String::new(rt.alloc());
+    assert!(rt; text.push_str("[p]\n").is_ok());
+    for number in 10..50u32 {
+        assert!(rt; write!(text, "{number}=v\n").is_ok());
+    }
+    loaded(rt, &text)
+}
+
+/// The keys of those pairs that are taken out, so that holes are closed.
+const DELETED: &'static str = "10 11 12 13 14 15 16 17 18 19 20 21 22 23 24 25 26 27 28 29 \
+    30 31 32 33 34 35 36 37 38 39";
+
+// Takes the pairs of these keys out, those from 20 to 29 by a setter. Whether each was there.
+fn is_deleted(document: &mut Ini) -> bool {
+    let mut held = true;
+    for key in DELETED.split(' ') {
+        if key.starts_with('2') {
+            let _ = document.with_section(P).delete(key);
+        } else {
+            held = held && document.delete_from(P, key).is_some();
+        }
+    }
+    held
+}
+
+#[test]
+fn removals_of_many_pairs(rt: HostRuntime) {
+    for free in FREE {
+        let mut document = many_pairs(&rt);
+        let mut famine = Famine::leaving(&rt, free);
+        famine.expect(&rt, is_deleted(&mut document), "delete_from, delete");
+        let deleted = document.delete(P).is_some();
+        famine.expect(&rt, deleted, "delete of a section");
+        document.clear();
+        famine.expect(&rt, document.is_empty(), "clear");
+    }
+}
+
+// Opens no section where one of the name is there.
+fn is_or_inserted(alloc: Global, document: &mut Ini, name: String) -> bool {
+    match document.entry(Some(name)).or_insert(Properties::new(alloc)) {
+        Ok(section) => section.len() == 2,
+        Err(_refused) => false,
+    }
+}
+
+fn is_or_inserted_with(alloc: Global, document: &mut Ini, name: String) -> bool {
+    let entry = document.entry(Some(name));
     match entry.or_insert_with(move || Properties::new(alloc)) {
-        Ok(section) => expect(rt, section.len() == 2, "or_insert_with"),
-        Err(_) => panic!(rt; "or_insert_with"),
+        Ok(section) => section.len() == 2,
+        Err(_refused) => false,
     }
 }
 
-fn into_mut(rt: &impl Abort, document: &mut Ini, name: Option<String>) {
-    match document.entry(name) {
-        SectionEntry::Occupied(entry) => expect(rt, entry.into_mut().len() == 2, "into_mut"),
-        SectionEntry::Vacant(_) => panic!(rt; "into_mut"),
+fn is_into_mut(document: &mut Ini, name: String) -> bool {
+    match document.entry(Some(name)) {
+        SectionEntry::Occupied(entry) => entry.into_mut().len() == 2,
+        SectionEntry::Vacant(_) => false,
     }
 }
 
 #[test]
 fn occupied_entries(rt: HostRuntime) {
-    let mut document = loaded(&rt, TEXT);
-    let (first, second, third) = (name(&rt), name(&rt), name(&rt));
-    let mut famine = Famine::total(&rt);
-    or_insert(&rt, &mut document, first);
-    famine.take_all(&rt);
-    or_insert_with(&rt, &mut document, second);
-    famine.take_all(&rt);
-    into_mut(&rt, &mut document, third);
+    for free in FREE {
+        let mut document = loaded(&rt, TEXT);
+        let (first, second, third) = (text(&rt, "p"), text(&rt, "p"), text(&rt, "p"));
+        let mut famine = Famine::leaving(&rt, free);
+        let found = is_or_inserted(rt.alloc(), &mut document, first);
+        famine.expect(&rt, found, "or_insert");
+        let found = is_or_inserted_with(rt.alloc(), &mut document, second);
+        famine.expect(&rt, found, "or_insert_with");
+        famine.expect(&rt, is_into_mut(&mut document, third), "into_mut");
+    }
 }
 
-/// The properties of the first section p.
-pub(crate) fn peer(rt: &(impl Abort + AllocGlobal)) -> Properties {
+// The properties of the first section p.
+fn peer(rt: &(impl Abort + AllocGlobal)) -> Properties {
     loaded(rt, TEXT).delete(P).expect(rt, "a section")
 }
 
-/// Look-ups of the properties.
-pub(crate) fn look_up_pairs(rt: &impl Abort, pairs: &Properties, same: &Properties) {
-    expect(rt, pairs == same, "==");
-    expect(rt, pairs.len() == 2 && !pairs.is_empty(), "len, is_empty");
-    expect(rt, pairs.contains_key("k"), "contains_key");
-    expect(rt, pairs.get("k") == Some("1"), "get");
-    expect(rt, pairs.get_all("k").count() == 2, "get_all");
-    expect(rt, pairs.iter().size_hint() == (3, Some(3)), "iter");
+// `==`, `len`, `is_empty`, `contains_key`, `get`, `get_all`, `iter`.
+fn are_pairs_looked_up(pairs: &Properties, same: &Properties) -> bool {
+    let counted = pairs.len() == 2 && !pairs.is_empty();
+    let found = pairs.contains_key("k") && pairs.get("k") == Some("1");
+    let listed = pairs.get_all("k").count() == 2 && pairs.iter().size_hint() == (3, Some(3));
+    counted && found && listed && pairs == same
 }
 
-/// Removals of a key that isn't there.
-pub(crate) fn remove_none(rt: &impl Abort, pairs: &mut Properties) {
-    let none = match pairs.remove_all("z") {
+// `remove_all` of a key that isn't there.
+fn is_none_removed(pairs: &mut Properties) -> bool {
+    match pairs.remove_all("z") {
         Ok(removed) => removed.count() == 0,
         Err(_) => false,
-    };
-    expect(rt, none, "remove_all of a key that isn't there");
+    }
 }
 
 #[test]
 fn calls_of_properties(rt: HostRuntime) {
-    let (mut pairs, same) = (peer(&rt), peer(&rt));
-    let mut famine = Famine::total(&rt);
-    expect(&rt, Properties::new(rt.alloc()).is_empty(), "new");
-    look_up_pairs(&rt, &pairs, &same);
-    expect(
-        &rt,
-        pairs.iter_mut().size_hint() == (3, Some(3)),
-        "iter_mut",
-    );
-    remove_none(&rt, &mut pairs);
-    famine.take_all(&rt);
-    expect(&rt, pairs.remove("k").is_some(), "remove");
-    famine.take_all(&rt);
-    expect(
-        &rt,
-        pairs.into_iter().size_hint() == (2, Some(2)),
-        "into_iter",
-    );
+    for free in FREE {
+        let (mut pairs, same) = (peer(&rt), peer(&rt));
+        let mut famine = Famine::leaving(&rt, free);
+        famine.expect(&rt, Properties::new(rt.alloc()).is_empty(), "new");
+        famine.expect(
+            &rt,
+            are_pairs_looked_up(&pairs, &same),
+            "look-ups of properties",
+        );
+        let walked = pairs.iter_mut().size_hint() == (3, Some(3));
+        famine.expect(&rt, walked, "iter_mut");
+        let none = is_none_removed(&mut pairs);
+        famine.expect(&rt, none, "remove_all of a key that isn't there");
+        let removed = pairs.remove("k").is_some();
+        famine.expect(&rt, removed, "remove");
+        let walked = pairs.into_iter().size_hint() == (2, Some(2));
+        famine.expect(&rt, walked, "into_iter");
+    }
 }
 
 /// Texts under texts.
-pub(crate) type Map = Multimap<String, String>;
+type Map = Multimap<String, String>;
 
-/// Two pairs of k, one of j.
-pub(crate) fn texts(rt: &(impl Abort + AllocGlobal)) -> Map {
+// Two pairs of k, one of j.
+fn texts(rt: &(impl Abort + AllocGlobal)) -> Map {
     let mut map = Multimap::new(rt.alloc());
     for (key, value) in [("k", "1"), ("j", "3"), ("k", "2")] {
         assert!(rt; map.append(text(rt, key), text(rt, value)).is_ok());
@@ -234,116 +264,106 @@ pub(crate) fn texts(rt: &(impl Abort + AllocGlobal)) -> Map {
     map
 }
 
-/// Look-ups of the multimap.
-pub(crate) fn look_up_texts(rt: &impl Abort, map: &Map) {
-    expect(
-        rt,
-        map.len_pairs() == 3 && map.len_keys() == 2,
-        "len_pairs, len_keys",
-    );
-    expect(rt, !map.is_empty(), "is_empty");
-    expect(rt, map.get("k").map(String::as_str) == Some("1"), "get");
-    expect(rt, map.get_all("k").count() == 2, "get_all");
-    expect(rt, map.keys().count() == 2, "keys");
-    expect(rt, map.iter().size_hint() == (3, Some(3)), "iter");
+// `len_pairs`, `len_keys`, `is_empty`, `get`, `get_all`, `keys`, `iter`.
+fn are_texts_looked_up(map: &Map) -> bool {
+    let counted = map.len_pairs() == 3 && map.len_keys() == 2 && !map.is_empty();
+    let found = match map.get("k") {
+        Some(value) => value.as_str() == "1",
+        None => false,
+    };
+    let listed = map.get_all("k").count() == 2 && map.keys().count() == 2;
+    counted && found && listed && map.iter().size_hint() == (3, Some(3))
 }
 
-/// The same for writing.
-pub(crate) fn look_up_texts_for_writing(rt: &impl Abort, map: &mut Map) {
-    expect(rt, map.get_mut("k").is_some(), "get_mut");
-    expect(rt, map.get_nth_mut("k", 1).is_some(), "get_nth_mut");
-    expect(rt, map.get_last_mut().is_some(), "get_last_mut");
-    expect(rt, map.get_all_mut("k").count() == 2, "get_all_mut");
-    expect(rt, map.iter_mut().size_hint() == (3, Some(3)), "iter_mut");
+// `get_mut`, `get_nth_mut`, `get_last_mut`, `get_all_mut`, `iter_mut`.
+fn are_texts_lent(map: &mut Map) -> bool {
+    let first = map.get_mut("k").is_some();
+    let second = map.get_nth_mut("k", 1).is_some();
+    let last = map.get_last_mut().is_some();
+    let all = map.get_all_mut("k").count() == 2;
+    first && second && last && all && map.iter_mut().size_hint() == (3, Some(3))
 }
 
 #[test]
 fn look_ups_of_a_multimap(rt: HostRuntime) {
-    let mut map = texts(&rt);
-    let _famine = Famine::total(&rt);
-    look_up_texts(&rt, &map);
-    look_up_texts_for_writing(&rt, &mut map);
-    expect(
-        &rt,
-        map.into_iter().size_hint() == (3, Some(3)),
-        "into_iter",
-    );
+    for free in FREE {
+        let mut map = texts(&rt);
+        let mut famine = Famine::leaving(&rt, free);
+        famine.expect(&rt, are_texts_looked_up(&map), "look-ups of a multimap");
+        famine.expect(
+            &rt,
+            are_texts_lent(&mut map),
+            "look-ups of a multimap for writing",
+        );
+        let walked = map.into_iter().size_hint() == (3, Some(3));
+        famine.expect(&rt, walked, "into_iter");
+    }
 }
 
-fn insert_and_remove(
-    rt: &impl Abort,
-    famine: &mut Famine,
-    map: &mut Map,
-    key: String,
-    value: String,
-) {
-    expect(
-        rt,
-        map.insert(key, value).is_ok(),
-        "insert of a key that is there",
-    );
-    famine.take_all(rt);
-    expect(
-        rt,
-        map.remove_all("z").is_ok(),
-        "remove_all of a key that isn't there",
-    );
-    expect(rt, map.remove("k").is_some(), "remove");
-    expect(rt, map.len_pairs() == 1, "len_pairs");
+// Removals: `remove_all` of a key that isn't there, `remove`.
+fn is_one_left(map: &mut Map) -> bool {
+    let none = map.remove_all("z").is_ok();
+    let removed = map.remove("k").is_some();
+    none && removed && map.len_pairs() == 1
 }
 
 #[test]
 fn edits_of_a_multimap(rt: HostRuntime) {
-    let mut map = texts(&rt);
-    let (key, value) = (text(&rt, "k"), text(&rt, "v"));
-    let mut famine = Famine::total(&rt);
-    let none: Map = Multimap::new(rt.alloc());
-    expect(&rt, none.is_empty(), "new");
-    insert_and_remove(&rt, &mut famine, &mut map, key, value);
-    famine.take_all(&rt);
-    map.clear();
-    expect(&rt, map.is_empty(), "clear");
+    for free in FREE {
+        let mut map = texts(&rt);
+        let (key, value) = (text(&rt, "k"), text(&rt, "v"));
+        let mut famine = Famine::leaving(&rt, free);
+        let none: Map = Multimap::new(rt.alloc());
+        famine.expect(&rt, none.is_empty(), "new");
+        let inserted = map.insert(key, value).is_ok();
+        famine.expect(&rt, inserted, "insert of a key that is there");
+        famine.expect(&rt, is_one_left(&mut map), "remove_all, remove");
+        map.clear();
+        famine.expect(&rt, map.is_empty(), "clear");
+    }
 }
 
-/// Writes the document by each form.
-pub(crate) fn write_document(rt: &impl Abort, document: &Ini, writer: &mut &mut [u8]) {
+// Writes the document by each form.
+fn is_written(document: &Ini, writer: &mut &mut [u8]) -> bool {
     let policy = EscapePolicy::Everything;
-    expect(rt, document.write_to(writer).is_ok(), "write_to");
-    expect(
-        rt,
-        document.write_to_policy(writer, policy).is_ok(),
-        "write_to_policy",
-    );
-    let by_option = document.write_to_opt(writer, WriteOption::default());
-    expect(rt, by_option.is_ok(), "write_to_opt");
-    let mut out = Watched::new(writer);
-    let watched = document.write_watched(&mut out, WriteOption::default());
-    expect(rt, watched.is_ok(), "write_watched");
+    let written = document.write_to(writer).is_ok();
+    let by_policy = document.write_to_policy(writer, policy).is_ok();
+    let by_option = document
+        .write_to_opt(writer, WriteOption::default())
+        .is_ok();
+    let watched = document
+        .write_watched(&mut Watched::new(writer), WriteOption::default())
+        .is_ok();
+    written && by_policy && by_option && watched
 }
 
-/// Writes texts, one escaped and one as it is.
-pub(crate) fn write_texts(rt: &impl Abort, writer: &mut &mut [u8]) {
-    let mut out = Watched::new(writer);
-    let escaped = write_escaped("\u{e9}", EscapePolicy::Everything, &mut out);
-    expect(rt, escaped.is_ok(), "write_escaped");
-    let mut out = Watched::new(writer);
-    expect(rt, write_raw("!", &mut out).is_ok(), "write_raw");
+// Writes texts, one escaped and one as it is.
+fn are_texts_written(writer: &mut &mut [u8]) -> bool {
+    let policy = EscapePolicy::Everything;
+    let escaped = write_escaped("\u{e9}", policy, &mut Watched::new(writer)).is_ok();
+    escaped && write_raw("!", &mut Watched::new(writer)).is_ok()
 }
 
 #[test]
 fn writing(rt: HostRuntime) {
     let document = loaded(&rt, "k=\u{e9}\n");
-    let _famine = Famine::total(&rt);
-    let mut place = [0u8; 64];
-    let mut writer: &mut [u8] = &mut place;
-    write_document(&rt, &document, &mut writer);
-    write_texts(&rt, &mut writer);
-    let want = "k=é\nk=\\x00e9\nk=é\nk=é\n\\x00e9!";
-    expect(&rt, place.starts_with(want.as_bytes()), "what was written");
+    for free in FREE {
+        let mut famine = Famine::leaving(&rt, free);
+        let mut place = [0u8; 64];
+        let mut writer: &mut [u8] = &mut place;
+        famine.expect(
+            &rt,
+            is_written(&document, &mut writer),
+            "writing a document",
+        );
+        famine.expect(&rt, are_texts_written(&mut writer), "writing texts");
+        let want = "k=é\nk=\\x00e9\nk=é\nk=é\n\\x00e9!";
+        assert!(rt; place.starts_with(want.as_bytes()), "what was written");
+    }
 }
 
-/// Whether the fault behind the line's second column is told.
-pub(crate) fn is_refused(parser: &mut Parser<'_>) -> bool {
+// Whether the fault behind the line's second column is told.
+fn is_refused(parser: &mut Parser<'_>) -> bool {
     match parser.next_item() {
         Err(Error::Parse(fault)) => {
             fault.kind == ParseKind::InlineComment && (fault.line, fault.col) == (1, 3)
@@ -354,9 +374,12 @@ pub(crate) fn is_refused(parser: &mut Parser<'_>) -> bool {
 
 #[test]
 fn refusals_of_a_text(rt: HostRuntime) {
-    let _famine = Famine::total(&rt);
-    let mut parser = Parser::new(rt.alloc(), "\u{B}#", ParseOption::default());
-    for _ in 0..3 {
-        expect(&rt, is_refused(&mut parser), "next_item");
+    for free in FREE {
+        let mut famine = Famine::leaving(&rt, free);
+        let mut parser = Parser::new(rt.alloc(), "\u{B}#", ParseOption::default());
+        famine.expect(&rt, true, "Parser::new");
+        for _ in 0..3 {
+            famine.expect(&rt, is_refused(&mut parser), "next_item of a refused text");
+        }
     }
 }

@@ -9,6 +9,9 @@ const RESERVE: usize = 0x1_0000;
 // By how many bytes there is more from one call to the next.
 const STEP: usize = 16;
 
+/// How many blocks are free: none, and one.
+pub(crate) const FREE: [usize; 2] = [0, 1];
+
 /// How many calls there may be.
 pub(crate) const CALLS: usize = 512;
 
@@ -18,6 +21,8 @@ pub(crate) struct Famine {
     alloc: Global,
     taken: Vec<Vec<u8>>,
     reserves: Vec<Vec<u8>>,
+    // How many blocks are free while a call is made.
+    free: usize,
 }
 
 // A block of the size.
@@ -40,13 +45,15 @@ impl Famine {
             alloc,
             taken,
             reserves,
+            free: 0,
         }
     }
 
-    /// Leaves not one byte.
-    pub(crate) fn total(rt: &(impl Abort + AllocGlobal)) -> Famine {
+    /// Leaves so many blocks that are free, and no other byte.
+    pub(crate) fn leaving(rt: &(impl Abort + AllocGlobal), free: usize) -> Famine {
         let mut famine = Famine::new(rt);
-        famine.take_all(rt);
+        famine.free = free;
+        famine.leave_blocks(rt, free);
         famine
     }
 
@@ -82,11 +89,6 @@ impl Famine {
         }
     }
 
-    /// Leaves one such block.
-    pub(crate) fn leave_block(&mut self, rt: &impl Abort) {
-        self.leave_blocks(rt, 1);
-    }
-
     /// Takes the block. Whether it was whole: a request of up to a thousand bytes has split it, and what is
     /// given back of so few bytes isn't joined to it again.
     pub(crate) fn is_whole(&mut self) -> bool {
@@ -96,9 +98,14 @@ impl Famine {
         }
     }
 
-    /// Asks that it was whole, so that the call made no request.
-    pub(crate) fn expect_whole(&mut self, rt: &impl Abort, call: &str) {
-        assert!(rt; self.is_whole(), "{call}: memory was asked for");
+    /// Asks that a call held, and that the free blocks are whole, so that it made no request. As many are
+    /// left again.
+    pub(crate) fn expect(&mut self, rt: &impl Abort, held: bool, call: &str) {
+        assert!(rt; held, "{call}");
+        for _ in 0..self.free {
+            assert!(rt; self.is_whole(), "{call}: memory was asked for");
+        }
+        self.leave_blocks(rt, self.free);
     }
 
     /// Leaves so many bytes, and no other.
