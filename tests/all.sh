@@ -1,8 +1,9 @@
 #!/bin/sh
-# Every proof and every test: `rt ci`, and then the programs that it built, over real streams and long texts (tests/program.sh,
-# tests/streams.sh, tests/passing.sh), the scripts that build and run them (tests/scripts.sh), what the programs cost
-# (tests/costs.sh), the page of the public calls (tests/pages.sh), and clients of the C library (tests/c_library.sh). Each step
-# ends with the time that it took. The last line is 'N passed, M failed' over all, and the status is 1 if anything failed.
+# Every proof and every test: `rt ci`, and then the programs that it built, over real streams, files and long texts
+# (tests/program.sh, tests/files.sh, tests/streams.sh, tests/passing.sh), the scripts that build and run them
+# (tests/scripts.sh), what the programs cost (tests/costs.sh), the page of the public calls (tests/pages.sh), and clients of the
+# C library (tests/c_library.sh). Each step ends with the time that it took. The last line is 'N passed, M failed' over all,
+# and the status is 1 if anything failed.
 set -u
 cd "$(dirname "$0")/.." || exit 1
 log=$(mktemp)
@@ -35,6 +36,7 @@ if [ "$failed" -eq 0 ]; then
     export BIGROSK_PROVED_SINCE
 fi
 run tests/program.sh
+run tests/files.sh
 run tests/streams.sh
 run tests/passing.sh
 run tests/scripts.sh

@@ -180,7 +180,7 @@ broken() {
 
 faults() {
     if ! strace -o /dev/null true 2>/dev/null; then
-        skipped=$((skipped + 10))
+        skipped=$((skipped + 12))
         return
     fi
     broken openat EACCES 'Permission denied (os error 13)'
@@ -188,10 +188,45 @@ faults() {
     broken write ENOSPC 'No space left on device (os error 28)'
     broken fsync EIO 'Input/output error (os error 5)'
     broken rename EXDEV 'Invalid cross-device link (os error 18)'
+    fresh
+    strace -f -o "$room/trace" -P "$(pwd)/settings.ini.lock" -e trace=openat -e inject=openat:delay_enter=3000000 \
+        "$program" format settings.ini >"$room/out" 2>"$room/have" &
+    run=$!
+    sleep 1.5
+    printf 'k = 2\n' >settings.ini
+    wait "$run"
+    echo "status $?" >>"$room/have"
+    printf 'ini_file: settings.ini: changed since it was read\nstatus 4\n' >"$room/want"
+    count 'a file that changes before it is saved: the status and the words'
+    stands 'a file that changes before it is saved: it stands, and no other is left' 'k = 2\n'
+}
+
+# many runs at once: each ends with status 0 or 4, one at least with 0, and the file stands whole
+at_once() {
+    fresh
+    lines=0
+    while [ "$lines" -lt 2000 ]; do
+        lines=$((lines + 1))
+        echo "k$lines = $lines"
+    done >settings.ini
+    sed 's/ //g' settings.ini >"$room/want"
+    : >"$room/statuses"
+    runs=0
+    while [ "$runs" -lt 30 ]; do
+        runs=$((runs + 1))
+        ("$program" format settings.ini 2>/dev/null; echo $? >>"$room/statuses") &
+    done
+    wait
+    { cat settings.ini; ls -A | grep -v '^settings.ini$'; } >"$room/have"
+    count 'thirty runs at once: the file stands whole, and no other is left'
+    { grep -c '^[04]$' "$room/statuses"; grep -q '^0$' "$room/statuses" && echo one is done; } >"$room/have"
+    printf '30\none is done\n' >"$room/want"
+    count 'thirty runs at once: the statuses'
 }
 
 reading
 saving
+at_once
 protected
 faults
 if [ "$skipped" -gt 0 ]; then

@@ -48,7 +48,7 @@ fn hand_on(
         if input == output {
             return Ok(());
         }
-        return save(rt, rt.alloc(), file, output);
+        return save(rt, rt.alloc(), file, input, output);
     }
     match rt.stdout().write_all(output) {
         Ok(()) => Ok(()),

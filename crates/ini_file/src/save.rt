@@ -5,20 +5,22 @@ use std::fs::{self, File, OpenFile, Permissions};
 use std::io::{self, Write};
 use std::rt::Files;
 
-/// Puts bytes in the place of those of a file. They are written to a new file beside it, its name and
-/// `.lock`, which gets the permissions of the old one, is brought to the disk, and then takes its name. Where
-/// the name is a symbolic link, the file that it stands for is replaced, and the link stays.
+/// Puts bytes in the place of those that were read of a file. They are written to a new file beside it, its
+/// name and `.lock`, which gets the permissions of the old one, is brought to the disk, and then takes its
+/// name. Where the name is a symbolic link, the file that it stands for is replaced, and the link stays.
 ///
 /// # Errors
 ///
-/// `Io` of the kind `AlreadyExists` where the file beside it is there, as while another program saves, and
-/// of the kind `InvalidInput` where the name is a pipe's or a device's; `Io` where a call of the system
-/// fails; `Memory`. Until the last call, which renames, the old file stands whole; where a call fails, the
-/// new one is taken away.
+/// `Io` of the kind `AlreadyExists` where the file beside it is there, as while another program saves; of
+/// the kind `InvalidInput` where the name is a pipe's or a device's; of the kind `Other` where the file no
+/// longer has the bytes that were read, once the new one is there; `Io` where a call of the system fails;
+/// `Memory`. Until the last call, which renames, the old file stands whole; where a call fails, the new one
+/// is taken away.
 pub fn save<R: Files + AllocGlobal>(
     rt: &R,
     alloc: Global,
     path: &str,
+    read: &[u8],
     bytes: &[u8],
 ) -> Result<(), Error> {
     let target = fs::canonicalize(rt, path).map_err(Error::Io)?;
@@ -29,7 +31,7 @@ pub fn save<R: Files + AllocGlobal>(
     let beside = format!(in alloc; "{}.lock", target.as_str())?;
     let file = File::create_new(rt, beside.as_str()).map_err(Error::Io)?;
     let saved = match fill(file, metadata.permissions(), bytes) {
-        Ok(()) => fs::rename(rt, beside.as_str(), target.as_str()),
+        Ok(()) => take_name(rt, beside.as_str(), target.as_str(), read),
         Err(fault) => Err(fault),
     };
     if saved.is_err() {
@@ -48,4 +50,18 @@ fn fill<F: Write + OpenFile + Drop>(
     file.set_permissions(permissions)?;
     file.write_all(bytes)?;
     file.sync_all()
+}
+
+// Gives the new file the name of the old one, if that still has the bytes that were read.
+fn take_name<R: Files + AllocGlobal>(
+    rt: &R,
+    beside: &str,
+    target: &str,
+    read: &[u8],
+) -> io::Result<()> {
+    let now = fs::read(rt, target)?;
+    if now.as_slice() != read {
+        return Err(io::Error::new(io::ErrorKind::Other, "changed since it was read"));
+    }
+    fs::rename(rt, beside, target)
 }
