@@ -99,7 +99,7 @@ nothing_left (Reads.step {b = b} {s = s} {r = r} h x reads) e =
     absurd (omega (arith, element-some x, length-append b (s ++ r), length-append s r, none))
 
 -- a line end is a gap alone
-line_end_element : {o : ParseOption} {b s r Y : List ℕ} {gives : List Given} (c : ℕ) → is_line_end c ≡ true
+pub line_end_element : {o : ParseOption} {b s r Y : List ℕ} {gives : List Given} (c : ℕ) → is_line_end c ≡ true
     → Element o b s r gives → s ++ r ≡ c ∷ Y → (gives ≡ []) × (s ≡ c ∷ [])
 line_end_element {o = o} {b = b} {s} {r} {Y} c ends e h = at e h
   where

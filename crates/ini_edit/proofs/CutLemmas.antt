@@ -1,5 +1,5 @@
 -- A stretch that was taken out of a text.
-use Rattle.std.proofs.Common.{◌≡◌, ◌∙◌, List, [], ◌∷◌, ◌++◌, ℕ, ap, sym, subst, append_assoc}
+use Rattle.std.proofs.Common.{◌≡◌, ◌∙◌, List, [], ◌∷◌, ◌++◌, ℕ, ap, sym, subst, append_assoc, append-nil, refl}
 use Rattle.ini_text.specs.declared.option.ParseOption.{ParseOption}
 use Rattle.ini_text.specs.Grammar.Elements.{Given}
 use Rattle.ini_text.specs.Grammar.Strings.{Closes, plain_ends}
@@ -61,3 +61,14 @@ module _ {o : ParseOption} {T : Text} {p : Stretches} {key value : Text} {before
       s.reads then
   cut_derives (Cut.whole_lines on like) =
       cut_out p.front W y p.rest begins (value_follows on s.gives) like s.text s.reads then
+
+  follows : {r : Text} → Cut o p r → Follows o r
+  follows {r} (Cut.with_line_end e _ off rest ends like) = any_follows r off
+  follows (Cut.before_line_end off) = any_follows p.rest off
+  follows (Cut.whole_lines on like) = value_follows on s.gives
+
+  -- what stands before the pair stands before what follows it then
+  pub cut_front : {r : Text} → Cut o p r → Reads o (p.front ++ r) [] before p.front
+  cut_front {r} cut =
+      subst (λ l. Reads o (p.front ++ r) [] l p.front) (append-nil before)
+      (Reads-before_line (follows cut) y begins s.text s.reads (Reads.stay r refl))

@@ -145,7 +145,7 @@ pub record Searches (o : ParseOption) (T b : Text) (p : Place) (key : Text) : Ty
   pub walked : Walked o T b p
   pub passes : PassesPairs o T b p.front key
 
-lacks_more : (key k value : Text) (pairs : Pairs) → Lacks key pairs → is_text key k ≡ false
+pub lacks_more : (key k value : Text) (pairs : Pairs) → Lacks key pairs → is_text key k ≡ false
     → Lacks key (pairs ++ (k, value) ∷ [])
 lacks_more key k value [] lacks apart = cond-false (is_text key k) _ _ apart
 lacks_more key k value (q ∷ qs) lacks apart =
@@ -245,7 +245,7 @@ items_split (Pair key value ∷ items) =
     let more = items_split items in
     ((key, value) ∷ more.0, (more.1.0, (ap (λ l. Pair key value ∷ l) more.1.1.0, more.1.1.1)))
 
-white_pad : {own pad : Text} → Padded own pad → list_all is_inline_white pad ≡ true
+pub white_pad : {own pad : Text} → Padded own pad → list_all is_inline_white pad ≡ true
 white_pad (Padded.bare bare white) = white
 white_pad (Padded.escaped front white all) = refl
 
@@ -254,40 +254,46 @@ end_reads (EndsSection.end is) = ([], Reads.stay [] (sym is ∙ sym (append-nil 
 end_reads (EndsSection.header t reads) = (Header t ∷ [], reads)
 
 module _ {o : ParseOption} {T : Text} {p : Place} {name : Option Text} (key : Text) (opens : OpensFirst o T p name) where
-  -- the pair that was found, in a text that is read to its end
+  -- the pair that was found, where the later pairs of its section stand behind it, and then a header first
+  unfoldable pub found_before : {q : Place} {found : FoundPair} {after : List Given} (later : Pairs) (rest : List Given)
+      → ReachesPair o T p.front q key found → after ≡ pair_items later ++ rest → BeginsWithHeader rest
+      → Reads o T q.front after T → IsFirstPair o T name key (stretches_of found) (string_text found.value)
+  found_before {after = after} later rest reaches is header then = record {
+    before = opens.items ++ pair_items reaches.passes.pairs;
+    after = after;
+    stands = record {
+      text = reaches.whole;
+      reads = reads-append opens.reads reaches.passes.reads;
+      key_front = reaches.placed.key_front;
+      some = reaches.placed.some;
+      separates = reaches.placed.separates;
+      gives = reaches.placed.gives;
+      white_lead = reaches.placed.lead.white;
+      white_pad = white_pad reaches.placed.pad;
+      is_tail = reaches.placed.tail;
+      then = subst (λ c. Reads o T c after T) reaches.front then;
+    };
+    target = record {
+      opening = opens.items;
+      sections = opens.sections;
+      earlier = reaches.passes.pairs;
+      later = later;
+      rest = rest;
+      opens = opens.opens;
+      lacks = reaches.passes.lacks;
+      before_is = refl;
+      after_is = is;
+      header = header;
+    };
+    placed = reaches.placed;
+  }
+
+  -- the same, in a text that is read to its end
   pub found_first : {q : Place} {pair : FoundPair} → ReachesPair o T p.front q key pair → ReadsOn o T q.front
       → IsFirstPair o T name key (stretches_of pair) (string_text pair.value)
-  found_first {pair} reaches on =
+  found_first reaches on =
       let split = items_split on.items in
-      record {
-        before = opens.items ++ pair_items reaches.passes.pairs;
-        after = on.items;
-        stands = record {
-          text = reaches.whole;
-          reads = reads-append opens.reads reaches.passes.reads;
-          key_front = reaches.placed.key_front;
-          some = reaches.placed.some;
-          separates = reaches.placed.separates;
-          gives = reaches.placed.gives;
-          white_lead = reaches.placed.lead.white;
-          white_pad = white_pad reaches.placed.pad;
-          is_tail = reaches.placed.tail;
-          then = subst (λ c. Reads o T c on.items T) reaches.front on.reads;
-        };
-        target = record {
-          opening = opens.items;
-          sections = opens.sections;
-          earlier = reaches.passes.pairs;
-          later = split.0;
-          rest = split.1.0;
-          opens = opens.opens;
-          lacks = reaches.passes.lacks;
-          before_is = refl;
-          after_is = split.1.1.0;
-          header = split.1.1.1;
-        };
-        placed = reaches.placed;
-      }
+      found_before split.0 split.1.0 reaches split.1.1.0 split.1.1.1 on.reads
 
   -- the section has no pair of the key, and the rest of the text begins with a header
   lacks_pair : {front : Text} (rest : List Given) → BeginsWithHeader rest → PassesPairs o T p.front front key
