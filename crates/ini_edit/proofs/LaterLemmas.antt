@@ -188,7 +188,7 @@ line_ends_first {o} {T} {b} {items} {d} (x ∷ e) r ends whole reads =
     (line_ends_first e r parts.1 (whole ∙ sym (append_assoc b (x ∷ []) (e ++ r)))
     (subst (λ z. Reads o T z items d) (sym (append_assoc b (x ∷ []) e)) reads))
 
-gaps : {o : ParseOption} {T : Text} (b e r : Text) → list_all is_line_end e ≡ true → T ≡ b ++ (e ++ r)
+pub gaps : {o : ParseOption} {T : Text} (b e r : Text) → list_all is_line_end e ≡ true → T ≡ b ++ (e ++ r)
     → Reads o T b [] (b ++ e)
 gaps b e r ends whole = line_ends_first e r ends whole (Reads.stay r (whole ∙ sym (append_assoc b e r)))
 

@@ -19,5 +19,6 @@ pub mod ReplacedLemmas
 pub mod SetLemmas
 pub mod StandsLemmas
 pub mod StartLemmas
+pub mod TakingLemmas
 pub mod ValueLemmas
 pub mod WalkLemmas

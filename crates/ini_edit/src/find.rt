@@ -58,9 +58,9 @@ pub fn find_pair<'a>(
     Ok(found)
 }
 
-// Goes behind the header of the first section of the name: whether there is one. Where there is none, the text
-// is read to its end.
-fn open_section(parser: &mut Parser, name: Option<&str>) -> Result<bool, Error>
+/// Goes behind the header of the first section of the name: whether there is one. Where there is none, the text
+/// is read to its end.
+pub(crate) fn open_section(parser: &mut Parser, name: Option<&str>) -> Result<bool, Error>
     requires refusal { parser.old.refusal ≡ None }
     requires front { parser.old.front ≡ [] }
     ensures opened { result ≡ Ok true →
@@ -91,8 +91,8 @@ fn opens(element: PlacedElement, name: &str) -> bool
     }
 }
 
-// Goes over a section's pairs to the first of the key, and over that; or to the section's end.
-fn reach_pair<'a>(
+/// Goes over a section's pairs to the first of the key, and over that; or to the section's end.
+pub(crate) fn reach_pair<'a>(
     parser: &mut Parser<'a>,
     text: &'a str,
     key: &str,

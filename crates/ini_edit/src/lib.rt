@@ -2,11 +2,15 @@
 //! and every other byte kept. No call edits a text yet.
 #![tactic(auto)]
 
+mod append;
+mod cut;
 mod error;
+mod escape;
 mod find;
 pub mod laws;
 #[cfg(test)]
 mod tests;
+mod set;
 mod walk;
 
 pub use error::EditError;

@@ -34,6 +34,13 @@ placed_between front p rest = record {
   rest = rest;
 }
 
+-- the stretches are those of a pair, somewhere, that the rest follows
+pub record IsPairBefore (o : ParseOption) (p : grammar.Stretches) (rest : Text) : Type 0 where
+  pub front : Text
+  pub key : Text
+  pub value : Text
+  pub placed : grammar.ArePlaced o front p rest key value
+
 -- The pair is taken out: what is kept of its line end, and then the rest, follow its front; the rest is what followed
 -- the pair, perhaps without its line end.
 pub record CutsOut (o : ParseOption) (p : Stretches) (kept rest : Text) : Type 0 where
@@ -70,3 +77,15 @@ pub record TakesLaterOut (o : ParseOption) (T key b f behind : Text) (q : Place)
   pub takes : TakesOut o T key b f behind front written rest
   pub ends : EndsSection o T front q.front
   pub same : (left : Text) → T ≡ q.front ++ left → g ++ left ≡ written ++ rest
+
+-- behind the front f what is left of the parser's text is read as it is there
+pub record IsAlikeBehind (p : Place) (f : Text) : Type 0 where
+  pub behind : Text
+  pub whole : p.text ≡ p.front ++ behind
+  pub alike : ReadAlike p.front f behind
+
+-- what was taken out behind the front b of the text
+pub record TakesLater (o : ParseOption) (T key b f : Text) (q : Place) (g : Text) : Type 0 where
+  pub behind : Text
+  pub whole : T ≡ b ++ behind
+  pub out : TakesLaterOut o T key b f behind q g
