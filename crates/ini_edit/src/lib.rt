@@ -3,6 +3,7 @@
 #![tactic(auto)]
 
 mod error;
+mod escape;
 mod find;
 pub mod laws;
 #[cfg(test)]
