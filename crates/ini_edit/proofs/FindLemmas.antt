@@ -249,7 +249,7 @@ pub white_pad : {own pad : Text} → Padded own pad → list_all is_inline_white
 white_pad (Padded.bare bare white) = white
 white_pad (Padded.escaped front white all) = refl
 
-end_reads : {o : ParseOption} {T c d : Text} → EndsSection o T c d → (items : List Given) × Reads o T c items d
+pub end_reads : {o : ParseOption} {T c d : Text} → EndsSection o T c d → (items : List Given) × Reads o T c items d
 end_reads (EndsSection.end is) = ([], Reads.stay [] (sym is ∙ sym (append-nil _)))
 end_reads (EndsSection.header t reads) = (Header t ∷ [], reads)
 

@@ -323,11 +323,11 @@ set_there {o} {T} {p} {q} {r} {name} {key} {found} {policy} {value} {g} left ope
     record {
       pair = x;
       old = string_text found.value;
-      first = first;
+      is_first = first;
       without_later = out;
       document = _;
-      is_document = document;
-      is_edited =
+      was = document;
+      is =
           sets_value o policy T value plain x name key (string_text found.value) first.before first.after first.stands
           first.target (g ++ left) out _ document;
     }

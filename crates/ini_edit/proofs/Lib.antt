@@ -17,6 +17,7 @@ pub mod PlaceLemmas
 pub mod PlacedLemmas
 pub mod ReplacedLemmas
 pub mod SetLemmas
+pub mod SetThereLemmas
 pub mod StandsLemmas
 pub mod StartLemmas
 pub mod TakingLemmas

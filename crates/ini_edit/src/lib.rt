@@ -15,3 +15,4 @@ mod walk;
 
 pub use error::EditError;
 pub use find::{FoundPair, find_pair};
+pub use set::set_existing;
