@@ -68,9 +68,11 @@ module _ {o : ParseOption} {b c : List ℕ} where
       at [] is closes = absurd (omega (arith, element-some e, length-append s r, ap length is))
       at (x ∷ xs) is closes =
           let ends = closes_line_end x closes in
-          let one = line_end_element x ends e is in
-          (one.0, subst (λ z. Element o c z r gives) (sym one.1)
-          (subst (λ g. Element o c (x ∷ []) r g) (sym one.0) (Element.gap (line_end_gap x ends))))
+          let one = line_end_element x ends e is in (
+            one.0,
+            subst (λ z. Element o c z r gives) (sym one.1)
+                (subst (λ g. Element o c (x ∷ []) r g) (sym one.0) (Element.gap (line_end_gap x ends))),
+          )
 
   -- an element that stands behind one stands behind the other
   pub alike_element : {s r : List ℕ} {gives : List Given} → ReadAlike b c (s ++ r) → Element o b s r gives

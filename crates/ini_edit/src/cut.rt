@@ -15,12 +15,20 @@ pub(crate) struct Cutting<'a> {
 }
 
 /// Takes a pair out behind a front.
-pub(crate) fn cut<'a>(front: &str, places: &PairPlaces<'a>, rest: &'a str, read: ParseOption) -> Cutting<'a>
+pub(crate) fn cut<'a>(
+    front: &str,
+    places: &PairPlaces<'a>,
+    rest: &'a str,
+    read: ParseOption,
+) -> Cutting<'a>
     requires { IsPairBefore read (stretches_of places.now) (chars rest.now) }
     ensures { CutsOut read (placed_between (chars front.now) (stretches_of places.now) (chars rest.now))
         (chars result.kept.now) (chars result.rest.now) }
 {
     let _ = front;
     let _ = read;
-    Cutting { kept: places.tail, rest }
+    Cutting {
+        kept: places.tail,
+        rest,
+    }
 }

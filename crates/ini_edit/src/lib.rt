@@ -8,9 +8,9 @@ mod error;
 mod escape;
 mod find;
 pub mod laws;
+mod set;
 #[cfg(test)]
 mod tests;
-mod set;
 mod walk;
 
 pub use error::EditError;

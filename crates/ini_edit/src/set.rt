@@ -13,8 +13,8 @@ ghost use Rattle.ini_edit.specs.Inside.Later.{IsAlikeBehind, TakesLater};
 ghost use Rattle.ini_edit.specs.Inside.Walks.{StandsWithin};
 ghost use Rattle.ini_edit.specs.Places.{pair_with};
 
-use crate::cut::cut;
 use crate::append::{push, push_text};
+use crate::cut::cut;
 use crate::error::EditError;
 use crate::escape::push_escaped;
 use crate::find::{FoundPair, open_section, reach_pair};

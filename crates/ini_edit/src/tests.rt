@@ -6,6 +6,7 @@ use std::test::Fail;
 
 mod find;
 mod places;
+mod set;
 
 /// An edit of a document.
 #[derive(Clone, Copy, Debug)]
