@@ -56,7 +56,7 @@ LineEnd-before [] x y h (LineEnd.cr n) = LineEnd.cr (no_line_feed x h)
 LineEnd-before (c ∷ t) x y h (LineEnd.cr n) = LineEnd.cr n
 
 -- no text that closes a line begins so
-closes_no_line : {X : Type 0} (y : List ℕ) → BeginsWith (λ c. not (is_line_end c)) y → Closes plain_ends y → X
+pub closes_no_line : {X : Type 0} (y : List ℕ) → BeginsWith (λ c. not (is_line_end c)) y → Closes plain_ends y → X
 closes_no_line [] begins h = absurd (false≢true (sym begins))
 closes_no_line (c ∷ y) begins h =
     absurd (both_ways (is_line_end c) (not-true (is_line_end c) begins) (closes_line_end c h))
