@@ -1,3 +1,4 @@
+pub mod Edited
 pub mod EditedTexts
 pub mod Endings
 pub mod FirstPairs
