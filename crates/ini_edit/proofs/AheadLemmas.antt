@@ -35,7 +35,7 @@ last_blank c [] h =
     (λ q. false≢true (subst (λ z. is_blank z ≡ true) (eqb-true c 0x0A q) parts.0))
 last_blank c (d ∷ w) h = last_blank d w (and_parts (is_blank c) (list_all is_blank (d ∷ w)) h).1
 
-blank_no_column : (b w : List ℕ) → BeginsWith is_blank w → list_all is_blank w ≡ true
+pub blank_no_column : (b w : List ℕ) → BeginsWith is_blank w → list_all is_blank w ≡ true
     → is_column_one (b ++ w) ≡ true → ⊥
 blank_no_column b [] some all one = false≢true (sym some)
 blank_no_column b (c ∷ w) some all one =
@@ -56,30 +56,10 @@ LineEnd-before [] x y h (LineEnd.cr n) = LineEnd.cr (no_line_feed x h)
 LineEnd-before (c ∷ t) x y h (LineEnd.cr n) = LineEnd.cr n
 
 -- no text that closes a line begins so
-pub closes_no_line : {X : Type 0} (y : List ℕ) → BeginsWith (λ c. not (is_line_end c)) y → Closes plain_ends y → X
+closes_no_line : {X : Type 0} (y : List ℕ) → BeginsWith (λ c. not (is_line_end c)) y → Closes plain_ends y → X
 closes_no_line [] begins h = absurd (false≢true (sym begins))
 closes_no_line (c ∷ y) begins h =
     absurd (both_ways (is_line_end c) (not-true (is_line_end c) begins) (closes_line_end c h))
-
-pub y_some : {c y : List ℕ} → FollowsFront c y → y ≢ []
-y_some f e = false≢true (sym (subst (BeginsWith (λ c. not (is_line_end c))) e f.some))
-
-pub no_bracketed : {X : Type 0} {c : List ℕ} {e : Bool} {s y v : List ℕ} → FollowsFront c y
-    → Str e bracketed_name_ends s y v → X
-no_bracketed {y = y} f (Str.closed row h) = at y f.some h
-  where
-    at : {X : Type 0} (y : List ℕ) → BeginsWith (λ c. not (is_line_end c)) y → Closes bracketed_name_ends y → X
-    at [] begins h = absurd (false≢true h)
-    at (c ∷ y) begins h = closes_no_line (c ∷ y) begins h
-no_bracketed f (Str.lone row h) = absurd (false≢true h)
-
-pub Gap-before : {b s y x : List ℕ} → FollowsFront (b ++ s) y → Gap b s y → Gap b s x
-Gap-before f (Gap.blank_line c i h) = Gap.blank_line c i h
-Gap-before {b} f (Gap.before_header {w = w} i) = elim f.bracket [
-  | inl apart ↦ absurd (false≢true (sym apart))
-  | inr one ↦ absurd (blank_no_column b w i.some i.blank one)
-]
-Gap-before f (Gap.white h n) = Gap.white h n
 
 module _ {o : ParseOption} {x : List ℕ} (follows : Follows o x) where
   module _ (on : o.enabled_indented_mutiline_value ≡ true) where
@@ -100,10 +80,30 @@ module _ {o : ParseOption} {x : List ℕ} (follows : Follows o x) where
       let n = EndedLine-before (LineEnd-before t x _ (follows.no_line_end on) le) (record { lead = lead; line = ln; end = le }) in
       Value.lines on n.lead n.line n.end (MoreLines-before on some m)
 
+  pub y_some : {c y : List ℕ} → FollowsFront c y → y ≢ []
+  y_some f e = false≢true (sym (subst (BeginsWith (λ c. not (is_line_end c))) e f.some))
+
   value_before : {c s y v : List ℕ} → FollowsFront c y → Value o s y v → Value o s x v
   value_before {y = y} f (Value.one_line off lead ln) = closes_no_line y f.some (line_closes ln)
   value_before f (Value.to_end on lead ln) = absurd (y_some f refl)
   value_before f (Value.lines on lead ln le m) = Value-before on (y_some f) (Value.lines on lead ln le m)
+
+  pub no_bracketed : {X : Type 0} {c : List ℕ} {e : Bool} {s y v : List ℕ} → FollowsFront c y
+      → Str e bracketed_name_ends s y v → X
+  no_bracketed {y = y} f (Str.closed row h) = at y f.some h
+    where
+      at : {X : Type 0} (y : List ℕ) → BeginsWith (λ c. not (is_line_end c)) y → Closes bracketed_name_ends y → X
+      at [] begins h = absurd (false≢true h)
+      at (c ∷ y) begins h = closes_no_line (c ∷ y) begins h
+  no_bracketed f (Str.lone row h) = absurd (false≢true h)
+
+  Gap-before : {b s y : List ℕ} → FollowsFront (b ++ s) y → Gap b s y → Gap b s x
+  Gap-before f (Gap.blank_line c i h) = Gap.blank_line c i h
+  Gap-before {b} f (Gap.before_header {w = w} i) = elim f.bracket [
+    | inl apart ↦ absurd (false≢true (sym apart))
+    | inr one ↦ absurd (blank_no_column b w i.some i.blank one)
+  ]
+  Gap-before f (Gap.white h n) = Gap.white h n
 
   Element-before : {b s y : List ℕ} {gives : List Given} → FollowsFront (b ++ s) y → Element o b s y gives
       → Element o b s x gives

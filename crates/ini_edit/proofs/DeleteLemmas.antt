@@ -35,7 +35,7 @@ module _ {name : Option Text} {key : Text} {before after : List Given} (t : IsTa
       ∙ ap document_of (sym items_without)
 
 pub deletes : (o : ParseOption) (T : Text) → Deletes o T
-deletes o T p name key old before after s target r cut d document =
+deletes o T p name key old before after s target kept r cut d document =
     let same : document.items ≡ before ++ (Pair key old ∷ after) =
     derives_one document.derives (stands_derives s) in
     record {

@@ -34,9 +34,9 @@ use Rattle.ini.specs.SectionItems.{pair_items}
 use Rattle.ini_edit.specs.EditedTexts.{LaterOut}
 use Rattle.ini_edit.specs.Places.{Cut, EndsLike, Stretches, StandsAt, pair_with, text_with, up_to_end}
 use Rattle.ini_edit.specs.Targets.{Lacks}
-use Rattle.ini_edit.specs.Inside.Later.{CutsOut, ReadAlike, TakesLaterOut, TakesOut, placed_between}
+use Rattle.ini_edit.specs.Inside.Later.{ReadAlike, TakesLaterOut, TakesOut, placed_between}
 use Rattle.ini_edit.proofs.BehindLemmas.{Element-like, EndsLike-behind, EndsLike-one, KeyFront-like, Reads-like, line_end_element}
-use Rattle.ini_edit.proofs.CutLemmas.{cut_front}
+use Rattle.ini_edit.proofs.CutLemmas.{CutLeft, cut_left, cut_reads}
 use Rattle.ini_edit.proofs.DocumentLemmas.{pair_items-append}
 use Rattle.ini_edit.proofs.FindLemmas.{found_before, lacks_more, white_pad}
 use Rattle.ini_edit.proofs.ReplacedLemmas.{Reads-closes, replaced_front}
@@ -54,11 +54,6 @@ alike_from like (ReadAlike.like more) =
 
 -- what is read behind both fronts
 module _ {o : ParseOption} {b c : List ℕ} where
-  pub alike_reads : {rest : List ℕ} {items : List Given} → ReadAlike b c rest
-      → Reads o (b ++ rest) b items (b ++ rest) → Reads o (c ++ rest) c items (c ++ rest)
-  alike_reads {rest} (ReadAlike.like like) reads = Reads-like o like rest reads
-  alike_reads {rest} (ReadAlike.closes closes) reads = Reads-closes o rest b c closes reads
-
   -- an element that begins with a line end gives nothing
   closed_element : {s r : List ℕ} {gives : List Given} → Closes plain_ends (s ++ r) → Element o b s r gives
       → (gives ≡ []) × Element o c s r gives
@@ -197,12 +192,15 @@ gaps b e r ends whole = line_ends_first e r ends whole (Reads.stay r (whole ∙ 
 -- a pair of the key that goes
 module _ {o : ParseOption} {T key b f behind c g rest : Text} (takes : TakesOut o T key b f behind c g rest)
     (x : grammar.Stretches) {r old : Text} (is : rest ≡ grammar.pair_source x ++ r)
-    (placed : grammar.ArePlaced o c x r key old) {stays left : Text} (cut : CutsOut o (placed_between g x r) stays left) where
+    (placed : grammar.ArePlaced o c x r key old) {stays left : Text} (cut : Cut o (placed_between g x r) stays left) where
   abbrev source : Text
   source = grammar.pair_source x
 
   abbrev p : Stretches
   p = placed_between g x r
+
+  abbrev pub left_is : CutLeft p stays left
+  left_is = cut_left placed.gives cut
 
   e : Element o c source r (Pair key old ∷ [])
   e = Element.pair placed.key_front placed.some placed.separates placed.gives
@@ -214,8 +212,8 @@ module _ {o : ParseOption} {T key b f behind c g rest : Text} (takes : TakesOut 
   old_text = takes.whole ∙ longer takes is e c
 
   -- what follows the pair, behind the line end that goes with it
-  past : {items : List Given} → Reads o T ((c ++ source) ++ cut.line_end) items T → Reads o T (c ++ source) items T
-  past = line_ends_first cut.line_end left cut.ends (old_text ∙ ap (λ z. (c ++ source) ++ z) cut.followed)
+  past : {items : List Given} → Reads o T ((c ++ source) ++ left_is.line_end) items T → Reads o T (c ++ source) items T
+  past = line_ends_first left_is.line_end left left_is.ends (old_text ∙ ap (λ z. (c ++ source) ++ z) left_is.followed)
 
   stands : (upto : List Given) → Reads o (f ++ behind) [] upto f → (after : List Given) → Reads o T (c ++ source) after T
       → StandsAt o (g ++ rest) p key old (upto ++ pair_items takes.kept) after
@@ -235,30 +233,28 @@ module _ {o : ParseOption} {T key b f behind c g rest : Text} (takes : TakesOut 
         (subst (λ z. Reads o z (c ++ source) after z) old_text then));
   }
 
-  pub takes_cut : TakesOut o T key b f behind ((c ++ source) ++ cut.line_end) (g ++ stays) left
+  pub takes_cut : TakesOut o T key b f behind ((c ++ source) ++ left_is.line_end) (g ++ stays) left
   takes_cut = record {
     later = takes.later ++ (key, old) ∷ [];
     kept = takes.kept;
-    whole = old_text ∙ ap (λ z. (c ++ source) ++ z) cut.followed ∙ sym (append_assoc (c ++ source) cut.line_end left);
+    whole = old_text ∙ ap (λ z. (c ++ source) ++ z) left_is.followed ∙ sym (append_assoc (c ++ source) left_is.line_end left);
     passes =
-        subst (λ l. Reads o T b l ((c ++ source) ++ cut.line_end)) (sym (pair_items-append takes.later ((key, old) ∷ [])))
-        (reads-append takes.passes (element_reads takes is e (gaps (c ++ source) cut.line_end left cut.ends
-        (old_text ∙ ap (λ z. (c ++ source) ++ z) cut.followed))));
+        subst (λ l. Reads o T b l ((c ++ source) ++ left_is.line_end)) (sym (pair_items-append takes.later ((key, old) ∷ [])))
+        (reads-append takes.passes (element_reads takes is e (gaps (c ++ source) left_is.line_end left left_is.ends
+        (old_text ∙ ap (λ z. (c ++ source) ++ z) left_is.followed))));
     lacks = takes.lacks;
-    alike = alike_from (EndsLike-behind cut.line_end (source_like c g source (some takes is e))) cut.alike;
+    alike = alike_from (EndsLike-behind left_is.line_end (source_like c g source (some takes is e))) left_is.alike;
     reads = λ upto reads after then.
-        let front = cut_front (stands upto reads after (past then)) cut.is_cut in
-        subst (λ l. Reads o ((g ++ stays) ++ left) [] l (g ++ stays)) (append-nil (upto ++ pair_items takes.kept))
-        (subst (λ z. Reads o z [] ((upto ++ pair_items takes.kept) ++ []) (g ++ stays)) (sym (append_assoc g stays left))
-        (reads-append front (gaps g stays left cut.kept_ends refl)));
+        subst (λ z. Reads o z [] (upto ++ pair_items takes.kept) (g ++ stays)) (sym (append_assoc g stays left))
+        (cut_reads (stands upto reads after (past then)) cut);
     goes = λ upto reads more items then U out.
         subst (λ l. LaterOut o key upto items (f ++ behind) l U) (sym (append_assoc takes.later ((key, old) ∷ []) more))
         (takes.goes upto reads ((key, old) ∷ more) items (element_reads takes is e (past then)) U
         (subst (λ z. LaterOut o key upto items z (takes.kept ++ (key, old) ∷ more) U) (sym text)
-        (LaterOut.out p (stays ++ left) old takes.kept more
+        (LaterOut.out p stays left old takes.kept more
         (subst (λ z. StandsAt o z p key old (upto ++ pair_items takes.kept) (pair_items more ++ items)) text
         (stands upto reads (pair_items more ++ items) (past then)))
-        cut.is_cut (subst (λ z. LaterOut o key upto items z (takes.kept ++ more) U) (append_assoc g stays left) out))));
+        cut (subst (λ z. LaterOut o key upto items z (takes.kept ++ more) U) (append_assoc g stays left) out))));
   }
 
 -- a tail stands before the same rest, whatever stands before it

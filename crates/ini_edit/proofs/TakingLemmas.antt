@@ -16,8 +16,10 @@ use Rattle.ini_text.specs.declared.parser.placed.PlacedPair.{PlacedPair}
 use Rattle.ini_text.proofs.GrammarLemmas.ItemLemmas.{reads-append}
 use Rattle.ini_text.proofs.LawLemmas.ExportedLemmas.{front_is}
 use Rattle.ini.specs.Texts.{Text, is_text}
-use Rattle.ini_edit.specs.Inside.Later.{CutsOut, IsAlikeBehind, IsPairBefore, TakesLater, TakesOut, placed_between}
+use Rattle.ini_edit.specs.Places.{Cut}
+use Rattle.ini_edit.specs.Inside.Later.{IsAlikeBehind, TakesLater, TakesOut, placed_between}
 use Rattle.ini_edit.specs.Inside.Walks.{EndsSection, IsPastLast, IsReading, StandsWithin, Steps}
+use Rattle.ini_edit.proofs.CutLemmas.{CutLeft, cut_left}
 use Rattle.ini_edit.proofs.LaterLemmas.{gaps, takes_cut, takes_nothing, takes_pair, takes_start}
 use Rattle.ini_edit.proofs.WalkLemmas.{stands_within, step_reads}
 
@@ -114,11 +116,11 @@ module _ {o : ParseOption} {T key b f g : Text} {p : Place} (t : Taking o T key 
 
     -- a pair of the key, behind which the parser reads on, perhaps behind its line end
     module _ (pair : PlacedPair) (has : e.content ≡ contents.Pair pair)
-        (rest : Text) (left_is : q.front ++ rest ≡ q.text) where
+        (rest : Text) (rest_is : q.front ++ rest ≡ q.text) where
       behind_is : r ≡ rest
       behind_is = append_cancel_left q.front r rest
           (ap (λ z. z ++ r) s.stands.reaches ∙ append_assoc p.front source r ∙ sym s.stands.whole
-          ∙ sym s.is_reading.text ∙ sym left_is)
+          ∙ sym s.is_reading.text ∙ sym rest_is)
 
       abbrev x : grammar.Stretches
       x = stretches_of pair.places
@@ -129,25 +131,24 @@ module _ {o : ParseOption} {T key b f g : Text} {p : Place} (t : Taking o T key 
       abbrev old : Text
       old = string_text pair.value
 
-      pub pair_before : IsPairBefore o x rest
-      pair_before = record {
-        front = p.front;
-        key = string_text pair.key;
-        value = old;
-        placed = subst (λ z. grammar.ArePlaced o p.front x z (string_text pair.key) old) behind_is placed.1;
-      }
+      pub pair_tail : grammar.Tail o x.tail rest
+      pair_tail = subst (grammar.Tail o x.tail) behind_is placed.1.tail
 
-      module _ (same : string_text pair.key ≡ key) {stays left : Text} (cut : CutsOut o (placed_between g x rest) stays left) where
-        here : CutsOut o (placed_between g x r) stays left
-        here = subst (λ z. CutsOut o (placed_between g x z) stays left) (sym behind_is) cut
+      module _ (same : string_text pair.key ≡ key) {stays left : Text} (cut : Cut o (placed_between g x rest) stays left) where
+        here : Cut o (placed_between g x r) stays left
+        here = subst (λ z. Cut o (placed_between g x z) stays left) (sym behind_is) cut
+
+        named : grammar.ArePlaced o p.front x r key old
+        named = subst (λ k. grammar.ArePlaced o p.front x r k old) same placed.1
+
+        abbrev left_is : CutLeft (placed_between g x r) stays left
+        left_is = cut_left named.gives here
 
         abbrev reached : Text
-        reached = (p.front ++ grammar.pair_source x) ++ here.line_end
+        reached = (p.front ++ grammar.pair_source x) ++ left_is.line_end
 
         takes : TakesOut o T key b f t.behind reached (g ++ stays) left
-        takes =
-            takes_cut t.takes x (is ∙ ap (λ z. z ++ r) placed.0)
-            (subst (λ k. grammar.ArePlaced o p.front x r k old) same placed.1) here
+        takes = takes_cut t.takes x (is ∙ ap (λ z. z ++ r) placed.0) named here
 
         front_left : front_of T left ≡ reached
         front_left = front_is reached left T (sym takes.whole)
@@ -158,9 +159,9 @@ module _ {o : ParseOption} {T key b f g : Text} {p : Place} (t : Taking o T key 
         source_reaches : p.front ++ grammar.pair_source x ≡ q.front
         source_reaches = ap (λ z. p.front ++ z) (sym placed.0) ∙ sym s.stands.reaches
 
-        past : T ≡ q.front ++ (here.line_end ++ left)
-        past = takes.whole ∙ append_assoc (p.front ++ grammar.pair_source x) here.line_end left
-            ∙ ap (λ z. z ++ (here.line_end ++ left)) source_reaches
+        past : T ≡ q.front ++ (left_is.line_end ++ left)
+        past = takes.whole ∙ append_assoc (p.front ++ grammar.pair_source x) left_is.line_end left
+            ∙ ap (λ z. z ++ (left_is.line_end ++ left)) source_reaches
 
         pub taking_cut : (n : Place) → IsReading o T n → n.front ≡ front_of T left → Taking o T key b f n (g ++ stays)
         taking_cut n reading front = record {
@@ -168,8 +169,8 @@ module _ {o : ParseOption} {T key b f g : Text} {p : Place} (t : Taking o T key 
           items = (t.items ++ gives e.content) ++ [];
           to_front =
               subst (Reads o T [] ((t.items ++ gives e.content) ++ []))
-              (ap (λ z. z ++ here.line_end) (sym source_reaches) ∙ sym front_left ∙ sym front)
-              (reads-append (reads-append t.to_front (step_reads s)) (gaps q.front here.line_end left here.ends past));
+              (ap (λ z. z ++ left_is.line_end) (sym source_reaches) ∙ sym front_left ∙ sym front)
+              (reads-append (reads-append t.to_front (step_reads s)) (gaps q.front left_is.line_end left left_is.ends past));
           behind = t.behind;
           began = t.began;
           rest = left;
@@ -183,8 +184,8 @@ module _ {o : ParseOption} {T key b f g : Text} {p : Place} (t : Taking o T key 
           s.stands.longer,
           ap length s.stands.reaches,
           ap length s.stands.whole,
-          ap length (front ∙ front_left ∙ ap (λ z. z ++ here.line_end) source_reaches),
-          length-append q.front here.line_end,
+          ap length (front ∙ front_left ∙ ap (λ z. z ++ left_is.line_end) source_reaches),
+          length-append q.front left_is.line_end,
           length-append p.front source,
           length-append p.front (source ++ r),
           length-append source r,

@@ -1,9 +1,10 @@
 //! Where a pair stands in a text, and laws of edited texts: what a text loads as, of which one stretch was changed
-//! and every other byte kept. No call edits a text yet.
+//! and every other byte kept; and a call that takes a pair out.
 #![tactic(auto)]
 
 mod append;
 mod cut;
+mod deletion;
 mod error;
 mod escape;
 mod find;
@@ -11,8 +12,10 @@ pub mod laws;
 mod set;
 #[cfg(test)]
 mod tests;
+mod text;
 mod walk;
 
+pub use deletion::delete;
 pub use error::EditError;
 pub use find::{FoundPair, find_pair};
 pub use set::set_existing;

@@ -1,7 +1,5 @@
 -- Later pairs of a key taken out of a text: behind what is written of the new text follows the rest of the old one.
-use Rattle.std.specs.Prelude.{◌≡◌, true, List, [], ◌++◌}
-use Rattle.std.specs.List.{list_all}
-use Rattle.ini_text.specs.Grammar.CharacterKinds.{is_line_end}
+use Rattle.std.specs.Prelude.{◌≡◌, List, [], ◌++◌}
 use Rattle.ini_text.specs.Grammar.Elements.{Given}
 use Rattle.ini_text.specs.Grammar.Places as grammar
 use Rattle.ini_text.specs.Grammar.Strings.{Closes, plain_ends}
@@ -12,7 +10,7 @@ use Rattle.ini.specs.Texts.{Text}
 use Rattle.ini.specs.Properties.{Pairs}
 use Rattle.ini.specs.SectionItems.{pair_items}
 use Rattle.ini_edit.specs.EditedTexts.{LaterOut}
-use Rattle.ini_edit.specs.Places.{Cut, EndsLike, Stretches, up_to_end}
+use Rattle.ini_edit.specs.Places.{EndsLike, Stretches}
 use Rattle.ini_edit.specs.Targets.{Lacks}
 use Rattle.ini_edit.specs.Inside.Walks.{EndsSection, IsReading}
 
@@ -33,23 +31,6 @@ placed_between front p rest = record {
   tail = p.tail;
   rest = rest;
 }
-
--- the stretches are those of a pair, somewhere, that the rest follows
-pub record IsPairBefore (o : ParseOption) (p : grammar.Stretches) (rest : Text) : Type 0 where
-  pub front : Text
-  pub key : Text
-  pub value : Text
-  pub placed : grammar.ArePlaced o front p rest key value
-
--- The pair is taken out: what is kept of its line end, and then the rest, follow its front; the rest is what followed
--- the pair, perhaps without its line end.
-pub record CutsOut (o : ParseOption) (p : Stretches) (kept rest : Text) : Type 0 where
-  pub is_cut : Cut o p (kept ++ rest)
-  pub kept_ends : list_all is_line_end kept ≡ true
-  pub line_end : Text
-  pub followed : p.rest ≡ line_end ++ rest
-  pub ends : list_all is_line_end line_end ≡ true
-  pub alike : ReadAlike (up_to_end p ++ line_end) (p.front ++ kept) rest
 
 -- Behind the front b of the old text T stand pairs up to the front c, and behind that the rest. The new text began
 -- with the front f and what stands behind b; now it begins with the front g, and the rest. Each of the pairs that

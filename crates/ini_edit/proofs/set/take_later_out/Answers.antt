@@ -4,9 +4,11 @@ use Rattle.ini_text.specs.Parsing.Items.{string_text}
 use Rattle.ini_text.specs.Parsing.Places.{gives, stretches_of}
 use Rattle.ini.specs.Texts.{is_text}
 use Rattle.ini.proofs.KeepingLemmas.{texts_equal}
-use Rattle.ini_edit.specs.Inside.Later.{CutsOut, IsPairBefore, TakesLater, placed_between}
+use Rattle.ini_edit.specs.Inside.Later.{TakesLater, placed_between}
+use Rattle.ini_text.specs.Grammar.Places.{Tail}
+use Rattle.ini_edit.specs.Places.{Cut}
 use Rattle.ini_edit.specs.Inside.Walks.{IsReading}
-use Rattle.ini_edit.proofs.TakingLemmas.{Taking, cut_nearer, left_is_rest, pair_before, taking_cut, taking_end, taking_header, taking_nothing, taking_pair, taking_start, taking_within}
+use Rattle.ini_edit.proofs.TakingLemmas.{Taking, cut_nearer, left_is_rest, pair_tail, taking_cut, taking_end, taking_header, taking_nothing, taking_pair, taking_start, taking_within}
 use Rattle.ini_edit.proofs.WalkLemmas.{step_none, step_some}
 use Rattle.ini_edit.proofs.set.take_later_out.Goals as goal
 
@@ -48,9 +50,9 @@ pub cut-cutting-requires : goal.cut-cutting-requires
 cut-cutting-requires c =
     let t = c.elements.invariant in
     let s = step_some t.is_reading c.in_ok-element.ensures.element c.in-Some.is in
-    subst (λ p. IsPairBefore c.args.read (stretches_of p.places) (chars c.rest.result.now)) (sym c.in-Pair.pair-is)
-    (subst (λ o. IsPairBefore o (stretches_of c.in-Pair.pair.places) (chars c.rest.result.now)) c.requires.option
-    (pair_before t s _ c.in-Pair.is (chars c.rest.result.now) c.rest.ensures))
+    subst (λ p. Tail c.args.read (chars p.places.tail.now) (chars c.rest.result.now)) (sym c.in-Pair.pair-is)
+    (subst (λ o. Tail o (chars c.in-Pair.pair.places.tail.now) (chars c.rest.result.now)) c.requires.option
+    (pair_tail t s _ c.in-Pair.is (chars c.rest.result.now) c.rest.ensures))
 
 pub behind-requires : goal.behind-requires
 behind-requires c =
@@ -59,7 +61,7 @@ behind-requires c =
     let same = texts_equal (chars c.args.key.now) (string_text c.in-Pair.pair.key)
     (ap (is_text (chars c.args.key.now)) (sym (ap chars c.as_str.ensures.value ∙ ap (λ p. string_text p.key) c.in-Pair.pair-is))
     ∙ sym c.is_same_text.ensures ∙ c.if-not-is_same_text.false) in
-    let cut : CutsOut c.args.parser.now.option
+    let cut : Cut c.args.parser.now.option
     (placed_between (string_text c.elements.out) (stretches_of c.in-Pair.pair.places) (chars c.rest.result.now))
     (chars c.cut-cutting.result.kept.now) (chars c.cut-cutting.result.rest.now) =
     rw (c.requires.option, sym (ap chars c.as_str-in-Pair.ensures.value), sym c.in-Pair.pair-is) c.cut-cutting.ensures in
@@ -73,7 +75,7 @@ elements-smaller c =
     let same = texts_equal (chars c.args.key.now) (string_text c.in-Pair.pair.key)
     (ap (is_text (chars c.args.key.now)) (sym (ap chars c.as_str.ensures.value ∙ ap (λ p. string_text p.key) c.in-Pair.pair-is))
     ∙ sym c.is_same_text.ensures ∙ c.if-not-is_same_text.false) in
-    let cut : CutsOut c.args.parser.now.option
+    let cut : Cut c.args.parser.now.option
     (placed_between (string_text c.elements.out) (stretches_of c.in-Pair.pair.places) (chars c.rest.result.now))
     (chars c.cut-cutting.result.kept.now) (chars c.cut-cutting.result.rest.now) =
     rw (c.requires.option, sym (ap chars c.as_str-in-Pair.ensures.value), sym c.in-Pair.pair-is) c.cut-cutting.ensures in
@@ -87,7 +89,7 @@ elements-preserved c =
     let same = texts_equal (chars c.args.key.now) (string_text c.in-Pair.pair.key)
     (ap (is_text (chars c.args.key.now)) (sym (ap chars c.as_str.ensures.value ∙ ap (λ p. string_text p.key) c.in-Pair.pair-is))
     ∙ sym c.is_same_text.ensures ∙ c.if-not-is_same_text.false) in
-    let cut : CutsOut c.args.parser.now.option
+    let cut : Cut c.args.parser.now.option
     (placed_between (string_text c.elements.out) (stretches_of c.in-Pair.pair.places) (chars c.rest.result.now))
     (chars c.cut-cutting.result.kept.now) (chars c.cut-cutting.result.rest.now) =
     rw (c.requires.option, sym (ap chars c.as_str-in-Pair.ensures.value), sym c.in-Pair.pair-is) c.cut-cutting.ensures in
