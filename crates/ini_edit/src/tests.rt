@@ -6,6 +6,7 @@ use std::test::Fail;
 
 mod find;
 mod places;
+mod random;
 mod set;
 
 /// An edit of a document.
