@@ -35,7 +35,7 @@ last_blank c [] h =
     (λ q. false≢true (subst (λ z. is_blank z ≡ true) (eqb-true c 0x0A q) parts.0))
 last_blank c (d ∷ w) h = last_blank d w (and_parts (is_blank c) (list_all is_blank (d ∷ w)) h).1
 
-blank_no_column : (b w : List ℕ) → BeginsWith is_blank w → list_all is_blank w ≡ true
+pub blank_no_column : (b w : List ℕ) → BeginsWith is_blank w → list_all is_blank w ≡ true
     → is_column_one (b ++ w) ≡ true → ⊥
 blank_no_column b [] some all one = false≢true (sym some)
 blank_no_column b (c ∷ w) some all one =
@@ -80,7 +80,7 @@ module _ {o : ParseOption} {x : List ℕ} (follows : Follows o x) where
       let n = EndedLine-before (LineEnd-before t x _ (follows.no_line_end on) le) (record { lead = lead; line = ln; end = le }) in
       Value.lines on n.lead n.line n.end (MoreLines-before on some m)
 
-  y_some : {c y : List ℕ} → FollowsFront c y → y ≢ []
+  pub y_some : {c y : List ℕ} → FollowsFront c y → y ≢ []
   y_some f e = false≢true (sym (subst (BeginsWith (λ c. not (is_line_end c))) e f.some))
 
   value_before : {c s y v : List ℕ} → FollowsFront c y → Value o s y v → Value o s x v
@@ -88,7 +88,7 @@ module _ {o : ParseOption} {x : List ℕ} (follows : Follows o x) where
   value_before f (Value.to_end on lead ln) = absurd (y_some f refl)
   value_before f (Value.lines on lead ln le m) = Value-before on (y_some f) (Value.lines on lead ln le m)
 
-  no_bracketed : {X : Type 0} {c : List ℕ} {e : Bool} {s y v : List ℕ} → FollowsFront c y
+  pub no_bracketed : {X : Type 0} {c : List ℕ} {e : Bool} {s y v : List ℕ} → FollowsFront c y
       → Str e bracketed_name_ends s y v → X
   no_bracketed {y = y} f (Str.closed row h) = at y f.some h
     where

@@ -21,7 +21,7 @@ use Rattle.ini_edit.proofs.GluedLemmas.{closing_inside, line_value_glued, lines_
 use Rattle.ini_edit.proofs.InsertedLemmas.{line_end-all, line_end-closes}
 
 -- only a backslash takes what follows it
-no_escape : (e : Ending) (X : List ℕ) (c : ℕ) → eqb c backslash ≡ false → ending_from e (X ++ c ∷ []) ≢ Ending.escape
+pub no_escape : (e : Ending) (X : List ℕ) (c : ℕ) → eqb c backslash ≡ false → ending_from e (X ++ c ∷ []) ≢ Ending.escape
 no_escape e (x ∷ X) c h = no_escape (next_ending e x) X c h
 no_escape e [] c h = at e h
   where
@@ -36,12 +36,12 @@ no_escape e [] c h = at e h
     at Ending.inside h is = by (eqb c backslash) (eqb c line_feed) h is
     at Ending.line h is = by (eqb c backslash) (eqb c line_feed) h is
 
-no_backslash : (test : ℕ → Bool) (c : ℕ) → test backslash ≡ false → test c ≡ true → eqb c backslash ≡ false
+pub no_backslash : (test : ℕ → Bool) (c : ℕ) → test backslash ≡ false → test c ≡ true → eqb c backslash ≡ false
 no_backslash test c apart h =
     false_from_ne_true (eqb c backslash)
     (λ q. false≢true (sym apart ∙ subst (λ x. test x ≡ true) (eqb-true c backslash q) h))
 
-closing_none : {o : ParseOption} {e : Ending} {c : List ℕ} → e ≢ Ending.escape → Closing o e c → c ≡ []
+pub closing_none : {o : ParseOption} {e : Ending} {c : List ℕ} → e ≢ Ending.escape → Closing o e c → c ≡ []
 closing_none h Closing.within = refl
 closing_none h Closing.behind_line = refl
 closing_none h (Closing.by_backslash on) = absurd (h refl)
@@ -84,7 +84,7 @@ module _ {o : ParseOption} (sep : LineSeparator) {x : List ℕ} (follows : Follo
   ReadsGlued s g gives = Reads o (b ++ (s ++ (g ++ x))) b gives (b ++ (s ++ g))
 
   -- the element takes h of the glue, and what is left are gaps
-  by_parts : {given : List Given} (s h t : List ℕ) → list_all is_line_end t ≡ true
+  pub by_parts : {given : List Given} (s h t : List ℕ) → list_all is_line_end t ≡ true
       → Element o b (s ++ h) (t ++ x) given → ReadsGlued s (h ++ t) given
   by_parts {given} s h t all element =
       let N = b ++ (s ++ ((h ++ t) ++ x)) in

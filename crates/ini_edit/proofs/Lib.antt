@@ -10,6 +10,7 @@ pub mod GlueLemmas
 pub mod GluedLemmas
 pub mod InsertLemmas
 pub mod InsertedLemmas
+pub mod KeptLemmas
 pub mod PadLemmas
 pub mod PairListLemmas
 pub mod PlaceLemmas
