@@ -1,9 +1,8 @@
 //! Where a pair stands in a text, and laws of edited texts: what a text loads as, of which one stretch was changed
-//! and every other byte kept; and a call that takes a pair out.
+//! and every other byte kept. No call edits a text yet.
 #![tactic(auto)]
 
 mod cut;
-mod deletion;
 mod error;
 mod find;
 pub mod laws;
@@ -12,6 +11,5 @@ mod tests;
 mod text;
 mod walk;
 
-pub use deletion::delete;
 pub use error::EditError;
 pub use find::{FoundPair, find_pair};
