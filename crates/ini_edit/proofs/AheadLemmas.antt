@@ -49,7 +49,7 @@ no_line_feed (c ∷ x) h = at (eqb c 0x0A) (eqb c 0x0D) h
     at true q h = h
     at false q h = refl
 
-LineEnd-before : {e : List ℕ} (t x y : List ℕ) → BeginsWithNo is_line_end x → LineEnd e (t ++ y) → LineEnd e (t ++ x)
+pub LineEnd-before : {e : List ℕ} (t x y : List ℕ) → BeginsWithNo is_line_end x → LineEnd e (t ++ y) → LineEnd e (t ++ x)
 LineEnd-before t x y h LineEnd.lf = LineEnd.lf
 LineEnd-before t x y h LineEnd.cr_lf = LineEnd.cr_lf
 LineEnd-before [] x y h (LineEnd.cr n) = LineEnd.cr (no_line_feed x h)
@@ -168,7 +168,7 @@ key_follows {b = b} r (KeyFront.indented {w = w} {s = s} i begins str) = at w i.
     }
 
 -- what follows a multiline value
-more_follows : {o : ParseOption} {t r v : List ℕ} → MoreLines o t r v → Follows o r
+pub more_follows : {o : ParseOption} {t r v : List ℕ} → MoreLines o t r v → Follows o r
 more_follows (MoreLines.done n m) = record { no_blank = λ _. n; no_line_end = λ _. m }
 more_follows (MoreLines.empty_lf m) = more_follows m
 more_follows (MoreLines.empty_cr_lf m) = more_follows m

@@ -1,6 +1,7 @@
 pub mod AheadLemmas
 pub mod BehindLemmas
 pub mod CutLemmas
+pub mod CuttingLemmas
 pub mod DeleteLemmas
 pub mod DocumentLemmas
 pub mod EndedLemmas

@@ -31,22 +31,25 @@ pub(crate) fn cut<'a>(
     ensures { Cut read (stretches_at (chars front.now) places.now (chars rest.now))
         (chars result.kept.now) (chars result.rest.now) }
 {
-    if rest.is_empty() {
+    let Some((_, _)) = split_first(rest) else {
         return Cutting { kept: "", rest };
-    }
+    };
     if !read.enabled_indented_mutiline_value {
+        let stays = stays_behind(front, rest);
         return Cutting {
             kept: "",
-            rest: stays_behind(front, rest),
+            rest: stays,
         };
     }
+    let tail = places.tail;
     if !starts_line(front) {
-        return Cutting {
-            kept: last_line_end(places.tail),
-            rest,
-        };
+        let kept = last_line_end(tail);
+        return Cutting { kept, rest };
     }
-    if is_column_one(places.tail) && !is_column_one(front) {
+    if is_column_one(front) {
+        return Cutting { kept: "", rest };
+    }
+    if is_column_one(tail) {
         return Cutting { kept: "\n", rest };
     }
     Cutting { kept: "", rest }

@@ -1,5 +1,5 @@
 //! Where a pair stands in a text, and laws of edited texts: what a text loads as, of which one stretch was changed
-//! and every other byte kept; and a call that takes a pair out.
+//! and every other byte kept; and calls that set a value and take a pair out.
 #![tactic(auto)]
 
 mod append;

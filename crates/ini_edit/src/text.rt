@@ -53,11 +53,17 @@ pub(crate) fn last_line_end(text: &str) -> &'static str
     requires { EndsLine (chars text.now) }
     ensures { HasLastLineEnd (chars text.now) (chars result.now) }
 {
-    match split_last(text) {
-        Some((before, '\n')) => match split_last(before) {
-            Some((_, '\r')) => "\r\n",
-            _ => "\n",
-        },
-        _ => "\r",
+    let Some((before, last)) = split_last(text) else {
+        return "\r";
+    };
+    if last == '\r' {
+        return "\r";
     }
+    let Some((_, other)) = split_last(before) else {
+        return "\n";
+    };
+    if other == '\r' {
+        return "\r\n";
+    }
+    "\n"
 }
