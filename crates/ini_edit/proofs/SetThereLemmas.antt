@@ -1,5 +1,5 @@
 -- A key's value set where the key is there: the walk as a whole.
-use Rattle.std.proofs.Common.{◌≡◌, ◌∙◌, List, [], ◌++◌, ap, sym, subst, append_assoc, chars, Option, None, Some, MatchOption}
+use Rattle.std.proofs.Common.{◌≡◌, ◌∙◌, List, [], ◌++◌, ap, sym, subst, append_assoc, chars, Option, Some, MatchOption}
 use Rattle.std.proofs.lemmas.List.{append_cancel_left}
 use Rattle.ini_text.specs.Escaping.EscapedTexts.{escaped}
 use Rattle.ini_text.specs.Grammar.Texts.{Reads}
@@ -18,10 +18,6 @@ use Rattle.ini_edit.specs.declared.find.FoundPair.{FoundPair}
 use Rattle.ini_edit.proofs.FindLemmas.{end_reads, goes_on_within}
 use Rattle.ini_edit.proofs.LaterLemmas.{set_there, value_alike}
 use Rattle.ini_edit.proofs.WalkLemmas.{stands_within, told}
-
-pub found_none : {X : Type 0} {found : Option X} (none : Type 0) (some : X → Type 0) → MatchOption found none some
-    → found ≡ None → none
-found_none none some h is = subst (λ x. MatchOption x none some) is h
 
 module _ {o : ParseOption} {T : Text} {p : Place} {name : Option Text} (key : Text) (opens : OpensFirst o T p name)
     (q : Place) (found : Option FoundPair)

@@ -125,3 +125,12 @@ walked_start {p} s = record {
   to_front = s.reads;
   reads = stays s;
 }
+
+-- what was found, or that nothing was
+pub found_none : {X : Type 0} {found : Option X} (none : Type 0) (some : X → Type 0) → MatchOption found none some
+    → found ≡ None → none
+found_none none some h is = subst (λ x. MatchOption x none some) is h
+
+pub found_some : {X : Type 0} {found : Option X} {x : X} (none : Type 0) (some : X → Type 0) → MatchOption found none some
+    → found ≡ Some x → some x
+found_some none some h is = subst (λ x. MatchOption x none some) is h

@@ -6,6 +6,7 @@ ghost use Rattle.ini_edit.specs.Edited.{IsDeleted, IfEditParse, IsEditParseOrMem
 ghost use Rattle.ini.specs.Loading.{IsStopOf};
 ghost use Rattle.ini_edit.specs.FirstPairs.{LacksPair};
 
+use crate::append::push_text;
 use crate::cut::cut;
 use crate::error::EditError;
 use crate::find::find_pair;
@@ -40,8 +41,8 @@ pub fn delete(
     };
     let cutting = cut(pair.front, &pair.places, pair.rest, read);
     let mut edited = String::with_capacity(alloc, text.len())?;
-    edited.push_str(pair.front)?;
-    edited.push_str(cutting.kept)?;
-    edited.push_str(cutting.rest)?;
+    push_text(&mut edited, pair.front)?;
+    push_text(&mut edited, cutting.kept)?;
+    push_text(&mut edited, cutting.rest)?;
     Ok(Some(edited))
 }

@@ -7,7 +7,8 @@ use Rattle.ini_edit.specs.FirstPairs.{stretches_of}
 use Rattle.ini_edit.specs.Inside.Walks.{OpensFirst}
 use Rattle.ini_edit.specs.Places.{pair_with}
 use Rattle.ini_edit.proofs.FindLemmas.{finds, goes_on_within}
-use Rattle.ini_edit.proofs.SetThereLemmas.{found_none, is_set, pair_alike, taken_within}
+use Rattle.ini_edit.proofs.SetThereLemmas.{is_set, pair_alike, taken_within}
+use Rattle.ini_edit.proofs.WalkLemmas.{found_none}
 use Rattle.ini_edit.proofs.set.set_plain.Goals as goal
 
 pub read_on-requires : goal.read_on-requires
