@@ -14,6 +14,7 @@ pub mod PadLemmas
 pub mod PairListLemmas
 pub mod PlaceLemmas
 pub mod PlacedLemmas
+pub mod PlaceWalkLemmas
 pub mod ReplacedLemmas
 pub mod SetLemmas
 pub mod StandsLemmas

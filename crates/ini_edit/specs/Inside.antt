@@ -1,1 +1,2 @@
+pub mod PlaceWalks
 pub mod Walks

@@ -6,6 +6,7 @@ mod error;
 mod escape;
 mod find;
 pub mod laws;
+mod place;
 #[cfg(test)]
 mod tests;
 mod walk;
