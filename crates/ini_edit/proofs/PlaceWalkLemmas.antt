@@ -8,6 +8,7 @@ use Rattle.ini_text.specs.Grammar.CharacterKinds.{is_blank, is_line_end, open_br
 use Rattle.ini_text.specs.Grammar.Elements.{Given, Header, Pair}
 use Rattle.ini_text.specs.Grammar.Keys.{begins_indented_key}
 use Rattle.ini_text.specs.Grammar.Texts.{Reads}
+use Rattle.ini_text.specs.Laws.PlainLaws.{BeginsWithHeader}
 use Rattle.ini_text.specs.Inside.PlainTests.{begins}
 use Rattle.ini_text.specs.Parsing.Parser.{Place}
 use Rattle.ini_text.specs.Parsing.Places.{gives}
@@ -18,11 +19,12 @@ use Rattle.ini.specs.Texts.{Text}
 use Rattle.ini.specs.Properties.{Pairs}
 use Rattle.ini.specs.SectionItems.{pair_items}
 use Rattle.ini_edit.specs.Endings.{IsIndentedKey}
-use Rattle.ini_edit.specs.Inside.PlaceWalks.{Boundary, Chooses, IsFree, IsFreeAt, IsLastPlace, ReachesSectionEnd}
-use Rattle.ini_edit.specs.Inside.Walks.{EndsSection, IsPastLast, IsReading, StandsWithin, Steps}
+use Rattle.ini_edit.specs.Inside.PlaceWalks.{Chooses, IsFree, IsFreeAt, IsFirstSectionEnd, IsLastPlace, ReachesSectionEnd}
+use Rattle.ini_edit.specs.Inside.Walks.{Boundary, EndsSection, IsPastLast, IsReading, OpensFirst, ReadsOn, StandsWithin, Steps}
 use Rattle.ini_edit.specs.declared.place.TextPlace.{TextPlace}
 use Rattle.ini_edit.proofs.DocumentLemmas.{pair_items-append}
-use Rattle.ini_edit.proofs.WalkLemmas.{Walked, stays, step_reads, walked_start, walked_step, walked_within}
+use Rattle.ini_edit.proofs.FindLemmas.{end_reads}
+use Rattle.ini_edit.proofs.WalkLemmas.{Walked, stands_within, step_reads, told, walked_start, walked_step, walked_within}
 
 pub begins_no : (test : ℕ → Bool) (x : Text) → begins test x ≡ false → BeginsWithNo test x
 begins_no test [] h = tt
@@ -162,3 +164,53 @@ nears_start {o} {T} {p} r place s option text free whole =
       reads = Reads.stay r (sym whole);
       last = last_place r place free whole Boundary.start;
     }
+
+-- the items behind a section's end, from a header on
+rest_reads : {o : ParseOption} {T c d : Text} {items : List Given} → EndsSection o T c d → Reads o T d items T
+    → (after : List Given) × (BeginsWithHeader after × Reads o T c after T)
+rest_reads {o} {T} (EndsSection.end is) reads =
+    ([], (tt, subst (λ c. Reads o T c [] T) (sym is) (Reads.stay [] (sym (append-nil T)))))
+rest_reads {items = items} (EndsSection.header t first) reads = (Header t ∷ items, (tt, reads-append first reads))
+
+-- a boundary behind another one
+boundary_behind : {o : ParseOption} {T b W : Text} {first items : List Given} → Boundary o T [] b first
+    → Reads o T [] first b → Boundary o T b W items → Boundary o T [] W (first ++ items)
+boundary_behind {o} {T} {b} {first = first} from reads Boundary.start =
+    subst (Boundary o T [] b) (sym (append-nil first)) from
+boundary_behind {o} {T} {first = first} from reads (Boundary.behind {a} {s} {r} {items} {gives} more whole element key) =
+    subst (Boundary o T [] (a ++ s)) (append_assoc first items gives)
+    (Boundary.behind (reads-append reads more) whole element key)
+
+module _ {o : ParseOption} {T : Text} {p : Place} {name : Option Text} (opens : OpensFirst o T p name) where
+  end_within : {q : Place} {found : Option TextPlace} → ReachesSectionEnd o T p.front q found → StandsWithin q
+  end_within h =
+      stands_within h.is_reading (reads-append opens.reads (reads-append h.reads (end_reads h.ends).1))
+
+  first_end : {q : Place} {place : TextPlace} → ReachesSectionEnd o T p.front q (Some place) → ReadsOn o T q.front
+      → IsFirstSectionEnd o T name place
+  first_end h on =
+      let rest = rest_reads h.ends on.reads in
+      record {
+        before = opens.items ++ pair_items h.pairs;
+        after = rest.0;
+        whole = h.place.whole;
+        boundary = boundary_behind opens.boundary opens.reads h.place.boundary;
+        free = h.place.free;
+        then = reads-append h.place.nothing rest.1.1;
+        ends = record {
+          opening = opens.items;
+          sections = opens.sections;
+          pairs = h.pairs;
+          opens = opens.opens;
+          before_is = refl;
+          header = rest.1.0;
+        };
+      }
+
+  -- the same as the calls tell it
+  pub goes_on_behind : {q : Place} {found : Option TextPlace} → ReachesSectionEnd o T p.front q found → StandsWithin q
+  goes_on_behind h = end_within h
+
+  pub finds_end : {q : Place} {place : TextPlace} → ReachesSectionEnd o T p.front q (Some place)
+      → ReadsOn q.option q.text q.front → IsFirstSectionEnd o T name place
+  finds_end {q} h on = first_end h (told (λ o T. ReadsOn o T q.front) h.is_reading on)

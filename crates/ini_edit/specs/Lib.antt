@@ -1,3 +1,4 @@
+pub mod Added
 pub mod EditedTexts
 pub mod Endings
 pub mod FirstPairs

@@ -60,7 +60,7 @@ pub fn find_pair<'a>(
 
 // Goes behind the header of the first section of the name: whether there is one. Where there is none, the text
 // is read to its end.
-fn open_section(parser: &mut Parser, name: Option<&str>) -> Result<bool, Error>
+pub(crate) fn open_section(parser: &mut Parser, name: Option<&str>) -> Result<bool, Error>
     requires refusal { parser.old.refusal ≡ None }
     requires front { parser.old.front ≡ [] }
     ensures opened { result ≡ Ok true →

@@ -5,13 +5,16 @@ ghost use Rattle.ini_text.specs.Grammar.CharacterKinds.{is_blank, is_line_end};
 ghost use Rattle.ini_text.specs.Grammar.Positions.{starts_line};
 ghost use Rattle.ini_text.specs.Inside.PlainTests.{begins};
 ghost use Rattle.ini_text.specs.Parsing.Fronts.{IsRest};
+ghost use Rattle.ini.specs.Texts.{str_name};
 ghost use Rattle.ini.specs.Loading.{IfParse, IsParseOrMemory, IsStopOf};
 ghost use Rattle.ini_edit.specs.Endings.{IsIndentedKey};
-ghost use Rattle.ini_edit.specs.Inside.PlaceWalks.{Chooses, IsFree, IsFreeAt, ReachesSectionEnd};
+ghost use Rattle.ini_edit.specs.Inside.PlaceWalks.{AnswersEnd, Chooses, IsFree, IsFreeAt, ReachesSectionEnd};
 ghost use Rattle.ini_edit.specs.Inside.Walks.{StandsWithin};
 
-use crate::walk::step;
+use crate::find::open_section;
+use crate::walk::{read_on, step};
 use ini_text::{Content, Error, ParseOption, Parser, front_before};
+use std::alloc::Global;
 
 /// A place in a text.
 #[derive(Clone, Copy, Debug)]
@@ -22,9 +25,43 @@ pub(crate) struct TextPlace<'a> {
     pub(crate) rest: &'a str,
 }
 
+/// Where the first section of a name ends.
+#[derive(Clone, Copy, Debug)]
+pub(crate) enum SectionEnd<'a> {
+    /// There is no such section.
+    Absent,
+    /// It ends where no place for a line was found.
+    NoPlace,
+    /// A line may be put in there, behind the section's last item.
+    At(TextPlace<'a>),
+}
+
+/// Where the first section of a name ends. The whole text is read.
+pub(crate) fn find_section_end<'a>(
+    alloc: Global,
+    text: &'a str,
+    read: ParseOption,
+    name: Option<&str>,
+) -> Result<SectionEnd<'a>, Error>
+    ensures end { IfOk result (AnswersEnd read (chars text.now) (str_name name.entry)) }
+    ensures fault { IfParse result (IsStopOf read (chars text.now)) }
+    ensures only { IfErr result IsParseOrMemory }
+{
+    let mut parser = Parser::new(alloc, text, read);
+    if !open_section(&mut parser, name)? {
+        return Ok(SectionEnd::Absent);
+    }
+    let place = reach_section_end(&mut parser, text, read)?;
+    read_on(&mut parser)?;
+    match place {
+        Some(place) => Ok(SectionEnd::At(place)),
+        None => Ok(SectionEnd::NoPlace),
+    }
+}
+
 // Goes over a section's pairs to its end: the place behind the last item where a line may be put in, on that
 // item's line or at its end if it may be there.
-pub(crate) fn reach_section_end<'a>(
+fn reach_section_end<'a>(
     parser: &mut Parser<'a>,
     text: &'a str,
     read: ParseOption,
