@@ -1,3 +1,4 @@
+pub mod AddedLemmas
 pub mod AheadLemmas
 pub mod BehindLemmas
 pub mod CutLemmas
@@ -8,6 +9,7 @@ pub mod EndingLemmas
 pub mod FindLemmas
 pub mod GlueLemmas
 pub mod GluedLemmas
+pub mod GlueTextLemmas
 pub mod InsertLemmas
 pub mod InsertedLemmas
 pub mod PadLemmas

@@ -2,14 +2,17 @@
 //! and every other byte kept. No call edits a text yet.
 #![tactic(auto)]
 
+mod add;
 mod error;
 mod escape;
 mod find;
+mod glue;
 pub mod laws;
 mod place;
 #[cfg(test)]
 mod tests;
 mod walk;
 
+pub use add::add_pair;
 pub use error::EditError;
 pub use find::{FoundPair, find_pair};

@@ -205,8 +205,8 @@ fn starts_line(front: &str) -> bool
     }
 }
 
-// The first character of a text, and what follows it.
-fn split_first(text: &str) -> Option<(char, &str)>
+/// The first character of a text, and what follows it.
+pub(crate) fn split_first(text: &str) -> Option<(char, &str)>
     ensures { MatchOption result
         (chars text.now ≡ []) (λ p. chars text.now ≡ p.0 ∷ chars p.1.now) }
 {
