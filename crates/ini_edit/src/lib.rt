@@ -1,5 +1,5 @@
 //! Where a pair stands in a text, and laws of edited texts: what a text loads as, of which one stretch was changed
-//! and every other byte kept. No call edits a text yet.
+//! and every other byte kept; and a pair added to a text.
 #![tactic(auto)]
 
 mod add;
