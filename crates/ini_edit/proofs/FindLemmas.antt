@@ -28,11 +28,11 @@ use Rattle.ini.proofs.KeepingLemmas.{name_refl}
 use Rattle.ini_edit.specs.Places.{pair_of}
 use Rattle.ini_edit.specs.Targets.{Lacks}
 use Rattle.ini_edit.specs.FirstPairs.{IsFirstPair, LacksPair, LacksSection, stretches_of}
-use Rattle.ini_edit.specs.Inside.Walks.{EndsSection, IsPastLast, IsReading, OpensFirst, OpensNone, PassesPairs, ReachesEnd, ReachesPair}
+use Rattle.ini_edit.specs.Inside.Walks.{Boundary, EndsSection, IsPastLast, IsReading, OpensFirst, OpensNone, PassesPairs, ReachesEnd, ReachesPair}
 use Rattle.ini_edit.specs.Inside.Walks.{ReadsOn, StandsWithin, Steps}
 use Rattle.ini_edit.specs.declared.find.FoundPair.{FoundPair}
 use Rattle.ini_edit.proofs.DocumentLemmas.{pair_items-append, section_made, sections_behind}
-use Rattle.ini_edit.proofs.WalkLemmas.{Walked, stands_within, step_reads, stays, told, walked_start, walked_step, walked_within}
+use Rattle.ini_edit.proofs.WalkLemmas.{Walked, item_boundary, stands_within, step_reads, stays, told, walked_start, walked_step, walked_within}
 
 -- sections without one of the name, and another that has another name
 first_section-behind : (name : Option Text) (d e : Document) → first_section name d ≡ None
@@ -107,6 +107,7 @@ module _ {o : ParseOption} {T : Text} {p : Place} where
     sections = document_of s.items;
     opens = record { opened = document_of-append s.items (Header name ∷ []); first = s.none };
     reads = reads-append s.reads (subst (λ l. Reads o T p.front l q.front) is (step_reads t));
+    boundary = item_boundary s.reads t is;
   }
 
   pub sections_end : {name : Option Text} {q : Place} → PassesSections o T p name → IsPastLast o T p.front q
@@ -138,6 +139,7 @@ module _ {p : Place} (refusal : p.refusal ≡ None) (front : p.front ≡ []) whe
     sections = [];
     opens = record { opened = refl; first = refl };
     reads = at_front;
+    boundary = subst (λ c. Boundary p.option p.text [] c []) (sym front) Boundary.start;
   }
 
 -- the parser went over pairs without the key

@@ -1,3 +1,4 @@
+pub mod AddedLemmas
 pub mod AheadLemmas
 pub mod BehindLemmas
 pub mod CutLemmas
@@ -8,6 +9,7 @@ pub mod EndedLemmas
 pub mod EndingLemmas
 pub mod FindLemmas
 pub mod GlueLemmas
+pub mod GlueTextLemmas
 pub mod GluedLemmas
 pub mod InsertLemmas
 pub mod InsertedLemmas
@@ -16,6 +18,7 @@ pub mod LaterLemmas
 pub mod PadLemmas
 pub mod PairListLemmas
 pub mod PlaceLemmas
+pub mod PlaceWalkLemmas
 pub mod PlacedLemmas
 pub mod ReplacedLemmas
 pub mod SetLemmas

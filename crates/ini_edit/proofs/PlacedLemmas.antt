@@ -38,7 +38,7 @@ element_end-items {o} {T} (IsElementEnd.behind {b} {s} {r} {items} {gives} reads
     subst (λ g. Reads o T [] (items ++ g) (b ++ s)) (append-nil gives)
     (reads-append reads (Reads.step whole element (Reads.stay r (whole ∙ sym (append_assoc b s r)))))
 
-place_items : {o : ParseOption} {end : LineSeparator} {W r glue : Text} {items : List Given}
+pub place_items : {o : ParseOption} {end : LineSeparator} {W r glue : Text} {items : List Given}
     → IsPlace o end W r glue items → Follows o r → Reads o (W ++ r) [] items W
 place_items {r = r} (IsPlace.line_start start) follows = reached start r follows
 place_items (IsPlace.behind_element ends closing unblank) follows = element_end-items ends

@@ -1,3 +1,5 @@
 pub mod Cuts
-pub mod Walks
 pub mod Later
+pub mod Lines
+pub mod PlaceWalks
+pub mod Walks

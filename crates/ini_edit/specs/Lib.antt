@@ -1,3 +1,4 @@
+pub mod Added
 pub mod Edited
 pub mod EditedTexts
 pub mod Endings

@@ -4,6 +4,7 @@ use std::alloc::Global;
 use std::process::Abort;
 use std::test::Fail;
 
+mod add;
 mod find;
 mod places;
 mod random;
