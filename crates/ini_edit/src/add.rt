@@ -6,9 +6,10 @@ ghost use Rattle.ini.specs.Written.{written_pair};
 ghost use Rattle.ini_edit.specs.Added.{AddsPair, IsWritable, RefusesPair, RefusesToAdd};
 ghost use Rattle.ini_edit.specs.Inside.Lines.{IsWithLine};
 
+use crate::append::push_text;
 use crate::error::EditError;
 use crate::escape::push_escaped;
-use crate::glue::{push, push_glue};
+use crate::glue::push_glue;
 use crate::place::{SectionEnd, TextPlace, find_section_end};
 use ini_text::{
     Error, ParseOption, WriteOption, is_plain_pair, is_plain_separator, is_plain_value,
@@ -86,10 +87,10 @@ fn with_line(
     ensures only { IsOkUnless result (Error.Memory alloc_error) }
 {
     let mut new = String::new(alloc);
-    push(&mut new, place.front)?;
+    push_text(&mut new, place.front)?;
     push_glue(&mut new, place.front, read, write)?;
     push_pair(alloc, &mut new, key, value, write)?;
-    push(&mut new, place.rest)?;
+    push_text(&mut new, place.rest)?;
     Ok(new)
 }
 
@@ -106,7 +107,7 @@ fn push_pair(
     ensures only { IsOkUnless result (Error.Memory alloc_error) }
 {
     push_escaped(alloc, text, key, write.escape_policy)?;
-    push(text, write.kv_separator)?;
+    push_text(text, write.kv_separator)?;
     push_escaped(alloc, text, value, write.escape_policy)?;
-    push(text, write.line_separator.as_str())
+    push_text(text, write.line_separator.as_str())
 }

@@ -5,6 +5,7 @@ ghost use Rattle.ini.specs.Texts.{text_of};
 ghost use Rattle.ini_edit.specs.Endings.{Closing, ending, next_ending};
 ghost use Rattle.ini_edit.specs.Inside.Lines.{PushesGlue, ending_of};
 
+use crate::append::push_text;
 use crate::text::split_first;
 use ini_text::{Error, ParseOption, WriteOption};
 
@@ -31,16 +32,8 @@ pub(crate) fn push_glue(
     if let TextEnd::Line = end {
         return Ok(());
     }
-    push(text, closing(end, read))?;
-    push(text, write.line_separator.as_str())
-}
-
-/// Puts a text behind another.
-pub(crate) fn push(text: &mut String, more: &str) -> Result<(), Error>
-    ensures pushed { OnOk result (text_of text.new ≡ text_of text.old ++ chars more.now) }
-    ensures only { IsOkUnless result (Error.Memory alloc_error) }
-{
-    Ok(text.push_str(more)?)
+    push_text(text, closing(end, read))?;
+    push_text(text, write.line_separator.as_str())
 }
 
 // What keeps a lone backslash at a text's end for itself.

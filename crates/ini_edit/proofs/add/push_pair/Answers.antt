@@ -15,8 +15,8 @@ returns-clause-pushed c =
     let s = chars w.kv_separator.now in
     let v = escaped w.escape_policy (chars c.args.value.now) in
     let e = line_end w.line_separator in
-    on_ok_weaker c.push-2.result (λ last. last
+    on_ok_weaker c.push_text-2.result (λ last. last
     ∙ ap (λ x. text_of c.push_escaped-2.new.text ++ x) (ap chars c.as_str.ensures ∙ chars-line_end w.line_separator)
-    ∙ ap (λ x. x ++ e) (c.in_ok-push_escaped-2.ensures.pushed ∙ ap (λ x. x ++ v) (c.in_ok-push.ensures.pushed ∙ ap (λ x. x ++ s) c.in_ok-push_escaped.ensures.pushed))
+    ∙ ap (λ x. x ++ e) (c.in_ok-push_escaped-2.ensures.pushed ∙ ap (λ x. x ++ v) (c.in_ok-push_text.ensures.pushed ∙ ap (λ x. x ++ s) c.in_ok-push_escaped.ensures.pushed))
     ∙ append_assoc ((old ++ k) ++ s) v e ∙ append_assoc (old ++ k) s (v ++ e) ∙ append_assoc old k (s ++ (v ++ e))
-    ∙ ap (λ x. old ++ x) (sym (pair_is w (chars c.args.key.now) (chars c.args.value.now)))) c.push-2.ensures.pushed
+    ∙ ap (λ x. old ++ x) (sym (pair_is w (chars c.args.key.now) (chars c.args.value.now)))) c.push_text-2.ensures.pushed

@@ -12,8 +12,8 @@ returns-clause-edited c =
     let rest = chars c.cut-cutting.result.rest.now in
     is_deleted (string_text c.push_text-3.new.out) (found_some _ _ c.in_ok-pair.ensures.found c.in-Some.is)
     c.cut-cutting.ensures
-    (c.in_ok-push_text-3.ensures
-    ∙ ap (λ z. z ++ rest) (c.in_ok-push_text-2.ensures
-    ∙ ap (λ z. z ++ kept) (c.in_ok-push_text.ensures
+    (c.in_ok-push_text-3.ensures.pushed
+    ∙ ap (λ z. z ++ rest) (c.in_ok-push_text-2.ensures.pushed
+    ∙ ap (λ z. z ++ kept) (c.in_ok-push_text.ensures.pushed
     ∙ ap (λ z. z ++ front) (no_characters (string_bytes c.in_ok-edited.edited) (ap length c.in_ok-edited.ensures.bytes))))
     ∙ append_assoc front kept rest)

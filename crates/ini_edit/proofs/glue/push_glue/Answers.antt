@@ -13,10 +13,10 @@ pub returns : goal.returns
 returns c =
     let end = c.args.write.now.line_separator in
     record {
-      pushed = on_ok_weaker c.push-2.result (λ last.
-          glue_line end (text_of c.args.text.now) (text_of c.push.new.text) (text_of c.push-2.new.text)
+      pushed = on_ok_weaker c.push_text-2.result (λ last.
+          glue_line end (text_of c.args.text.now) (text_of c.push_text.new.out) (text_of c.push_text-2.new.out)
           (chars c.closing.result.now) (chars c.as_str.result.now) c.text_end-end.result c.text_end-end.ensures
-          c.in_default.not-Line c.closing.ensures c.in_ok-push.ensures.pushed
-          (ap chars c.as_str.ensures ∙ chars-line_end end) last) c.push-2.ensures.pushed;
-      only = c.push-2.ensures.only;
+          c.in_default.not-Line c.closing.ensures c.in_ok-push_text.ensures.pushed
+          (ap chars c.as_str.ensures ∙ chars-line_end end) last) c.push_text-2.ensures.pushed;
+      only = c.push_text-2.ensures.only;
     }

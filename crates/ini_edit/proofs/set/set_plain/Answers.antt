@@ -58,4 +58,4 @@ returns-clause-edited c =
     (chars c.rest-rest.result.now) _ c.requires.plain
     (c.in_ok-push_with.ensures.written
     ∙ ap (λ z. z ++ (chars c.in-Some.pair.front.now ++ pair_with (stretches_of c.in-Some.pair) (escaped c.args.policy (chars c.args.value.now)))) (no_characters (string_bytes c.in_ok-edited.edited) (ap length c.in_ok-edited.ensures.bytes)))
-    c.in_ok-read_on-2.ensures.end c.rest-rest.ensures c.in_ok-push_text.ensures
+    c.in_ok-read_on-2.ensures.end c.rest-rest.ensures c.in_ok-push_text.ensures.pushed

@@ -27,21 +27,21 @@ pub elements-preserved-in-Continue-branch-3 : goal.elements-preserved-in-Continu
 elements-preserved-in-Continue-branch-3 c =
     let t = c.elements.invariant in
     let s = step_some t.is_reading c.in_ok-element.ensures.element c.in-Some.is in
-    subst (Taking _ _ _ _ _ _) (sym c.in_ok-push_text-in-Nothing.ensures)
+    subst (Taking _ _ _ _ _ _) (sym c.in_ok-push_text-in-Nothing.ensures.pushed)
     (taking_nothing t s (ap gives c.in-Nothing.is))
 
 pub returns-in-Header-clause-taken : goal.returns-in-Header-clause-taken
 returns-in-Header-clause-taken c =
     let t = c.elements.invariant in
     let s = step_some t.is_reading c.in_ok-element.ensures.element c.in-Some.is in
-    subst (TakesLater _ _ _ _ _ _) (sym c.in_ok-push_text-in-Header.ensures)
+    subst (TakesLater _ _ _ _ _ _) (sym c.in_ok-push_text-in-Header.ensures.pushed)
     (taking_header t s _ (ap gives c.in-Header.is))
 
 pub elements-preserved-then-not-is_same_text : goal.elements-preserved-then-not-is_same_text
 elements-preserved-then-not-is_same_text c =
     let t = c.elements.invariant in
     let s = step_some t.is_reading c.in_ok-element.ensures.element c.in-Some.is in
-    subst (Taking _ _ _ _ _ _) (sym c.in_ok-push_text-in-Pair.ensures)
+    subst (Taking _ _ _ _ _ _) (sym c.in_ok-push_text-in-Pair.ensures.pushed)
     (taking_pair t s _ _
     (ap (is_text (chars c.args.key.now)) (sym (ap chars c.as_str.ensures.value ∙ ap (λ p. string_text p.key) c.in-Pair.pair-is))
     ∙ sym c.is_same_text.ensures ∙ c.if-not-is_same_text.true) (ap gives c.in-Pair.is))
@@ -98,6 +98,6 @@ elements-preserved c =
       text = c.behind.ensures.text ∙ sym c.requires.text;
       refusal = c.behind.ensures.refusal;
     } in
-    subst (Taking _ _ _ _ _ _) (sym c.in_ok-push_text-in-Pair-2.ensures)
+    subst (Taking _ _ _ _ _ _) (sym c.in_ok-push_text-in-Pair-2.ensures.pushed)
     (taking_cut t s _ c.in-Pair.is (chars c.rest.result.now) c.rest.ensures (sym same) cut c.behind.result reading
     (c.behind.ensures.front ∙ ap (λ T. front_of T (chars c.cut-cutting.result.rest.now)) (sym c.requires.text)))
