@@ -1,7 +1,7 @@
 //! Edits of random texts by random options: the new text loads as the edited document.
 use super::{Change, options_of, shown};
-use crate::{EditError, delete, set_existing};
-use ini::{Error, EscapePolicy, Ini, ParseOption};
+use crate::{EditError, add_pair, delete, set_existing};
+use ini::{Error, EscapePolicy, Ini, ParseOption, WriteOption};
 use std::alloc::Global;
 use std::test::Fail;
 
@@ -84,7 +84,9 @@ fn edited_document(
             String::from_str(alloc, key)?,
             String::from_str(alloc, value)?,
         )?,
-        Change::Add(..) => {}
+        Change::Add(name, key, value) => {
+            document.with_section(name).add(key, value)?;
+        }
         Change::Delete(name, key) => {
             let _ = document.delete_from(name, key);
         }
@@ -92,8 +94,7 @@ fn edited_document(
     Ok(Some(shown(alloc, &document)?))
 }
 
-/// Edits a text, and asks that it loads as the edited document: how many bytes it is longer or shorter by, and nothing where
-/// it isn't edited.
+/// The edited text, and nothing where it isn't edited.
 fn edit(
     alloc: Global,
     text: &str,
@@ -111,7 +112,9 @@ fn edit(
             value,
         ),
         Change::Delete(name, key) => delete(alloc, text, read, name, key),
-        Change::Add(..) => Ok(None),
+        Change::Add(name, key, value) => {
+            add_pair(alloc, text, read, &WriteOption::default(), name, key, value)
+        }
     }
 }
 
@@ -121,16 +124,16 @@ fn edits_of_random_texts(rt: HostRuntime) -> Result<(), Fail> {
         state: 88172645463325252,
     };
     let mut edits: u64 = 0;
-    for _ in 0..3000 {
+    for _ in 0..4000 {
         let letters = random.letters(rt.alloc())?;
         let read = options_of(letters.as_str());
         let text = random.text(rt.alloc())?;
         let name = if random.is_even() { None } else { Some("a") };
         let value = random.piece(&["new", "", "x y", "#", "a\\"]);
-        let change = if random.is_even() {
-            Change::Set(name, "k", value)
-        } else {
-            Change::Delete(name, "k")
+        let change = match random.next() & 3 {
+            0 => Change::Delete(name, "k"),
+            1 => Change::Add(name, "k", value),
+            _ => Change::Set(name, "k", value),
         };
         let want = edited_document(rt.alloc(), text.as_str(), read, change)?;
         match edit(rt.alloc(), text.as_str(), read, change) {
@@ -149,10 +152,11 @@ fn edits_of_random_texts(rt: HostRuntime) -> Result<(), Fail> {
             }
             Ok(None) => {
                 let is = Ini::load_from_str_opt(rt.alloc(), text.as_str(), read)?;
-                assert!(&rt;
-                    is.get_from(name, "k").is_none(),
-                    "{text:?} {letters} {change:?}"
-                );
+                let absent = match change {
+                    Change::Add(..) => is.section(name).is_none(),
+                    Change::Set(..) | Change::Delete(..) => is.get_from(name, "k").is_none(),
+                };
+                assert!(&rt; absent, "{text:?} {letters} {change:?}");
             }
             Err(EditError::Text(Error::Parse(_))) => assert!(&rt;
                 want.is_none(),
@@ -162,9 +166,13 @@ fn edits_of_random_texts(rt: HostRuntime) -> Result<(), Fail> {
                 value == "a\\" && !read.enabled_escape,
                 "{text:?} {letters} {value:?}"
             ),
+            Err(EditError::NoPlace) => assert!(&rt;
+                read.enabled_indented_mutiline_value && want.is_some(),
+                "{text:?} {letters}"
+            ),
             Err(_) => assert!(&rt; false, "{text:?} {letters}"),
         }
     }
-    assert!(&rt; edits > 200, "{edits} edits");
+    assert!(&rt; edits > 500, "{edits} edits");
     Ok(())
 }

@@ -1,6 +1,6 @@
 //! A value set where its key is there: the bytes of the new text, and what it loads as.
-use super::{Change, edited, loaded, options_of};
-use crate::{EditError, set_existing};
+use super::{Change, edited, loaded, options_of, told};
+use crate::set_existing;
 use ini::{Error, EscapePolicy};
 use std::alloc::Global;
 use std::process::Abort;
@@ -20,16 +20,10 @@ type Row = (
 fn answer(alloc: Global, row: &Row) -> Result<String, Error> {
     let (letters, text, name, key, value, _) = *row;
     let read = options_of(letters);
-    match set_existing(alloc, text, read, EscapePolicy::Basics, name, key, value) {
-        Ok(Some(new)) => Ok(new),
-        Ok(None) => Ok(format!(in alloc; "none")?),
-        Err(EditError::Text(Error::Parse(fault))) => Ok(format!(in alloc;
-            "{:?} at {}:{}",
-            fault.kind, fault.line, fault.col
-        )?),
-        Err(EditError::Text(other)) => Err(other),
-        Err(other) => Ok(format!(in alloc; "{other:?}")?),
-    }
+    told(
+        alloc,
+        set_existing(alloc, text, read, EscapePolicy::Basics, name, key, value),
+    )
 }
 
 /// Asks for each new text.
