@@ -8,6 +8,7 @@ use std::test::Fail;
 mod add;
 mod deletion;
 mod find;
+mod page;
 mod places;
 mod random;
 mod set;
