@@ -3,6 +3,7 @@ use super::{Change, options_of, shown};
 use crate::{EditError, add_pair, delete, set_existing};
 use ini::{Error, EscapePolicy, Ini, ParseOption, WriteOption};
 use std::alloc::Global;
+use std::process::Abort;
 use std::test::Fail;
 
 /// Numbers that look random, the same in each run.
@@ -118,6 +119,57 @@ fn edit(
     }
 }
 
+/// Whether the answer is the edited document's text, or tells rightly why there is none.
+fn agrees(
+    alloc: Global,
+    answer: Result<Option<String>, EditError>,
+    read: ParseOption,
+    want: &Option<String>,
+    absent: bool,
+) -> Result<bool, Error> {
+    match answer {
+        Ok(Some(new)) => {
+            let nothing = Change::Delete(None, "no such key");
+            let is = edited_document(alloc, new.as_str(), read, nothing)?;
+            Ok(is.is_some() && is == *want)
+        }
+        Ok(None) => Ok(absent),
+        Err(EditError::Text(Error::Parse(_))) => Ok(want.is_none()),
+        Err(EditError::Value) => Ok(!read.enabled_escape),
+        Err(EditError::NoPlace) => Ok(read.enabled_indented_mutiline_value && want.is_some()),
+        Err(_) => Ok(false),
+    }
+}
+
+/// Whether the text's document lacks what the change is about.
+fn is_absent(alloc: Global, text: &str, read: ParseOption, change: Change) -> bool {
+    match Ini::load_from_str_opt(alloc, text, read) {
+        Ok(document) => match change {
+            Change::Add(name, _, _) => document.section(name).is_none(),
+            Change::Set(name, key, _) | Change::Delete(name, key) => {
+                document.get_from(name, key).is_none()
+            }
+        },
+        Err(_) => false,
+    }
+}
+
+/// Edits a text, and asks that it is edited as its document is: whether anything was edited.
+fn expect_edit(
+    rt: &(impl Abort + AllocGlobal),
+    letters: &str,
+    text: &str,
+    change: Change,
+) -> Result<bool, Fail> {
+    let read = options_of(letters);
+    let want = edited_document(rt.alloc(), text, read, change)?;
+    let absent = is_absent(rt.alloc(), text, read, change);
+    let answer = edit(rt.alloc(), text, read, change);
+    let is_right = agrees(rt.alloc(), answer, read, &want, absent)?;
+    assert!(rt; is_right, "{text:?} {letters} {change:?}");
+    Ok(want.is_some() && !absent)
+}
+
 #[test]
 fn edits_of_random_texts(rt: HostRuntime) -> Result<(), Fail> {
     let mut random = Random {
@@ -126,7 +178,6 @@ fn edits_of_random_texts(rt: HostRuntime) -> Result<(), Fail> {
     let mut edits: u64 = 0;
     for _ in 0..4000 {
         let letters = random.letters(rt.alloc())?;
-        let read = options_of(letters.as_str());
         let text = random.text(rt.alloc())?;
         let name = if random.is_even() { None } else { Some("a") };
         let value = random.piece(&["new", "", "x y", "#", "a\\"]);
@@ -135,42 +186,8 @@ fn edits_of_random_texts(rt: HostRuntime) -> Result<(), Fail> {
             1 => Change::Add(name, "k", value),
             _ => Change::Set(name, "k", value),
         };
-        let want = edited_document(rt.alloc(), text.as_str(), read, change)?;
-        match edit(rt.alloc(), text.as_str(), read, change) {
-            Ok(Some(new)) => {
-                edits = edits.wrapping_add(1);
-                let is = edited_document(
-                    rt.alloc(),
-                    new.as_str(),
-                    read,
-                    Change::Delete(None, "no such key"),
-                )?;
-                assert!(&rt;
-                    is.is_some() && is == want,
-                    "{text:?} {letters} {change:?}: {new:?}"
-                );
-            }
-            Ok(None) => {
-                let is = Ini::load_from_str_opt(rt.alloc(), text.as_str(), read)?;
-                let absent = match change {
-                    Change::Add(..) => is.section(name).is_none(),
-                    Change::Set(..) | Change::Delete(..) => is.get_from(name, "k").is_none(),
-                };
-                assert!(&rt; absent, "{text:?} {letters} {change:?}");
-            }
-            Err(EditError::Text(Error::Parse(_))) => assert!(&rt;
-                want.is_none(),
-                "{text:?} {letters}"
-            ),
-            Err(EditError::Value) => assert!(&rt;
-                value == "a\\" && !read.enabled_escape,
-                "{text:?} {letters} {value:?}"
-            ),
-            Err(EditError::NoPlace) => assert!(&rt;
-                read.enabled_indented_mutiline_value && want.is_some(),
-                "{text:?} {letters}"
-            ),
-            Err(_) => assert!(&rt; false, "{text:?} {letters}"),
+        if expect_edit(&rt, letters.as_str(), text.as_str(), change)? {
+            edits = edits.wrapping_add(1);
         }
     }
     assert!(&rt; edits > 500, "{edits} edits");
