@@ -1,5 +1,6 @@
 -- A row of elements that no line end follows stands before other texts too.
-use Rattle.std.proofs.Common.{◌≡◌, ◌≢◌, ℕ, Bool, true, false, not, ◌||◌, eqb, List, [], ◌∷◌, ◌++◌, refl, sym, ap, ◌∙◌}
+use Rattle.std.proofs.Common.{◌≡◌, ◌≢◌, ℕ, Bool, true, false, not, ◌||◌, eqb, List, [], ◌∷◌, ◌++◌, refl, sym}
+use Rattle.std.proofs.Common.{ap, ◌∙◌}
 use Rattle.std.proofs.Common.{subst, append_assoc, append-nil, eqb-true, inl, inr}
 use Rattle.std.specs.Prelude.{◌⊎◌}
 use Rattle.std.specs.List.{list_all}
@@ -7,7 +8,8 @@ use Rattle.std.proofs.lemmas.Bool.{both_ways, false≢true, and_parts, or_parts,
 use Rattle.std.proofs.lemmas.List.{append_cancel_left}
 use Rattle.std.specs.Char.{is_whitespace}
 use Rattle.ini_text.specs.declared.option.ParseOption.{ParseOption}
-use Rattle.ini_text.specs.Grammar.CharacterKinds.{open_bracket, is_blank, is_comment_mark, is_line_feed, is_line_end, BeginsWith, BeginsWithNo}
+use Rattle.ini_text.specs.Grammar.CharacterKinds.{open_bracket, is_blank, is_comment_mark, is_line_feed}
+use Rattle.ini_text.specs.Grammar.CharacterKinds.{is_line_end, BeginsWith, BeginsWithNo}
 use Rattle.ini_text.specs.Grammar.Positions.{last_or, is_column_one}
 use Rattle.ini_text.specs.Grammar.Strings.{Closes, Str, bracketed_name_ends, plain_ends}
 use Rattle.ini_text.specs.Grammar.Values.{LineEnd, MoreLines, Value}
@@ -15,14 +17,15 @@ use Rattle.ini_text.specs.Grammar.Keys.{KeyFront, begins_key}
 use Rattle.ini_text.specs.Grammar.Elements.{Given, Gap, Element}
 use Rattle.ini_text.specs.Grammar.Texts.{Reads}
 use Rattle.ini_text.proofs.GrammarLemmas.KindLemmas.{line_end_no_blank}
-use Rattle.ini_text.proofs.LawLemmas.OneAheadLemmas.{Alike, Element-alike, EndedLine-before, KeyFront-alike, Reads-front, Str-alike}
+use Rattle.ini_text.proofs.LawLemmas.OneAheadLemmas.{Alike, Element-alike, EndedLine-before, KeyFront-alike}
+use Rattle.ini_text.proofs.LawLemmas.OneAheadLemmas.{Reads-front, Str-alike}
 use Rattle.ini_text.proofs.PlainLemmas.PlainLineLemmas.{column_one_behind}
 use Rattle.ini_text.proofs.PlainLemmas.PlainTrimLemmas.{line_end_is_white}
 use Rattle.ini_edit.specs.Places.{Follows}
 use Rattle.ini_edit.proofs.ValueLemmas.{closes_line_end, line_closes}
 
--- What stands behind the front c: no line end; and a bracket in column one alone, since blanks before one are an
--- element of their own.
+-- What stands behind the front c: no line end; and a bracket in column one alone, since blanks before one
+-- are an element of their own.
 pub record FollowsFront (c y : List ℕ) : Type 0 where
   pub some : BeginsWith (λ c. not (is_line_end c)) y
   pub bracket : BeginsWithNo (λ c. eqb c open_bracket) y ⊎ (is_column_one c ≡ true)

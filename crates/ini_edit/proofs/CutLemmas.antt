@@ -18,7 +18,8 @@ use Rattle.ini_edit.specs.Places.{Cut, EndsLike, Follows, Stretches, StandsAt, p
 use Rattle.ini_edit.proofs.AheadLemmas.{FollowsFront, any_follows, key_follows, Reads-before_line, y_some}
 use Rattle.ini_edit.proofs.AheadLemmas.{value_closes, value_follows}
 use Rattle.ini_edit.proofs.BehindLemmas.{EndsLike-one, Reads-like, past_line_ends}
-use Rattle.ini_edit.proofs.KeptLemmas.{EndsLine-behind, ends_line-starts, reads_kept, value_ends_line, value_takes}
+use Rattle.ini_edit.proofs.KeptLemmas.{EndsLine-behind, ends_line-starts, reads_kept, value_ends_line}
+use Rattle.ini_edit.proofs.KeptLemmas.{value_takes}
 use Rattle.ini_edit.proofs.ReplacedLemmas.{Reads-closes}
 
 -- what is read behind both fronts
@@ -37,7 +38,8 @@ line_end_like b c LineEnd.lf = EndsLike-one b c line_feed []
 line_end_like b c LineEnd.cr_lf = EndsLike-one b c carriage_return (line_feed ∷ [])
 line_end_like b c (LineEnd.cr n) = EndsLike-one b c carriage_return []
 
--- what stays behind a pair that is taken out, perhaps without its line end, is read behind what is kept as it was
+-- what stays behind a pair that is taken out, perhaps without its line end, is read behind what is kept as
+-- it was
 pub record CutLeft (p : Stretches) (k r : Text) : Type 0 where
   pub line_end : Text
   pub followed : p.rest ≡ line_end ++ r

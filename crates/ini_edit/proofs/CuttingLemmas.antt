@@ -1,5 +1,6 @@
 -- What the calls that cut a pair out answer.
-use Rattle.std.proofs.Common.{Bool, eqb, eqb-true, ◌||◌, ◌≡◌, ◌≢◌, ◌∙◌, ℕ, true, false, List, [], ◌∷◌, ◌++◌, refl, sym, ap, subst, append_assoc}
+use Rattle.std.proofs.Common.{Bool, eqb, eqb-true, ◌||◌, ◌≡◌, ◌≢◌, ◌∙◌, ℕ, true, false, List, [], ◌∷◌, ◌++◌}
+use Rattle.std.proofs.Common.{refl, sym, ap, subst, append_assoc}
 use Rattle.std.proofs.lemmas.Bool.{both_ways, false≢true, or_left}
 use Rattle.ini_text.specs.declared.option.ParseOption.{ParseOption}
 use Rattle.ini_text.specs.Grammar.CharacterKinds.{line_feed, carriage_return, is_line_end, is_line_feed}

@@ -1,5 +1,6 @@
 -- The walk to the first pair of a key in the first section of a name.
-use Rattle.std.proofs.Common.{◌≡◌, ◌∙◌, Bool, true, false, cond, List, [], ◌∷◌, ◌++◌, fold, ap, sym, subst, refl}
+use Rattle.std.proofs.Common.{◌≡◌, ◌∙◌, Bool, true, false, cond, List, [], ◌∷◌, ◌++◌, fold, ap, sym, subst}
+use Rattle.std.proofs.Common.{refl}
 use Rattle.std.proofs.Common.{Option, None, Some, append_assoc, append-nil, chars, MatchOption}
 use Rattle.std.specs.Prelude.{option_and_then}
 use Rattle.std.proofs.lemmas.Bool.{cond-true, cond-false}
@@ -28,11 +29,13 @@ use Rattle.ini.proofs.KeepingLemmas.{name_refl}
 use Rattle.ini_edit.specs.Places.{pair_of}
 use Rattle.ini_edit.specs.Targets.{Lacks}
 use Rattle.ini_edit.specs.FirstPairs.{IsFirstPair, LacksPair, LacksSection, stretches_of}
-use Rattle.ini_edit.specs.Inside.Walks.{Boundary, EndsSection, IsPastLast, IsReading, OpensFirst, OpensNone, PassesPairs, ReachesEnd, ReachesPair}
+use Rattle.ini_edit.specs.Inside.Walks.{Boundary, EndsSection, IsPastLast, IsReading, OpensFirst, OpensNone}
+use Rattle.ini_edit.specs.Inside.Walks.{PassesPairs, ReachesEnd, ReachesPair}
 use Rattle.ini_edit.specs.Inside.Walks.{ReadsOn, StandsWithin, Steps}
 use Rattle.ini_edit.specs.declared.find.FoundPair.{FoundPair}
 use Rattle.ini_edit.proofs.DocumentLemmas.{pair_items-append, section_made, sections_behind}
-use Rattle.ini_edit.proofs.WalkLemmas.{Walked, item_boundary, stands_within, step_reads, stays, told, walked_start, walked_step, walked_within}
+use Rattle.ini_edit.proofs.WalkLemmas.{Walked, item_boundary, stands_within, step_reads, stays, told}
+use Rattle.ini_edit.proofs.WalkLemmas.{walked_start, walked_step, walked_within}
 
 -- sections without one of the name, and another that has another name
 first_section-behind : (name : Option Text) (d e : Document) → first_section name d ≡ None

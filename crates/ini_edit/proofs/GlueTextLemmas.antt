@@ -1,5 +1,6 @@
 -- What goes before a new line, as it is written: its characters.
-use Rattle.std.proofs.Common.{◌≡◌, ◌≢◌, ◌∙◌, true, false, List, [], ◌∷◌, ◌++◌, ap, sym, subst, refl, append_assoc, append-nil, length, ◌<◌, arith}
+use Rattle.std.proofs.Common.{◌≡◌, ◌≢◌, ◌∙◌, true, false, List, [], ◌∷◌, ◌++◌, ap, sym, subst, refl}
+use Rattle.std.proofs.Common.{append_assoc, append-nil, length, ◌<◌, arith}
 use Rattle.std.specs.Str.{chars}
 use Rattle.ini_text.specs.Grammar.CharacterKinds.{backslash, space}
 use Rattle.ini_text.specs.Grammar.Elements.{Given}

@@ -1,5 +1,6 @@
 -- A line end that stays of a pair which was taken out, behind the elements that stood before the pair.
-use Rattle.std.proofs.Common.{◌≡◌, ◌≢◌, ◌≤◌, ◌+◌, ℕ, true, false, List, [], ◌∷◌, ◌++◌, length, length-append, refl, sym, ap, ◌∙◌, subst, append_assoc, append-nil, arith, inl, inr}
+use Rattle.std.proofs.Common.{◌≡◌, ◌≢◌, ◌≤◌, ◌+◌, ℕ, true, false, List, [], ◌∷◌, ◌++◌, length, length-append}
+use Rattle.std.proofs.Common.{refl, sym, ap, ◌∙◌, subst, append_assoc, append-nil, arith, inl, inr}
 use Rattle.std.proofs.lemmas.Bool.{both_ways, false≢true}
 use Rattle.std.specs.List.{list_all}
 use Rattle.std.proofs.lemmas.List.{append_cancel_left}
@@ -14,7 +15,8 @@ use Rattle.ini_text.specs.Grammar.Elements.{Given, Pair, Gap, Element}
 use Rattle.ini_text.specs.Grammar.Texts.{Reads}
 use Rattle.ini_text.proofs.GrammarLemmas.ItemLemmas.{element-some}
 use Rattle.ini_text.proofs.LawLemmas.MovedLemmas.{last_or-behind}
-use Rattle.ini_text.proofs.LawLemmas.OneAheadLemmas.{Alike, Element-alike, KeyFront-alike, Reads-front, Str-alike}
+use Rattle.ini_text.proofs.LawLemmas.OneAheadLemmas.{Alike, Element-alike, KeyFront-alike, Reads-front}
+use Rattle.ini_text.proofs.LawLemmas.OneAheadLemmas.{Str-alike}
 use Rattle.ini_text.proofs.PlainLemmas.PlainLineLemmas.{gaps_of, gaps_read}
 use Rattle.ini_edit.specs.Endings.{Ending, Closing, ending_from}
 use Rattle.ini_edit.specs.Places.{Follows}
@@ -85,8 +87,8 @@ stays {b = b} (Reads.step {s = s} h e reads) same =
     let none : length ((b ++ s) ++ front.0) ≡ length b = ap length (front.1 ∙ sym same) in
     absurd (omega (arith, element-some e, length-append (b ++ s) front.0, length-append b s, none))
 
--- Up to the front c, behind which y stood, elements stand before the line end k and then r. A pair that ended
--- there takes the line end.
+-- Up to the front c, behind which y stood, elements stand before the line end k and then r. A pair that
+-- ended there takes the line end.
 module _ {o : ParseOption} {y c k r : List ℕ} (follows : Follows o r) (all : list_all is_line_end k ≡ true)
     (f : FollowsFront c y)
     (takes : (X s v : List ℕ) → X ++ s ≡ c → Value o s y v → Value o (s ++ k) r v) where

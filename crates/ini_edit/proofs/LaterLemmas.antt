@@ -1,5 +1,6 @@
 -- Later pairs of a key, taken out of a text element by element.
-use Rattle.std.proofs.Common.{◌≡◌, ◌≢◌, ◌∙◌, ℕ, List, [], ◌∷◌, ◌++◌, ap, sym, subst, refl, append_assoc, append-nil}
+use Rattle.std.proofs.Common.{◌≡◌, ◌≢◌, ◌∙◌, ℕ, List, [], ◌∷◌, ◌++◌, ap, sym, subst, refl, append_assoc}
+use Rattle.std.proofs.Common.{append-nil}
 use Rattle.std.proofs.Common.{true, false, arith, length, length-append, chars, Option}
 use Rattle.std.specs.List.{list_all}
 use Rattle.std.proofs.lemmas.Bool.{false≢true, and_parts}
@@ -35,7 +36,8 @@ use Rattle.ini_edit.specs.EditedTexts.{LaterOut}
 use Rattle.ini_edit.specs.Places.{Cut, EndsLike, Stretches, StandsAt, pair_with, text_with, up_to_end}
 use Rattle.ini_edit.specs.Targets.{Lacks}
 use Rattle.ini_edit.specs.Inside.Later.{ReadAlike, TakesLaterOut, TakesOut, placed_between}
-use Rattle.ini_edit.proofs.BehindLemmas.{Element-like, EndsLike-behind, EndsLike-one, KeyFront-like, Reads-like, line_end_element}
+use Rattle.ini_edit.proofs.BehindLemmas.{Element-like, EndsLike-behind, EndsLike-one, KeyFront-like}
+use Rattle.ini_edit.proofs.BehindLemmas.{Reads-like, line_end_element}
 use Rattle.ini_edit.proofs.CutLemmas.{CutLeft, cut_left, cut_reads}
 use Rattle.ini_edit.proofs.DocumentLemmas.{pair_items-append}
 use Rattle.ini_edit.proofs.FindLemmas.{found_before, lacks_more, white_pad}

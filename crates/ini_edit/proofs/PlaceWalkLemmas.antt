@@ -1,10 +1,12 @@
 -- The walk to a place where a line may be put in.
-use Rattle.std.proofs.Common.{◌≡◌, ◌∙◌, ℕ, Bool, true, false, not, ◌&&◌, ◌||◌, ◌==◌, List, [], ◌∷◌, ◌++◌, ap, sym, subst, refl, inl, inr}
+use Rattle.std.proofs.Common.{◌≡◌, ◌∙◌, ℕ, Bool, true, false, not, ◌&&◌, ◌||◌, ◌==◌, List, [], ◌∷◌, ◌++◌, ap}
+use Rattle.std.proofs.Common.{sym, subst, refl, inl, inr}
 use Rattle.std.proofs.Common.{Option, None, Some, append_assoc, append-nil, chars, IfSome}
 use Rattle.std.proofs.lemmas.Bool.{and_parts}
 use Rattle.std.proofs.lemmas.List.{append_cancel_right}
 use Rattle.std.specs.List.{list_all}
-use Rattle.ini_text.specs.Grammar.CharacterKinds.{is_blank, is_line_end, open_bracket, BeginsWith, BeginsWithNo}
+use Rattle.ini_text.specs.Grammar.CharacterKinds.{is_blank, is_line_end, open_bracket, BeginsWith}
+use Rattle.ini_text.specs.Grammar.CharacterKinds.{BeginsWithNo}
 use Rattle.ini_text.specs.Grammar.Elements.{Given, Header, Pair}
 use Rattle.ini_text.specs.Grammar.Keys.{begins_indented_key}
 use Rattle.ini_text.specs.Grammar.Texts.{Reads}
@@ -19,12 +21,15 @@ use Rattle.ini.specs.Texts.{Text}
 use Rattle.ini.specs.Properties.{Pairs}
 use Rattle.ini.specs.SectionItems.{pair_items}
 use Rattle.ini_edit.specs.Endings.{IsIndentedKey}
-use Rattle.ini_edit.specs.Inside.PlaceWalks.{Chooses, IsFree, IsFreeAt, IsFirstSectionEnd, IsLastPlace, ReachesSectionEnd}
-use Rattle.ini_edit.specs.Inside.Walks.{Boundary, EndsSection, IsPastLast, IsReading, OpensFirst, ReadsOn, StandsWithin, Steps}
+use Rattle.ini_edit.specs.Inside.PlaceWalks.{Chooses, IsFree, IsFreeAt, IsFirstSectionEnd, IsLastPlace}
+use Rattle.ini_edit.specs.Inside.PlaceWalks.{ReachesSectionEnd}
+use Rattle.ini_edit.specs.Inside.Walks.{Boundary, EndsSection, IsPastLast, IsReading, OpensFirst, ReadsOn}
+use Rattle.ini_edit.specs.Inside.Walks.{StandsWithin, Steps}
 use Rattle.ini_edit.specs.declared.place.TextPlace.{TextPlace}
 use Rattle.ini_edit.proofs.DocumentLemmas.{pair_items-append}
 use Rattle.ini_edit.proofs.FindLemmas.{end_reads}
-use Rattle.ini_edit.proofs.WalkLemmas.{Walked, stands_within, step_reads, told, walked_start, walked_step, walked_within}
+use Rattle.ini_edit.proofs.WalkLemmas.{Walked, stands_within, step_reads, told, walked_start, walked_step}
+use Rattle.ini_edit.proofs.WalkLemmas.{walked_within}
 
 pub begins_no : (test : ℕ → Bool) (x : Text) → begins test x ≡ false → BeginsWithNo test x
 begins_no test [] h = tt

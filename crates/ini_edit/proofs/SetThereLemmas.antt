@@ -1,5 +1,6 @@
 -- A key's value set where the key is there: the walk as a whole.
-use Rattle.std.proofs.Common.{◌≡◌, ◌∙◌, List, [], ◌++◌, ap, sym, subst, append_assoc, chars, Option, Some, MatchOption}
+use Rattle.std.proofs.Common.{◌≡◌, ◌∙◌, List, [], ◌++◌, ap, sym, subst, append_assoc, chars, Option, Some}
+use Rattle.std.proofs.Common.{MatchOption}
 use Rattle.std.proofs.lemmas.List.{append_cancel_left}
 use Rattle.ini_text.specs.Escaping.EscapedTexts.{escaped}
 use Rattle.ini_text.specs.Grammar.Texts.{Reads}
@@ -13,7 +14,8 @@ use Rattle.ini_edit.specs.Edited.{IsSetThere}
 use Rattle.ini_edit.specs.FirstPairs.{stretches_of}
 use Rattle.ini_edit.specs.Places.{Stretches, pair_of, pair_with}
 use Rattle.ini_edit.specs.Inside.Later.{IsAlikeBehind, TakesLater, TakesLaterOut}
-use Rattle.ini_edit.specs.Inside.Walks.{IsReading, OpensFirst, ReachesEnd, ReachesPair, ReadsOn, StandsWithin}
+use Rattle.ini_edit.specs.Inside.Walks.{IsReading, OpensFirst, ReachesEnd, ReachesPair, ReadsOn}
+use Rattle.ini_edit.specs.Inside.Walks.{StandsWithin}
 use Rattle.ini_edit.specs.declared.find.FoundPair.{FoundPair}
 use Rattle.ini_edit.proofs.FindLemmas.{end_reads, goes_on_within}
 use Rattle.ini_edit.proofs.LaterLemmas.{set_there, value_alike}

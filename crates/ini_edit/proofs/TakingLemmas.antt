@@ -1,5 +1,6 @@
 -- The walk that takes the later pairs of a key out of a text.
-use Rattle.std.proofs.Common.{◌≡◌, ◌∙◌, ◌<◌, ◌-◌, List, [], ◌∷◌, ◌++◌, ap, sym, subst, refl, append_assoc, append-nil}
+use Rattle.std.proofs.Common.{◌≡◌, ◌∙◌, ◌<◌, ◌-◌, List, [], ◌∷◌, ◌++◌, ap, sym, subst, refl, append_assoc}
+use Rattle.std.proofs.Common.{append-nil}
 use Rattle.std.proofs.Common.{arith, chars, false, length, length-append}
 use Rattle.std.proofs.lemmas.List.{append_cancel_left}
 use Rattle.ini_text.specs.Grammar.Elements.{Given, Header, Pair}
@@ -23,7 +24,8 @@ use Rattle.ini_edit.proofs.CutLemmas.{CutLeft, cut_left}
 use Rattle.ini_edit.proofs.LaterLemmas.{gaps, takes_cut, takes_nothing, takes_pair, takes_start}
 use Rattle.ini_edit.proofs.WalkLemmas.{stands_within, step_reads}
 
--- The parser reads on within the section, and what it went over stands in the new text, but for the pairs of the key.
+-- The parser reads on within the section, and what it went over stands in the new text, but for the pairs of
+-- the key.
 pub record Taking (o : ParseOption) (T key b f : Text) (p : Place) (g : Text) : Type 0 where
   pub is_reading : IsReading o T p
   pub items : List Given

@@ -1,6 +1,8 @@
 -- Walks over the elements of a text, element by element.
-use Rattle.std.proofs.Common.{◌≡◌, ◌∙◌, ◌<◌, ◌-◌, List, [], ◌∷◌, ◌++◌, length, ap, sym, subst, refl, Option, None, Some}
-use Rattle.std.proofs.Common.{Result, Ok, Err, arith, append_assoc, append-nil, length-append, chars, MatchOption}
+use Rattle.std.proofs.Common.{◌≡◌, ◌∙◌, ◌<◌, ◌-◌, List, [], ◌∷◌, ◌++◌, length, ap, sym, subst, refl, Option}
+use Rattle.std.proofs.Common.{None, Some}
+use Rattle.std.proofs.Common.{Result, Ok, Err, arith, append_assoc, append-nil, length-append, chars}
+use Rattle.std.proofs.Common.{MatchOption}
 use Rattle.std.specs.Cow.{cow_str_bytes}
 use Rattle.ini_text.specs.Errors.Messages.{HasMessage}
 use Rattle.ini_text.specs.Grammar.Elements.{Given}
@@ -84,7 +86,8 @@ module _ {o : ParseOption} {T : Text} where
           length-append source stands.rest,
         )
 
--- The parser reads the text, and elements reach from the front b, and from the text's own, to where it stands.
+-- The parser reads the text, and elements reach from the front b, and from the text's own, to where it
+-- stands.
 pub record Walked (o : ParseOption) (T b : Text) (p : Place) : Type 0 where
   pub is_reading : IsReading o T p
   pub first : List Given

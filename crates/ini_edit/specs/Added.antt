@@ -16,16 +16,17 @@ use Rattle.ini_edit.specs.LinePlaces.{EndsAtPlace}
 use Rattle.ini_edit.specs.FirstPairs.{LacksSection}
 use Rattle.ini_edit.specs.Targets.{Lacks}
 use Rattle.ini_edit.specs.declared.error.EditError.{EditError}
-use Rattle.ini_edit.specs.declared.error.EditError.TheVariants.{Text as TextError, Separator, Value, Key, NoPlace}
+use Rattle.ini_edit.specs.declared.error.EditError.TheVariants.{Text as TextError, Separator, Value, Key}
+use Rattle.ini_edit.specs.declared.error.EditError.TheVariants.{NoPlace}
 
--- What goes before a new line behind the front W: nothing where W ends with an LF that no backslash takes, and else
--- a line end, with what keeps a lone backslash before it.
+-- What goes before a new line behind the front W: nothing where W ends with an LF that no backslash takes,
+-- and else a line end, with what keeps a lone backslash before it.
 pub data Glue (o : ParseOption) (end : LineSeparator) (W : Text) : Text → Type 0 where
   none : ending W ≡ Ending.line → Glue o end W []
   line : {c : Text} → ending W ≢ Ending.line → Closing o (ending W) c → Glue o end W (c ++ line_end end)
 
--- The text U is T with the pair's line put in at a place where the first section of the name ends, and no byte
--- changed; so the pair is added to the document, and is set where the section has no pair of the key.
+-- The text U is T with the pair's line put in at a place where the first section of the name ends, and no
+-- byte changed; so the pair is added to the document, and is set where the section has no pair of the key.
 pub record IsAddedAt (o : ParseOption) (w : WriteOption) (T : Text) (name : Option Text) (key value U : Text)
     : Type 0 where
   pub front : Text

@@ -30,9 +30,9 @@ pub record IsDeleted (o : ParseOption) (T : Text) (name : Option Text) (key : Te
   pub was : IsDocumentOf o T document
   pub is : IsDocumentOf o U (delete_in name key document)
 
--- The text U is T with the value in the place of that of the first pair of the key in the first section of the name,
--- as the policy writes it, and without the later pairs of the key in that section, and no other byte than those
--- that go with these is another one: it loads as the document in which the key is set.
+-- The text U is T with the value in the place of that of the first pair of the key in the first section of
+-- the name, as the policy writes it, and without the later pairs of the key in that section, and no other
+-- byte than those that go with these is another one: it loads as the document in which the key is set.
 pub record IsSetThere (o : ParseOption) (policy : EscapePolicy) (T : Text) (name : Option Text) (key value : Text)
     (U : Text) : Type 0 where
   pub pair : Stretches

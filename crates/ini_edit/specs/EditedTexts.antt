@@ -16,8 +16,9 @@ use Rattle.ini.specs.Written.{written_name, written_pair}
 use Rattle.ini_edit.specs.Places.{Cut, Follows, IsLineStart, Stretches, StandsAt, text_with}
 use Rattle.ini_edit.specs.Targets.{IsSectionEnd, IsTarget, Lacks}
 
--- Behind the items `upto` the section goes on, in the text T, with the pairs `later`, and behind those stands
--- `rest`. The text U is T without those of the pairs that have the key: each was taken out, and nothing else.
+-- Behind the items `upto` the section goes on, in the text T, with the pairs `later`, and behind those
+-- stands `rest`. The text U is T without those of the pairs that have the key: each was taken out, and
+-- nothing else.
 pub data LaterOut (o : ParseOption) (key : Text) (upto rest : List Given) : Text → Pairs → Text → Type 0 where
   none : {T : Text} {later : Pairs} → Lacks key later → LaterOut o key upto rest T later T
   out : {T U : Text} (p : Stretches) (kept r old : Text) (between later : Pairs)
@@ -25,8 +26,8 @@ pub data LaterOut (o : ParseOption) (key : Text) (upto rest : List Given) : Text
       → Cut o p kept r → LaterOut o key upto rest (p.front ++ (kept ++ r)) (between ++ later) U
       → LaterOut o key upto rest T (between ++ (key, old) ∷ later) U
 
--- The value of the first pair of its key is another one, and the later pairs of the key in the section are taken
--- out. No other byte changes.
+-- The value of the first pair of its key is another one, and the later pairs of the key in the section are
+-- taken out. No other byte changes.
 abbrev pub SetsValue : ParseOption → EscapePolicy → Text → Text → Type 0
 SetsValue o policy T value =
     (p : Stretches) (name : Option Text) (key old : Text) (before after : List Given)

@@ -64,7 +64,8 @@ pub record Follows (o : ParseOption) (x : List ℕ) : Type 0 where
   pub no_blank : o.enabled_indented_mutiline_value ≡ true → BeginsWithNo is_blank x
   pub no_line_end : o.enabled_indented_mutiline_value ≡ true → BeginsWithNo is_line_end x
 
--- Where a pair is taken out its front stays, then what is kept of its own line end, and then r, which followed it
+-- Where a pair is taken out its front stays, then what is kept of its own line end, and then r, which
+-- followed it
 pub data Cut (o : ParseOption) (p : Stretches) : List ℕ → List ℕ → Type 0 where
   -- its line end goes too, where what follows doesn't notice; or it stays
   with_line_end : (e r : List ℕ) → o.enabled_indented_mutiline_value ≡ false → p.rest ≡ e ++ r
@@ -80,9 +81,9 @@ pub data Cut (o : ParseOption) (p : Stretches) : List ℕ → List ℕ → Type 
   before_last_line_feed : o.enabled_indented_mutiline_value ≡ true → is_column_one (up_to_end p) ≡ true
       → starts_line p.front ≡ true → is_column_one p.front ≡ false → Cut o p (line_feed ∷ []) p.rest
 
--- A line may be put in between the front W, which gives the items, and the rest r: at the text's front; in column
--- one, before a character that ends no line; behind line ends that stand behind an element; or behind an element
--- that ends with an LF which no backslash takes.
+-- A line may be put in between the front W, which gives the items, and the rest r: at the text's front; in
+-- column one, before a character that ends no line; behind line ends that stand behind an element; or behind
+-- an element that ends with an LF which no backslash takes.
 pub data IsLineStart (o : ParseOption) : List ℕ → List ℕ → List Given → Type 0 where
   at_front : {r : List ℕ} → IsLineStart o [] r []
   before_character : {W : List ℕ} {items : List Given} (c : ℕ) (r : List ℕ) → is_column_one W ≡ true

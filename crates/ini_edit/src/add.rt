@@ -1,5 +1,7 @@
-//! A pair's line put into a text, where its section ends. This file knows places and parts of lines, and no element.
-ghost use Rattle.std.specs.Prelude.{◌≡◌, ◌++◌, chars, OnOk, IfOk, IfErr, IsOkUnless, MatchOption, alloc_error};
+//! A pair's line put into a text, where its section ends. This file knows places and parts of lines, and no
+//! element.
+ghost use Rattle.std.specs.Prelude.{◌≡◌, ◌++◌, chars, OnOk, IfOk, IfErr, IsOkUnless, MatchOption};
+ghost use Rattle.std.specs.Prelude.{alloc_error};
 ghost use Rattle.ini_text.specs.Laws.Plain.{IsPlainPair, IsPlainSeparator};
 ghost use Rattle.ini.specs.Texts.{str_name, text_of};
 ghost use Rattle.ini.specs.Written.{written_pair};
@@ -16,14 +18,14 @@ use ini_text::{
 };
 use std::alloc::Global;
 
-/// The text with a pair added: a line of its own behind the last item of the first section of the name, before
-/// comments that stand before the next header or the end. No name is the general section's. `None` where the
-/// text has no section of the name.
+/// The text with a pair added: a line of its own behind the last item of the first section of the name,
+/// before comments that stand before the next header or the end. No name is the general section's. `None`
+/// where the text has no section of the name.
 ///
 /// # Errors
 ///
-/// `Separator`, `Value` or `Key`, in this order, where that can't be written; then `Text` where reading the text
-/// stops, with line and column, or memory is refused; and `NoPlace` where no place was found.
+/// `Separator`, `Value` or `Key`, in this order, where that can't be written; then `Text` where reading the
+/// text stops, with line and column, or memory is refused; and `NoPlace` where no place was found.
 pub fn add_pair(
     alloc: Global,
     text: &str,

@@ -1,4 +1,5 @@
-//! A pair taken out of a text. This file knows where the pair stands and what goes with it, and no character.
+//! A pair taken out of a text. This file knows where the pair stands and what goes with it, and no
+//! character.
 ghost use Rattle.std.specs.Prelude.{◌≡◌, chars, IfOk, IfErr, MatchOption};
 ghost use Rattle.ini.specs.Texts.{str_name};
 ghost use Rattle.ini_text.specs.Parsing.Items.{string_text};
@@ -13,16 +14,16 @@ use crate::find::find_pair;
 use ini_text::ParseOption;
 use std::alloc::Global;
 
-/// The text without the first pair of a key in the first section of a name, and `None` where there is none. No name
-/// is the general section's, which a text begins with.
+/// The text without the first pair of a key in the first section of a name, and `None` where there is none.
+/// No name is the general section's, which a text begins with.
 ///
-/// The pair goes with its line end where what follows it is read as before, and every other byte stays. The new
-/// text loads as the document without the pair.
+/// The pair goes with its line end where what follows it is read as before, and every other byte stays. The
+/// new text loads as the document without the pair.
 ///
 /// # Errors
 ///
-/// `Text` where reading the text stops, with line and column, also where the pair stands before that; or where
-/// memory is refused.
+/// `Text` where reading the text stops, with line and column, also where the pair stands before that; or
+/// where memory is refused.
 pub fn delete(
     alloc: Global,
     text: &str,

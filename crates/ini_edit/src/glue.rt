@@ -1,5 +1,5 @@
-//! What goes before a new line that is put in behind a front of a text. This file knows line ends and backslashes,
-//! and no element.
+//! What goes before a new line that is put in behind a front of a text. This file knows line ends and
+//! backslashes, and no element.
 ghost use Rattle.std.specs.Prelude.{◌≡◌, ◌++◌, chars, OnOk, IsOkUnless, alloc_error};
 ghost use Rattle.ini.specs.Texts.{text_of};
 ghost use Rattle.ini_edit.specs.Endings.{Closing, ending, next_ending};
@@ -9,7 +9,8 @@ use crate::append::push_text;
 use crate::text::split_first;
 use ini_text::{Error, ParseOption, WriteOption};
 
-// How a text ends: within a line, behind a backslash that takes what follows, or behind an LF that ends a line.
+// How a text ends: within a line, behind a backslash that takes what follows, or behind an LF that ends a
+// line.
 #[derive(Clone, Copy, Debug)]
 pub(crate) enum TextEnd {
     Inside,

@@ -1,5 +1,5 @@
-//! Where a pair stands in a text, laws of edited texts, of which one stretch was changed and every other byte kept, and
-//! calls that set a value, add a pair and take a pair out.
+//! Where a pair stands in a text, laws of edited texts, of which one stretch was changed and every other
+//! byte kept, and calls that set a value, add a pair and take a pair out.
 #![tactic(auto)]
 
 mod add;

@@ -1,4 +1,5 @@
-//! Places of a text where a line may be put in. This file knows elements and kinds of characters, and no value.
+//! Places of a text where a line may be put in. This file knows elements and kinds of characters, and no
+//! value.
 ghost use Rattle.std.specs.Prelude.{◌≡◌, ◌||◌, true, false, chars, IfOk, IfErr, IfSome};
 ghost use Rattle.std.specs.List.{list_all};
 ghost use Rattle.ini_text.specs.Grammar.CharacterKinds.{is_blank, is_line_end};
@@ -104,8 +105,8 @@ fn free_place<'a>(text: &'a str, rest: &'a str, read: ParseOption) -> Option<Tex
     None
 }
 
-// Whether a line may be put in between a front and a rest, if an element ends there: what follows isn't taken
-// by a multiline value, and no blank gets to a line's start.
+// Whether a line may be put in between a front and a rest, if an element ends there: what follows isn't
+// taken by a multiline value, and no blank gets to a line's start.
 fn is_free(front: &str, rest: &str, read: ParseOption) -> bool
     ensures { result ≡ true → IsFree read (chars front.now) (chars rest.now) }
 {
@@ -116,8 +117,8 @@ fn is_free(front: &str, rest: &str, read: ParseOption) -> bool
     !blank || starts_line(front)
 }
 
-// Of two places on the way to a section's end the one that a line goes to: the later one up to the next line,
-// and from there on the earlier one.
+// Of two places on the way to a section's end the one that a line goes to: the later one up to the next
+// line, and from there on the earlier one.
 fn chosen<'a>(
     source: &str,
     place: Option<TextPlace<'a>>,
@@ -142,8 +143,8 @@ fn is_nearer(place: Option<TextPlace>, next: Option<TextPlace>) -> bool {
     }
 }
 
-// Whether an element's source may be an indented key: it begins with a blank, and not all of it is blanks and
-// line ends.
+// Whether an element's source may be an indented key: it begins with a blank, and not all of it is blanks
+// and line ends.
 fn is_indented_key(source: &str) -> bool
     ensures { result ≡ false → ¬ IsIndentedKey (chars source.now) }
 {

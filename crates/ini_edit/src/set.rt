@@ -1,5 +1,6 @@
 //! A key's value set in a text, where the key is there. This file knows elements, and of characters nothing.
-ghost use Rattle.std.specs.Prelude.{◌≡◌, ◌++◌, ◌↔◌, Err, IfErr, IfOk, IsOkUnless, MatchOption, OnOk, alloc_error, chars};
+ghost use Rattle.std.specs.Prelude.{◌≡◌, ◌++◌, ◌↔◌, Err, IfErr, IfOk, IsOkUnless, MatchOption, OnOk};
+ghost use Rattle.std.specs.Prelude.{alloc_error, chars};
 ghost use Rattle.ini.specs.Texts.{str_name};
 ghost use Rattle.ini.specs.Loading.{IfParse, IsParseOrMemory, IsStopOf};
 ghost use Rattle.ini_text.specs.Escaping.EscapedTexts.{escaped};
@@ -22,17 +23,18 @@ use crate::walk::{is_same_text, read_on, step};
 use ini_text::{Content, Error, EscapePolicy, ParseOption, Parser, is_plain_value};
 use std::alloc::Global;
 
-/// Sets the value of a key in a text where the key is there: `None` where it isn't. The value stands in the place of
-/// that of the first pair of the key in the first section of the name, written as the policy says; the later pairs of
-/// the key in that section are taken out, as `delete` takes one out. No name is the general section's.
+/// Sets the value of a key in a text where the key is there: `None` where it isn't. The value stands in the
+/// place of that of the first pair of the key in the first section of the name, written as the policy says;
+/// the later pairs of the key in that section are taken out, as `delete` takes one out. No name is the
+/// general section's.
 ///
-/// White space around the old value stays, and so does every other byte. The new text loads as the document in which
-/// the key is set.
+/// White space around the old value stays, and so does every other byte. The new text loads as the document
+/// in which the key is set.
 ///
 /// # Errors
 ///
-/// `Value` where the value isn't plain, whatever the text is; `Text` where reading the text stops, with line and
-/// column, also where the pair stands before that; or where memory is refused.
+/// `Value` where the value isn't plain, whatever the text is; `Text` where reading the text stops, with line
+/// and column, also where the pair stands before that; or where memory is refused.
 pub fn set_existing(
     alloc: Global,
     text: &str,

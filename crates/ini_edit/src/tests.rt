@@ -1,4 +1,5 @@
-//! Texts before and after an edit, loaded: an example of each law, and the rules that look right and are wrong.
+//! Texts before and after an edit, loaded: an example of each law, and the rules that look right and are
+//! wrong.
 use crate::EditError;
 use ini::{Error, Ini, ParseOption};
 use std::alloc::Global;

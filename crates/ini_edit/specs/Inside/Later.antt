@@ -1,4 +1,5 @@
--- Later pairs of a key taken out of a text: behind what is written of the new text follows the rest of the old one.
+-- Later pairs of a key taken out of a text: behind what is written of the new text follows the rest of the
+-- old one.
 use Rattle.std.specs.Prelude.{◌≡◌, List, [], ◌++◌}
 use Rattle.ini_text.specs.Grammar.Elements.{Given}
 use Rattle.ini_text.specs.Grammar.Places as grammar
@@ -32,9 +33,9 @@ placed_between front p rest = record {
   rest = rest;
 }
 
--- Behind the front b of the old text T stand pairs up to the front c, and behind that the rest. The new text began
--- with the front f and what stands behind b; now it begins with the front g, and the rest. Each of the pairs that
--- has the key was taken out.
+-- Behind the front b of the old text T stand pairs up to the front c, and behind that the rest. The new text
+-- began with the front f and what stands behind b; now it begins with the front g, and the rest. Each of the
+-- pairs that has the key was taken out.
 pub record TakesOut (o : ParseOption) (T key b f behind c g rest : Text) : Type 0 where
   pub later : Pairs
   pub kept : Pairs

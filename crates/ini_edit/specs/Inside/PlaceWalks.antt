@@ -1,5 +1,5 @@
--- Walks to a place where a line may be put in: behind the items that stand between the front b of the text T and
--- that place.
+-- Walks to a place where a line may be put in: behind the items that stand between the front b of the text T
+-- and that place.
 use Rattle.std.specs.Prelude.{◌≡◌, [], false, List, Option, chars, ◌++◌, IfSome, ⊤}
 use Rattle.ini_text.specs.Grammar.CharacterKinds.{is_blank, BeginsWithNo}
 use Rattle.ini_text.specs.Grammar.Elements.{Given}

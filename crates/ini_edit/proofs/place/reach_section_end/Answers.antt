@@ -1,7 +1,8 @@
 use Rattle.std.proofs.Common.{◌∙◌, ap, chars, subst, sym, ◌++◌}
 use Rattle.ini_text.specs.Parsing.Places.{gives}
 use Rattle.ini_text.proofs.LawLemmas.ExportedLemmas.{front_is}
-use Rattle.ini_edit.proofs.PlaceWalkLemmas.{nears_end, nears_header, nears_nothing, nears_pair, nears_start, nears_within}
+use Rattle.ini_edit.proofs.PlaceWalkLemmas.{nears_end, nears_header, nears_nothing, nears_pair, nears_start}
+use Rattle.ini_edit.proofs.PlaceWalkLemmas.{nears_within}
 use Rattle.ini_edit.proofs.WalkLemmas.{step_nearer, step_none, step_some}
 use Rattle.ini_edit.proofs.place.reach_section_end.Goals as goal
 

@@ -8,7 +8,9 @@ use Rattle.ini_edit.specs.Inside.Later.{TakesLater, placed_between}
 use Rattle.ini_text.specs.Grammar.Places.{Tail}
 use Rattle.ini_edit.specs.Places.{Cut}
 use Rattle.ini_edit.specs.Inside.Walks.{IsReading}
-use Rattle.ini_edit.proofs.TakingLemmas.{Taking, cut_nearer, left_is_rest, pair_tail, taking_cut, taking_end, taking_header, taking_nothing, taking_pair, taking_start, taking_within}
+use Rattle.ini_edit.proofs.TakingLemmas.{Taking, cut_nearer, left_is_rest, pair_tail, taking_cut, taking_end}
+use Rattle.ini_edit.proofs.TakingLemmas.{taking_header, taking_nothing, taking_pair, taking_start}
+use Rattle.ini_edit.proofs.TakingLemmas.{taking_within}
 use Rattle.ini_edit.proofs.WalkLemmas.{step_none, step_some}
 use Rattle.ini_edit.proofs.set.take_later_out.Goals as goal
 
