@@ -1,5 +1,6 @@
 -- A row of elements that no line end follows stands before other texts too.
-use Rattle.std.proofs.Common.{◌≡◌, ◌≢◌, ℕ, Bool, true, false, not, ◌||◌, eqb, List, [], ◌∷◌, ◌++◌, refl, sym, ap, ◌∙◌}
+use Rattle.std.proofs.Common.{◌≡◌, ◌≢◌, ℕ, Bool, true, false, not, ◌||◌, eqb, List, [], ◌∷◌, ◌++◌, refl, sym}
+use Rattle.std.proofs.Common.{ap, ◌∙◌}
 use Rattle.std.proofs.Common.{subst, append_assoc, append-nil, eqb-true, inl, inr}
 use Rattle.std.specs.Prelude.{◌⊎◌}
 use Rattle.std.specs.List.{list_all}
@@ -7,7 +8,8 @@ use Rattle.std.proofs.lemmas.Bool.{both_ways, false≢true, and_parts, or_parts,
 use Rattle.std.proofs.lemmas.List.{append_cancel_left}
 use Rattle.std.specs.Char.{is_whitespace}
 use Rattle.ini_text.specs.declared.option.ParseOption.{ParseOption}
-use Rattle.ini_text.specs.Grammar.CharacterKinds.{open_bracket, is_blank, is_comment_mark, is_line_feed, is_line_end, BeginsWith, BeginsWithNo}
+use Rattle.ini_text.specs.Grammar.CharacterKinds.{open_bracket, is_blank, is_comment_mark, is_line_feed}
+use Rattle.ini_text.specs.Grammar.CharacterKinds.{is_line_end, BeginsWith, BeginsWithNo}
 use Rattle.ini_text.specs.Grammar.Positions.{last_or, is_column_one}
 use Rattle.ini_text.specs.Grammar.Strings.{Closes, Str, bracketed_name_ends, plain_ends}
 use Rattle.ini_text.specs.Grammar.Values.{LineEnd, MoreLines, Value}
@@ -15,14 +17,15 @@ use Rattle.ini_text.specs.Grammar.Keys.{KeyFront, begins_key}
 use Rattle.ini_text.specs.Grammar.Elements.{Given, Gap, Element}
 use Rattle.ini_text.specs.Grammar.Texts.{Reads}
 use Rattle.ini_text.proofs.GrammarLemmas.KindLemmas.{line_end_no_blank}
-use Rattle.ini_text.proofs.LawLemmas.OneAheadLemmas.{Alike, Element-alike, EndedLine-before, KeyFront-alike, Reads-front, Str-alike}
+use Rattle.ini_text.proofs.LawLemmas.OneAheadLemmas.{Alike, Element-alike, EndedLine-before, KeyFront-alike}
+use Rattle.ini_text.proofs.LawLemmas.OneAheadLemmas.{Reads-front, Str-alike}
 use Rattle.ini_text.proofs.PlainLemmas.PlainLineLemmas.{column_one_behind}
 use Rattle.ini_text.proofs.PlainLemmas.PlainTrimLemmas.{line_end_is_white}
 use Rattle.ini_edit.specs.Places.{Follows}
 use Rattle.ini_edit.proofs.ValueLemmas.{closes_line_end, line_closes}
 
--- What stands behind the front c: no line end; and a bracket in column one alone, since blanks before one are an
--- element of their own.
+-- What stands behind the front c: no line end; and a bracket in column one alone, since blanks before one
+-- are an element of their own.
 pub record FollowsFront (c y : List ℕ) : Type 0 where
   pub some : BeginsWith (λ c. not (is_line_end c)) y
   pub bracket : BeginsWithNo (λ c. eqb c open_bracket) y ⊎ (is_column_one c ≡ true)
@@ -35,7 +38,7 @@ last_blank c [] h =
     (λ q. false≢true (subst (λ z. is_blank z ≡ true) (eqb-true c 0x0A q) parts.0))
 last_blank c (d ∷ w) h = last_blank d w (and_parts (is_blank c) (list_all is_blank (d ∷ w)) h).1
 
-blank_no_column : (b w : List ℕ) → BeginsWith is_blank w → list_all is_blank w ≡ true
+pub blank_no_column : (b w : List ℕ) → BeginsWith is_blank w → list_all is_blank w ≡ true
     → is_column_one (b ++ w) ≡ true → ⊥
 blank_no_column b [] some all one = false≢true (sym some)
 blank_no_column b (c ∷ w) some all one =
@@ -49,7 +52,7 @@ no_line_feed (c ∷ x) h = at (eqb c 0x0A) (eqb c 0x0D) h
     at true q h = h
     at false q h = refl
 
-LineEnd-before : {e : List ℕ} (t x y : List ℕ) → BeginsWithNo is_line_end x → LineEnd e (t ++ y) → LineEnd e (t ++ x)
+pub LineEnd-before : {e : List ℕ} (t x y : List ℕ) → BeginsWithNo is_line_end x → LineEnd e (t ++ y) → LineEnd e (t ++ x)
 LineEnd-before t x y h LineEnd.lf = LineEnd.lf
 LineEnd-before t x y h LineEnd.cr_lf = LineEnd.cr_lf
 LineEnd-before [] x y h (LineEnd.cr n) = LineEnd.cr (no_line_feed x h)
@@ -80,7 +83,7 @@ module _ {o : ParseOption} {x : List ℕ} (follows : Follows o x) where
       let n = EndedLine-before (LineEnd-before t x _ (follows.no_line_end on) le) (record { lead = lead; line = ln; end = le }) in
       Value.lines on n.lead n.line n.end (MoreLines-before on some m)
 
-  y_some : {c y : List ℕ} → FollowsFront c y → y ≢ []
+  pub y_some : {c y : List ℕ} → FollowsFront c y → y ≢ []
   y_some f e = false≢true (sym (subst (BeginsWith (λ c. not (is_line_end c))) e f.some))
 
   value_before : {c s y v : List ℕ} → FollowsFront c y → Value o s y v → Value o s x v
@@ -88,7 +91,7 @@ module _ {o : ParseOption} {x : List ℕ} (follows : Follows o x) where
   value_before f (Value.to_end on lead ln) = absurd (y_some f refl)
   value_before f (Value.lines on lead ln le m) = Value-before on (y_some f) (Value.lines on lead ln le m)
 
-  no_bracketed : {X : Type 0} {c : List ℕ} {e : Bool} {s y v : List ℕ} → FollowsFront c y
+  pub no_bracketed : {X : Type 0} {c : List ℕ} {e : Bool} {s y v : List ℕ} → FollowsFront c y
       → Str e bracketed_name_ends s y v → X
   no_bracketed {y = y} f (Str.closed row h) = at y f.some h
     where
@@ -168,7 +171,7 @@ key_follows {b = b} r (KeyFront.indented {w = w} {s = s} i begins str) = at w i.
     }
 
 -- what follows a multiline value
-more_follows : {o : ParseOption} {t r v : List ℕ} → MoreLines o t r v → Follows o r
+pub more_follows : {o : ParseOption} {t r v : List ℕ} → MoreLines o t r v → Follows o r
 more_follows (MoreLines.done n m) = record { no_blank = λ _. n; no_line_end = λ _. m }
 more_follows (MoreLines.empty_lf m) = more_follows m
 more_follows (MoreLines.empty_cr_lf m) = more_follows m

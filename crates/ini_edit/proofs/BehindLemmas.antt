@@ -1,12 +1,14 @@
 -- A text behind another front: it is read as before where the two fronts end alike.
-use Rattle.std.proofs.Common.{◌≡◌, ℕ, Bool, true, List, [], ◌∷◌, ◌++◌, refl, sym, ap, ◌∙◌, subst, append_assoc, append-nil, length, length-append, arith}
+use Rattle.std.proofs.Common.{◌≡◌, ℕ, Bool, true, List, [], ◌∷◌, ◌++◌, refl, sym, ap, ◌∙◌, subst}
+use Rattle.std.proofs.Common.{append_assoc, append-nil, length, length-append, arith}
 use Rattle.std.proofs.Common.{not, ◌||◌, eqb}
 use Rattle.std.proofs.lemmas.Bool.{both_ways, false≢true, or_left, and_parts}
 use Rattle.std.specs.List.{list_all}
 use Rattle.std.proofs.lemmas.List.{append_cancel_left}
 use Rattle.std.specs.Char.{is_whitespace}
 use Rattle.ini_text.specs.declared.option.ParseOption.{ParseOption}
-use Rattle.ini_text.specs.Grammar.CharacterKinds.{line_feed, open_bracket, is_blank, is_comment_mark, is_line_feed, is_line_end, BeginsWith}
+use Rattle.ini_text.specs.Grammar.CharacterKinds.{line_feed, open_bracket, is_blank, is_comment_mark}
+use Rattle.ini_text.specs.Grammar.CharacterKinds.{is_line_feed, is_line_end, BeginsWith}
 use Rattle.ini_text.specs.Grammar.Positions.{last_or, starts_line, is_column_one}
 use Rattle.ini_text.specs.Grammar.Keys.{Indentation, KeyFront, begins_key}
 use Rattle.ini_text.specs.Grammar.Elements.{Given, Gap, Element}
@@ -99,7 +101,7 @@ nothing_left (Reads.step {b = b} {s = s} {r = r} h x reads) e =
     absurd (omega (arith, element-some x, length-append b (s ++ r), length-append s r, none))
 
 -- a line end is a gap alone
-line_end_element : {o : ParseOption} {b s r Y : List ℕ} {gives : List Given} (c : ℕ) → is_line_end c ≡ true
+pub line_end_element : {o : ParseOption} {b s r Y : List ℕ} {gives : List Given} (c : ℕ) → is_line_end c ≡ true
     → Element o b s r gives → s ++ r ≡ c ∷ Y → (gives ≡ []) × (s ≡ c ∷ [])
 line_end_element {o = o} {b = b} {s} {r} {Y} c ends e h = at e h
   where

@@ -1,5 +1,5 @@
 -- The document of a text from which a pair was taken.
-use Rattle.std.proofs.Common.{◌≡◌, ◌∙◌, List, [], ◌∷◌, ◌++◌, ap, sym, Option}
+use Rattle.std.proofs.Common.{◌≡◌, ◌∙◌, List, [], ◌∷◌, ◌++◌, ap, sym, subst, refl, Option}
 use Rattle.ini_text.specs.Grammar.Elements.{Given, Pair}
 use Rattle.ini_text.specs.declared.option.ParseOption.{ParseOption}
 use Rattle.ini.specs.Texts.{Text}
@@ -7,9 +7,13 @@ use Rattle.ini.specs.Properties.{removed}
 use Rattle.ini.specs.Documents.{document_of}
 use Rattle.ini.specs.SectionItems.{pair_items}
 use Rattle.ini.specs.Edits.{delete_in}
+use Rattle.ini.specs.Loading.{IsDocumentOf}
 use Rattle.ini.proofs.KeepingLemmas.{name_refl, text_refl}
 use Rattle.ini_edit.specs.Targets.{IsTarget}
+use Rattle.ini_edit.specs.Edited.{IsDeleted}
 use Rattle.ini_edit.specs.EditedTexts.{Deletes}
+use Rattle.ini_edit.specs.FirstPairs.{IsFirstPair}
+use Rattle.ini_edit.specs.Places.{Cut, Stretches}
 use Rattle.ini_edit.proofs.CutLemmas.{cut_derives}
 use Rattle.ini_edit.proofs.DocumentLemmas.{edited_document}
 use Rattle.ini_edit.proofs.PairListLemmas.{removed_at}
@@ -35,7 +39,7 @@ module _ {name : Option Text} {key : Text} {before after : List Given} (t : IsTa
       ∙ ap document_of (sym items_without)
 
 pub deletes : (o : ParseOption) (T : Text) → Deletes o T
-deletes o T p name key old before after s target r cut d document =
+deletes o T p name key old before after s target kept r cut d document =
     let same : document.items ≡ before ++ (Pair key old ∷ after) =
     derives_one document.derives (stands_derives s) in
     record {
@@ -43,4 +47,26 @@ deletes o T p name key old before after s target r cut d document =
       derives = cut_derives s cut;
       document =
           ap (delete_in name key) (document.document ∙ ap document_of same) ∙ deleted_at target old;
+    }
+
+-- the text without the pair that was found
+pub is_deleted : {o : ParseOption} {T : Text} {name : Option Text} {key value kept behind : Text} {p : Stretches}
+    (U : Text) → IsFirstPair o T name key p value → Cut o p kept behind → U ≡ p.front ++ (kept ++ behind)
+    → IsDeleted o T name key U
+is_deleted {o} {T} {name} {key} {value} {kept} {behind} {p} U first cut text =
+    let d = document_of (first.before ++ (Pair key value ∷ first.after)) in
+    let document : IsDocumentOf o T d = record { items = _; derives = stands_derives first.stands; document = refl } in
+    record {
+      pair = p;
+      value = value;
+      is_first = first;
+      kept = kept;
+      behind = behind;
+      is_cut = cut;
+      text = text;
+      document = d;
+      was = document;
+      is =
+          subst (λ z. IsDocumentOf o z (delete_in name key d)) (sym text)
+          (deletes o T p name key value first.before first.after first.stands first.target kept behind cut d document);
     }

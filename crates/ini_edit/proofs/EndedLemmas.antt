@@ -1,9 +1,11 @@
 -- Elements behind which a line may stand as it is: those that end with an LF that no backslash takes.
-use Rattle.std.proofs.Common.{◌≡◌, ◌≢◌, ℕ, Bool, true, false, not, List, [], ◌∷◌, ◌++◌, refl, sym, ap, ◌∙◌, append_assoc, append-nil}
+use Rattle.std.proofs.Common.{◌≡◌, ◌≢◌, ℕ, Bool, true, false, not, List, [], ◌∷◌, ◌++◌, refl, sym, ap, ◌∙◌}
+use Rattle.std.proofs.Common.{append_assoc, append-nil}
 use Rattle.std.proofs.lemmas.Bool.{false≢true, both_ways, and_parts, not-true}
 use Rattle.std.specs.List.{list_all}
 use Rattle.ini_text.specs.declared.option.ParseOption.{ParseOption}
-use Rattle.ini_text.specs.Grammar.CharacterKinds.{line_feed, open_bracket, is_blank, is_comment_mark, is_line_feed, is_separator, BeginsWith}
+use Rattle.ini_text.specs.Grammar.CharacterKinds.{line_feed, open_bracket, is_blank, is_comment_mark}
+use Rattle.ini_text.specs.Grammar.CharacterKinds.{is_line_feed, is_separator, BeginsWith}
 use Rattle.ini_text.specs.Grammar.Positions.{last_or}
 use Rattle.ini_text.specs.Grammar.Strings.{Str, bracketed_name_ends}
 use Rattle.ini_text.specs.Grammar.Values.{LineEnd, MoreLines, Value}
@@ -13,7 +15,8 @@ use Rattle.ini_text.proofs.LawLemmas.OneAheadLemmas.{Alike, EndedLine-before, Ke
 use Rattle.ini_text.proofs.PlainLemmas.PlainPairLemmas.{inline_blanks}
 use Rattle.ini_edit.specs.Endings.{Ending, IsIndentedKey, ending, ending_from}
 use Rattle.ini_edit.specs.Places.{Follows}
-use Rattle.ini_edit.proofs.EndingLemmas.{IsInner, column_ending, ending-behind, ending-lead, ending-line, ending-row, ending-white, inner_by, line_no_line}
+use Rattle.ini_edit.proofs.EndingLemmas.{IsInner, column_ending, ending-behind, ending-lead, ending-line}
+use Rattle.ini_edit.proofs.EndingLemmas.{ending-row, ending-white, inner_by, line_no_line}
 
 -- no text of blanks ends so, and no comment without LF
 pub ending-blanks : (b w : List ℕ) → BeginsWith is_blank w → list_all is_blank w ≡ true

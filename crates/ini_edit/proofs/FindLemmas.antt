@@ -1,5 +1,6 @@
 -- The walk to the first pair of a key in the first section of a name.
-use Rattle.std.proofs.Common.{◌≡◌, ◌∙◌, Bool, true, false, cond, List, [], ◌∷◌, ◌++◌, fold, ap, sym, subst, refl}
+use Rattle.std.proofs.Common.{◌≡◌, ◌∙◌, Bool, true, false, cond, List, [], ◌∷◌, ◌++◌, fold, ap, sym, subst}
+use Rattle.std.proofs.Common.{refl}
 use Rattle.std.proofs.Common.{Option, None, Some, append_assoc, append-nil, chars, MatchOption}
 use Rattle.std.specs.Prelude.{option_and_then}
 use Rattle.std.proofs.lemmas.Bool.{cond-true, cond-false}
@@ -28,11 +29,13 @@ use Rattle.ini.proofs.KeepingLemmas.{name_refl}
 use Rattle.ini_edit.specs.Places.{pair_of}
 use Rattle.ini_edit.specs.Targets.{Lacks}
 use Rattle.ini_edit.specs.FirstPairs.{IsFirstPair, LacksPair, LacksSection, stretches_of}
-use Rattle.ini_edit.specs.Inside.Walks.{EndsSection, IsPastLast, IsReading, OpensFirst, OpensNone, PassesPairs, ReachesEnd, ReachesPair}
+use Rattle.ini_edit.specs.Inside.Walks.{Boundary, EndsSection, IsPastLast, IsReading, OpensFirst, OpensNone}
+use Rattle.ini_edit.specs.Inside.Walks.{PassesPairs, ReachesEnd, ReachesPair}
 use Rattle.ini_edit.specs.Inside.Walks.{ReadsOn, StandsWithin, Steps}
 use Rattle.ini_edit.specs.declared.find.FoundPair.{FoundPair}
 use Rattle.ini_edit.proofs.DocumentLemmas.{pair_items-append, section_made, sections_behind}
-use Rattle.ini_edit.proofs.WalkLemmas.{Walked, stands_within, step_reads, stays, told, walked_start, walked_step, walked_within}
+use Rattle.ini_edit.proofs.WalkLemmas.{Walked, item_boundary, stands_within, step_reads, stays, told}
+use Rattle.ini_edit.proofs.WalkLemmas.{walked_start, walked_step, walked_within}
 
 -- sections without one of the name, and another that has another name
 first_section-behind : (name : Option Text) (d e : Document) → first_section name d ≡ None
@@ -107,6 +110,7 @@ module _ {o : ParseOption} {T : Text} {p : Place} where
     sections = document_of s.items;
     opens = record { opened = document_of-append s.items (Header name ∷ []); first = s.none };
     reads = reads-append s.reads (subst (λ l. Reads o T p.front l q.front) is (step_reads t));
+    boundary = item_boundary s.reads t is;
   }
 
   pub sections_end : {name : Option Text} {q : Place} → PassesSections o T p name → IsPastLast o T p.front q
@@ -138,6 +142,7 @@ module _ {p : Place} (refusal : p.refusal ≡ None) (front : p.front ≡ []) whe
     sections = [];
     opens = record { opened = refl; first = refl };
     reads = at_front;
+    boundary = subst (λ c. Boundary p.option p.text [] c []) (sym front) Boundary.start;
   }
 
 -- the parser went over pairs without the key
@@ -145,7 +150,7 @@ pub record Searches (o : ParseOption) (T b : Text) (p : Place) (key : Text) : Ty
   pub walked : Walked o T b p
   pub passes : PassesPairs o T b p.front key
 
-lacks_more : (key k value : Text) (pairs : Pairs) → Lacks key pairs → is_text key k ≡ false
+pub lacks_more : (key k value : Text) (pairs : Pairs) → Lacks key pairs → is_text key k ≡ false
     → Lacks key (pairs ++ (k, value) ∷ [])
 lacks_more key k value [] lacks apart = cond-false (is_text key k) _ _ apart
 lacks_more key k value (q ∷ qs) lacks apart =
@@ -245,49 +250,55 @@ items_split (Pair key value ∷ items) =
     let more = items_split items in
     ((key, value) ∷ more.0, (more.1.0, (ap (λ l. Pair key value ∷ l) more.1.1.0, more.1.1.1)))
 
-white_pad : {own pad : Text} → Padded own pad → list_all is_inline_white pad ≡ true
+pub white_pad : {own pad : Text} → Padded own pad → list_all is_inline_white pad ≡ true
 white_pad (Padded.bare bare white) = white
 white_pad (Padded.escaped front white all) = refl
 
-end_reads : {o : ParseOption} {T c d : Text} → EndsSection o T c d → (items : List Given) × Reads o T c items d
+pub end_reads : {o : ParseOption} {T c d : Text} → EndsSection o T c d → (items : List Given) × Reads o T c items d
 end_reads (EndsSection.end is) = ([], Reads.stay [] (sym is ∙ sym (append-nil _)))
 end_reads (EndsSection.header t reads) = (Header t ∷ [], reads)
 
 module _ {o : ParseOption} {T : Text} {p : Place} {name : Option Text} (key : Text) (opens : OpensFirst o T p name) where
-  -- the pair that was found, in a text that is read to its end
+  -- the pair that was found, where the later pairs of its section stand behind it, and then a header first
+  unfoldable pub found_before : {q : Place} {found : FoundPair} {after : List Given} (later : Pairs) (rest : List Given)
+      → ReachesPair o T p.front q key found → after ≡ pair_items later ++ rest → BeginsWithHeader rest
+      → Reads o T q.front after T → IsFirstPair o T name key (stretches_of found) (string_text found.value)
+  found_before {after = after} later rest reaches is header then = record {
+    before = opens.items ++ pair_items reaches.passes.pairs;
+    after = after;
+    stands = record {
+      text = reaches.whole;
+      reads = reads-append opens.reads reaches.passes.reads;
+      key_front = reaches.placed.key_front;
+      some = reaches.placed.some;
+      separates = reaches.placed.separates;
+      gives = reaches.placed.gives;
+      white_lead = reaches.placed.lead.white;
+      white_pad = white_pad reaches.placed.pad;
+      is_tail = reaches.placed.tail;
+      then = subst (λ c. Reads o T c after T) reaches.front then;
+    };
+    target = record {
+      opening = opens.items;
+      sections = opens.sections;
+      earlier = reaches.passes.pairs;
+      later = later;
+      rest = rest;
+      opens = opens.opens;
+      lacks = reaches.passes.lacks;
+      before_is = refl;
+      after_is = is;
+      header = header;
+    };
+    placed = reaches.placed;
+  }
+
+  -- the same, in a text that is read to its end
   pub found_first : {q : Place} {pair : FoundPair} → ReachesPair o T p.front q key pair → ReadsOn o T q.front
       → IsFirstPair o T name key (stretches_of pair) (string_text pair.value)
-  found_first {pair} reaches on =
+  found_first reaches on =
       let split = items_split on.items in
-      record {
-        before = opens.items ++ pair_items reaches.passes.pairs;
-        after = on.items;
-        stands = record {
-          text = reaches.whole;
-          reads = reads-append opens.reads reaches.passes.reads;
-          key_front = reaches.placed.key_front;
-          some = reaches.placed.some;
-          separates = reaches.placed.separates;
-          gives = reaches.placed.gives;
-          white_lead = reaches.placed.lead.white;
-          white_pad = white_pad reaches.placed.pad;
-          is_tail = reaches.placed.tail;
-          then = subst (λ c. Reads o T c on.items T) reaches.front on.reads;
-        };
-        target = record {
-          opening = opens.items;
-          sections = opens.sections;
-          earlier = reaches.passes.pairs;
-          later = split.0;
-          rest = split.1.0;
-          opens = opens.opens;
-          lacks = reaches.passes.lacks;
-          before_is = refl;
-          after_is = split.1.1.0;
-          header = split.1.1.1;
-        };
-        placed = reaches.placed;
-      }
+      found_before split.0 split.1.0 reaches split.1.1.0 split.1.1.1 on.reads
 
   -- the section has no pair of the key, and the rest of the text begins with a header
   lacks_pair : {front : Text} (rest : List Given) → BeginsWithHeader rest → PassesPairs o T p.front front key

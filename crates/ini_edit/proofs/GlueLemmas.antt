@@ -1,12 +1,14 @@
 -- A line end, with what goes before it, put in behind an element: the element gives what it gave.
-use Rattle.std.proofs.Common.{◌≡◌, ◌≢◌, ℕ, Bool, true, false, not, eqb, List, [], ◌∷◌, ◌++◌, refl, sym, ap, ◌∙◌, subst, append_assoc, append-nil, inl, inr, eqb-true, if◌then◌else◌}
+use Rattle.std.proofs.Common.{◌≡◌, ◌≢◌, ℕ, Bool, true, false, not, eqb, List, [], ◌∷◌, ◌++◌, refl, sym, ap}
+use Rattle.std.proofs.Common.{◌∙◌, subst, append_assoc, append-nil, inl, inr, eqb-true, if◌then◌else◌}
 use Rattle.std.proofs.lemmas.Bool.{cases_Bool, false≢true, false_from_ne_true, and_parts, and_from}
 use Rattle.std.specs.Char.{is_whitespace}
 use Rattle.std.specs.List.{list_all}
 use Rattle.ini_text.specs.declared.option.ParseOption.{ParseOption}
 use Rattle.ini_text.specs.declared.write.option.LineSeparator.{LineSeparator}
 use Rattle.ini_text.specs.declared.write.option.LineSeparator.TheVariants.{SystemDefault, CR, CRLF}
-use Rattle.ini_text.specs.Grammar.CharacterKinds.{backslash, line_feed, carriage_return, open_bracket, close_bracket, is_line_end, is_line_feed}
+use Rattle.ini_text.specs.Grammar.CharacterKinds.{backslash, line_feed, carriage_return, open_bracket}
+use Rattle.ini_text.specs.Grammar.CharacterKinds.{close_bracket, is_line_end, is_line_feed}
 use Rattle.ini_text.specs.Grammar.Keys.{Indentation}
 use Rattle.ini_text.specs.Grammar.Strings.{Closes, Str, bracketed_name_ends}
 use Rattle.ini_text.specs.Grammar.Elements.{Given, Pair, Gap, Element}
@@ -21,7 +23,7 @@ use Rattle.ini_edit.proofs.GluedLemmas.{closing_inside, line_value_glued, lines_
 use Rattle.ini_edit.proofs.InsertedLemmas.{line_end-all, line_end-closes}
 
 -- only a backslash takes what follows it
-no_escape : (e : Ending) (X : List ℕ) (c : ℕ) → eqb c backslash ≡ false → ending_from e (X ++ c ∷ []) ≢ Ending.escape
+pub no_escape : (e : Ending) (X : List ℕ) (c : ℕ) → eqb c backslash ≡ false → ending_from e (X ++ c ∷ []) ≢ Ending.escape
 no_escape e (x ∷ X) c h = no_escape (next_ending e x) X c h
 no_escape e [] c h = at e h
   where
@@ -36,12 +38,12 @@ no_escape e [] c h = at e h
     at Ending.inside h is = by (eqb c backslash) (eqb c line_feed) h is
     at Ending.line h is = by (eqb c backslash) (eqb c line_feed) h is
 
-no_backslash : (test : ℕ → Bool) (c : ℕ) → test backslash ≡ false → test c ≡ true → eqb c backslash ≡ false
+pub no_backslash : (test : ℕ → Bool) (c : ℕ) → test backslash ≡ false → test c ≡ true → eqb c backslash ≡ false
 no_backslash test c apart h =
     false_from_ne_true (eqb c backslash)
     (λ q. false≢true (sym apart ∙ subst (λ x. test x ≡ true) (eqb-true c backslash q) h))
 
-closing_none : {o : ParseOption} {e : Ending} {c : List ℕ} → e ≢ Ending.escape → Closing o e c → c ≡ []
+pub closing_none : {o : ParseOption} {e : Ending} {c : List ℕ} → e ≢ Ending.escape → Closing o e c → c ≡ []
 closing_none h Closing.within = refl
 closing_none h Closing.behind_line = refl
 closing_none h (Closing.by_backslash on) = absurd (h refl)
@@ -84,7 +86,7 @@ module _ {o : ParseOption} (sep : LineSeparator) {x : List ℕ} (follows : Follo
   ReadsGlued s g gives = Reads o (b ++ (s ++ (g ++ x))) b gives (b ++ (s ++ g))
 
   -- the element takes h of the glue, and what is left are gaps
-  by_parts : {given : List Given} (s h t : List ℕ) → list_all is_line_end t ≡ true
+  pub by_parts : {given : List Given} (s h t : List ℕ) → list_all is_line_end t ≡ true
       → Element o b (s ++ h) (t ++ x) given → ReadsGlued s (h ++ t) given
   by_parts {given} s h t all element =
       let N = b ++ (s ++ ((h ++ t) ++ x)) in

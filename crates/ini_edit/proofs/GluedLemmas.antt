@@ -1,15 +1,20 @@
 -- Values with a line end put in behind them: the text's end, or what followed them, is a line further down.
-use Rattle.std.proofs.Common.{◌≡◌, ◌≢◌, ℕ, Bool, true, false, ◌&&◌, eqb, cond, List, [], ◌∷◌, ◌++◌, length, refl, sym, ap, ◌∙◌, subst, append_assoc, append-nil, inl, inr}
+use Rattle.std.proofs.Common.{◌≡◌, ◌≢◌, ℕ, Bool, true, false, ◌&&◌, eqb, cond, List, [], ◌∷◌, ◌++◌, length}
+use Rattle.std.proofs.Common.{refl, sym, ap, ◌∙◌, subst, append_assoc, append-nil, inl, inr}
 use Rattle.std.specs.Prelude.{◌⊎◌}
-use Rattle.std.proofs.lemmas.Bool.{cases_Bool, cond-true, cond-false, eqb-false, false≢true, both_ways, and_parts, and_from}
+use Rattle.std.proofs.lemmas.Bool.{cases_Bool, cond-true, cond-false, eqb-false, false≢true, both_ways}
+use Rattle.std.proofs.lemmas.Bool.{and_parts, and_from}
 use Rattle.std.specs.Char.{is_whitespace}
 use Rattle.std.specs.List.{list_all}
 use Rattle.std.specs.Str.{drop_trailing_whitespace}
 use Rattle.ini_text.specs.declared.option.ParseOption.{ParseOption}
 use Rattle.ini_text.specs.declared.write.option.LineSeparator.{LineSeparator}
 use Rattle.ini_text.specs.declared.write.option.LineSeparator.TheVariants.{SystemDefault, CR, CRLF}
-use Rattle.ini_text.specs.Grammar.CharacterKinds.{backslash, letter_x, line_feed, space, is_blank, is_inline_white, is_line_feed, is_mark, BeginsWith, BeginsWithNo}
-use Rattle.ini_text.specs.Grammar.WhiteSpace.{Lead, trimmed, end_trimmed, drop_line_feeds, without_outer_line_feeds}
+use Rattle.ini_text.specs.Grammar.CharacterKinds.{backslash, letter_x, line_feed, space, is_blank}
+use Rattle.ini_text.specs.Grammar.CharacterKinds.{is_inline_white, is_line_feed, is_mark, BeginsWith}
+use Rattle.ini_text.specs.Grammar.CharacterKinds.{BeginsWithNo}
+use Rattle.ini_text.specs.Grammar.WhiteSpace.{Lead, trimmed, end_trimmed, drop_line_feeds}
+use Rattle.ini_text.specs.Grammar.WhiteSpace.{without_outer_line_feeds}
 use Rattle.ini_text.specs.Grammar.EscapeSequences.{EscapeSequence}
 use Rattle.ini_text.specs.Grammar.Strings.{Closes, Ends, Row, Str, plain_ends}
 use Rattle.ini_text.specs.Grammar.Lines.{Line, plain_value}
@@ -168,8 +173,8 @@ no_lines (MoreLines.last {w} {l} b lead ln) h = absurd (some w _ b h)
     some [] z b h = false≢true (sym b)
     some (c ∷ w) z b h = cc
 
--- With g, a line end and what goes before it, behind them, lines are read before x: their value has only line
--- feeds behind it.
+-- With g, a line end and what goes before it, behind them, lines are read before x: their value has only
+-- line feeds behind it.
 record MoreGlued (o : ParseOption) (t g x v : List ℕ) : Type 0 where
   pub value : List ℕ
   pub feeds : List ℕ

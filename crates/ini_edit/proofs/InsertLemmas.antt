@@ -1,5 +1,6 @@
 -- The document of a text in which a line was put, or behind which a section was.
-use Rattle.std.proofs.Common.{◌≡◌, ◌∙◌, List, [], ◌∷◌, ◌++◌, ap, sym, subst, refl, append_assoc, append-nil, chars, Option}
+use Rattle.std.proofs.Common.{◌≡◌, ◌∙◌, List, [], ◌∷◌, ◌++◌, ap, sym, subst, refl, append_assoc, append-nil}
+use Rattle.std.proofs.Common.{chars, Option}
 use Rattle.std.proofs.Common.{Some, None, fold, false}
 use Rattle.std.proofs.lemmas.Grind.{fold-append}
 use Rattle.ini_text.specs.Grammar.CharacterKinds.{open_bracket, close_bracket}

@@ -1,12 +1,14 @@
 -- A pair's line that was put in a text.
-use Rattle.std.proofs.Common.{◌≡◌, inl, inr, ℕ, true, List, [], ◌∷◌, ◌++◌, refl, sym, ap, ◌∙◌, subst, append_assoc, append-nil}
+use Rattle.std.proofs.Common.{◌≡◌, inl, inr, ℕ, true, List, [], ◌∷◌, ◌++◌, refl, sym, ap, ◌∙◌, subst}
+use Rattle.std.proofs.Common.{append_assoc, append-nil}
 use Rattle.std.proofs.lemmas.Bool.{cases_Bool}
 use Rattle.std.specs.List.{list_all}
 use Rattle.ini_text.specs.declared.option.ParseOption.{ParseOption}
 use Rattle.ini_text.specs.declared.write.policy.EscapePolicy.{EscapePolicy}
 use Rattle.ini_text.specs.declared.write.option.LineSeparator.{LineSeparator}
 use Rattle.ini_text.specs.declared.write.option.LineSeparator.TheVariants.{SystemDefault, CR, CRLF}
-use Rattle.ini_text.specs.Grammar.CharacterKinds.{line_feed, carriage_return, is_blank, is_line_end, is_line_feed, BeginsWithNo}
+use Rattle.ini_text.specs.Grammar.CharacterKinds.{line_feed, carriage_return, is_blank, is_line_end}
+use Rattle.ini_text.specs.Grammar.CharacterKinds.{is_line_feed, BeginsWithNo}
 use Rattle.ini_text.specs.Grammar.Strings.{Closes, plain_ends}
 use Rattle.ini_text.specs.Grammar.Values.{MoreLines}
 use Rattle.ini_text.specs.Grammar.Positions.{is_column_one}
@@ -20,7 +22,9 @@ use Rattle.ini_text.proofs.GrammarLemmas.KindLemmas.{no_white_no_blank}
 use Rattle.ini_text.proofs.LawLemmas.MovedLemmas.{last_or-behind}
 use Rattle.ini_text.proofs.PlainLemmas.EscapedTextLemmas.{all_read}
 use Rattle.ini_text.proofs.PlainLemmas.PlainLineLemmas.{gaps_of, gaps_read}
-use Rattle.ini_text.proofs.PlainLemmas.PlainPairLemmas.{bare_begins, no_white_no_line_end, inline_blanks, key_front, key_some, line_end-is, line_starts, source-parts}
+use Rattle.ini_text.proofs.PlainLemmas.PlainPairLemmas.{bare_begins, no_white_no_line_end, inline_blanks}
+use Rattle.ini_text.proofs.PlainLemmas.PlainPairLemmas.{key_front, key_some, line_end-is, line_starts}
+use Rattle.ini_text.proofs.PlainLemmas.PlainPairLemmas.{source-parts}
 use Rattle.ini_text.specs.Grammar.Places.{Tail}
 use Rattle.ini_edit.specs.Places.{EndsLike, Follows, IsLineStart}
 use Rattle.ini_edit.proofs.BehindLemmas.{Reads-like}

@@ -1,5 +1,6 @@
 -- At a place elements reach the line that is put in, and behind it the text is read as before.
-use Rattle.std.proofs.Common.{◌≤◌, ◌≡◌, ℕ, true, List, [], ◌∷◌, ◌++◌, length, refl, sym, ap, ◌∙◌, subst, append_assoc, append-nil, inl, inr, arith}
+use Rattle.std.proofs.Common.{◌≤◌, ◌≡◌, ℕ, true, List, [], ◌∷◌, ◌++◌, length, refl, sym, ap, ◌∙◌, subst}
+use Rattle.std.proofs.Common.{append_assoc, append-nil, inl, inr, arith}
 use Rattle.std.proofs.lemmas.Bool.{cases_Bool, both_ways}
 use Rattle.std.proofs.lemmas.List.{append_cancel_left}
 use Rattle.ini_text.specs.declared.option.ParseOption.{ParseOption}

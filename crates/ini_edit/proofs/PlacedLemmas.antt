@@ -1,5 +1,6 @@
 -- The document of a text in which a line, or a section, was put at a place.
-use Rattle.std.proofs.Common.{◌≡◌, ◌∙◌, List, [], ◌∷◌, ◌++◌, ap, sym, subst, refl, append_assoc, append-nil, chars, Option}
+use Rattle.std.proofs.Common.{◌≡◌, ◌∙◌, List, [], ◌∷◌, ◌++◌, ap, sym, subst, refl, append_assoc, append-nil}
+use Rattle.std.proofs.Common.{chars, Option}
 use Rattle.std.proofs.Common.{Some, None, false, true}
 use Rattle.std.proofs.lemmas.Grind.{fold-append}
 use Rattle.ini_text.specs.Grammar.CharacterKinds.{open_bracket, close_bracket}
@@ -38,7 +39,7 @@ element_end-items {o} {T} (IsElementEnd.behind {b} {s} {r} {items} {gives} reads
     subst (λ g. Reads o T [] (items ++ g) (b ++ s)) (append-nil gives)
     (reads-append reads (Reads.step whole element (Reads.stay r (whole ∙ sym (append_assoc b s r)))))
 
-place_items : {o : ParseOption} {end : LineSeparator} {W r glue : Text} {items : List Given}
+pub place_items : {o : ParseOption} {end : LineSeparator} {W r glue : Text} {items : List Given}
     → IsPlace o end W r glue items → Follows o r → Reads o (W ++ r) [] items W
 place_items {r = r} (IsPlace.line_start start) follows = reached start r follows
 place_items (IsPlace.behind_element ends closing unblank) follows = element_end-items ends

@@ -73,6 +73,14 @@ module _ {o : ParseOption} {T : List ℕ} {p : Stretches} {key old : List ℕ} {
       subst (λ z. Reads o (text_with p new) z after (text_with p new)) (sym (to_tail new))
       (subst (λ z. Reads o z (before_tail new ++ p.tail) after z) (sym (whole_text new)) is)
 
+  -- the same up to the pair's end
+  pub replaced_front : Reads o (text_with p new) [] (before ++ Pair key value ∷ []) (p.front ++ pair_with p new)
+  replaced_front =
+      let first : Reads o (text_with p p.own) [] before p.front =
+      subst (λ z. Reads o z [] before p.front) s.text s.reads in
+      Reads-alike (alike_key p.key p.separator _ _ p.rest) refl first
+      (Reads.step refl element_new (Reads.stay p.rest (sym (append_assoc p.front (pair_with p new) p.rest))))
+
   -- with the written value in its own's place the text gives the same items, but for the pair's value
   pub replaced : Derives o (text_with p new) (before ++ Pair key value ∷ after)
   replaced =

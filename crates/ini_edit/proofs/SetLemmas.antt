@@ -36,9 +36,9 @@ module _ {o : ParseOption} {key : Text} {upto rest : List Given} where
       → Derives o U (upto ++ (pair_items (all_removed key later) ++ rest))
   later_out {T} {later = later} (LaterOut.none lacks) derives =
       subst (λ ps. Derives o T (upto ++ (pair_items ps ++ rest))) (sym (lacks-removed key later lacks)) derives
-  later_out {U = U} (LaterOut.out p r old between later s cut more) derives =
-      let left : Derives o (p.front ++ r) (upto ++ (pair_items (between ++ later) ++ rest)) =
-      subst (Derives o (p.front ++ r)) (section_items upto rest between later) (cut_derives s cut) in
+  later_out {U = U} (LaterOut.out p kept r old between later s cut more) derives =
+      let left : Derives o (p.front ++ (kept ++ r)) (upto ++ (pair_items (between ++ later) ++ rest)) =
+      subst (Derives o (p.front ++ (kept ++ r))) (section_items upto rest between later) (cut_derives s cut) in
       subst (λ ps. Derives o U (upto ++ (pair_items ps ++ rest)))
       (sym (removed_more key old between later (text_refl key))) (later_out more left)
 

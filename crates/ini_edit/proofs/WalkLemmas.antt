@@ -1,6 +1,8 @@
 -- Walks over the elements of a text, element by element.
-use Rattle.std.proofs.Common.{◌≡◌, ◌∙◌, ◌<◌, ◌-◌, List, [], ◌++◌, length, ap, sym, subst, refl, Option, None, Some}
-use Rattle.std.proofs.Common.{Result, Ok, Err, arith, append_assoc, append-nil, length-append, chars, MatchOption}
+use Rattle.std.proofs.Common.{◌≡◌, ◌∙◌, ◌<◌, ◌-◌, List, [], ◌∷◌, ◌++◌, length, ap, sym, subst, refl, Option}
+use Rattle.std.proofs.Common.{None, Some}
+use Rattle.std.proofs.Common.{Result, Ok, Err, arith, append_assoc, append-nil, length-append, chars}
+use Rattle.std.proofs.Common.{MatchOption}
 use Rattle.std.specs.Cow.{cow_str_bytes}
 use Rattle.ini_text.specs.Errors.Messages.{HasMessage}
 use Rattle.ini_text.specs.Grammar.Elements.{Given}
@@ -15,7 +17,7 @@ use Rattle.ini_text.specs.declared.parser.placed.PlacedElement.{PlacedElement}
 use Rattle.ini_text.proofs.GrammarLemmas.ItemLemmas.{reads-append}
 use Rattle.ini.specs.Texts.{Text}
 use Rattle.ini.specs.Loading.{IfParse, IsStopOf}
-use Rattle.ini_edit.specs.Inside.Walks.{IsPastLast, IsReading, ReadsOn, StandsWithin, Steps}
+use Rattle.ini_edit.specs.Inside.Walks.{Boundary, IsPastLast, IsReading, ReadsOn, StandsWithin, Steps}
 
 -- where reading stops behind what was read
 stops_behind : {o : ParseOption} {T b : Text} {items : List Given} (e : ParseError) → Reads o T [] items b
@@ -84,7 +86,8 @@ module _ {o : ParseOption} {T : Text} where
           length-append source stands.rest,
         )
 
--- The parser reads the text, and elements reach from the front b, and from the text's own, to where it stands.
+-- The parser reads the text, and elements reach from the front b, and from the text's own, to where it
+-- stands.
 pub record Walked (o : ParseOption) (T b : Text) (p : Place) : Type 0 where
   pub is_reading : IsReading o T p
   pub first : List Given
@@ -125,3 +128,22 @@ walked_start {p} s = record {
   to_front = s.reads;
   reads = stays s;
 }
+
+-- what was found, or that nothing was
+pub found_none : {X : Type 0} {found : Option X} (none : Type 0) (some : X → Type 0) → MatchOption found none some
+    → found ≡ None → none
+found_none none some h is = subst (λ x. MatchOption x none some) is h
+
+pub found_some : {X : Type 0} {found : Option X} {x : X} (none : Type 0) (some : X → Type 0) → MatchOption found none some
+    → found ≡ Some x → some x
+found_some none some h is = subst (λ x. MatchOption x none some) is h
+
+-- an element that gives an item ends at a boundary
+pub item_boundary : {o : ParseOption} {T b : Text} {c : Text} {q : Place} {e : PlacedElement} {items : List Given} {item : Given}
+    → Reads o T b items c → Steps o T c q e → gives e.content ≡ item ∷ []
+    → Boundary o T b q.front (items ++ item ∷ [])
+item_boundary {o} {T} {b} {c} {q} {e} {items} {item} reads t is =
+    subst (λ d. Boundary o T b d (items ++ item ∷ [])) (sym t.stands.reaches)
+    (subst (λ l. Boundary o T b (c ++ chars e.source.now) (items ++ l)) is
+    (Boundary.behind reads t.stands.whole t.stands.is_element
+    (λ none. absurd (let no : item ∷ [] ≡ [] = sym is ∙ none in cc))))

@@ -16,17 +16,18 @@ use Rattle.ini.specs.Written.{written_name, written_pair}
 use Rattle.ini_edit.specs.Places.{Cut, Follows, IsLineStart, Stretches, StandsAt, text_with}
 use Rattle.ini_edit.specs.Targets.{IsSectionEnd, IsTarget, Lacks}
 
--- Behind the items `upto` the section goes on, in the text T, with the pairs `later`, and behind those stands
--- `rest`. The text U is T without those of the pairs that have the key: each was taken out, and nothing else.
+-- Behind the items `upto` the section goes on, in the text T, with the pairs `later`, and behind those
+-- stands `rest`. The text U is T without those of the pairs that have the key: each was taken out, and
+-- nothing else.
 pub data LaterOut (o : ParseOption) (key : Text) (upto rest : List Given) : Text → Pairs → Text → Type 0 where
   none : {T : Text} {later : Pairs} → Lacks key later → LaterOut o key upto rest T later T
-  out : {T U : Text} (p : Stretches) (r old : Text) (between later : Pairs)
-      → StandsAt o T p key old (upto ++ pair_items between) (pair_items later ++ rest) → Cut o p r
-      → LaterOut o key upto rest (p.front ++ r) (between ++ later) U
+  out : {T U : Text} (p : Stretches) (kept r old : Text) (between later : Pairs)
+      → StandsAt o T p key old (upto ++ pair_items between) (pair_items later ++ rest)
+      → Cut o p kept r → LaterOut o key upto rest (p.front ++ (kept ++ r)) (between ++ later) U
       → LaterOut o key upto rest T (between ++ (key, old) ∷ later) U
 
--- The value of the first pair of its key is another one, and the later pairs of the key in the section are taken
--- out. No other byte changes.
+-- The value of the first pair of its key is another one, and the later pairs of the key in the section are
+-- taken out. No other byte changes.
 abbrev pub SetsValue : ParseOption → EscapePolicy → Text → Text → Type 0
 SetsValue o policy T value =
     (p : Stretches) (name : Option Text) (key old : Text) (before after : List Given)
@@ -45,8 +46,8 @@ abbrev pub Deletes : ParseOption → Text → Type 0
 Deletes o T =
     (p : Stretches) (name : Option Text) (key old : Text) (before after : List Given)
     → StandsAt o T p key old before after → IsTarget name key before after
-    → (r : Text) → Cut o p r → (d : Document) → IsDocumentOf o T d
-    → IsDocumentOf o (p.front ++ r) (delete_in name key d)
+    → (kept r : Text) → Cut o p kept r → (d : Document) → IsDocumentOf o T d
+    → IsDocumentOf o (p.front ++ (kept ++ r)) (delete_in name key d)
 
 -- Between W and r a line may be put in, there the section of the name ends, and the text's document is d.
 pub record EndsAt (o : ParseOption) (W r : Text) (name : Option Text) (d : Document) : Type 0 where

@@ -30,8 +30,8 @@ ending_from e (c ∷ cs) = ending_from (next_ending e c) cs
 abbrev pub ending : List ℕ → Ending
 ending text = ending_from Ending.line text
 
--- What goes before a line end behind a text that ends so: a backslash is made one that stands for itself. With
--- escapes off it takes a space, which no value keeps.
+-- What goes before a line end behind a text that ends so: a backslash is made one that stands for itself.
+-- With escapes off it takes a space, which no value keeps.
 pub data Closing (o : ParseOption) : Ending → List ℕ → Type 0 where
   within : Closing o Ending.inside []
   behind_line : Closing o Ending.line []
@@ -47,8 +47,8 @@ pub record IsIndentedKey (source : List ℕ) : Type 0 where
   pub blank : list_all is_blank blanks ≡ true
   pub begins : BeginsWith begins_indented_key key
 
--- At the front W of the text T an element ends, and the elements up to it give the items. If it gives nothing
--- it isn't an indented key, which the text's end cuts short.
+-- At the front W of the text T an element ends, and the elements up to it give the items. If it gives
+-- nothing it isn't an indented key, which the text's end cuts short.
 pub data IsElementEnd (o : ParseOption) (T : List ℕ) : List ℕ → List Given → Type 0 where
   behind : {b s r : List ℕ} {items gives : List Given} → Reads o T [] items b → T ≡ b ++ (s ++ r)
       → Element o b s r gives → (gives ≡ [] → ¬ IsIndentedKey s) → IsElementEnd o T (b ++ s) (items ++ gives)

@@ -2,6 +2,7 @@
 use Rattle.std.specs.Prelude.{◌≡◌, List, Option, None, chars}
 use Rattle.ini_text.specs.Grammar.Elements.{Given}
 use Rattle.ini_text.specs.Grammar.Places as grammar
+use Rattle.ini_text.specs.declared.parser.placed.PairPlaces.{PairPlaces}
 use Rattle.ini_text.specs.declared.option.ParseOption.{ParseOption}
 use Rattle.ini.specs.Texts.{Text}
 use Rattle.ini.specs.Documents.{Document, first_section, value_in}
@@ -10,18 +11,21 @@ use Rattle.ini_edit.specs.Places.{Stretches, StandsAt}
 use Rattle.ini_edit.specs.Targets.{IsTarget}
 use Rattle.ini_edit.specs.declared.find.FoundPair.{FoundPair}
 
--- where the pair stands, in the words of the laws
-abbrev pub stretches_of : FoundPair → Stretches
-stretches_of pair = record {
-  front = chars pair.front.now;
-  key = chars pair.places.key.now;
-  separator = pair.places.separator;
-  lead = chars pair.places.lead.now;
-  own = chars pair.places.own.now;
-  pad = chars pair.places.pad.now;
-  tail = chars pair.places.tail.now;
-  rest = chars pair.rest.now;
+-- where a pair of these places stands between a front and a rest, in the words of the laws
+abbrev pub stretches_at : Text → PairPlaces → Text → Stretches
+stretches_at front places rest = record {
+  front = front;
+  key = chars places.key.now;
+  separator = places.separator;
+  lead = chars places.lead.now;
+  own = chars places.own.now;
+  pad = chars places.pad.now;
+  tail = chars places.tail.now;
+  rest = rest;
 }
+
+abbrev pub stretches_of : FoundPair → Stretches
+stretches_of pair = stretches_at (chars pair.front.now) pair.places (chars pair.rest.now)
 
 -- the stretches of the pair's source alone
 abbrev pub source_of : Stretches → grammar.Stretches

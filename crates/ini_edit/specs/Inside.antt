@@ -1,1 +1,5 @@
+pub mod Cuts
+pub mod Later
+pub mod Lines
+pub mod PlaceWalks
 pub mod Walks

@@ -1,3 +1,5 @@
+pub mod Added
+pub mod Edited
 pub mod EditedTexts
 pub mod Endings
 pub mod FirstPairs

@@ -17,15 +17,16 @@ use Rattle.ini_edit.specs.Endings.{Closing, IsElementEnd, ending}
 use Rattle.ini_edit.specs.Places.{Follows, IsLineStart}
 use Rattle.ini_edit.specs.Targets.{IsSectionEnd, Lacks}
 
--- Between the front W, which gives the items, and the rest r a line may be put in behind the glue: at a line's
--- start there is none; behind an element it is a line end, with what goes before that. No blank may follow an
--- element then, unless a line starts there already.
+-- Between the front W, which gives the items, and the rest r a line may be put in behind the glue: at a
+-- line's start there is none; behind an element it is a line end, with what goes before that. No blank may
+-- follow an element then, unless a line starts there already.
 pub data IsPlace (o : ParseOption) (end : LineSeparator) (W r : Text) : Text → List Given → Type 0 where
   line_start : {items : List Given} → IsLineStart o W r items → IsPlace o end W r [] items
   behind_element : {c : Text} {items : List Given} → IsElementEnd o (W ++ r) W items → Closing o (ending W) c
       → (starts_line W ≡ false → BeginsWithNo is_blank r) → IsPlace o end W r (c ++ line_end end) items
 
--- Between W and r is a place behind the glue, there the section of the name ends, and the text's document is d.
+-- Between W and r is a place behind the glue, there the section of the name ends, and the text's document is
+-- d.
 pub record EndsAtPlace (o : ParseOption) (end : LineSeparator) (W r glue : Text) (name : Option Text)
     (d : Document) : Type 0 where
   pub before : List Given
@@ -36,7 +37,8 @@ pub record EndsAtPlace (o : ParseOption) (end : LineSeparator) (W r glue : Text)
   pub ends : IsSectionEnd name before after
   pub document : IsDocumentOf o (W ++ r) d
 
--- A pair's line put in at a place where the section of its name ends, and no byte changed: the pair is added.
+-- A pair's line put in at a place where the section of its name ends, and no byte changed: the pair is
+-- added.
 abbrev pub AddsAtPlace : ParseOption → WriteOption → Text → Text → Type 0
 AddsAtPlace o w key value =
     (W r glue : Text) (name : Option Text) (d : Document) → EndsAtPlace o w.line_separator W r glue name d
@@ -49,8 +51,8 @@ InsertsAtPlace o w key value =
     → Lacks key at.ends.pairs
     → IsDocumentOf o (W ++ (glue ++ (written_pair w (key, value) ++ r))) (set_in name key value d)
 
--- A section's header and a pair's line put in at a place behind which the text gives nothing, where it has no
--- section of the name.
+-- A section's header and a pair's line put in at a place behind which the text gives nothing, where it has
+-- no section of the name.
 abbrev pub AppendsAtPlace : ParseOption → WriteOption → Text → Text → Text → Type 0
 AppendsAtPlace o w name key value =
     (W r glue : Text) (items : List Given) → IsPlace o w.line_separator W r glue items → Follows o r

@@ -7,8 +7,8 @@ use Rattle.ini.specs.Properties.{Pairs, first_value}
 use Rattle.ini.specs.Documents.{Document, document_of, first_section}
 use Rattle.ini.specs.SectionItems.{pair_items}
 
--- Of the items the last opens the section: they make the sections d, none of them of the name, and the section
--- without pairs.
+-- Of the items the last opens the section: they make the sections d, none of them of the name, and the
+-- section without pairs.
 pub record OpensSection (name : Option Text) (items : List Given) (d : Document) : Type 0 where
   pub opened : document_of items ≡ d ++ (name, []) ∷ []
   pub first : first_section name d ≡ None
@@ -17,8 +17,8 @@ pub record OpensSection (name : Option Text) (items : List Given) (d : Document)
 abbrev pub Lacks : Text → Pairs → Type 0
 Lacks key ps = first_value key ps ≡ None
 
--- Between the items before and after stands the first pair of the key, in the first section of the name, whose
--- pairs are those earlier, it, and those later.
+-- Between the items before and after stands the first pair of the key, in the first section of the name,
+-- whose pairs are those earlier, it, and those later.
 pub record IsTarget (name : Option Text) (key : Text) (before after : List Given) : Type 0 where
   pub opening : List Given
   pub sections : Document

@@ -10,7 +10,7 @@ use thiserror::Error;
 pub enum EditError {
     /// The text is refused, with line and column; or memory is.
     #[error(transparent)]
-    Text(#[from] TextError),
+    Text(TextError),
     /// The name of a new section isn't plain: written, it wouldn't be read back just as it is.
     #[error("this name can't be written so that it is read back")]
     Name,
@@ -27,6 +27,16 @@ pub enum EditError {
     /// multiline value would take that in.
     #[error("an indented key that the text's end cuts short leaves no place for a new line")]
     NoPlace,
+}
+
+impl From<TextError> for EditError {
+    ghost use Rattle.ini_edit.specs.declared.error.EditError.TheVariants.{Text};
+
+    ghost from_gives = { λ refused e. e ≡ Text refused };
+
+    fn from(refused: TextError) -> EditError {
+        EditError::Text(refused)
+    }
 }
 
 impl From<AllocError> for EditError {

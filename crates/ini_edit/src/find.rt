@@ -1,6 +1,7 @@
-//! The first pair of a key in the first section of a name, and where it stands. This file knows elements, and
-//! of characters nothing.
-ghost use Rattle.std.specs.Prelude.{◌≡◌, [], ◌∷◌, Ok, Some, true, false, chars, IfOk, IfErr, MatchOption, None};
+//! The first pair of a key in the first section of a name, and where it stands. This file knows elements,
+//! and of characters nothing.
+ghost use Rattle.std.specs.Prelude.{◌≡◌, [], ◌∷◌, Ok, Some, true, false, chars, IfOk, IfErr, MatchOption};
+ghost use Rattle.std.specs.Prelude.{None};
 ghost use Rattle.ini.specs.Texts.{str_name};
 ghost use Rattle.ini.specs.Loading.{IfParse, IsParseOrMemory, IsStopOf};
 ghost use Rattle.ini_text.specs.Grammar.Elements.{Header};
@@ -58,9 +59,9 @@ pub fn find_pair<'a>(
     Ok(found)
 }
 
-// Goes behind the header of the first section of the name: whether there is one. Where there is none, the text
-// is read to its end.
-fn open_section(parser: &mut Parser, name: Option<&str>) -> Result<bool, Error>
+/// Goes behind the header of the first section of the name: whether there is one. Where there is none, the
+/// text is read to its end.
+pub(crate) fn open_section(parser: &mut Parser, name: Option<&str>) -> Result<bool, Error>
     requires refusal { parser.old.refusal ≡ None }
     requires front { parser.old.front ≡ [] }
     ensures opened { result ≡ Ok true →
@@ -91,8 +92,8 @@ fn opens(element: PlacedElement, name: &str) -> bool
     }
 }
 
-// Goes over a section's pairs to the first of the key, and over that; or to the section's end.
-fn reach_pair<'a>(
+/// Goes over a section's pairs to the first of the key, and over that; or to the section's end.
+pub(crate) fn reach_pair<'a>(
     parser: &mut Parser<'a>,
     text: &'a str,
     key: &str,

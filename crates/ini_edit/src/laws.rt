@@ -1,5 +1,5 @@
-//! Laws of edited texts, each the contract of a function that does nothing: a caller whose proof needs one calls
-//! it beside the edit.
+//! Laws of edited texts, each the contract of a function that does nothing: a caller whose proof needs one
+//! calls it beside the edit.
 ghost use Rattle.std.specs.Prelude.{chars};
 ghost use Rattle.ini_text.specs.Laws.Plain.{IsPlainName, IsPlainPair, IsPlainSeparator, IsPlainValue};
 ghost use Rattle.ini_edit.specs.EditedTexts.{Adds, Appends, Deletes, Inserts, KeepsValue, SetsValue};
@@ -29,8 +29,8 @@ pub fn pair_deleted(text: &str, read: ParseOption)
     ensures { Deletes read (chars text.now) }
 {}
 
-/// A plain pair's line put in where the section of its name ends: the text loads as the document to which the
-/// pair is added. Where the section has no pair of the key, that is to set it.
+/// A plain pair's line put in where the section of its name ends: the text loads as the document to which
+/// the pair is added. Where the section has no pair of the key, that is to set it.
 pub fn pair_inserted(key: &str, value: &str, write: &WriteOption, read: ParseOption)
     requires separator { IsPlainSeparator (chars write.now.kv_separator.now) }
     requires plain { IsPlainPair read write.now.escape_policy (chars key.now) (chars value.now) }
@@ -47,9 +47,9 @@ pub fn section_appended(name: &str, key: &str, value: &str, write: &WriteOption,
     ensures { Appends read write.now (chars name.now) (chars key.now) (chars value.now) }
 {}
 
-/// A plain pair's line put in where the section of its name ends, behind a line end where the text wants one: the
-/// text loads as the document to which the pair is added. Where the section has no pair of the key, that is to
-/// set it.
+/// A plain pair's line put in where the section of its name ends, behind a line end where the text wants
+/// one: the text loads as the document to which the pair is added. Where the section has no pair of the key,
+/// that is to set it.
 pub fn pair_inserted_at_place(key: &str, value: &str, write: &WriteOption, read: ParseOption)
     requires separator { IsPlainSeparator (chars write.now.kv_separator.now) }
     requires plain { IsPlainPair read write.now.escape_policy (chars key.now) (chars value.now) }
@@ -57,8 +57,8 @@ pub fn pair_inserted_at_place(key: &str, value: &str, write: &WriteOption, read:
     ensures set { InsertsAtPlace read write.now (chars key.now) (chars value.now) }
 {}
 
-/// A plain section with one pair put at a place behind which the text gives nothing, where it has no section of
-/// the name: the text loads as the document in which the key is set.
+/// A plain section with one pair put at a place behind which the text gives nothing, where it has no section
+/// of the name: the text loads as the document in which the key is set.
 pub fn section_appended_at_place(
     name: &str,
     key: &str,

@@ -1,11 +1,18 @@
-//! Texts before and after an edit, loaded: an example of each law, and the rules that look right and are wrong.
+//! Texts before and after an edit, loaded: an example of each law, and the rules that look right and are
+//! wrong.
+use crate::EditError;
 use ini::{Error, Ini, ParseOption};
 use std::alloc::Global;
 use std::process::Abort;
 use std::test::Fail;
 
+mod add;
+mod deletion;
 mod find;
+mod page;
 mod places;
+mod random;
+mod set;
 
 /// An edit of a document.
 #[derive(Clone, Copy, Debug)]
@@ -68,6 +75,20 @@ fn edited(alloc: Global, letters: &str, text: &str, change: Change) -> Result<St
         }
     }
     shown(alloc, &document)
+}
+
+/// The new text that a call answered; or why there is none.
+fn told(alloc: Global, answer: Result<Option<String>, EditError>) -> Result<String, Error> {
+    match answer {
+        Ok(Some(new)) => Ok(new),
+        Ok(None) => Ok(format!(in alloc; "none")?),
+        Err(EditError::Text(Error::Parse(fault))) => Ok(format!(in alloc;
+            "{:?} at {}:{}",
+            fault.kind, fault.line, fault.col
+        )?),
+        Err(EditError::Text(other)) => Err(other),
+        Err(other) => Ok(format!(in alloc; "{other:?}")?),
+    }
 }
 
 /// The options' letters, a text, the edit, the new text, and what both show.

@@ -2,7 +2,8 @@ use Rattle.std.proofs.Common.{chars, subst, sym}
 use Rattle.ini.specs.Texts.{str_name}
 use Rattle.ini_edit.specs.FirstPairs.{LacksSection}
 use Rattle.ini_edit.specs.Inside.Walks.{OpensFirst}
-use Rattle.ini_edit.proofs.FindLemmas.{general_opened, sections_end, sections_opened, sections_start, sections_step, sections_within}
+use Rattle.ini_edit.proofs.FindLemmas.{general_opened, sections_end, sections_opened, sections_start}
+use Rattle.ini_edit.proofs.FindLemmas.{sections_step, sections_within}
 use Rattle.ini_edit.proofs.WalkLemmas.{step_none, step_some}
 use Rattle.ini_edit.proofs.find.open_section.Goals as goal
 

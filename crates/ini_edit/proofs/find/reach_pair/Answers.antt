@@ -4,7 +4,8 @@ use Rattle.ini_text.specs.Parsing.Items.{string_text}
 use Rattle.ini.specs.Texts.{is_text}
 use Rattle.ini.proofs.KeepingLemmas.{texts_equal}
 use Rattle.ini_text.proofs.LawLemmas.ExportedLemmas.{front_is}
-use Rattle.ini_edit.proofs.FindLemmas.{PairsWithout, search_end, search_header, search_pair, search_start, search_step, search_within}
+use Rattle.ini_edit.proofs.FindLemmas.{PairsWithout, search_end, search_header, search_pair, search_start}
+use Rattle.ini_edit.proofs.FindLemmas.{search_step, search_within}
 use Rattle.ini_edit.proofs.WalkLemmas.{step_none, step_some}
 use Rattle.ini_edit.proofs.find.reach_pair.Goals as goal
 

@@ -1,4 +1,5 @@
-use Rattle.ini_edit.proofs.WalkLemmas.{step_none, step_some, walked_end, walked_start, walked_step, walked_within}
+use Rattle.ini_edit.proofs.WalkLemmas.{step_none, step_some, walked_end, walked_start, walked_step}
+use Rattle.ini_edit.proofs.WalkLemmas.{walked_within}
 use Rattle.ini_edit.proofs.walk.read_on.Goals as goal
 
 pub elements-init : goal.elements-init

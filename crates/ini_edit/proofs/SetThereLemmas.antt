@@ -1,0 +1,73 @@
+-- A key's value set where the key is there: the walk as a whole.
+use Rattle.std.proofs.Common.{◌≡◌, ◌∙◌, List, [], ◌++◌, ap, sym, subst, append_assoc, chars, Option, Some}
+use Rattle.std.proofs.Common.{MatchOption}
+use Rattle.std.proofs.lemmas.List.{append_cancel_left}
+use Rattle.ini_text.specs.Escaping.EscapedTexts.{escaped}
+use Rattle.ini_text.specs.Grammar.Texts.{Reads}
+use Rattle.ini_text.specs.Laws.Plain.{IsPlainValue}
+use Rattle.ini_text.specs.Parsing.Parser.{Place}
+use Rattle.ini_text.specs.declared.option.ParseOption.{ParseOption}
+use Rattle.ini_text.specs.declared.write.policy.EscapePolicy.{EscapePolicy}
+use Rattle.ini_text.proofs.GrammarLemmas.ItemLemmas.{reads-append}
+use Rattle.ini.specs.Texts.{Text}
+use Rattle.ini_edit.specs.Edited.{IsSetThere}
+use Rattle.ini_edit.specs.FirstPairs.{stretches_of}
+use Rattle.ini_edit.specs.Places.{Stretches, pair_of, pair_with}
+use Rattle.ini_edit.specs.Inside.Later.{IsAlikeBehind, TakesLater, TakesLaterOut}
+use Rattle.ini_edit.specs.Inside.Walks.{IsReading, OpensFirst, ReachesEnd, ReachesPair, ReadsOn}
+use Rattle.ini_edit.specs.Inside.Walks.{StandsWithin}
+use Rattle.ini_edit.specs.declared.find.FoundPair.{FoundPair}
+use Rattle.ini_edit.proofs.FindLemmas.{end_reads, goes_on_within}
+use Rattle.ini_edit.proofs.LaterLemmas.{set_there, value_alike}
+use Rattle.ini_edit.proofs.WalkLemmas.{stands_within, told}
+
+module _ {o : ParseOption} {T : Text} {p : Place} {name : Option Text} (key : Text) (opens : OpensFirst o T p name)
+    (q : Place) (found : Option FoundPair)
+    (h : MatchOption found (ReachesEnd p.option p.text p.front q key) (ReachesPair p.option p.text p.front q key))
+    (x : FoundPair) (is : found ≡ Some x) where
+  reaches : ReachesPair o T p.front q key x
+  reaches = told (λ o T. ReachesPair o T p.front q key x) opens.is_reading
+      (subst (λ found. MatchOption found (ReachesEnd p.option p.text p.front q key)
+      (ReachesPair p.option p.text p.front q key)) is h)
+
+  abbrev pair : Stretches
+  pair = stretches_of x
+
+  text_behind : T ≡ q.front ++ pair.rest
+  text_behind =
+      reaches.whole ∙ sym (append_assoc pair.front (pair_of pair) pair.rest)
+      ∙ ap (λ z. z ++ pair.rest) (sym reaches.front)
+
+  -- what follows the pair is read behind another value as behind its own
+  pub pair_alike : (value f : Text) → f ≡ pair.front ++ pair_with pair value → IsAlikeBehind q f
+  pair_alike value f written = record {
+    behind = pair.rest;
+    whole = reaches.is_reading.text ∙ text_behind;
+    alike = rw (reaches.front, written) (value_alike pair value reaches.placed.tail);
+  }
+
+  module _ {f g : Text} {r : Place} (taken : TakesLater q.option q.text key q.front f r g) where
+    here : TakesLater o T key q.front f r g
+    here = told (λ o T. TakesLater o T key q.front f r g) reaches.is_reading taken
+
+    pub taken_within : StandsWithin r
+    taken_within =
+        let within = goes_on_within key opens q found h in
+        let reads : Reads o T [] within.items q.front =
+        told (λ o T. Reads o T [] within.items q.front) reaches.is_reading within.reads in
+        stands_within here.out.is_reading
+        (reads-append (reads-append reads here.out.takes.passes) (end_reads here.out.ends).1)
+
+    -- the text that was read to its end
+    pub is_set : {policy : EscapePolicy} {value : Text} (left new : Text) → IsPlainValue o policy value
+        → f ≡ pair.front ++ pair_with pair (escaped policy value) → ReadsOn r.option r.text r.front
+        → r.front ++ left ≡ r.text → new ≡ g ++ left → IsSetThere o policy T name key value new
+    is_set {policy} {value} left new plain written on rest is_new =
+        let behind : here.behind ≡ pair.rest =
+        append_cancel_left q.front here.behind pair.rest (sym here.whole ∙ text_behind) in
+        let out : TakesLaterOut o T key q.front (pair.front ++ pair_with pair (escaped policy value)) pair.rest r g =
+        subst (λ z. TakesLaterOut o T key q.front z pair.rest r g) written
+        (subst (λ z. TakesLaterOut o T key q.front f z r g) behind here.out) in
+        subst (IsSetThere o policy T name key value) (sym is_new)
+        (set_there left opens reaches plain out (told (λ o T. ReadsOn o T r.front) here.out.is_reading on)
+        (sym here.out.is_reading.text ∙ sym rest))

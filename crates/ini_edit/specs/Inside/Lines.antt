@@ -1,0 +1,29 @@
+-- A line that is put into a text, and what goes before it.
+use Rattle.std.specs.Prelude.{◌≡◌, ◌++◌}
+use Rattle.ini_text.specs.declared.option.ParseOption.{ParseOption}
+use Rattle.ini_text.specs.declared.write.option.LineSeparator.{LineSeparator}
+use Rattle.ini_text.specs.declared.write.option.WriteOption.{WriteOption}
+use Rattle.ini.specs.Texts.{Text}
+use Rattle.ini.specs.Written.{written_pair}
+use Rattle.ini_edit.specs.Added.{Glue}
+use Rattle.ini_edit.specs.Endings.{Ending}
+use Rattle.ini_edit.specs.declared.glue.TextEnd.{TextEnd}
+use Rattle.ini_edit.specs.declared.glue.TextEnd.TheVariants as ends
+
+-- the end of a text, in the words of the laws
+abbrev pub ending_of : TextEnd → Ending
+ending_of ends.Inside = Ending.inside
+ending_of ends.Escape = Ending.escape
+ending_of ends.Line = Ending.line
+
+-- the glue behind the front W was put behind a text
+pub record PushesGlue (o : ParseOption) (end : LineSeparator) (W old new : Text) : Type 0 where
+  pub glue : Text
+  pub is_glue : Glue o end W glue
+  pub is_new : new ≡ old ++ glue
+
+-- between W and r stands the pair's line, behind the glue
+pub record IsWithLine (o : ParseOption) (w : WriteOption) (W r key value new : Text) : Type 0 where
+  pub glue : Text
+  pub is_glue : Glue o w.line_separator W glue
+  pub is_new : new ≡ W ++ (glue ++ (written_pair w (key, value) ++ r))

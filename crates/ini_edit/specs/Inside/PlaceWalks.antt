@@ -1,0 +1,69 @@
+-- Walks to a place where a line may be put in: behind the items that stand between the front b of the text T
+-- and that place.
+use Rattle.std.specs.Prelude.{◌≡◌, [], false, List, Option, chars, ◌++◌, IfSome, ⊤}
+use Rattle.ini_text.specs.Grammar.CharacterKinds.{is_blank, BeginsWithNo}
+use Rattle.ini_text.specs.Grammar.Elements.{Given}
+use Rattle.ini_text.specs.Grammar.Positions.{starts_line}
+use Rattle.ini_text.specs.Grammar.Texts.{Reads}
+use Rattle.ini_text.specs.Parsing.Parser.{Place}
+use Rattle.ini_text.specs.declared.option.ParseOption.{ParseOption}
+use Rattle.ini.specs.Texts.{Text}
+use Rattle.ini.specs.Properties.{Pairs}
+use Rattle.ini.specs.SectionItems.{pair_items}
+use Rattle.ini_edit.specs.Endings.{IsIndentedKey}
+use Rattle.ini_edit.specs.Places.{Follows}
+use Rattle.ini_edit.specs.Inside.Walks.{Boundary, EndsSection, IsReading}
+use Rattle.ini_edit.specs.FirstPairs.{LacksSection}
+use Rattle.ini_edit.specs.Targets.{IsSectionEnd}
+use Rattle.ini_edit.specs.declared.place.TextPlace.{TextPlace}
+use Rattle.ini_edit.specs.declared.place.SectionEnd.{SectionEnd}
+use Rattle.ini_edit.specs.declared.place.SectionEnd.TheVariants.{Absent, NoPlace, At}
+
+-- what stands before a place and what follows it let a line in
+pub record IsFree (o : ParseOption) (W r : Text) : Type 0 where
+  pub follows : Follows o r
+  pub unblank : starts_line W ≡ false → BeginsWithNo is_blank r
+
+-- the place stands before this rest of the text, and it is free
+pub record IsFreeAt (o : ParseOption) (T r : Text) (place : TextPlace) : Type 0 where
+  pub whole : T ≡ chars place.front.now ++ chars place.rest.now
+  pub rest : chars place.rest.now ≡ r
+  pub free : IsFree o (chars place.front.now) (chars place.rest.now)
+
+-- of two places one is taken: the earlier one, or the later one where no indented key stands before it
+pub data Chooses (source : Text) (old next : Option TextPlace) : Option TextPlace → Type 0 where
+  stays : Chooses source old next old
+  moves : ¬ IsIndentedKey source → Chooses source old next next
+
+module _ (o : ParseOption) (T b : Text) where
+  -- behind the items a line may be put in there, and from there to the front c nothing is given
+  pub record IsLastPlace (items : List Given) (c : Text) (place : TextPlace) : Type 0 where
+    pub whole : T ≡ chars place.front.now ++ chars place.rest.now
+    pub boundary : Boundary o T b (chars place.front.now) items
+    pub free : IsFree o (chars place.front.now) (chars place.rest.now)
+    pub nothing : Reads o T (chars place.front.now) [] c
+
+  -- behind pairs the section ended, and now the parser stands behind what ended it
+  pub record ReachesSectionEnd (q : Place) (found : Option TextPlace) : Type 0 where
+    pub is_reading : IsReading o T q
+    pub front : Text
+    pub pairs : Pairs
+    pub reads : Reads o T b (pair_items pairs) front
+    pub ends : EndsSection o T front q.front
+    pub place : IfSome found (IsLastPlace (pair_items pairs) front)
+
+-- behind the items `before` the first section of the name ends, and a line may be put in there
+pub record IsFirstSectionEnd (o : ParseOption) (T : Text) (name : Option Text) (place : TextPlace) : Type 0 where
+  pub before : List Given
+  pub after : List Given
+  pub whole : T ≡ chars place.front.now ++ chars place.rest.now
+  pub boundary : Boundary o T [] (chars place.front.now) before
+  pub free : IsFree o (chars place.front.now) (chars place.rest.now)
+  pub then : Reads o T (chars place.front.now) after T
+  pub ends : IsSectionEnd name before after
+
+-- where the first section of the name ends
+abbrev pub AnswersEnd : ParseOption → Text → Option Text → SectionEnd → Type 0
+AnswersEnd o T name Absent = LacksSection o T name
+AnswersEnd o T name NoPlace = ⊤
+AnswersEnd o T name (At place) = IsFirstSectionEnd o T name place

@@ -1,0 +1,77 @@
+//! What goes before a new line that is put in behind a front of a text. This file knows line ends and
+//! backslashes, and no element.
+ghost use Rattle.std.specs.Prelude.{◌≡◌, ◌++◌, chars, OnOk, IsOkUnless, alloc_error};
+ghost use Rattle.ini.specs.Texts.{text_of};
+ghost use Rattle.ini_edit.specs.Endings.{Closing, ending, next_ending};
+ghost use Rattle.ini_edit.specs.Inside.Lines.{PushesGlue, ending_of};
+
+use crate::append::push_text;
+use crate::text::split_first;
+use ini_text::{Error, ParseOption, WriteOption};
+
+// How a text ends: within a line, behind a backslash that takes what follows, or behind an LF that ends a
+// line.
+#[derive(Clone, Copy, Debug)]
+pub(crate) enum TextEnd {
+    Inside,
+    Escape,
+    Line,
+}
+
+/// Puts behind a text what goes before a line that is put in behind the front.
+pub(crate) fn push_glue(
+    text: &mut String,
+    front: &str,
+    read: ParseOption,
+    write: &WriteOption,
+) -> Result<(), Error>
+    ensures pushed { OnOk result (PushesGlue read write.now.line_separator (chars front.now)
+        (text_of text.old) (text_of text.new)) }
+    ensures only { IsOkUnless result (Error.Memory alloc_error) }
+{
+    let end = text_end(front);
+    if let TextEnd::Line = end {
+        return Ok(());
+    }
+    push_text(text, closing(end, read))?;
+    push_text(text, write.line_separator.as_str())
+}
+
+// What keeps a lone backslash at a text's end for itself.
+fn closing(end: TextEnd, read: ParseOption) -> &'static str
+    ensures { Closing read (ending_of end) (chars result.now) }
+{
+    match end {
+        TextEnd::Inside | TextEnd::Line => "",
+        TextEnd::Escape => { if read.enabled_escape { "\\" } else { " " } }
+    }
+}
+
+fn text_end(text: &str) -> TextEnd
+    ensures { ending_of result ≡ ending (chars text.now) }
+{
+    let mut end = TextEnd::Line;
+    let mut rest = text;
+    'characters: while let Some((c, after)) = split_first(rest) {
+        end = next_end(end, c);
+        rest = after;
+    }
+    end
+}
+
+fn next_end(end: TextEnd, c: char) -> TextEnd
+    ensures { ending_of result ≡ next_ending (ending_of end) c }
+{
+    match end {
+        TextEnd::Escape => TextEnd::Inside,
+        TextEnd::Inside | TextEnd::Line => {
+            if c == '\\' {
+                TextEnd::Escape
+            } else if c == '\n' {
+                TextEnd::Line
+            } else {
+                TextEnd::Inside
+            }
+        }
+    }
+}

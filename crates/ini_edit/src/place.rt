@@ -1,0 +1,189 @@
+//! Places of a text where a line may be put in. This file knows elements and kinds of characters, and no
+//! value.
+ghost use Rattle.std.specs.Prelude.{◌≡◌, ◌||◌, true, false, chars, IfOk, IfErr, IfSome};
+ghost use Rattle.std.specs.List.{list_all};
+ghost use Rattle.ini_text.specs.Grammar.CharacterKinds.{is_blank, is_line_end};
+ghost use Rattle.ini_text.specs.Inside.PlainTests.{begins};
+ghost use Rattle.ini_text.specs.Parsing.Fronts.{IsRest};
+ghost use Rattle.ini.specs.Texts.{str_name};
+ghost use Rattle.ini.specs.Loading.{IfParse, IsParseOrMemory, IsStopOf};
+ghost use Rattle.ini_edit.specs.Endings.{IsIndentedKey};
+ghost use Rattle.ini_edit.specs.Inside.PlaceWalks.{AnswersEnd, Chooses, IsFree, IsFreeAt, ReachesSectionEnd};
+ghost use Rattle.ini_edit.specs.Inside.Walks.{StandsWithin};
+
+use crate::find::open_section;
+use crate::text::{is_column_one, split_first, starts_line};
+use crate::walk::{read_on, step};
+use ini_text::{Content, Error, ParseOption, Parser, front_before};
+use std::alloc::Global;
+
+/// A place in a text.
+#[derive(Clone, Copy, Debug)]
+pub(crate) struct TextPlace<'a> {
+    /// What stands before it.
+    pub(crate) front: &'a str,
+    /// What follows it.
+    pub(crate) rest: &'a str,
+}
+
+/// Where the first section of a name ends.
+#[derive(Clone, Copy, Debug)]
+pub(crate) enum SectionEnd<'a> {
+    /// There is no such section.
+    Absent,
+    /// It ends where no place for a line was found.
+    NoPlace,
+    /// A line may be put in there, behind the section's last item.
+    At(TextPlace<'a>),
+}
+
+/// Where the first section of a name ends. The whole text is read.
+pub(crate) fn find_section_end<'a>(
+    alloc: Global,
+    text: &'a str,
+    read: ParseOption,
+    name: Option<&str>,
+) -> Result<SectionEnd<'a>, Error>
+    ensures end { IfOk result (AnswersEnd read (chars text.now) (str_name name.entry)) }
+    ensures fault { IfParse result (IsStopOf read (chars text.now)) }
+    ensures only { IfErr result IsParseOrMemory }
+{
+    let mut parser = Parser::new(alloc, text, read);
+    if !open_section(&mut parser, name)? {
+        return Ok(SectionEnd::Absent);
+    }
+    let place = reach_section_end(&mut parser, text, read)?;
+    read_on(&mut parser)?;
+    match place {
+        Some(place) => Ok(SectionEnd::At(place)),
+        None => Ok(SectionEnd::NoPlace),
+    }
+}
+
+// Goes over a section's pairs to its end: the place behind the last item where a line may be put in, on that
+// item's line or at its end if it may be there.
+fn reach_section_end<'a>(
+    parser: &mut Parser<'a>,
+    text: &'a str,
+    read: ParseOption,
+) -> Result<Option<TextPlace<'a>>, Error>
+    requires text { parser.old.text ≡ chars text.now }
+    requires option { parser.old.option ≡ read }
+    requires within { StandsWithin parser.old }
+    ensures end { IfOk result
+        (ReachesSectionEnd read (chars text.now) parser.old.front parser.new) }
+    ensures fault { IfParse result (IsStopOf read (chars text.now)) }
+    ensures only { IfErr result IsParseOrMemory }
+{
+    let mut place = free_place(text, parser.rest(), read);
+    'elements: loop {
+        let Some(element) = step(parser)? else {
+            return Ok(place);
+        };
+        let next = free_place(text, parser.rest(), read);
+        let source = element.source;
+        match element.content {
+            Content::Header(_) => return Ok(place),
+            Content::Pair(pair) => {
+                drop(pair);
+                place = next;
+            }
+            Content::Nothing => place = chosen(source, place, next),
+        }
+    }
+}
+
+// The place before a rest of a text, where a line may be put in there.
+fn free_place<'a>(text: &'a str, rest: &'a str, read: ParseOption) -> Option<TextPlace<'a>>
+    requires { IsRest (chars text.now) (chars rest.now) }
+    ensures { IfSome result (IsFreeAt read (chars text.now) (chars rest.now)) }
+{
+    let front = front_before(text, rest);
+    if is_free(front, rest, read) {
+        return Some(TextPlace { front, rest });
+    }
+    None
+}
+
+// Whether a line may be put in between a front and a rest, if an element ends there: what follows isn't
+// taken by a multiline value, and no blank gets to a line's start.
+fn is_free(front: &str, rest: &str, read: ParseOption) -> bool
+    ensures { result ≡ true → IsFree read (chars front.now) (chars rest.now) }
+{
+    let blank = begins_with_blank(rest);
+    if read.enabled_indented_mutiline_value && (blank || begins_with_line_end(rest)) {
+        return false;
+    }
+    !blank || starts_line(front)
+}
+
+// Of two places on the way to a section's end the one that a line goes to: the later one up to the next
+// line, and from there on the earlier one.
+fn chosen<'a>(
+    source: &str,
+    place: Option<TextPlace<'a>>,
+    next: Option<TextPlace<'a>>,
+) -> Option<TextPlace<'a>>
+    ensures { Chooses (chars source.now) place.entry next.entry result }
+{
+    if is_indented_key(source) || !is_nearer(place, next) {
+        return place;
+    }
+    next
+}
+
+// Whether the later place is the better one.
+fn is_nearer(place: Option<TextPlace>, next: Option<TextPlace>) -> bool {
+    match (place, next) {
+        (_, None) => false,
+        (None, Some(_)) => true,
+        (Some(place), Some(next)) => {
+            !is_column_one(place.front) && (is_column_one(next.front) || !starts_line(next.front))
+        }
+    }
+}
+
+// Whether an element's source may be an indented key: it begins with a blank, and not all of it is blanks
+// and line ends.
+fn is_indented_key(source: &str) -> bool
+    ensures { result ≡ false → ¬ IsIndentedKey (chars source.now) }
+{
+    begins_with_blank(source) && !is_blank_or_line_ends(source)
+}
+
+// Whether blanks and line ends are all of the text.
+fn is_blank_or_line_ends(text: &str) -> bool
+    ensures { result ≡ list_all (λ c. is_blank c || is_line_end c) (chars text.now) }
+{
+    text.chars().all(|c| is_blank(c) || is_line_end(c))
+}
+
+fn is_blank(c: char) -> bool
+    ensures { result ≡ is_blank c }
+{
+    c == ' ' || c == '\t'
+}
+
+fn is_line_end(c: char) -> bool
+    ensures { result ≡ is_line_end c }
+{
+    c == '\n' || c == '\r'
+}
+
+fn begins_with_blank(text: &str) -> bool
+    ensures { result ≡ begins is_blank (chars text.now) }
+{
+    match split_first(text) {
+        Some((c, _)) => is_blank(c),
+        None => false,
+    }
+}
+
+fn begins_with_line_end(text: &str) -> bool
+    ensures { result ≡ begins is_line_end (chars text.now) }
+{
+    match split_first(text) {
+        Some((c, _)) => is_line_end(c),
+        None => false,
+    }
+}
