@@ -189,10 +189,10 @@ faults() {
     broken fsync EIO 'Input/output error (os error 5)'
     broken rename EXDEV 'Invalid cross-device link (os error 18)'
     fresh
-    strace -f -o "$room/trace" -P "$(pwd)/settings.ini.lock" -e trace=openat -e inject=openat:delay_enter=3000000 \
+    strace -f -o "$room/trace" -P "$(pwd)/settings.ini.lock" -e trace=openat -e inject=openat:delay_enter=8000000 \
         "$program" format settings.ini >"$room/out" 2>"$room/have" &
     run=$!
-    sleep 1.5
+    sleep 4
     printf 'k = 2\n' >settings.ini
     wait "$run"
     echo "status $?" >>"$room/have"
