@@ -26,6 +26,9 @@ use std::alloc::Global;
 ///
 /// `Separator`, `Value` or `Key`, in this order, where that can't be written; then `Text` where reading the
 /// text stops, with line and column, or memory is refused; and `NoPlace` where no place was found.
+///
+/// The clauses say that the place is free and that nothing stands between it and the section's end which gives
+/// an item; which of such places it is, and when none is found, they don't.
 pub fn add_pair(
     alloc: Global,
     text: &str,

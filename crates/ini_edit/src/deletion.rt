@@ -18,7 +18,7 @@ use std::alloc::Global;
 /// No name is the general section's, which a text begins with.
 ///
 /// The pair goes with its line end where what follows it is read as before, and every other byte stays. The
-/// new text loads as the document without the pair.
+/// new text loads as the document without the pair. No clause says that a line end goes which might stay.
 ///
 /// # Errors
 ///
