@@ -10,6 +10,7 @@ use Rattle.ini.specs.Edits.{add_in, set_in}
 use Rattle.ini.specs.Loading.{IsDocumentOf}
 use Rattle.ini.specs.Written.{written_pair}
 use Rattle.ini_edit.specs.Added.{IsAddedAt, IsWritable}
+use Rattle.ini_edit.specs.Endings.{Ending, front_ending}
 use Rattle.ini_edit.specs.LinePlaces.{EndsAtPlace}
 use Rattle.ini_edit.specs.Inside.Lines.{IsWithLine, PushesGlue}
 use Rattle.ini_edit.specs.Inside.PlaceWalks.{IsFirstSectionEnd}
@@ -18,9 +19,9 @@ use Rattle.ini_edit.proofs.GlueTextLemmas.{boundary_place}
 use Rattle.ini_edit.proofs.PlacedLemmas.{adds_at_place, inserts_at_place, place_items}
 
 -- the parts of the text, one put behind another
-pub with_line_parts : {o : ParseOption} (w : WriteOption) (W r key value n0 n1 n2 n3 n4 : Text) → n0 ≡ []
-    → n1 ≡ n0 ++ W → PushesGlue o w.line_separator W n1 n2 → n3 ≡ n2 ++ written_pair w (key, value) → n4 ≡ n3 ++ r
-    → IsWithLine o w W r key value n4
+pub with_line_parts : {o : ParseOption} {e : Ending} (w : WriteOption) (W r key value n0 n1 n2 n3 n4 : Text) → n0 ≡ []
+    → n1 ≡ n0 ++ W → PushesGlue o w.line_separator e n1 n2 → n3 ≡ n2 ++ written_pair w (key, value) → n4 ≡ n3 ++ r
+    → IsWithLine o w e W r key value n4
 with_line_parts w W r key value n0 n1 n2 n3 n4 none first glue pair rest =
     let g = glue.glue in
     let l = written_pair w (key, value) in
@@ -34,7 +35,8 @@ with_line_parts w W r key value n0 n1 n2 n3 n4 none first glue pair rest =
 
 pub added_at : {o : ParseOption} {w : WriteOption} {T : Text} {name : Option Text} {key value U : Text} {place : TextPlace}
     → IsFirstSectionEnd o T name place
-    → IsWithLine o w (chars place.front.now) (chars place.rest.now) key value U → IsWritable o w key value
+    → IsWithLine o w (front_ending place.is_behind_comment (chars place.front.now)) (chars place.front.now)
+    (chars place.rest.now) key value U → IsWritable o w key value
     → IsAddedAt o w T name key value U
 added_at {o} {w} {T} {name} {key} {value} {U} {place} end line writable =
     let W = chars place.front.now in

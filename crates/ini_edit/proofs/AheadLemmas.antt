@@ -86,7 +86,7 @@ module _ {o : ParseOption} {x : List ℕ} (follows : Follows o x) where
   pub y_some : {c y : List ℕ} → FollowsFront c y → y ≢ []
   y_some f e = false≢true (sym (subst (BeginsWith (λ c. not (is_line_end c))) e f.some))
 
-  value_before : {c s y v : List ℕ} → FollowsFront c y → Value o s y v → Value o s x v
+  pub value_before : {c s y v : List ℕ} → FollowsFront c y → Value o s y v → Value o s x v
   value_before {y = y} f (Value.one_line off lead ln) = closes_no_line y f.some (line_closes ln)
   value_before f (Value.to_end on lead ln) = absurd (y_some f refl)
   value_before f (Value.lines on lead ln le m) = Value-before on (y_some f) (Value.lines on lead ln le m)

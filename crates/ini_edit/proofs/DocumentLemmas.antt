@@ -23,7 +23,7 @@ sections_behind [] = []
 sections_behind (Header name ∷ items) = fold with_item ((Some name, []) ∷ []) items
 sections_behind (Pair key value ∷ items) = []
 
-rest_make : (name : Option Text) (ps : Pairs) (rest : List Given) → BeginsWithHeader rest
+pub rest_make : (name : Option Text) (ps : Pairs) (rest : List Given) → BeginsWithHeader rest
     → fold with_item ((name, ps) ∷ []) rest ≡ (name, ps) ∷ sections_behind rest
 rest_make name ps [] h = refl
 rest_make name ps (Header other ∷ rest) h = items-behind ((name, ps) ∷ []) ((Some other, []) ∷ []) rest (omega arith)

@@ -6,7 +6,7 @@ use Rattle.std.specs.List.{list_all}
 use Rattle.ini_text.specs.declared.option.ParseOption.{ParseOption}
 use Rattle.ini_text.specs.Grammar.CharacterKinds.{line_feed, open_bracket, is_blank, is_comment_mark}
 use Rattle.ini_text.specs.Grammar.CharacterKinds.{is_line_feed, is_separator, BeginsWith}
-use Rattle.ini_text.specs.Grammar.Positions.{last_or}
+use Rattle.ini_text.specs.Grammar.Positions.{last_or, is_column_one}
 use Rattle.ini_text.specs.Grammar.Strings.{Str, bracketed_name_ends}
 use Rattle.ini_text.specs.Grammar.Values.{LineEnd, MoreLines, Value}
 use Rattle.ini_text.specs.Grammar.Elements.{Given, Gap, Element}
@@ -34,12 +34,17 @@ last_no_feed c (d ∷ s) h all =
     let parts = and_parts (not (is_line_feed d)) (list_all (λ c. not (is_line_feed c)) s) all in
     last_no_feed d s (not-true (is_line_feed d) parts.0) parts.1
 
+-- no comment without LF ends in column one
+pub comment_no_column : (b : List ℕ) (m : ℕ) (s : List ℕ) → is_comment_mark m ≡ true
+    → list_all (λ c. not (is_line_feed c)) s ≡ true → is_column_one (b ++ m ∷ s) ≡ false
+comment_no_column b m s mark all =
+    let inner : IsInner m = inner_by is_comment_mark m refl refl mark in
+    ap is_line_feed (last_or-behind line_feed m b s) ∙ last_no_feed m s inner.no_line_feed all
+
 comment_no_line : (b : List ℕ) (m : ℕ) (s : List ℕ) → is_comment_mark m ≡ true
     → list_all (λ c. not (is_line_feed c)) s ≡ true → ending (b ++ m ∷ s) ≢ Ending.line
 comment_no_line b m s mark all h =
-    let inner : IsInner m = inner_by is_comment_mark m refl refl mark in
-    both_ways (is_line_feed (last_or m s)) (last_no_feed m s inner.no_line_feed all)
-    (ap is_line_feed (sym (last_or-behind line_feed m b s)) ∙ column_ending (b ++ m ∷ s) h)
+    both_ways (is_column_one (b ++ m ∷ s)) (comment_no_column b m s mark all) (column_ending (b ++ m ∷ s) h)
 
 -- a pair's source from its separator on
 pub ending-separator : (b k : List ℕ) (m : ℕ) (z : List ℕ) → is_separator m ≡ true

@@ -26,6 +26,7 @@ use Rattle.ini.specs.Properties.{Pairs, first_value}
 use Rattle.ini.specs.Documents.{Document, document_of, first_section, value_in, with_item, with_pair}
 use Rattle.ini.specs.SectionItems.{pair_items}
 use Rattle.ini.proofs.KeepingLemmas.{name_refl}
+use Rattle.ini_edit.specs.NoPlaces.{SectionOpens}
 use Rattle.ini_edit.specs.Places.{pair_of}
 use Rattle.ini_edit.specs.Targets.{Lacks}
 use Rattle.ini_edit.specs.FirstPairs.{IsFirstPair, LacksPair, LacksSection, stretches_of}
@@ -38,7 +39,7 @@ use Rattle.ini_edit.proofs.WalkLemmas.{Walked, item_boundary, stands_within, ste
 use Rattle.ini_edit.proofs.WalkLemmas.{walked_start, walked_step, walked_within}
 
 -- sections without one of the name, and another that has another name
-first_section-behind : (name : Option Text) (d e : Document) → first_section name d ≡ None
+pub first_section-behind : (name : Option Text) (d e : Document) → first_section name d ≡ None
     → first_section name (d ++ e) ≡ first_section name e
 first_section-behind name [] e none = refl
 first_section-behind name (s ∷ d) e none = at (is_name name s.0) refl none (first_section-behind name d e)
@@ -68,7 +69,7 @@ first_section-pair name key value (s ∷ t ∷ d) none =
     at true is none more = absurd (let no : Some s.1 ≡ None = none in cc)
     at false is none more = cond-false (is_name name s.0) _ _ is ∙ more none
 
-document_of-append : (items more : List Given) → document_of (items ++ more) ≡ fold with_item (document_of items) more
+pub document_of-append : (items more : List Given) → document_of (items ++ more) ≡ fold with_item (document_of items) more
 document_of-append items more = fold-append with_item ((None, []) ∷ []) items more
 
 -- the parser went over sections without one of the name
@@ -104,11 +105,15 @@ module _ {o : ParseOption} {T : Text} {p : Place} where
 
   pub sections_opened : {name : Text} {q : Place} {e : PlacedElement} → PassesSections o T p (Some name)
       → Steps o T p.front q e → gives e.content ≡ Header name ∷ [] → OpensFirst o T q (Some name)
-  sections_opened {name} {q} s t is = record {
+  sections_opened {name} {q} {e} s t is = record {
     is_reading = t.is_reading;
     items = s.items ++ Header name ∷ [];
     sections = document_of s.items;
     opens = record { opened = document_of-append s.items (Header name ∷ []); first = s.none };
+    is_open =
+        subst (SectionOpens o T (Some name) (document_of s.items)) (sym t.stands.reaches)
+        (SectionOpens.header s.reads t.stands.whole
+        (subst (Element o p.front (chars e.source.now) t.stands.rest) is t.stands.is_element));
     reads = reads-append s.reads (subst (λ l. Reads o T p.front l q.front) is (step_reads t));
     boundary = item_boundary s.reads t is;
   }
@@ -141,8 +146,9 @@ module _ {p : Place} (refusal : p.refusal ≡ None) (front : p.front ≡ []) whe
     items = [];
     sections = [];
     opens = record { opened = refl; first = refl };
+    is_open = subst (SectionOpens p.option p.text None []) (sym front) SectionOpens.general;
     reads = at_front;
-    boundary = subst (λ c. Boundary p.option p.text [] c []) (sym front) Boundary.start;
+    boundary = subst (λ c. Boundary p.option p.text [] false c []) (sym front) Boundary.start;
   }
 
 -- the parser went over pairs without the key
@@ -242,7 +248,7 @@ module _ {o : ParseOption} {T b : Text} {p : Place} {key : Text} (s : Searches o
       }
 
 -- the items behind a pair: pairs of its section, and then a header first
-items_split : (items : List Given)
+pub items_split : (items : List Given)
     → (later : Pairs) × ((rest : List Given) × ((items ≡ pair_items later ++ rest) × BeginsWithHeader rest))
 items_split [] = ([], ([], (refl, tt)))
 items_split (Header name ∷ items) = ([], (Header name ∷ items, (refl, tt)))

@@ -1,14 +1,15 @@
 -- A line end, with what goes before it, put in behind an element: the element gives what it gave.
 use Rattle.std.proofs.Common.{◌≡◌, ◌≢◌, ℕ, Bool, true, false, not, eqb, List, [], ◌∷◌, ◌++◌, refl, sym, ap}
 use Rattle.std.proofs.Common.{◌∙◌, subst, append_assoc, append-nil, inl, inr, eqb-true, if◌then◌else◌}
-use Rattle.std.proofs.lemmas.Bool.{cases_Bool, false≢true, false_from_ne_true, and_parts, and_from}
+use Rattle.std.proofs.lemmas.Bool.{both_ways, cases_Bool, false≢true, false_from_ne_true, and_parts, and_from}
 use Rattle.std.specs.Char.{is_whitespace}
 use Rattle.std.specs.List.{list_all}
 use Rattle.ini_text.specs.declared.option.ParseOption.{ParseOption}
 use Rattle.ini_text.specs.declared.write.option.LineSeparator.{LineSeparator}
 use Rattle.ini_text.specs.declared.write.option.LineSeparator.TheVariants.{SystemDefault, CR, CRLF}
 use Rattle.ini_text.specs.Grammar.CharacterKinds.{backslash, line_feed, carriage_return, open_bracket}
-use Rattle.ini_text.specs.Grammar.CharacterKinds.{close_bracket, is_line_end, is_line_feed}
+use Rattle.ini_text.specs.Grammar.CharacterKinds.{close_bracket, is_comment_mark, is_line_end, is_line_feed}
+use Rattle.ini_text.specs.Grammar.Positions.{is_column_one}
 use Rattle.ini_text.specs.Grammar.Keys.{Indentation}
 use Rattle.ini_text.specs.Grammar.Strings.{Closes, Str, bracketed_name_ends}
 use Rattle.ini_text.specs.Grammar.Elements.{Given, Pair, Gap, Element}
@@ -18,7 +19,8 @@ use Rattle.ini_text.proofs.LawLemmas.OneAheadLemmas.{Alike, KeyFront-alike, Str-
 use Rattle.ini_text.proofs.PlainLemmas.PlainLineLemmas.{gaps_of, gaps_read}
 use Rattle.ini_edit.specs.Endings.{Ending, Closing, IsIndentedKey, next_ending, ending, ending_from}
 use Rattle.ini_edit.specs.Places.{Follows}
-use Rattle.ini_edit.proofs.EndedLemmas.{ending-blanks, ending-separator, row_no_line}
+use Rattle.ini_edit.proofs.CommentLemmas.{IsComment}
+use Rattle.ini_edit.proofs.EndedLemmas.{comment_no_column, ending-blanks, ending-separator, row_no_line}
 use Rattle.ini_edit.proofs.GluedLemmas.{closing_inside, line_value_glued, lines_glued}
 use Rattle.ini_edit.proofs.InsertedLemmas.{line_end-all, line_end-closes}
 
@@ -123,6 +125,31 @@ module _ {o : ParseOption} (sep : LineSeparator) {x : List ℕ} (follows : Follo
   none_behind s X d h is k =
       closing_none (λ q. no_escape Ending.line X d h (ap ending (sym is) ∙ q)) k
 
+  -- a comment that has no LF goes on through that of the line end
+  last_comment_glued : (m : ℕ) (s : List ℕ) {c : List ℕ} {e : Ending} → is_column_one b ≡ true → is_comment_mark m ≡ true
+      → list_all no_feed s ≡ true → Closing o e c → ReadsGlued (m ∷ s) (c ++ line_end sep) []
+  last_comment_glued m s {c} one mark all k =
+      let (p, is, none) = glue_feed sep k in
+      let g = c ++ line_end sep in
+      let element : Element o b (m ∷ (s ++ g)) x [] =
+      subst (λ z. Element o b (m ∷ z) x []) (append_assoc s p (line_feed ∷ []) ∙ ap (λ z. s ++ z) (sym is))
+      (Element.comment (s ++ p) one mark (all_both no_feed s p all none)) in
+      subst (λ z. ReadsGlued (m ∷ s) z []) (append-nil g) (by_parts (m ∷ s) g [] refl element)
+
+  pub comment_glued : {s r : List ℕ} {given : List Given} → IsComment b s r given → ReadsGlued s (line_end sep) given
+  comment_glued (IsComment.whole s one mark all) = by_gaps refl (Element.comment s one mark all)
+  comment_glued (IsComment.last {m = m} {s = s} one mark all) = last_comment_glued m s one mark all Closing.within
+
+  -- behind its LF nothing goes
+  pub comment_ended : {s r : List ℕ} {given : List Given} → IsComment b s r given → is_column_one (b ++ s) ≡ true
+      → ReadsGlued s [] given
+  comment_ended (IsComment.whole {m = m} s one mark all) column =
+      let source = m ∷ (s ++ line_feed ∷ []) in
+      by_parts source [] [] refl
+      (subst (λ z. Element o b z x []) (sym (append-nil source)) (Element.comment s one mark all))
+  comment_ended (IsComment.last {m = m} {s = s} one mark all) column =
+      absurd (both_ways (is_column_one (b ++ m ∷ s)) (comment_no_column b m s mark all) column)
+
   pub element_glued : {s r c : List ℕ} {given : List Given} → Element o b s r given → (given ≡ [] → ¬ IsIndentedKey s)
       → Closing o (ending (b ++ s)) c → ReadsGlued s (c ++ line_end sep) given
   element_glued (Element.gap (Gap.blank_line {w = w} d i h)) whole k =
@@ -134,13 +161,8 @@ module _ {o : ParseOption} (sep : LineSeparator) {x : List ℕ} (follows : Follo
   element_glued (Element.comment {m = m} s one mark all) whole k =
       by_gaps (none_behind (m ∷ (s ++ line_feed ∷ [])) (b ++ m ∷ s) line_feed refl (sym (append_assoc b (m ∷ s) (line_feed ∷ []))) k)
       (Element.comment s one mark all)
-  element_glued {c = c} (Element.last_comment {m = m} {s = s} one mark all) whole k =
-      let (p, is, none) = glue_feed sep k in
-      let g = c ++ line_end sep in
-      let element : Element o b (m ∷ (s ++ g)) x [] =
-      subst (λ z. Element o b (m ∷ z) x []) (append_assoc s p (line_feed ∷ []) ∙ ap (λ z. s ++ z) (sym is))
-      (Element.comment (s ++ p) one mark (all_both no_feed s p all none)) in
-      subst (λ z. ReadsGlued (m ∷ s) z []) (append-nil g) (by_parts (m ∷ s) g [] refl element)
+  element_glued (Element.last_comment {m = m} {s = s} one mark all) whole k =
+      last_comment_glued m s one mark all k
   element_glued (Element.header {s = s} off str) whole k =
       by_gaps (none_behind (open_bracket ∷ (s ++ close_bracket ∷ [])) (b ++ open_bracket ∷ s) close_bracket refl (sym (append_assoc b (open_bracket ∷ s) (close_bracket ∷ []))) k)
       (Element.header off (Str-alike Alike.same str))

@@ -35,7 +35,7 @@ use Rattle.ini_edit.proofs.StartLemmas.{column_at, reached}
 
 -- a pair that is put at the end of its section
 module _ {name : Option Text} {before after : List Given} (t : IsSectionEnd name before after) where
-  items_end : before ++ after ≡ t.opening ++ (pair_items t.pairs ++ after)
+  pub items_end : before ++ after ≡ t.opening ++ (pair_items t.pairs ++ after)
   items_end = ap (λ l. l ++ after) t.before_is ∙ append_assoc t.opening (pair_items t.pairs) after
 
   items_more : (key value : Text) → before ++ (Pair key value ∷ after)

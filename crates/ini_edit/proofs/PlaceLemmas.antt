@@ -1,5 +1,5 @@
 -- At a place elements reach the line that is put in, and behind it the text is read as before.
-use Rattle.std.proofs.Common.{◌≤◌, ◌≡◌, ℕ, true, List, [], ◌∷◌, ◌++◌, length, refl, sym, ap, ◌∙◌, subst}
+use Rattle.std.proofs.Common.{◌≤◌, ◌≡◌, ℕ, true, false, List, [], ◌∷◌, ◌++◌, length, refl, sym, ap, ◌∙◌, subst}
 use Rattle.std.proofs.Common.{append_assoc, append-nil, inl, inr, arith}
 use Rattle.std.proofs.lemmas.Bool.{cases_Bool, both_ways}
 use Rattle.std.proofs.lemmas.List.{append_cancel_left}
@@ -17,9 +17,9 @@ use Rattle.ini_edit.specs.Endings.{Closing, ending}
 use Rattle.ini_edit.specs.Places.{EndsLike, Follows}
 use Rattle.ini_edit.specs.LinePlaces.{IsPlace}
 use Rattle.ini_edit.proofs.BehindLemmas.{EndsLike-one, Reads-like}
-use Rattle.ini_edit.proofs.GlueLemmas.{element_glued}
+use Rattle.ini_edit.proofs.GlueLemmas.{comment_ended, comment_glued, element_glued}
 use Rattle.ini_edit.proofs.InsertedLemmas.{EndsLike-column, line_end-column}
-use Rattle.ini_edit.proofs.StartLemmas.{column_at, element_end_reached, reached}
+use Rattle.ini_edit.proofs.StartLemmas.{column_at, comment_end_reached, element_end_reached, reached}
 
 -- in column one an element is read as behind any front, where no blank begins it
 module _ {b V : List ℕ} (one : is_column_one V ≡ true) where
@@ -47,7 +47,7 @@ module _ {b V : List ℕ} (one : is_column_one V ≡ true) where
     Element-anew h (Element.dropped_blanks i) = Element.dropped_blanks (Indentation-anew i)
     Element-anew h (Element.dropped_key i begins stops) = Element.dropped_key (Indentation-anew i) begins stops
 
-EndsLike-some : (W V s : List ℕ) → 1 ≤ length s → EndsLike (W ++ s) (V ++ s)
+pub EndsLike-some : (W V s : List ℕ) → 1 ≤ length s → EndsLike (W ++ s) (V ++ s)
 EndsLike-some W V [] h = absurd (omega arith)
 EndsLike-some W V (c ∷ s) h = EndsLike-one W V c s
 
@@ -77,12 +77,25 @@ Reads-anew {o} W V Y one begins reads = at reads refl refl refl
         let all : (V ++ s) ++ r ≡ V ++ Y = append_assoc V s r ∙ ap (λ z. V ++ z) rest in
         Reads.step (ap (λ z. V ++ z) (sym rest)) element (subst (λ z. Reads o z (V ++ s) items z) all new)
 
+-- so is any rest, if a line starts before what a blank begins
+rest_anew : {o : ParseOption} {after : List Given} (W V r : List ℕ) → (starts_line W ≡ false → BeginsWithNo is_blank r)
+    → is_column_one V ≡ true → Reads o (W ++ r) W after (W ++ r) → Reads o (V ++ r) V after (V ++ r)
+rest_anew {o} W V r unblank one reads =
+    elim (cases_Bool (starts_line W)) [
+      | inl line ↦
+          let like : EndsLike W V = record { line = line ∙ sym (line_starts V one); column = λ _. one } in
+          Reads-like o like r reads
+      | inr within ↦ Reads-anew W V r one (unblank within) reads
+    ]
+
 module _ {o : ParseOption} {end : LineSeparator} where
   -- the line that is put in is in column one
   pub place_column : {W r g : List ℕ} {items : List Given} → IsPlace o end W r g items → is_column_one (W ++ g) ≡ true
   place_column {W} (IsPlace.line_start start) = ap is_column_one (append-nil W) ∙ column_at start
   place_column {W} (IsPlace.behind_element {c = c} ends closing unblank) =
       ap is_column_one (sym (append_assoc W c (line_end end))) ∙ line_end-column end (W ++ c)
+  place_column {W} (IsPlace.behind_comment_line ends one) = ap is_column_one (append-nil W) ∙ one
+  place_column {W} (IsPlace.behind_comment ends unblank) = line_end-column end W
 
   -- elements reach it
   pub place_reached : {W r g : List ℕ} {items : List Given} → IsPlace o end W r g items → (x : List ℕ) → Follows o x
@@ -92,16 +105,18 @@ module _ {o : ParseOption} {end : LineSeparator} where
   place_reached {W} (IsPlace.behind_element {c = c} ends closing unblank) x follows =
       element_end_reached (c ++ line_end end) x ends (λ b s r gives is element key.
       element_glued end follows b element key (subst (λ z. Closing o (ending z) c) is closing))
+  place_reached (IsPlace.behind_comment_line ends one) x follows =
+      comment_end_reached [] x ends (λ b s r gives is comment.
+      comment_ended end follows b comment (ap is_column_one (sym is) ∙ one))
+  place_reached (IsPlace.behind_comment ends unblank) x follows =
+      comment_end_reached (line_end end) x ends (λ b s r gives is comment. comment_glued end follows b comment)
 
   -- the rest is read behind another front in column one
   pub place_rest : {W r g : List ℕ} {items after : List Given} → IsPlace o end W r g items → (V : List ℕ)
       → is_column_one V ≡ true → Reads o (W ++ r) W after (W ++ r) → Reads o (V ++ r) V after (V ++ r)
   place_rest {W} {r} (IsPlace.line_start start) V one reads =
       Reads-like o (EndsLike-column W V (column_at start) one) r reads
-  place_rest {W} {r} (IsPlace.behind_element ends closing unblank) V one reads =
-      elim (cases_Bool (starts_line W)) [
-        | inl line ↦
-            let like : EndsLike W V = record { line = line ∙ sym (line_starts V one); column = λ _. one } in
-            Reads-like o like r reads
-        | inr within ↦ Reads-anew W V r one (unblank within) reads
-      ]
+  place_rest {W} {r} (IsPlace.behind_element ends closing unblank) V one reads = rest_anew W V r unblank one reads
+  place_rest {W} {r} (IsPlace.behind_comment_line ends at) V one reads =
+      Reads-like o (EndsLike-column W V at one) r reads
+  place_rest {W} {r} (IsPlace.behind_comment ends unblank) V one reads = rest_anew W V r unblank one reads

@@ -1,11 +1,11 @@
 -- The document of a text in which a line, or a section, was put at a place.
-use Rattle.std.proofs.Common.{◌≡◌, ◌∙◌, List, [], ◌∷◌, ◌++◌, ap, sym, subst, refl, append_assoc, append-nil}
+use Rattle.std.proofs.Common.{◌≡◌, ◌≢◌, ◌∙◌, List, [], ◌∷◌, ◌++◌, ap, sym, subst, refl, append_assoc, append-nil}
 use Rattle.std.proofs.Common.{chars, Option}
 use Rattle.std.proofs.Common.{Some, None, false, true}
 use Rattle.std.proofs.lemmas.Grind.{fold-append}
 use Rattle.ini_text.specs.Grammar.CharacterKinds.{open_bracket, close_bracket}
 use Rattle.ini_text.specs.Grammar.Positions.{is_column_one}
-use Rattle.ini_text.specs.Grammar.Elements.{Given, Header, Pair}
+use Rattle.ini_text.specs.Grammar.Elements.{Given, Header, Pair, Element}
 use Rattle.ini_text.specs.Grammar.Texts.{Reads, Derives}
 use Rattle.ini_text.specs.Laws.Plain.{IsPlainName, IsPlainPair, IsPlainSeparator}
 use Rattle.ini_text.specs.Laws.PlainLaws.{header_source, line_ends}
@@ -19,13 +19,16 @@ use Rattle.ini_text.proofs.LawLemmas.ExportedLemmas as text_laws
 use Rattle.ini_text.proofs.LawLemmas.ExportedLemmas.{element_then_gaps-gives}
 use Rattle.ini.specs.Texts.{Text}
 use Rattle.ini.specs.Properties.{inserted}
-use Rattle.ini.specs.Documents.{Document, document_of, with_item}
+use Rattle.ini.specs.Documents.{Document, document_of, first_section, with_item}
 use Rattle.ini.specs.Edits.{add_in, set_in}
+use Rattle.ini.specs.Loading.{IsDocumentOf}
 use Rattle.ini.specs.Written.{written_name, written_pair}
 use Rattle.ini.proofs.EditLemmas.{edit_section-last}
-use Rattle.ini_edit.specs.Endings.{IsElementEnd}
+use Rattle.ini_edit.specs.Endings.{IsCommentEnd, IsElementEnd}
 use Rattle.ini_edit.specs.Places.{Follows}
+use Rattle.ini_edit.specs.NewSections.{AppendsBehindEmptyLine, EmptyLine, EndsEmpty}
 use Rattle.ini_edit.specs.LinePlaces.{AddsAtPlace, AppendsAtPlace, EndsAtPlace, InsertsAtPlace, IsPlace}
+use Rattle.ini_edit.proofs.EmptyLineLemmas.{behind_empty_line}
 use Rattle.ini_edit.proofs.InsertLemmas.{new_at, pair_is, with_section_last}
 use Rattle.ini_edit.proofs.InsertedLemmas.{line-column, line_follows, line_read}
 use Rattle.ini_edit.proofs.PairListLemmas.{inserted_new}
@@ -34,15 +37,29 @@ use Rattle.ini_edit.proofs.StandsLemmas.{derives_one}
 use Rattle.ini_edit.proofs.StartLemmas.{reached}
 
 -- the items up to a place, in the text as it was
-element_end-items : {o : ParseOption} {T W : Text} {items : List Given} → IsElementEnd o T W items → Reads o T [] items W
-element_end-items {o} {T} (IsElementEnd.behind {b} {s} {r} {items} {gives} reads whole element key) =
+items_to_end : {o : ParseOption} {T b s r : Text} {items gives : List Given} → Reads o T [] items b → T ≡ b ++ (s ++ r)
+    → Element o b s r gives → Reads o T [] (items ++ gives) (b ++ s)
+items_to_end {o} {T} {b} {s} {r} {items} {gives} reads whole element =
     subst (λ g. Reads o T [] (items ++ g) (b ++ s)) (append-nil gives)
     (reads-append reads (Reads.step whole element (Reads.stay r (whole ∙ sym (append_assoc b s r)))))
+
+element_end-items : {o : ParseOption} {T W : Text} {items : List Given} → IsElementEnd o T W items → Reads o T [] items W
+element_end-items (IsElementEnd.behind reads whole element key) = items_to_end reads whole element
+
+comment_end-items : {o : ParseOption} {T W : Text} {items : List Given} → IsCommentEnd o T W items → Reads o T [] items W
+comment_end-items (IsCommentEnd.behind reads whole element mark) = items_to_end reads whole element
+
+-- an empty front has an empty line behind it
+no_front : (W glue : Text) → (W ++ glue) ≡ [] → EndsEmpty W
+no_front [] glue is = EndsEmpty.nothing
+no_front (c ∷ W) glue is = cc
 
 pub place_items : {o : ParseOption} {end : LineSeparator} {W r glue : Text} {items : List Given}
     → IsPlace o end W r glue items → Follows o r → Reads o (W ++ r) [] items W
 place_items {r = r} (IsPlace.line_start start) follows = reached start r follows
 place_items (IsPlace.behind_element ends closing unblank) follows = element_end-items ends
+place_items (IsPlace.behind_comment_line ends one) follows = comment_end-items ends
+place_items (IsPlace.behind_comment ends unblank) follows = comment_end-items ends
 
 module _ (o : ParseOption) (w : WriteOption) (key value : Text) (sep : IsPlainSeparator (chars w.kv_separator.now))
     (plain : IsPlainPair o w.escape_policy key value) where
@@ -110,38 +127,72 @@ module _ (o : ParseOption) (w : WriteOption) (key value : Text) (sep : IsPlainSe
         (append_assoc (escaped w.escape_policy name) (close_bracket ∷ []) (line_end w.line_separator ++ [])
         ∙ ap (λ z. escaped w.escape_policy name ++ close_bracket ∷ z) (append-nil (line_end w.line_separator)))
 
-    section_derives : {W r glue : Text} {items : List Given} → IsPlace o w.line_separator W r glue items → Follows o r
-        → Reads o (W ++ r) W [] (W ++ r)
-        → Derives o (W ++ (glue ++ (hs ++ (l ++ r)))) (items ++ (Header name ∷ (Pair key value ∷ [])))
-    section_derives {W} {r} {glue} {items} place follows then =
-        let B = W ++ glue in
-        let begins : Follows o (hs ++ (l ++ r)) = record { no_blank = λ _. refl; no_line_end = λ _. refl } in
-        let first : Reads o (W ++ (glue ++ (hs ++ (l ++ r)))) [] items B = place_reached place (hs ++ (l ++ r)) begins in
+    -- a section in column one, where elements reach it, behind which the text gives nothing
+    section_derives : {B r : Text} {items : List Given} → Follows o r
+        → ((V : Text) → is_column_one V ≡ true → Reads o (V ++ r) V [] (V ++ r))
+        → Reads o (B ++ (hs ++ (l ++ r))) [] items B
+        → Derives o (B ++ (hs ++ (l ++ r))) (items ++ (Header name ∷ (Pair key value ∷ [])))
+    section_derives {B} {r} follows then first =
         let header = element_then_gaps-gives (text_laws.header_line o w false B name (l ++ r) plain_name) in
-        let pair = line_then header.1 follows (λ V one. place_rest place V one then) in
+        let pair = line_then header.1 follows then in
         let whole : (B ++ hs) ++ (l ++ r) ≡ B ++ (hs ++ (l ++ r)) = append_assoc B hs (l ++ r) in
-        let rest : Reads o (B ++ (hs ++ (l ++ r))) B (Header name ∷ (Pair key value ∷ [])) (B ++ (hs ++ (l ++ r))) =
-        reads-append header.0 (subst (λ z. Reads o z (B ++ hs) (Pair key value ∷ []) z) whole pair) in
         reads-append first
-        (subst (λ z. Reads o z B (Header name ∷ (Pair key value ∷ [])) z) (append_assoc W glue (hs ++ (l ++ r))) rest)
+        (reads-append header.0 (subst (λ z. Reads o z (B ++ hs) (Pair key value ∷ []) z) whole pair))
+
+    -- what is written of the section, and the rest
+    section_is : (r : Text) → hs ++ (l ++ r) ≡ written_name w (Some name) ++ (written_pair w (key, value) ++ r)
+    section_is r =
+        ap (λ z. z ++ (l ++ r)) header_is ∙ ap (λ z. written_name w (Some name) ++ (z ++ r)) (sym (pair_is w key value))
+
+    section_follows : (x : Text) → Follows o (hs ++ x)
+    section_follows x = record { no_blank = λ _. refl; no_line_end = λ _. refl }
+
+    -- the section comes last in the document
+    section_set : {W r glue : Text} {items : List Given} → IsPlace o w.line_separator W r glue items → Follows o r
+        → Reads o (W ++ r) W [] (W ++ r) → (d : Document) → IsDocumentOf o (W ++ r) d
+        → first_section (Some name) d ≡ None
+        → set_in (Some name) key value d ≡ document_of (items ++ (Header name ∷ (Pair key value ∷ [])))
+    section_set {items = items} place follows then d document none =
+        let same = derives_one document.derives (reads-append (place_items place follows) then) in
+        let made : d ≡ document_of items =
+        document.document ∙ ap document_of same ∙ ap document_of (append-nil items) in
+        edit_section-last (Some name) (inserted key value) ((Some name, (key, value) ∷ []) ∷ []) d none
+        ∙ ap (λ x. x ++ (Some name, (key, value) ∷ []) ∷ []) made
+        ∙ sym (with_section_last (document_of items) name key value)
+        ∙ sym (fold-append with_item ((None, []) ∷ []) items (Header name ∷ (Pair key value ∷ [])))
 
     pub appends_at_place : AppendsAtPlace o w name key value
     appends_at_place W r glue items place follows then d document none =
-        let more = Header name ∷ (Pair key value ∷ []) in
-        let last = (Some name, (key, value) ∷ []) ∷ [] in
-        let old : Derives o (W ++ r) (items ++ []) = reads-append (place_items place follows) then in
-        let same = derives_one document.derives old in
-        let made : d ≡ document_of items =
-        document.document ∙ ap document_of same ∙ ap document_of (append-nil items) in
-        let written : hs ++ (l ++ r) ≡ written_name w (Some name) ++ (written_pair w (key, value) ++ r) =
-        ap (λ z. z ++ (l ++ r)) header_is ∙ ap (λ z. written_name w (Some name) ++ (z ++ r)) (sym (pair_is w key value)) in
+        let first = place_reached place (hs ++ (l ++ r)) (section_follows (l ++ r)) in
+        let text : (W ++ glue) ++ (hs ++ (l ++ r))
+        ≡ W ++ (glue ++ (written_name w (Some name) ++ (written_pair w (key, value) ++ r))) =
+        append_assoc W glue (hs ++ (l ++ r)) ∙ ap (λ z. W ++ (glue ++ z)) (section_is r) in
         record {
-          items = items ++ more;
+          items = items ++ (Header name ∷ (Pair key value ∷ []));
           derives =
-              subst (λ z. Derives o (W ++ (glue ++ z)) (items ++ more)) written (section_derives place follows then);
-          document =
-              edit_section-last (Some name) (inserted key value) last d none
-              ∙ ap (λ x. x ++ (Some name, (key, value) ∷ []) ∷ []) made
-              ∙ sym (with_section_last (document_of items) name key value)
-              ∙ sym (fold-append with_item ((None, []) ∷ []) items more);
+              subst (λ z. Derives o z (items ++ (Header name ∷ (Pair key value ∷ [])))) text
+              (section_derives follows (λ V one. place_rest place V one then)
+              (subst (λ z. Reads o z [] items (W ++ glue)) (sym (append_assoc W glue (hs ++ (l ++ r)))) first));
+          document = section_set place follows then d document none;
+        }
+
+    pub appends_behind_empty_line : AppendsBehindEmptyLine o w name key value
+    appends_behind_empty_line W r glue gap items place (EmptyLine.there ends) follows then d document none =
+        appends_at_place W r glue items place follows then d document none
+    appends_behind_empty_line W r glue gap items place (EmptyLine.new not) follows then d document none =
+        let e = line_end w.line_separator in
+        let x = hs ++ (l ++ r) in
+        let apart : (W ++ glue) ≢ [] = λ is. not (no_front W glue is) in
+        let first = behind_empty_line place apart x (λ h. cc) (section_follows (l ++ r)) in
+        let whole : ((W ++ glue) ++ e) ++ x ≡ (W ++ glue) ++ (e ++ x) = append_assoc (W ++ glue) e x in
+        let text : ((W ++ glue) ++ e) ++ x
+        ≡ W ++ (glue ++ (e ++ (written_name w (Some name) ++ (written_pair w (key, value) ++ r)))) =
+        whole ∙ append_assoc W glue (e ++ x) ∙ ap (λ z. W ++ (glue ++ (e ++ z))) (section_is r) in
+        record {
+          items = items ++ (Header name ∷ (Pair key value ∷ []));
+          derives =
+              subst (λ z. Derives o z (items ++ (Header name ∷ (Pair key value ∷ [])))) text
+              (section_derives follows (λ V one. place_rest place V one then)
+              (subst (λ z. Reads o z [] items ((W ++ glue) ++ e)) (sym whole) first));
+          document = section_set place follows then d document none;
         }

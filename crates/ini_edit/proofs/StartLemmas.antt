@@ -11,9 +11,10 @@ use Rattle.ini_text.specs.Grammar.Texts.{Reads}
 use Rattle.ini_text.proofs.LawLemmas.OneAheadLemmas.{Alike, Alike-some, Reads-alike}
 use Rattle.ini_text.proofs.PlainLemmas.PlainLineLemmas.{gaps_of, gaps_read}
 use Rattle.ini_text.proofs.GrammarLemmas.ItemLemmas.{element-some}
-use Rattle.ini_edit.specs.Endings.{IsElementEnd, IsIndentedKey, ending}
+use Rattle.ini_edit.specs.Endings.{IsCommentEnd, IsElementEnd, IsIndentedKey, ending}
 use Rattle.ini_edit.specs.Places.{Follows, IsLineStart}
 use Rattle.ini_edit.proofs.AheadLemmas.{FollowsFront, Reads-before_line}
+use Rattle.ini_edit.proofs.CommentLemmas.{IsComment, marked_comment}
 use Rattle.ini_edit.proofs.EndedLemmas.{Element-ended}
 use Rattle.ini_edit.proofs.EndingLemmas.{column_ending}
 
@@ -26,16 +27,30 @@ reaches_behind {o} {V} {items} c e x r all first =
     let gaps : Reads o T V [] (V ++ c ∷ e) = gaps_read (gaps_of (c ∷ e) all) refl in
     subst (λ g. Reads o T [] g (V ++ c ∷ e)) (append-nil items) (Reads-alike Alike.same refl first gaps)
 
+end_reached : {o : ParseOption} {T b s r : List ℕ} {items gives : List Given} (g x : List ℕ) → Reads o T [] items b
+    → T ≡ b ++ (s ++ r) → Element o b s r gives → Reads o (b ++ (s ++ (g ++ x))) b gives (b ++ (s ++ g))
+    → Reads o ((b ++ s) ++ (g ++ x)) [] (items ++ gives) ((b ++ s) ++ g)
+end_reached {o} {b = b} {s} {r} {items} {gives} g x reads whole element last =
+    let all : Reads o (b ++ (s ++ (g ++ x))) [] (items ++ gives) (b ++ (s ++ g)) =
+    Reads-alike (Alike-some s r (g ++ x) (element-some element)) whole reads last in
+    subst (λ z. Reads o z [] (items ++ gives) ((b ++ s) ++ g)) (sym (append_assoc b s (g ++ x)))
+    (subst (λ z. Reads o (b ++ (s ++ (g ++ x))) [] (items ++ gives) z) (sym (append_assoc b s g)) all)
+
 -- what reaches the end of an element reaches what is put in behind it, where the element is read before that
 pub element_end_reached : {o : ParseOption} {T W : List ℕ} {items : List Given} (g x : List ℕ) → IsElementEnd o T W items
     → ((b s r : List ℕ) (gives : List Given) → W ≡ b ++ s → Element o b s r gives → (gives ≡ [] → ¬ IsIndentedKey s)
     → Reads o (b ++ (s ++ (g ++ x))) b gives (b ++ (s ++ g)))
     → Reads o (W ++ (g ++ x)) [] items (W ++ g)
-element_end_reached {o} g x (IsElementEnd.behind {b} {s} {r} {items} {gives} reads whole element key) last =
-    let all : Reads o (b ++ (s ++ (g ++ x))) [] (items ++ gives) (b ++ (s ++ g)) =
-    Reads-alike (Alike-some s r (g ++ x) (element-some element)) whole reads (last b s r gives refl element key) in
-    subst (λ z. Reads o z [] (items ++ gives) ((b ++ s) ++ g)) (sym (append_assoc b s (g ++ x)))
-    (subst (λ z. Reads o (b ++ (s ++ (g ++ x))) [] (items ++ gives) z) (sym (append_assoc b s g)) all)
+element_end_reached g x (IsElementEnd.behind {b} {s} {r} {gives = gives} reads whole element key) last =
+    end_reached g x reads whole element (last b s r gives refl element key)
+
+-- the same of a comment's end
+pub comment_end_reached : {o : ParseOption} {T W : List ℕ} {items : List Given} (g x : List ℕ) → IsCommentEnd o T W items
+    → ((b s r : List ℕ) (gives : List Given) → W ≡ b ++ s → IsComment b s r gives
+    → Reads o (b ++ (s ++ (g ++ x))) b gives (b ++ (s ++ g)))
+    → Reads o (W ++ (g ++ x)) [] items (W ++ g)
+comment_end_reached g x (IsCommentEnd.behind {b} {s} {r} {gives = gives} reads whole element mark) last =
+    end_reached g x reads whole element (last b s r gives refl (marked_comment mark element))
 
 module _ {o : ParseOption} where
   pub column_at : {W r : List ℕ} {items : List Given} → IsLineStart o W r items → is_column_one W ≡ true

@@ -1,29 +1,23 @@
 -- A text to which a pair is added.
-use Rattle.std.specs.Prelude.{◌≡◌, ◌≢◌, List, [], ◌++◌, Option, MatchOption, String, chars}
-use Rattle.ini_text.specs.Options.WriteOptions.{line_end}
+use Rattle.std.specs.Prelude.{◌≡◌, ◌++◌, Option, Some, IsSomeAnd, chars, ⊤}
 use Rattle.ini_text.specs.declared.option.ParseOption.{ParseOption}
-use Rattle.ini_text.specs.declared.write.option.LineSeparator.{LineSeparator}
 use Rattle.ini_text.specs.declared.write.option.WriteOption.{WriteOption}
-use Rattle.ini_text.specs.Laws.Plain.{IsPlainPair, IsPlainSeparator, IsPlainValue}
+use Rattle.ini_text.specs.declared.write.policy.EscapePolicy.{EscapePolicy}
+use Rattle.ini_text.specs.Laws.Plain.{IsPlainName, IsPlainPair, IsPlainSeparator, IsPlainValue}
 use Rattle.ini_text.specs.declared.error.Error.TheVariants.{Memory, Parse}
-use Rattle.ini.specs.Texts.{Text, text_of}
+use Rattle.ini.specs.Texts.{Text}
 use Rattle.ini.specs.Documents.{Document}
 use Rattle.ini.specs.Edits.{add_in, set_in}
 use Rattle.ini.specs.Loading.{IsDocumentOf, IsStopOf}
 use Rattle.ini.specs.Written.{written_pair}
-use Rattle.ini_edit.specs.Endings.{Closing, Ending, ending}
 use Rattle.ini_edit.specs.LinePlaces.{EndsAtPlace}
 use Rattle.ini_edit.specs.FirstPairs.{LacksSection}
+use Rattle.ini_edit.specs.NewSections.{IsInNewSection}
+use Rattle.ini_edit.specs.NoPlaces.{HasNoEnd, HasNoPlace}
 use Rattle.ini_edit.specs.Targets.{Lacks}
 use Rattle.ini_edit.specs.declared.error.EditError.{EditError}
-use Rattle.ini_edit.specs.declared.error.EditError.TheVariants.{Text as TextError, Separator, Value, Key}
+use Rattle.ini_edit.specs.declared.error.EditError.TheVariants.{Text as TextError, Separator, Value, Key, Name}
 use Rattle.ini_edit.specs.declared.error.EditError.TheVariants.{NoPlace}
-
--- What goes before a new line behind the front W: nothing where W ends with an LF that no backslash takes,
--- and else a line end, with what keeps a lone backslash before it.
-pub data Glue (o : ParseOption) (end : LineSeparator) (W : Text) : Text → Type 0 where
-  none : ending W ≡ Ending.line → Glue o end W []
-  line : {c : Text} → ending W ≢ Ending.line → Closing o (ending W) c → Glue o end W (c ++ line_end end)
 
 -- The text U is T with the pair's line put in at a place where the first section of the name ends, and no
 -- byte changed; so the pair is added to the document, and is set where the section has no pair of the key.
@@ -39,10 +33,34 @@ pub record IsAddedAt (o : ParseOption) (w : WriteOption) (T : Text) (name : Opti
   pub is_added : IsDocumentOf o U (add_in name key value document)
   pub is_set : Lacks key place.ends.pairs → IsDocumentOf o U (set_in name key value document)
 
--- the pair is added to the first section of the name; or there is none
-abbrev pub AddsPair : ParseOption → WriteOption → Text → Option Text → Text → Text → {Z : Type 0} → Option (String Z) → Type 0
-AddsPair o w T name key value answer = MatchOption answer
-    (LacksSection o T name) (λ new. IsAddedAt o w T name key value (text_of new))
+-- The pair is added to the first section of the name; or in a new section, where the text has none of the
+-- name.
+pub data IsAdded (o : ParseOption) (w : WriteOption) (T key value U : Text) : Option Text → Type 0 where
+  in_section : {name : Option Text} → IsAddedAt o w T name key value U → IsAdded o w T key value U name
+  in_new_section : {name : Text} → IsInNewSection o w T name key value U
+      → IsAdded o w T key value U (Some name)
+
+-- the text T has a document, and U has that document, edited
+pub record LoadsEdited (o : ParseOption) (T U : Text) (edit : Document → Document) : Type 0 where
+  pub document : Document
+  pub was : IsDocumentOf o T document
+  pub is : IsDocumentOf o U (edit document)
+
+-- the first section of the name has no place for a line; or there is no such section, and the text none for a
+-- new one
+pub data LacksPlace (o : ParseOption) (T : Text) (name : Option Text) : Type 0 where
+  in_section : HasNoPlace o T name → LacksPlace o T name
+  for_new_section : LacksSection o T name → HasNoEnd o T → LacksPlace o T name
+
+-- what a line that is put in is refused with, where it can be written: the text's fault, or memory's; the
+-- name's, where a new section has to be written; and that there is no place
+abbrev pub RefusesLine : ParseOption → EscapePolicy → Text → Option Text → EditError → Type 0
+RefusesLine o policy T name (TextError (Parse e)) = IsStopOf o T e
+RefusesLine o policy T name (TextError (Memory e)) = ⊤
+RefusesLine o policy T name (TextError _) = ⊥
+RefusesLine o policy T name Name = LacksSection o T name × (¬ IsSomeAnd name (IsPlainName o policy))
+RefusesLine o policy T name NoPlace = LacksPlace o T name
+RefusesLine o policy T name _ = ⊥
 
 module _ (o : ParseOption) (w : WriteOption) where
   -- separator, key and value are plain
@@ -58,10 +76,7 @@ module _ (o : ParseOption) (w : WriteOption) where
       × (IsPlainValue o w.escape_policy value × (¬ IsPlainPair o w.escape_policy key value))
   RefusesPair key value _ = ⊥
 
-  -- what the call is refused with: the pair's fault, and behind that the text's, or memory's
-  abbrev pub RefusesToAdd : Text → Text → Text → EditError → Type 0
-  RefusesToAdd T key value (TextError (Parse e)) = IsWritable key value × IsStopOf o T e
-  RefusesToAdd T key value (TextError (Memory e)) = IsWritable key value
-  RefusesToAdd T key value (TextError _) = ⊥
-  RefusesToAdd T key value NoPlace = IsWritable key value
-  RefusesToAdd T key value e = RefusesPair key value e
+  -- what adding a pair is refused with: the pair's fault, and behind that the line's
+  pub data RefusesToAdd (T : Text) (name : Option Text) (key value : Text) (e : EditError) : Type 0 where
+    pair : RefusesPair key value e → RefusesToAdd T name key value e
+    line : IsWritable key value → RefusesLine o w.escape_policy T name e → RefusesToAdd T name key value e

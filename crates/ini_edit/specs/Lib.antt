@@ -5,5 +5,11 @@ pub mod Endings
 pub mod FirstPairs
 pub mod Inside
 pub mod LinePlaces
+pub mod NewLines
+pub mod NewSections
+pub mod NoPlaces
 pub mod Places
+pub mod Renamed
+pub mod Sections
+pub mod Settings
 pub mod Targets

@@ -1,7 +1,7 @@
 -- Places where a line may be put in: between a front and a rest, behind a line end where that is wanted.
-use Rattle.std.specs.Prelude.{◌≡◌, false, List, [], ◌++◌, Option, Some, None}
+use Rattle.std.specs.Prelude.{◌≡◌, ◌≢◌, true, false, List, [], ◌++◌, Option, Some, None}
 use Rattle.ini_text.specs.Grammar.CharacterKinds.{is_blank, BeginsWithNo}
-use Rattle.ini_text.specs.Grammar.Positions.{starts_line}
+use Rattle.ini_text.specs.Grammar.Positions.{starts_line, is_column_one}
 use Rattle.ini_text.specs.Grammar.Elements.{Given}
 use Rattle.ini_text.specs.Grammar.Texts.{Reads}
 use Rattle.ini_text.specs.Options.WriteOptions.{line_end}
@@ -13,17 +13,28 @@ use Rattle.ini.specs.Documents.{Document, first_section}
 use Rattle.ini.specs.Edits.{add_in, set_in}
 use Rattle.ini.specs.Loading.{IsDocumentOf}
 use Rattle.ini.specs.Written.{written_name, written_pair}
-use Rattle.ini_edit.specs.Endings.{Closing, IsElementEnd, ending}
+use Rattle.ini_edit.specs.Endings.{Closing, Ending, IsCommentEnd, IsElementEnd, ending}
 use Rattle.ini_edit.specs.Places.{Follows, IsLineStart}
 use Rattle.ini_edit.specs.Targets.{IsSectionEnd, Lacks}
 
+-- What goes before a new line behind a front that ends so: nothing behind an LF that no backslash takes, and
+-- else a line end, with what keeps a lone backslash before it.
+pub data Glue (o : ParseOption) (end : LineSeparator) (e : Ending) : Text → Type 0 where
+  none : e ≡ Ending.line → Glue o end e []
+  line : {c : Text} → e ≢ Ending.line → Closing o e c → Glue o end e (c ++ line_end end)
+
 -- Between the front W, which gives the items, and the rest r a line may be put in behind the glue: at a
--- line's start there is none; behind an element it is a line end, with what goes before that. No blank may
--- follow an element then, unless a line starts there already.
+-- line's start, and behind a comment's LF, there is none; behind a comment without LF it is a line end, and
+-- behind an element a line end, with what goes before that. No blank may follow then, unless a line starts
+-- there already.
 pub data IsPlace (o : ParseOption) (end : LineSeparator) (W r : Text) : Text → List Given → Type 0 where
   line_start : {items : List Given} → IsLineStart o W r items → IsPlace o end W r [] items
   behind_element : {c : Text} {items : List Given} → IsElementEnd o (W ++ r) W items → Closing o (ending W) c
       → (starts_line W ≡ false → BeginsWithNo is_blank r) → IsPlace o end W r (c ++ line_end end) items
+  behind_comment_line : {items : List Given} → IsCommentEnd o (W ++ r) W items → is_column_one W ≡ true
+      → IsPlace o end W r [] items
+  behind_comment : {items : List Given} → IsCommentEnd o (W ++ r) W items
+      → (starts_line W ≡ false → BeginsWithNo is_blank r) → IsPlace o end W r (line_end end) items
 
 -- Between W and r is a place behind the glue, there the section of the name ends, and the text's document is
 -- d.

@@ -81,8 +81,8 @@ pub(crate) fn open_section(parser: &mut Parser, name: Option<&str>) -> Result<bo
     Ok(false)
 }
 
-// Whether an element is a header with the name.
-fn opens(element: PlacedElement, name: &str) -> bool
+/// Whether an element is a header with the name.
+pub(crate) fn opens(element: PlacedElement, name: &str) -> bool
     ensures yes { result ≡ true → gives element.entry.content ≡ Header (chars name.now) ∷ [] }
     ensures no { result ≡ false → OpensNone (Some (chars name.now)) (gives element.entry.content) }
 {

@@ -2,11 +2,11 @@
 //! backslashes, and no element.
 ghost use Rattle.std.specs.Prelude.{◌≡◌, ◌++◌, chars, OnOk, IsOkUnless, alloc_error};
 ghost use Rattle.ini.specs.Texts.{text_of};
-ghost use Rattle.ini_edit.specs.Endings.{Closing, ending, next_ending};
+ghost use Rattle.ini_edit.specs.Endings.{Closing, ending, front_ending, next_ending};
 ghost use Rattle.ini_edit.specs.Inside.Lines.{PushesGlue, ending_of};
 
 use crate::append::push_text;
-use crate::text::split_first;
+use crate::text::{is_column_one, split_first};
 use ini_text::{Error, ParseOption, WriteOption};
 
 // How a text ends: within a line, behind a backslash that takes what follows, or behind an LF that ends a
@@ -18,23 +18,39 @@ pub(crate) enum TextEnd {
     Line,
 }
 
-/// Puts behind a text what goes before a line that is put in behind the front.
+/// Puts behind a text what goes before a line that is put in behind the front, whose last element is a
+/// comment or isn't.
 pub(crate) fn push_glue(
     text: &mut String,
     front: &str,
+    is_behind_comment: bool,
     read: ParseOption,
     write: &WriteOption,
 ) -> Result<(), Error>
-    ensures pushed { OnOk result (PushesGlue read write.now.line_separator (chars front.now)
-        (text_of text.old) (text_of text.new)) }
+    ensures pushed { OnOk result (PushesGlue read write.now.line_separator
+        (front_ending is_behind_comment (chars front.now)) (text_of text.old) (text_of text.new)) }
     ensures only { IsOkUnless result (Error.Memory alloc_error) }
 {
-    let end = text_end(front);
+    let end = front_end(front, is_behind_comment);
     if let TextEnd::Line = end {
         return Ok(());
     }
     push_text(text, closing(end, read))?;
     push_text(text, write.line_separator.as_str())
+}
+
+// How a front ends. A comment has no escapes.
+fn front_end(front: &str, is_behind_comment: bool) -> TextEnd
+    ensures { ending_of result ≡ front_ending is_behind_comment (chars front.now) }
+{
+    if !is_behind_comment {
+        return text_end(front);
+    }
+    if is_column_one(front) {
+        TextEnd::Line
+    } else {
+        TextEnd::Inside
+    }
 }
 
 // What keeps a lone backslash at a text's end for itself.

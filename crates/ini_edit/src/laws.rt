@@ -4,6 +4,7 @@ ghost use Rattle.std.specs.Prelude.{chars};
 ghost use Rattle.ini_text.specs.Laws.Plain.{IsPlainName, IsPlainPair, IsPlainSeparator, IsPlainValue};
 ghost use Rattle.ini_edit.specs.EditedTexts.{Adds, Appends, Deletes, Inserts, KeepsValue, SetsValue};
 ghost use Rattle.ini_edit.specs.LinePlaces.{AddsAtPlace, AppendsAtPlace, InsertsAtPlace};
+ghost use Rattle.ini_edit.specs.NewSections.{AppendsBehindEmptyLine};
 
 use ini_text::{EscapePolicy, ParseOption, WriteOption};
 
@@ -70,4 +71,18 @@ pub fn section_appended_at_place(
     requires name { IsPlainName read write.now.escape_policy (chars name.now) }
     requires plain { IsPlainPair read write.now.escape_policy (chars key.now) (chars value.now) }
     ensures { AppendsAtPlace read write.now (chars name.now) (chars key.now) (chars value.now) }
+{}
+
+/// The same with an empty line before the section's header, where the text wants one.
+pub fn section_appended_behind_empty_line(
+    name: &str,
+    key: &str,
+    value: &str,
+    write: &WriteOption,
+    read: ParseOption,
+)
+    requires separator { IsPlainSeparator (chars write.now.kv_separator.now) }
+    requires name { IsPlainName read write.now.escape_policy (chars name.now) }
+    requires plain { IsPlainPair read write.now.escape_policy (chars key.now) (chars value.now) }
+    ensures { AppendsBehindEmptyLine read write.now (chars name.now) (chars key.now) (chars value.now) }
 {}

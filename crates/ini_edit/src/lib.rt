@@ -1,8 +1,8 @@
 //! Where a pair stands in a text, laws of edited texts, of which one stretch was changed and every other
-//! byte kept, and calls that set a value, add a pair and take a pair out.
+//! byte kept, and calls that set a key, add a pair, take a pair or a section out, and rename them.
 #![tactic(auto)]
 
-mod add;
+mod addition;
 mod append;
 mod cut;
 mod deletion;
@@ -10,16 +10,27 @@ mod error;
 mod escape;
 mod find;
 mod glue;
+mod key;
 pub mod laws;
+mod line;
+mod line_end;
+mod new_section;
 mod place;
-mod set;
+mod rename;
+mod section;
+mod section_deletion;
+mod section_renaming;
+mod setting;
 #[cfg(test)]
 mod tests;
 mod text;
 mod walk;
 
-pub use add::add_pair;
+pub use addition::add;
 pub use deletion::delete;
 pub use error::EditError;
 pub use find::{FoundPair, find_pair};
-pub use set::set_existing;
+pub use rename::rename_key;
+pub use section_deletion::delete_section;
+pub use section_renaming::rename_section;
+pub use setting::{set, set_existing};

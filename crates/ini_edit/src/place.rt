@@ -1,6 +1,6 @@
 //! Places of a text where a line may be put in. This file knows elements and kinds of characters, and no
 //! value.
-ghost use Rattle.std.specs.Prelude.{◌≡◌, ◌||◌, true, false, chars, IfOk, IfErr, IfSome};
+ghost use Rattle.std.specs.Prelude.{◌≡◌, ◌≢◌, ◌||◌, true, false, chars, None, IfOk, IfErr, IfSome};
 ghost use Rattle.std.specs.List.{list_all};
 ghost use Rattle.ini_text.specs.Grammar.CharacterKinds.{is_blank, is_line_end};
 ghost use Rattle.ini_text.specs.Inside.PlainTests.{begins};
@@ -8,13 +8,16 @@ ghost use Rattle.ini_text.specs.Parsing.Fronts.{IsRest};
 ghost use Rattle.ini.specs.Texts.{str_name};
 ghost use Rattle.ini.specs.Loading.{IfParse, IsParseOrMemory, IsStopOf};
 ghost use Rattle.ini_edit.specs.Endings.{IsIndentedKey};
-ghost use Rattle.ini_edit.specs.Inside.PlaceWalks.{AnswersEnd, Chooses, IsFree, IsFreeAt, ReachesSectionEnd};
+ghost use Rattle.ini_text.specs.Parsing.Places.{gives};
+ghost use Rattle.ini_edit.specs.Inside.PlaceWalks.{AnswersEnd, AnswersTextEnd, Chooses, IsFree, IsFreeAt};
+ghost use Rattle.ini_edit.specs.Inside.PlaceWalks.{Keeps, NoneKept, ReachesSectionEnd};
+ghost use Rattle.ini_edit.specs.Inside.NoPlaceWalks.{IsTaken, IsTakenAt, LooksIndented, NoneChosen};
 ghost use Rattle.ini_edit.specs.Inside.Walks.{StandsWithin};
 
 use crate::find::open_section;
-use crate::text::{is_column_one, split_first, starts_line};
+use crate::text::{begins_with_comment, is_column_one, split_first, starts_line};
 use crate::walk::{read_on, step};
-use ini_text::{Content, Error, ParseOption, Parser, front_before};
+use ini_text::{Content, Error, ParseOption, Parser, PlacedElement, front_before};
 use std::alloc::Global;
 
 /// A place in a text.
@@ -24,6 +27,8 @@ pub(crate) struct TextPlace<'a> {
     pub(crate) front: &'a str,
     /// What follows it.
     pub(crate) rest: &'a str,
+    /// Whether the element before it is a comment.
+    pub(crate) is_behind_comment: bool,
 }
 
 /// Where the first section of a name ends.
@@ -60,6 +65,26 @@ pub(crate) fn find_section_end<'a>(
     }
 }
 
+/// The last place where a line may be put in behind all that the text gives: the text's end, or before a tail
+/// that is dropped. The whole text is read.
+pub(crate) fn find_text_end<'a>(
+    alloc: Global,
+    text: &'a str,
+    read: ParseOption,
+) -> Result<Option<TextPlace<'a>>, Error>
+    ensures end { IfOk result (AnswersTextEnd read (chars text.now)) }
+    ensures fault { IfParse result (IsStopOf read (chars text.now)) }
+    ensures only { IfErr result IsParseOrMemory }
+{
+    let mut parser = Parser::new(alloc, text, read);
+    let mut place = free_place(text, "", parser.rest(), read);
+    'elements: while let Some(element) = step(&mut parser)? {
+        let next = free_place(text, element.source, parser.rest(), read);
+        place = last_place(element, place, next);
+    }
+    Ok(place)
+}
+
 // Goes over a section's pairs to its end: the place behind the last item where a line may be put in, on that
 // item's line or at its end if it may be there.
 fn reach_section_end<'a>(
@@ -75,13 +100,13 @@ fn reach_section_end<'a>(
     ensures fault { IfParse result (IsStopOf read (chars text.now)) }
     ensures only { IfErr result IsParseOrMemory }
 {
-    let mut place = free_place(text, parser.rest(), read);
+    let mut place = free_place(text, "", parser.rest(), read);
     'elements: loop {
         let Some(element) = step(parser)? else {
             return Ok(place);
         };
-        let next = free_place(text, parser.rest(), read);
         let source = element.source;
+        let next = free_place(text, source, parser.rest(), read);
         match element.content {
             Content::Header(_) => return Ok(place),
             Content::Pair(pair) => {
@@ -93,14 +118,24 @@ fn reach_section_end<'a>(
     }
 }
 
-// The place before a rest of a text, where a line may be put in there.
-fn free_place<'a>(text: &'a str, rest: &'a str, read: ParseOption) -> Option<TextPlace<'a>>
+// The place behind an element and before a rest of a text, where a line may be put in there.
+fn free_place<'a>(
+    text: &'a str,
+    source: &str,
+    rest: &'a str,
+    read: ParseOption,
+) -> Option<TextPlace<'a>>
     requires { IsRest (chars text.now) (chars rest.now) }
-    ensures { IfSome result (IsFreeAt read (chars text.now) (chars rest.now)) }
+    ensures free { IfSome result (IsFreeAt read (chars text.now) (chars source.now) (chars rest.now)) }
+    ensures taken { result ≡ None → IsTakenAt read (chars text.now) (chars rest.now) }
 {
     let front = front_before(text, rest);
     if is_free(front, rest, read) {
-        return Some(TextPlace { front, rest });
+        return Some(TextPlace {
+            front,
+            rest,
+            is_behind_comment: begins_with_comment(source),
+        });
     }
     None
 }
@@ -108,7 +143,8 @@ fn free_place<'a>(text: &'a str, rest: &'a str, read: ParseOption) -> Option<Tex
 // Whether a line may be put in between a front and a rest, if an element ends there: what follows isn't
 // taken by a multiline value, and no blank gets to a line's start.
 fn is_free(front: &str, rest: &str, read: ParseOption) -> bool
-    ensures { result ≡ true → IsFree read (chars front.now) (chars rest.now) }
+    ensures yes { result ≡ true → IsFree read (chars front.now) (chars rest.now) }
+    ensures no { result ≡ false → IsTaken read (chars front.now) (chars rest.now) }
 {
     let blank = begins_with_blank(rest);
     if read.enabled_indented_mutiline_value && (blank || begins_with_line_end(rest)) {
@@ -124,16 +160,50 @@ fn chosen<'a>(
     place: Option<TextPlace<'a>>,
     next: Option<TextPlace<'a>>,
 ) -> Option<TextPlace<'a>>
-    ensures { Chooses (chars source.now) place.entry next.entry result }
+    ensures place { Chooses (chars source.now) place.entry next.entry result }
+    ensures none { result ≡ None → NoneChosen (chars source.now) place.entry next.entry }
 {
-    if is_indented_key(source) || !is_nearer(place, next) {
+    if is_indented_key(source) {
         return place;
     }
-    next
+    if is_nearer(place, next) {
+        return next;
+    }
+    place
+}
+
+// The last place behind the items, where an element stands between the two: the later one, but behind an
+// indented key that gives nothing.
+fn last_place<'a>(
+    element: PlacedElement,
+    place: Option<TextPlace<'a>>,
+    next: Option<TextPlace<'a>>,
+) -> Option<TextPlace<'a>>
+    ensures place { Keeps (chars element.entry.source.now) (gives element.entry.content)
+        place.entry next.entry result }
+    ensures none { result ≡ None → NoneKept (chars element.entry.source.now) (gives element.entry.content)
+        place.entry next.entry }
+{
+    let source = element.source;
+    match element.content {
+        Content::Header(_) | Content::Pair(_) => next,
+        Content::Nothing => {
+            if is_indented_key(source) {
+                return place;
+            }
+            if next.is_none() {
+                return place;
+            }
+            next
+        }
+    }
 }
 
 // Whether the later place is the better one.
-fn is_nearer(place: Option<TextPlace>, next: Option<TextPlace>) -> bool {
+fn is_nearer(place: Option<TextPlace>, next: Option<TextPlace>) -> bool
+    ensures yes { result ≡ true → next.entry ≢ None }
+    ensures no { result ≡ false → place.entry ≡ None → next.entry ≡ None }
+{
     match (place, next) {
         (_, None) => false,
         (None, Some(_)) => true,
@@ -146,7 +216,8 @@ fn is_nearer(place: Option<TextPlace>, next: Option<TextPlace>) -> bool {
 // Whether an element's source may be an indented key: it begins with a blank, and not all of it is blanks
 // and line ends.
 fn is_indented_key(source: &str) -> bool
-    ensures { result ≡ false → ¬ IsIndentedKey (chars source.now) }
+    ensures yes { result ≡ true → LooksIndented (chars source.now) }
+    ensures no { result ≡ false → ¬ IsIndentedKey (chars source.now) }
 {
     begins_with_blank(source) && !is_blank_or_line_ends(source)
 }

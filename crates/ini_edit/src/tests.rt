@@ -9,9 +9,14 @@ use std::test::Fail;
 mod add;
 mod deletion;
 mod find;
+mod new_section;
 mod page;
 mod places;
 mod random;
+mod random_sections;
+mod rename;
+mod renames;
+mod sections;
 mod set;
 
 /// An edit of a document.

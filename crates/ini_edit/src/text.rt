@@ -1,6 +1,7 @@
-//! Ends of texts. This file knows line ends, and of a pair nothing.
+//! Ends of texts. This file knows line ends and a comment's mark, and of a pair nothing.
 ghost use Rattle.std.specs.Prelude.{◌≡◌, ◌∷◌, ◌++◌, [], chars, MatchOption};
-ghost use Rattle.ini_text.specs.Grammar.CharacterKinds.{line_feed};
+ghost use Rattle.ini_text.specs.Grammar.CharacterKinds.{is_comment_mark, line_feed};
+ghost use Rattle.ini_text.specs.Inside.PlainTests.{begins};
 ghost use Rattle.ini_text.specs.Grammar.Positions.{last_or, starts_line, is_column_one};
 ghost use Rattle.ini_edit.specs.Inside.Cuts.{EndsLine, HasLastLineEnd};
 
@@ -20,6 +21,16 @@ pub(crate) fn split_last(text: &str) -> Option<(&str, char)>
     let mut characters = text.chars();
     let last = characters.next_back()?;
     Some((characters.as_str(), last))
+}
+
+/// Whether a text begins as a comment does.
+pub(crate) fn begins_with_comment(text: &str) -> bool
+    ensures { result ≡ begins is_comment_mark (chars text.now) }
+{
+    match split_first(text) {
+        Some((c, _)) => c == '#' || c == ';',
+        None => false,
+    }
 }
 
 // The last character of a front, and LF where it is empty.

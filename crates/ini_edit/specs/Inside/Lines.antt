@@ -1,12 +1,13 @@
 -- A line that is put into a text, and what goes before it.
-use Rattle.std.specs.Prelude.{◌≡◌, ◌++◌}
+use Rattle.std.specs.Prelude.{◌≡◌, ◌++◌, Some}
 use Rattle.ini_text.specs.declared.option.ParseOption.{ParseOption}
 use Rattle.ini_text.specs.declared.write.option.LineSeparator.{LineSeparator}
 use Rattle.ini_text.specs.declared.write.option.WriteOption.{WriteOption}
 use Rattle.ini.specs.Texts.{Text}
-use Rattle.ini.specs.Written.{written_pair}
-use Rattle.ini_edit.specs.Added.{Glue}
+use Rattle.ini.specs.Written.{written_name, written_pair}
 use Rattle.ini_edit.specs.Endings.{Ending}
+use Rattle.ini_edit.specs.LinePlaces.{Glue}
+use Rattle.ini_edit.specs.NewSections.{EmptyLine}
 use Rattle.ini_edit.specs.declared.glue.TextEnd.{TextEnd}
 use Rattle.ini_edit.specs.declared.glue.TextEnd.TheVariants as ends
 
@@ -16,14 +17,24 @@ ending_of ends.Inside = Ending.inside
 ending_of ends.Escape = Ending.escape
 ending_of ends.Line = Ending.line
 
--- the glue behind the front W was put behind a text
-pub record PushesGlue (o : ParseOption) (end : LineSeparator) (W old new : Text) : Type 0 where
+-- the glue behind a front that ends so was put behind a text
+pub record PushesGlue (o : ParseOption) (end : LineSeparator) (e : Ending) (old new : Text) : Type 0 where
   pub glue : Text
-  pub is_glue : Glue o end W glue
+  pub is_glue : Glue o end e glue
   pub is_new : new ≡ old ++ glue
 
--- between W and r stands the pair's line, behind the glue
-pub record IsWithLine (o : ParseOption) (w : WriteOption) (W r key value new : Text) : Type 0 where
+-- between W, which ends so, and r stands the pair's line, behind the glue
+pub record IsWithLine (o : ParseOption) (w : WriteOption) (e : Ending) (W r key value new : Text)
+    : Type 0 where
   pub glue : Text
-  pub is_glue : Glue o w.line_separator W glue
+  pub is_glue : Glue o w.line_separator e glue
   pub is_new : new ≡ W ++ (glue ++ (written_pair w (key, value) ++ r))
+
+-- between W, which ends so, and r stand an empty line, a header and the pair's line, behind the glue
+pub record IsWithSection (o : ParseOption) (w : WriteOption) (e : Ending) (W r name key value new : Text)
+    : Type 0 where
+  pub glue : Text
+  pub gap : Text
+  pub is_glue : Glue o w.line_separator e glue
+  pub empty_line : EmptyLine w.line_separator W gap
+  pub is_new : new ≡ W ++ (glue ++ (gap ++ (written_name w (Some name) ++ (written_pair w (key, value) ++ r))))

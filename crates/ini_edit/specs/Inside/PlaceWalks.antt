@@ -1,17 +1,20 @@
 -- Walks to a place where a line may be put in: behind the items that stand between the front b of the text T
 -- and that place.
-use Rattle.std.specs.Prelude.{◌≡◌, [], false, List, Option, chars, ◌++◌, IfSome, ⊤}
-use Rattle.ini_text.specs.Grammar.CharacterKinds.{is_blank, BeginsWithNo}
+use Rattle.std.specs.Prelude.{◌≡◌, ◌≢◌, [], false, List, Option, None, chars, ◌++◌, IfSome, MatchOption}
+use Rattle.ini_text.specs.Grammar.CharacterKinds.{is_blank, is_comment_mark, BeginsWithNo}
 use Rattle.ini_text.specs.Grammar.Elements.{Given}
 use Rattle.ini_text.specs.Grammar.Positions.{starts_line}
 use Rattle.ini_text.specs.Grammar.Texts.{Reads}
+use Rattle.ini_text.specs.Inside.PlainTests.{begins}
 use Rattle.ini_text.specs.Parsing.Parser.{Place}
 use Rattle.ini_text.specs.declared.option.ParseOption.{ParseOption}
 use Rattle.ini.specs.Texts.{Text}
 use Rattle.ini.specs.Properties.{Pairs}
 use Rattle.ini.specs.SectionItems.{pair_items}
 use Rattle.ini_edit.specs.Endings.{IsIndentedKey}
+use Rattle.ini_edit.specs.NoPlaces.{HasNoEnd, HasNoPlace}
 use Rattle.ini_edit.specs.Places.{Follows}
+use Rattle.ini_edit.specs.Inside.NoPlaceWalks.{EndsInKey, NoneChosen}
 use Rattle.ini_edit.specs.Inside.Walks.{Boundary, EndsSection, IsReading}
 use Rattle.ini_edit.specs.FirstPairs.{LacksSection}
 use Rattle.ini_edit.specs.Targets.{IsSectionEnd}
@@ -24,8 +27,9 @@ pub record IsFree (o : ParseOption) (W r : Text) : Type 0 where
   pub follows : Follows o r
   pub unblank : starts_line W ≡ false → BeginsWithNo is_blank r
 
--- the place stands before this rest of the text, and it is free
-pub record IsFreeAt (o : ParseOption) (T r : Text) (place : TextPlace) : Type 0 where
+-- the place stands before this rest of the text, behind an element of this source, and it is free
+pub record IsFreeAt (o : ParseOption) (T source r : Text) (place : TextPlace) : Type 0 where
+  pub comment : place.is_behind_comment ≡ begins is_comment_mark source
   pub whole : T ≡ chars place.front.now ++ chars place.rest.now
   pub rest : chars place.rest.now ≡ r
   pub free : IsFree o (chars place.front.now) (chars place.rest.now)
@@ -35,11 +39,23 @@ pub data Chooses (source : Text) (old next : Option TextPlace) : Option TextPlac
   stays : Chooses source old next old
   moves : ¬ IsIndentedKey source → Chooses source old next next
 
+-- of two places one is taken, where an element that gives items stands between them: the later one behind
+-- items, and else as above
+pub data Keeps (source : Text) (given : List Given) (old next : Option TextPlace) : Option TextPlace → Type 0 where
+  behind_item : given ≢ [] → Keeps source given old next next
+  behind_nothing : {new : Option TextPlace} → given ≡ [] → Chooses source old next new
+      → Keeps source given old next new
+
+-- of two places, where an element that gives items stands between them, none was taken
+pub data NoneKept (source : Text) (given : List Given) (old next : Option TextPlace) : Type 0 where
+  behind_item : given ≢ [] → next ≡ None → NoneKept source given old next
+  behind_nothing : given ≡ [] → NoneChosen source old next → NoneKept source given old next
+
 module _ (o : ParseOption) (T b : Text) where
   -- behind the items a line may be put in there, and from there to the front c nothing is given
   pub record IsLastPlace (items : List Given) (c : Text) (place : TextPlace) : Type 0 where
     pub whole : T ≡ chars place.front.now ++ chars place.rest.now
-    pub boundary : Boundary o T b (chars place.front.now) items
+    pub boundary : Boundary o T b place.is_behind_comment (chars place.front.now) items
     pub free : IsFree o (chars place.front.now) (chars place.rest.now)
     pub nothing : Reads o T (chars place.front.now) [] c
 
@@ -51,13 +67,14 @@ module _ (o : ParseOption) (T b : Text) where
     pub reads : Reads o T b (pair_items pairs) front
     pub ends : EndsSection o T front q.front
     pub place : IfSome found (IsLastPlace (pair_items pairs) front)
+    pub none : found ≡ None → EndsInKey o T b
 
 -- behind the items `before` the first section of the name ends, and a line may be put in there
 pub record IsFirstSectionEnd (o : ParseOption) (T : Text) (name : Option Text) (place : TextPlace) : Type 0 where
   pub before : List Given
   pub after : List Given
   pub whole : T ≡ chars place.front.now ++ chars place.rest.now
-  pub boundary : Boundary o T [] (chars place.front.now) before
+  pub boundary : Boundary o T [] place.is_behind_comment (chars place.front.now) before
   pub free : IsFree o (chars place.front.now) (chars place.rest.now)
   pub then : Reads o T (chars place.front.now) after T
   pub ends : IsSectionEnd name before after
@@ -65,5 +82,14 @@ pub record IsFirstSectionEnd (o : ParseOption) (T : Text) (name : Option Text) (
 -- where the first section of the name ends
 abbrev pub AnswersEnd : ParseOption → Text → Option Text → SectionEnd → Type 0
 AnswersEnd o T name Absent = LacksSection o T name
-AnswersEnd o T name NoPlace = ⊤
+AnswersEnd o T name NoPlace = HasNoPlace o T name
 AnswersEnd o T name (At place) = IsFirstSectionEnd o T name place
+
+-- behind all that the text gives a line may be put in there
+pub record IsTextEnd (o : ParseOption) (T : Text) (place : TextPlace) : Type 0 where
+  pub items : List Given
+  pub is_last : IsLastPlace o T [] items T place
+
+-- where the text gives nothing any more
+abbrev pub AnswersTextEnd : ParseOption → Text → Option TextPlace → Type 0
+AnswersTextEnd o T found = MatchOption found (HasNoEnd o T) (IsTextEnd o T)

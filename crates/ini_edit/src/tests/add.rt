@@ -1,7 +1,7 @@
 //! A pair added to a text: which place it goes to, and that the new text loads as the edited document.
 use super::{Change, edited, loaded, options_of};
-use crate::{EditError, add_pair};
-use ini::{LineSeparator, WriteOption};
+use crate::{EditError, add};
+use ini::WriteOption;
 use std::test::Fail;
 
 /// The options' letters, a text, the section's name, and the text with `k=v` added there.
@@ -63,7 +63,7 @@ fn a_pair_added(rt: HostRuntime) -> Result<(), Fail> {
     let write = WriteOption::default();
     for (letters, old, name, want) in ROWS {
         let options = options_of(letters);
-        let Ok(Some(new)) = add_pair(rt.alloc(), old, options, &write, *name, "k", "v") else {
+        let Ok(new) = add(rt.alloc(), old, options, &write, *name, "k", "v") else {
             panic!(&rt; "{old:?} is refused");
         };
         assert!(&rt; new.as_str() == *want, "{old:?}: {new:?}, and not {want:?}");
@@ -78,19 +78,11 @@ fn a_pair_added(rt: HostRuntime) -> Result<(), Fail> {
 }
 
 #[test]
-fn a_section_that_is_not_there(rt: HostRuntime) -> Result<(), Fail> {
-    let write = WriteOption {
-        line_separator: LineSeparator::CRLF,
-        ..WriteOption::default()
-    };
+fn pairs_that_are_refused(rt: HostRuntime) -> Result<(), Fail> {
+    let write = WriteOption::default();
     let plain = options_of("qe");
-    let added = add_pair(rt.alloc(), "[b]", plain, &write, Some("a"), "k", "v");
-    assert!(&rt;
-        matches!(added, Ok(None)),
-        "there is no section of the name"
-    );
     let multiline = options_of("qem");
-    let added = add_pair(
+    let added = add(
         rt.alloc(),
         "[a]\n  junk",
         multiline,
@@ -103,14 +95,14 @@ fn a_section_that_is_not_there(rt: HostRuntime) -> Result<(), Fail> {
         matches!(added, Err(EditError::NoPlace)),
         "the key would be taken in"
     );
-    let added = add_pair(rt.alloc(), "[a]", plain, &write, Some("a"), "", "v");
+    let added = add(rt.alloc(), "[a]", plain, &write, Some("a"), "", "v");
     assert!(&rt; matches!(added, Err(EditError::Key)), "an empty key");
-    let added = add_pair(rt.alloc(), "[a]", plain, &write, Some("a"), "", " v");
+    let added = add(rt.alloc(), "[a]", plain, &write, Some("a"), "", " v");
     assert!(&rt;
         matches!(added, Err(EditError::Value)),
         "a value that would be trimmed"
     );
-    let added = add_pair(rt.alloc(), "[a", plain, &write, Some("a"), "k", "v");
+    let added = add(rt.alloc(), "[a", plain, &write, Some("a"), "k", "v");
     assert!(&rt;
         matches!(added, Err(EditError::Text(_))),
         "a text that is refused"

@@ -1,26 +1,13 @@
 //! The example of the page on editing, docs/EDITING.md, and its first table.
-use crate::{EditError, add_pair, set_existing};
-use ini::{Error, EscapePolicy, ParseOption, WriteOption};
+use crate::{EditError, set};
+use ini::{ParseOption, WriteOption};
 use std::alloc::Global;
 use std::test::Fail;
 
-/// The text with the port set: in its own place, or in a new line of its section.
-fn with_port(alloc: Global, text: &str, port: &str) -> Result<Option<String>, EditError> {
+/// The text with the port set: in its own place, in a new line of its section, or in a new section.
+fn with_port(alloc: Global, text: &str, port: &str) -> Result<String, EditError> {
     let (read, write) = (ParseOption::default(), WriteOption::default());
-    let server = Some("server");
-    let there = set_existing(
-        alloc,
-        text,
-        read,
-        EscapePolicy::Basics,
-        server,
-        "port",
-        port,
-    )?;
-    if there.is_some() {
-        return Ok(there);
-    }
-    add_pair(alloc, text, read, &write, server, "port", port)
+    set(alloc, text, read, &write, Some("server"), "port", port)
 }
 
 #[test]
@@ -37,13 +24,11 @@ fn a_port(rt: HostRuntime) -> Result<(), Fail> {
         ),
         ("[server] port=80\r\n", "[server] port=443\r\n"),
         ("[server]\nhost=h\n", "[server]\nhost=h\nport=443\n"),
-        ("host=h\n", "none"),
+        ("host=h\n", "host=h\n\n[server]\nport=443\n"),
     ] {
-        let answer: Result<String, Error> = super::told(
-            rt.alloc(),
-            with_port(rt.alloc(), text, "443"),
-        );
-        let is = answer?;
+        let Ok(is) = with_port(rt.alloc(), text, "443") else {
+            panic!(&rt; "{text:?} is refused");
+        };
         assert!(&rt; is.as_str() == *want, "{text:?}: {is:?}");
     }
     Ok(())

@@ -1,20 +1,25 @@
 //! Edits of random texts by random options: the new text loads as the edited document.
 use super::{Change, options_of, shown};
-use crate::{EditError, add_pair, delete, set_existing};
-use ini::{Error, EscapePolicy, Ini, ParseOption, WriteOption};
+use crate::{EditError, add, delete, set, set_existing};
+use ini::{Error, EscapePolicy, Ini, LineSeparator, ParseOption, WriteOption};
 use std::alloc::Global;
 use std::process::Abort;
 use std::test::Fail;
 
 /// Numbers that look random, the same in each run.
 #[derive(Drop)]
-struct Random {
+pub(super) struct Random {
     state: u64,
 }
 
 impl Random {
+    /// The numbers that begin with this state, which isn't 0.
+    pub(super) fn new(state: u64) -> Self {
+        Random { state }
+    }
+
     /// The next number, of sixteen bits.
-    fn next(&mut self) -> u64 {
+    pub(super) fn next(&mut self) -> u64 {
         let mut x = self.state;
         x ^= x << 13;
         x ^= x >> 7;
@@ -23,12 +28,12 @@ impl Random {
         (x >> 24) & 0xFFFF
     }
 
-    fn is_even(&mut self) -> bool {
+    pub(super) fn is_even(&mut self) -> bool {
         self.next() & 1 == 0
     }
 
     /// One of the pieces.
-    fn piece(&mut self, pieces: &[&'static str]) -> &'static str {
+    pub(super) fn piece(&mut self, pieces: &[&'static str]) -> &'static str {
         let mut chosen = "";
         let mut most = 0;
         for piece in pieces {
@@ -42,7 +47,7 @@ impl Random {
     }
 
     /// Some of the options' letters.
-    fn letters(&mut self, alloc: Global) -> Result<String, Error> {
+    pub(super) fn letters(&mut self, alloc: Global) -> Result<String, Error> {
         let mut letters = String::new(alloc);
         for letter in &["q", "e", "m", "k", "b"] {
             if self.is_even() {
@@ -53,7 +58,7 @@ impl Random {
     }
 
     /// A text of some pieces of which INI files are made.
-    fn text(&mut self, alloc: Global) -> Result<String, Error> {
+    pub(super) fn text(&mut self, alloc: Global) -> Result<String, Error> {
         let mut text = String::new(alloc);
         text.push_str(self.piece(&["", "k=v\n", "[a]k=v", "[a]\nk=v\n"]))?;
         for _ in 0..10 {
@@ -95,26 +100,26 @@ fn edited_document(
     Ok(Some(shown(alloc, &document)?))
 }
 
-/// The edited text, and nothing where it isn't edited.
+/// The edited text, and nothing where there is nothing to edit; the line ends of new lines are the text's, or
+/// these.
 fn edit(
     alloc: Global,
     text: &str,
     read: ParseOption,
     change: Change,
+    end: LineSeparator,
 ) -> Result<Option<String>, EditError> {
+    let write = WriteOption {
+        line_separator: end,
+        ..WriteOption::default()
+    };
     match change {
-        Change::Set(name, key, value) => set_existing(
-            alloc,
-            text,
-            read,
-            EscapePolicy::Basics,
-            name,
-            key,
-            value,
-        ),
+        Change::Set(name, key, value) => {
+            Ok(Some(set(alloc, text, read, &write, name, key, value)?))
+        }
         Change::Delete(name, key) => delete(alloc, text, read, name, key),
         Change::Add(name, key, value) => {
-            add_pair(alloc, text, read, &WriteOption::default(), name, key, value)
+            Ok(Some(add(alloc, text, read, &write, name, key, value)?))
         }
     }
 }
@@ -145,7 +150,7 @@ fn agrees(
 fn is_absent(alloc: Global, text: &str, read: ParseOption, change: Change) -> bool {
     match Ini::load_from_str_opt(alloc, text, read) {
         Ok(document) => match change {
-            Change::Add(name, _, _) => document.section(name).is_none(),
+            Change::Add(_, _, _) => false,
             Change::Set(name, key, _) | Change::Delete(name, key) => {
                 document.get_from(name, key).is_none()
             }
@@ -160,33 +165,47 @@ fn expect_edit(
     letters: &str,
     text: &str,
     change: Change,
+    end: LineSeparator,
 ) -> Result<bool, Fail> {
     let read = options_of(letters);
     let want = edited_document(rt.alloc(), text, read, change)?;
     let absent = is_absent(rt.alloc(), text, read, change);
-    let answer = edit(rt.alloc(), text, read, change);
-    let is_right = agrees(rt.alloc(), answer, read, &want, absent)?;
+    let answer = edit(rt.alloc(), text, read, change, end);
+    let may_lack = matches!(change, Change::Delete(_, _));
+    let is_right = agrees(rt.alloc(), answer, read, &want, absent && may_lack)?;
     assert!(rt; is_right, "{text:?} {letters} {change:?}");
-    Ok(want.is_some() && !absent)
+    if let Change::Set(name, key, value) = change {
+        let policy = EscapePolicy::Basics;
+        let answer = set_existing(rt.alloc(), text, read, policy, name, key, value);
+        let is_right = agrees(rt.alloc(), answer, read, &want, absent)?;
+        assert!(rt; is_right, "{text:?} {letters} {change:?} where it is");
+    }
+    Ok(want.is_some() && !(absent && may_lack))
 }
 
 #[test]
 fn edits_of_random_texts(rt: HostRuntime) -> Result<(), Fail> {
-    let mut random = Random {
-        state: 88172645463325252,
-    };
+    let mut random = Random::new(88172645463325252);
     let mut edits: u64 = 0;
     for _ in 0..4000 {
         let letters = random.letters(rt.alloc())?;
         let text = random.text(rt.alloc())?;
-        let name = if random.is_even() { None } else { Some("a") };
+        let name = match random.piece(&["", "a", "a", "b"]) {
+            "" => None,
+            name => Some(name),
+        };
+        let end = if random.is_even() {
+            LineSeparator::CRLF
+        } else {
+            LineSeparator::SystemDefault
+        };
         let value = random.piece(&["new", "", "x y", "#", "a\\"]);
         let change = match random.next() & 3 {
             0 => Change::Delete(name, "k"),
             1 => Change::Add(name, "k", value),
             _ => Change::Set(name, "k", value),
         };
-        if expect_edit(&rt, letters.as_str(), text.as_str(), change)? {
+        if expect_edit(&rt, letters.as_str(), text.as_str(), change, end)? {
             edits = edits.wrapping_add(1);
         }
     }

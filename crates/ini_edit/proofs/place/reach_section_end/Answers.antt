@@ -1,6 +1,7 @@
 use Rattle.std.proofs.Common.{◌∙◌, ap, chars, subst, sym, ◌++◌}
 use Rattle.ini_text.specs.Parsing.Places.{gives}
 use Rattle.ini_text.proofs.LawLemmas.ExportedLemmas.{front_is}
+use Rattle.ini_edit.proofs.GlueTextLemmas.{chars-none}
 use Rattle.ini_edit.proofs.PlaceWalkLemmas.{nears_end, nears_header, nears_nothing, nears_pair, nears_start}
 use Rattle.ini_edit.proofs.PlaceWalkLemmas.{nears_within}
 use Rattle.ini_edit.proofs.WalkLemmas.{step_nearer, step_none, step_some}
@@ -12,7 +13,7 @@ step-requires c = nears_within c.elements.invariant
 pub elements-init : goal.elements-init
 elements-init c =
     nears_start (chars c.rest.result.now) c.free_place-place.result c.requires.within c.requires.option c.requires.text
-    c.free_place-place.ensures (c.rest.ensures ∙ c.requires.text)
+    chars-none c.free_place-place.ensures.free c.free_place-place.ensures.taken (c.rest.ensures ∙ c.requires.text)
 
 pub returns-in_default-clause-end : goal.returns-in_default-clause-end
 returns-in_default-clause-end c =
@@ -29,12 +30,12 @@ elements-preserved-in-Pair c =
     let s = c.elements.invariant in
     let t = step_some s.walked.is_reading c.in_ok-element.ensures.element c.in-Some.is in
     nears_pair s t (chars c.rest-in-elements.result.now) _ _ c.free_place-next.result (ap gives c.in-Pair.is)
-    c.free_place-next.ensures (c.rest-in-elements.ensures ∙ t.is_reading.text)
+    c.free_place-next.ensures.free c.free_place-next.ensures.taken (c.rest-in-elements.ensures ∙ t.is_reading.text)
 
 pub elements-preserved : goal.elements-preserved
 elements-preserved c =
     let s = c.elements.invariant in
     let t = step_some s.walked.is_reading c.in_ok-element.ensures.element c.in-Some.is in
     nears_nothing s t (chars c.rest-in-elements.result.now) c.free_place-next.result c.chosen-place.result
-    (ap gives c.in-Nothing.is) c.free_place-next.ensures (c.rest-in-elements.ensures ∙ t.is_reading.text)
-    c.chosen-place.ensures
+    (ap gives c.in-Nothing.is) c.free_place-next.ensures.free c.free_place-next.ensures.taken
+    (c.rest-in-elements.ensures ∙ t.is_reading.text) c.chosen-place.ensures.place c.chosen-place.ensures.none

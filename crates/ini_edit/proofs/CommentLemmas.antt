@@ -1,0 +1,92 @@
+-- Comments among the elements: an element that begins as a comment does is one, and gives nothing.
+use Rattle.std.proofs.Common.{◌≡◌, ℕ, Bool, true, false, not, ◌||◌, List, [], ◌∷◌, ◌++◌, refl, sym, ap, ◌∙◌}
+use Rattle.std.proofs.Common.{subst, append_assoc, append-nil}
+use Rattle.std.proofs.lemmas.Bool.{both_ways, false≢true, false_from_ne_true, or_left, or_right}
+use Rattle.std.specs.Char.{is_whitespace}
+use Rattle.std.specs.List.{list_all}
+use Rattle.ini_text.specs.Grammar.CharacterKinds.{line_feed, open_bracket, is_blank, is_comment_mark}
+use Rattle.ini_text.specs.Grammar.CharacterKinds.{is_line_feed, BeginsWith}
+use Rattle.ini_text.specs.Grammar.Elements.{Given, Gap, Element}
+use Rattle.ini_text.specs.Grammar.Keys.{Indentation, KeyFront, begins_key}
+use Rattle.ini_text.specs.Grammar.Positions.{is_column_one}
+use Rattle.ini_text.specs.Inside.PlainTests.{begins}
+use Rattle.ini_text.specs.declared.option.ParseOption.{ParseOption}
+use Rattle.ini_text.proofs.GrammarLemmas.KindLemmas.{comment_mark-apart}
+use Rattle.ini.specs.Texts.{Text}
+
+-- no blank, no white space and no key begins as a comment does
+no_mark_blank : {X : Type 0} (c : ℕ) → is_comment_mark c ≡ true → is_blank c ≡ true → X
+no_mark_blank c mark blank = absurd (both_ways (is_blank c) (comment_mark-apart c mark).0 blank)
+
+first_two : (test : ℕ → Bool) (w x : Text) → BeginsWith test w → BeginsWith is_comment_mark (w ++ x)
+    → (c : ℕ) × ((test c ≡ true) × (is_comment_mark c ≡ true))
+first_two test [] x h m = absurd (false≢true (sym h))
+first_two test (c ∷ w) x h m = (c, (h, m))
+
+no_indent : {X : Type 0} {b w : Text} (x : Text) → Indentation b w → BeginsWith is_comment_mark (w ++ x) → X
+no_indent {w = w} x i m = let two = first_two is_blank w x i.some m in no_mark_blank two.0 two.1.1 two.1.0
+
+no_key : {X : Type 0} {o : ParseOption} {b k y key : Text} → KeyFront o b k y key
+    → BeginsWith is_comment_mark (k ++ y) → X
+no_key (KeyFront.unindented {s = k} {r = y} begins str) m =
+    let two = first_two begins_key (k ++ y) [] begins (subst (BeginsWith is_comment_mark) (sym (append-nil (k ++ y))) m) in
+    let c = two.0 in
+    absurd (both_ways (begins_key c)
+    (ap not (or_left (is_whitespace c || is_comment_mark c) _ (or_right (is_whitespace c) _ two.1.1))) two.1.0)
+no_key (KeyFront.indented {w = w} {s = k} {r = y} i begins str) m =
+    no_indent (k ++ y) i (subst (BeginsWith is_comment_mark) (append_assoc w k y) m)
+
+pub begins_with : (test : ℕ → Bool) (x : Text) → begins test x ≡ true → BeginsWith test x
+begins_with test [] h = absurd (false≢true h)
+begins_with test (c ∷ x) h = h
+
+begins_front : (test : ℕ → Bool) (s r : Text) → BeginsWith test s → BeginsWith test (s ++ r)
+begins_front test [] r h = absurd (false≢true (sym h))
+begins_front test (c ∷ s) r h = h
+
+-- a comment's source behind the front b, before r, and what it gives
+pub data IsComment (b : Text) : Text → Text → List Given → Type 0 where
+  whole : {m : ℕ} {r : Text} (s : Text) → is_column_one b ≡ true → is_comment_mark m ≡ true
+      → list_all (λ c. not (is_line_feed c)) s ≡ true → IsComment b (m ∷ (s ++ line_feed ∷ [])) r []
+  last : {m : ℕ} {s : Text} → is_column_one b ≡ true → is_comment_mark m ≡ true
+      → list_all (λ c. not (is_line_feed c)) s ≡ true → IsComment b (m ∷ s) [] []
+
+module _ {o : ParseOption} {b : Text} where
+  is_comment : {s r : Text} {gives : List Given} → BeginsWith is_comment_mark (s ++ r) → Element o b s r gives
+      → IsComment b s r gives
+  is_comment {r = r} m (Element.gap (Gap.blank_line {w = w} d i q)) =
+      no_indent (d ∷ r) i (subst (BeginsWith is_comment_mark) (append_assoc w (d ∷ []) r) m)
+  is_comment {r = r} m (Element.gap (Gap.before_header i)) = no_indent r i m
+  is_comment m (Element.gap (Gap.white {c = d} q n)) =
+      absurd (both_ways (is_whitespace d) (comment_mark-apart d m).1 q)
+  is_comment m (Element.comment s one mark all) = IsComment.whole s one mark all
+  is_comment m (Element.last_comment one mark all) = IsComment.last one mark all
+  is_comment m (Element.header off str) = absurd (false≢true m)
+  is_comment m (Element.bracketed_header on str i) = absurd (false≢true m)
+  is_comment {r = r} m (Element.pair {k = k} {s = s} {m = x} front some sep value) =
+      no_key front (subst (BeginsWith is_comment_mark) (append_assoc k (x ∷ s) r) m)
+  is_comment {r = r} m (Element.dropped_blanks i) = no_indent r i m
+  is_comment {r = r} m (Element.dropped_key {w = w} {s = s} i begins stops) =
+      no_indent (s ++ r) i (subst (BeginsWith is_comment_mark) (append_assoc w s r) m)
+
+  pub marked_comment : {s r : Text} {gives : List Given} → BeginsWith is_comment_mark s → Element o b s r gives
+      → IsComment b s r gives
+  marked_comment {s} {r} m element = is_comment (begins_front is_comment_mark s r m) element
+
+  pub comment_column : {s r : Text} {gives : List Given} → BeginsWith is_comment_mark (s ++ r) → Element o b s r gives
+      → is_column_one b ≡ true
+  comment_column m element = at (is_comment m element)
+    where
+      at : {s r : Text} {gives : List Given} → IsComment b s r gives → is_column_one b ≡ true
+      at (IsComment.whole s one mark all) = one
+      at (IsComment.last one mark all) = one
+
+  -- an element that gives an item is none
+  pub item_no_comment : {s r : Text} {item : Given} → Element o b s r (item ∷ []) → begins is_comment_mark s ≡ false
+  item_no_comment {s} {r} {item} element =
+      false_from_ne_true (begins is_comment_mark s) (λ h.
+      let no : item ∷ [] ≡ [] = at (marked_comment (begins_with is_comment_mark s h) element) in cc)
+    where
+      at : {s r : Text} {gives : List Given} → IsComment b s r gives → gives ≡ []
+      at (IsComment.whole s one mark all) = refl
+      at (IsComment.last one mark all) = refl

@@ -1,0 +1,209 @@
+-- A key as it is written between white space, in the place of another key, read back there.
+use Rattle.std.proofs.Common.{◌≡◌, ◌≢◌, ◌⊎◌, inl, inr, ◌∙◌, ℕ, Bool, true, false, not, ◌||◌, cond, eqb}
+use Rattle.std.proofs.Common.{eqb-true, List, [], ◌∷◌, ◌++◌}
+use Rattle.std.proofs.Common.{refl, sym, ap, subst, append_assoc, append-nil}
+use Rattle.std.proofs.lemmas.Bool.{and_parts, and_from, both_ways, cases_Bool, cond_both, false≢true}
+use Rattle.std.proofs.lemmas.Bool.{false_from_ne_true}
+use Rattle.std.proofs.lemmas.Bool.{or_cases, or_left}
+use Rattle.std.specs.Char.{is_whitespace}
+use Rattle.std.specs.List.{list_all}
+use Rattle.std.specs.Str.{drop_trailing_whitespace}
+use Rattle.ini_text.specs.declared.option.ParseOption.{ParseOption}
+use Rattle.ini_text.specs.declared.write.policy.EscapePolicy.{EscapePolicy}
+use Rattle.ini_text.specs.Escaping.EscapedTexts.{escaped}
+use Rattle.ini_text.specs.Escaping.Policies.{is_escaped}
+use Rattle.ini_text.specs.Grammar.CharacterKinds.{open_bracket, is_blank, is_comment_mark, is_line_end}
+use Rattle.ini_text.specs.Grammar.CharacterKinds.{is_separator, BeginsWith, BeginsWithNo}
+use Rattle.ini_text.specs.Grammar.Keys.{Indentation, KeyFront, begins_key, begins_indented_key}
+use Rattle.ini_text.specs.Grammar.Strings.{Row, Str, is_endpoint, key_ends}
+use Rattle.ini_text.specs.Grammar.WhiteSpace.{trimmed, end_trimmed}
+use Rattle.ini_text.specs.Laws.Plain.{IsBareKey, IsIndentedByEscape}
+use Rattle.ini_text.proofs.GrammarLemmas.KindLemmas.{blank_is_white, no_white_no_blank}
+use Rattle.ini_text.proofs.LawLemmas.OneAheadLemmas.{Alike}
+use Rattle.ini_text.proofs.PlainLemmas.EscapedTextLemmas.{NoRawEnd, all_read, row_escaped}
+use Rattle.ini_text.proofs.PlainLemmas.PlainPairLemmas.{bare_begins, bare_indented, bare_unindented}
+use Rattle.ini_text.proofs.PlainLemmas.PlainPairLemmas.{no_white_no_line_end, separator_closes}
+use Rattle.ini_text.proofs.PlainLemmas.PlainTrimLemmas.{skip_none, trimmed_begins, trimmed_end}
+use Rattle.ini_edit.specs.Places.{Follows}
+use Rattle.ini_edit.specs.Renamed.{HasEdges, IsPlainBareKey}
+use Rattle.ini_edit.proofs.KeyEdgeLemmas.{end_trimmed-before_white, skip_all_white}
+
+-- white space before a row of pieces of a key stands for itself
+white_row : {escapes : Bool} {s v : List ℕ} (w : List ℕ) → list_all is_whitespace w ≡ true
+    → Row escapes key_ends s v → Row escapes key_ends (w ++ s) (w ++ v)
+white_row [] h row = row
+white_row (c ∷ w) h row =
+    let parts = and_parts (is_whitespace c) (list_all is_whitespace w) h in
+    Row.raw (λ e. false≢true (subst (λ z. is_whitespace z ≡ true) e parts.0)) (no_end parts.0)
+    (white_row w parts.1 row)
+  where
+    no_end : is_whitespace c ≡ true → is_endpoint key_ends c ≡ false
+    no_end white =
+        let either = or_cases (eqb c 0x3D) (eqb c 0x3A || false) in
+        false_from_ne_true (is_endpoint key_ends c) (λ q. elim (either q) [
+          | inl e ↦ false≢true (subst (λ z. is_whitespace z ≡ true) (eqb-true c 0x3D e) white)
+          | inr e ↦ elim (or_cases (eqb c 0x3A) false e) [
+            | inl e ↦ false≢true (subst (λ z. is_whitespace z ≡ true) (eqb-true c 0x3A e) white)
+            | inr e ↦ false≢true e
+          ]
+        ])
+
+key_no_end : (policy : EscapePolicy) (key : List ℕ)
+    → list_all (λ c. not (is_separator c) || is_escaped policy c) key ≡ true → NoRawEnd policy key_ends key
+key_no_end policy [] h = refl
+key_no_end policy (c ∷ cs) h =
+    let parts = and_parts (not (is_separator c) || is_escaped policy c)
+    (list_all (λ c. not (is_separator c) || is_escaped policy c) cs) h in
+    and_from (not (is_endpoint key_ends c) || is_escaped policy c) _
+    (at (eqb c 0x3D) (eqb c 0x3A) (is_escaped policy c) parts.0) (key_no_end policy cs parts.1)
+  where
+    at : (x y z : Bool) → (not (x || y) || z) ≡ true → (not (x || (y || false)) || z) ≡ true
+    at true y z h = h
+    at false true z h = h
+    at false false z h = h
+
+begins_behind : (test : ℕ → Bool) (cs w : List ℕ) → cs ≢ [] → BeginsWithNo test cs
+    → BeginsWithNo test (cs ++ w)
+begins_behind test [] w some h = absurd (some refl)
+begins_behind test (c ∷ cs) w some h = h
+
+-- white space that is blanks, and then more
+split_white : (w s i y : List ℕ) → list_all is_blank w ≡ true → BeginsWithNo is_whitespace y
+    → w ++ s ≡ i ++ y → (x : List ℕ) × (i ≡ w ++ x) × (s ≡ x ++ y)
+split_white [] s i y blank ink e = (i, refl, e)
+split_white (c ∷ w) s [] y blank ink e =
+    let parts = and_parts (is_blank c) (list_all is_blank w) blank in
+    absurd (both_ways (is_whitespace c) (subst (BeginsWithNo is_whitespace) (sym e) ink)
+    (blank_is_white c parts.0))
+split_white (c ∷ w) s (d ∷ i) y blank ink e =
+    let parts = and_parts (is_blank c) (list_all is_blank w) blank in
+    let same : c ≡ d = cc in
+    let rest : w ++ s ≡ i ++ y = cc in
+    let more = split_white w s i y parts.1 ink rest in
+    (more.0, ap (λ z. z ∷ i) (sym same) ∙ ap (λ z. c ∷ z) more.1, more.2)
+
+white_behind : (w x : List ℕ) → list_all is_whitespace (w ++ x) ≡ true → list_all is_whitespace x ≡ true
+white_behind [] x h = h
+white_behind (c ∷ w) x h =
+    white_behind w x (and_parts (is_whitespace c) (list_all is_whitespace (w ++ x)) h).1
+
+module _ {o : ParseOption} {policy : EscapePolicy} {key : List ℕ} (plain : IsPlainBareKey o policy key)
+    (pad : List ℕ) (white_pad : list_all is_whitespace pad ≡ true) (m : ℕ)
+    (sep : is_separator m ≡ true) (r : List ℕ) where
+  abbrev bare : IsBareKey o policy key
+  bare = plain.bare
+
+  -- the key as it is written, and white space
+  abbrev source : List ℕ
+  source = escaped policy key ++ pad
+
+  bare_end : end_trimmed key ≡ key
+  bare_end = elim bare.is_trimmed [
+    | inl t ↦ trimmed_end key t
+    | inr i ↦ i.end_is_trimmed
+  ]
+
+  key_row : Row o.enabled_escape key_ends source (key ++ pad)
+  key_row =
+      row_escaped key (all_read {o = o} policy key plain.read_back) (key_no_end policy key bare.no_separator)
+      (subst (λ z. Row o.enabled_escape key_ends z z) (append-nil pad) (white_row pad white_pad Row.none))
+
+  -- behind white space, where keys don't keep it
+  trimmed_key : (x : List ℕ) → o.enabled_preserve_key_leading_whitespace ≡ false
+      → list_all is_whitespace x ≡ true → trimmed (x ++ (key ++ pad)) ≡ key
+  trimmed_key x off white =
+      ap drop_trailing_whitespace (skip_all_white x (key ++ pad) white
+      ∙ skip_none (key ++ pad) (begins_behind is_whitespace key pad bare.some (begins bare.is_trimmed)))
+      ∙ end_trimmed-before_white key pad white_pad ∙ bare_end
+    where
+      begins : (trimmed key ≡ key) ⊎ IsIndentedByEscape o policy key → BeginsWithNo is_whitespace key
+      begins (inl t) = trimmed_begins key t
+      begins (inr i) = absurd (both_ways o.enabled_preserve_key_leading_whitespace off i.kept)
+
+  read_key : cond o.enabled_preserve_key_leading_whitespace (end_trimmed (key ++ pad)) (trimmed (key ++ pad))
+      ≡ key
+  read_key = cond_both o.enabled_preserve_key_leading_whitespace _ _ (λ k. k ≡ key)
+      (λ on. end_trimmed-before_white key pad white_pad ∙ bare_end) (λ off. trimmed_key [] off refl)
+
+  unindented : {b : List ℕ} → KeyFront o b source (m ∷ r) key
+  unindented {b} =
+      let begins : BeginsWith begins_key (source ++ m ∷ r) =
+      rw (append_assoc (escaped policy key) pad (m ∷ r)) (bare_unindented policy (pad ++ m ∷ r) bare) in
+      subst (KeyFront o b source (m ∷ r)) read_key
+      (KeyFront.unindented begins (Str.closed key_row (separator_closes m sep)))
+
+  indented : {b w : List ℕ} (s x : List ℕ) → Indentation b w
+      → o.enabled_preserve_key_leading_whitespace ≡ false → list_all is_whitespace x ≡ true → (y : List ℕ)
+      → BeginsWith begins_indented_key ((x ++ y) ++ s)
+      → KeyFront o b (w ++ (x ++ source)) (m ∷ r) key
+  indented {b} {w} s x i off white y was =
+      let value : cond o.enabled_preserve_key_leading_whitespace (end_trimmed (w ++ (x ++ (key ++ pad))))
+      (trimmed (x ++ (key ++ pad))) ≡ key =
+      cond_both o.enabled_preserve_key_leading_whitespace _ _ (λ k. k ≡ key)
+      (λ on. absurd (both_ways o.enabled_preserve_key_leading_whitespace off on))
+      (λ _. trimmed_key x off white) in
+      subst (KeyFront o b (w ++ (x ++ source)) (m ∷ r)) value
+      (KeyFront.indented i (begins x was) (Str.closed (white_row x white key_row) (separator_closes m sep)))
+    where
+      begins : (x : List ℕ) → BeginsWith begins_indented_key ((x ++ y) ++ s)
+          → BeginsWith begins_indented_key ((x ++ source) ++ m ∷ r)
+      begins [] h =
+          rw (append_assoc (escaped policy key) pad (m ∷ r)) (bare_indented policy (pad ++ m ∷ r) bare)
+      begins (c ∷ x) h = h
+
+  follows : Follows o (source ++ m ∷ r)
+  follows =
+      let whole = sym (append_assoc (escaped policy key) pad (m ∷ r)) in
+      record {
+        no_blank = λ _. subst (BeginsWithNo is_blank) whole
+            (bare_begins (BeginsWithNo is_blank) (λ y. refl) policy (pad ++ m ∷ r) bare
+            (λ c y white mark bracket. no_white_no_blank c white));
+        no_line_end = λ _. subst (BeginsWithNo is_line_end) whole
+            (bare_begins (BeginsWithNo is_line_end) (λ y. refl) policy (pad ++ m ∷ r) bare
+            (λ c y white mark bracket. no_white_no_line_end c white));
+      }
+
+  -- In the place of another key's source the new one is read as the key, and what stands before it is read
+  -- as before: it begins alike, or so that it may follow anything.
+  pub record ReadsInPlace (b old new : List ℕ) : Type 0 where
+    pub front : KeyFront o b new (m ∷ r) key
+    pub ahead : Alike (old ++ m ∷ r) (new ++ m ∷ r) ⊎ Follows o (new ++ m ∷ r)
+
+  in_place_bare : {b old : List ℕ} → ReadsInPlace b old source
+  in_place_bare = record { front = unindented; ahead = inr follows }
+
+  in_place_indented : {b s k was : List ℕ} (c : ℕ) (i own tail : List ℕ)
+      → o.enabled_preserve_key_leading_whitespace ≡ false
+      → KeyFront o b s k was → s ≡ (c ∷ i) ++ (own ++ tail) → list_all is_whitespace (c ∷ i) ≡ true
+      → BeginsWithNo is_whitespace (own ++ tail) → ReadsInPlace b s ((c ∷ i) ++ source)
+  in_place_indented {k = k} c i own tail off (KeyFront.unindented {s = s} begins str) whole white ink =
+      let begins_white : is_whitespace c ≡ true =
+      (and_parts (is_whitespace c) (list_all is_whitespace i) white).0 in
+      let is : begins_key c ≡ true = subst (λ z. BeginsWith begins_key (z ++ k)) whole begins in
+      absurd (both_ways (begins_key c)
+      (ap not (or_left (is_whitespace c || is_comment_mark c) (eqb c open_bracket)
+      (or_left (is_whitespace c) (is_comment_mark c) begins_white))) is)
+  in_place_indented {b = b} {k = k} c i own tail off
+      (KeyFront.indented {w = w} {s = s} ind begins str) whole white ink =
+      let parts = split_white w s (c ∷ i) (own ++ tail) ind.blank ink whole in
+      let x = parts.0 in
+      let all : list_all is_whitespace x ≡ true =
+      white_behind w x (subst (λ z. list_all is_whitespace z ≡ true) parts.1 white) in
+      let front : KeyFront o b (w ++ (x ++ source)) (m ∷ r) key =
+      indented k x ind off all (own ++ tail)
+      (subst (λ z. BeginsWith begins_indented_key (z ++ k)) parts.2 begins) in
+      let same : w ++ (x ++ source) ≡ (c ∷ i) ++ source =
+      sym (append_assoc w x source) ∙ ap (λ z. z ++ source) (sym parts.1) in
+      record {
+        front = subst (λ z. KeyFront o b z (m ∷ r) key) same front;
+        ahead = inl (subst (λ z. Alike (z ++ m ∷ r) (((c ∷ i) ++ source) ++ m ∷ r)) (sym whole) Alike.same);
+      }
+
+  pub in_place : {b s k was : List ℕ} (indent : List ℕ) → KeyFront o b s k was → HasEdges o s indent pad
+      → ReadsInPlace b s (indent ++ source)
+  in_place [] front edges = in_place_bare
+  in_place (c ∷ i) front edges = elim (cases_Bool o.enabled_preserve_key_leading_whitespace) [
+    | inl on ↦ absurd (let never : c ∷ i ≡ [] = edges.kept on in cc)
+    | inr off ↦
+        in_place_indented c i edges.own pad off front edges.whole edges.white_indent (edges.begins off)
+  ]

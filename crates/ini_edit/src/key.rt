@@ -1,0 +1,87 @@
+//! A key's source: the white space around the key, and which keys can be written in any pair's place. This
+//! file knows white space, and no element.
+ghost use Rattle.std.specs.Prelude.{◌≡◌, ◌↔◌, ◌==◌, IsTrue, chars};
+ghost use Rattle.ini_text.specs.Grammar.CharacterKinds.{space};
+ghost use Rattle.ini_text.specs.Inside.PlainTests.{begins};
+ghost use Rattle.ini_edit.specs.Inside.KeyEdges.{IsKeyStart, IsSkipped, IsWhiteEnd};
+ghost use Rattle.ini_edit.specs.Renamed.{HasEdges, IsPlainBareKey};
+
+use crate::text::split_first;
+use ini_text::{EscapePolicy, ParseOption, front_before, is_plain_pair};
+
+/// The white space around a key in its source.
+#[derive(Debug, Clone, Copy)]
+pub(crate) struct KeyEdges<'a> {
+    /// What stands before the key; nothing where keys keep their leading white space, which is their own.
+    pub indent: &'a str,
+    /// What stands behind the key.
+    pub pad: &'a str,
+}
+
+/// The white space around a key in its source.
+pub(crate) fn key_edges<'a>(source: &'a str, read: ParseOption) -> KeyEdges<'a>
+    ensures { HasEdges read (chars source.now) (chars result.indent.now) (chars result.pad.now) }
+{
+    let start = key_start(source, read);
+    KeyEdges {
+        indent: front_before(source, start),
+        pad: white_end(start),
+    }
+}
+
+// The source from where the key begins.
+fn key_start(source: &str, read: ParseOption) -> &str
+    ensures { IsKeyStart read (chars source.now) (chars result.now) }
+{
+    if read.enabled_preserve_key_leading_whitespace {
+        source
+    } else {
+        skip_white(source)
+    }
+}
+
+// What follows the white space with which a text begins.
+fn skip_white(text: &str) -> &str
+    ensures { IsSkipped (chars text.now) (chars result.now) }
+{
+    let mut rest = text;
+    'characters: while let Some((c, after)) = split_first(rest) {
+        if !c.is_whitespace() {
+            return rest;
+        }
+        rest = after;
+    }
+    rest
+}
+
+// The white space with which a text ends.
+fn white_end(text: &str) -> &str
+    ensures { IsWhiteEnd (chars text.now) (chars result.now) }
+{
+    let mut white = text;
+    let mut rest = text;
+    'characters: while let Some((c, after)) = split_first(rest) {
+        if !c.is_whitespace() {
+            white = after;
+        }
+        rest = after;
+    }
+    white
+}
+
+/// Whether a key can be written in any pair's place so that it is read back: it is plain, and no space
+/// begins it.
+pub(crate) fn is_plain_bare_key(key: &str, policy: EscapePolicy, read: ParseOption) -> bool
+    ensures { IsTrue result ↔ IsPlainBareKey read policy (chars key.now) }
+{
+    is_plain_pair(key, "", policy, read) && !begins_with_space(key)
+}
+
+fn begins_with_space(key: &str) -> bool
+    ensures { result ≡ begins (λ c. c == space) (chars key.now) }
+{
+    match split_first(key) {
+        Some((c, _)) => c == ' ',
+        None => false,
+    }
+}

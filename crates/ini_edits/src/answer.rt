@@ -1,0 +1,41 @@
+//! Answers: the text that an edit gives, or why there is none, as a line.
+use crate::hex::push_hex;
+use crate::question::{Call, Question};
+use ini_edit::{EditError, add, delete, set, set_existing};
+use ini_text::Error;
+use std::alloc::Global;
+
+/// The new text of a question's edit.
+fn edited(alloc: Global, asked: &Question) -> Result<Option<String>, EditError> {
+    let (text, read, write) = (asked.text.as_str(), asked.read, &asked.write);
+    let name = asked.name.as_deref();
+    let (key, value) = (asked.key.as_str(), asked.value.as_str());
+    match asked.call {
+        Call::SetExisting => {
+            set_existing(alloc, text, read, write.escape_policy, name, key, value)
+        }
+        Call::Delete => delete(alloc, text, read, name, key),
+        Call::Set => Ok(Some(set(alloc, text, read, write, name, key, value)?)),
+        Call::Add => Ok(Some(add(alloc, text, read, write, name, key, value)?)),
+    }
+}
+
+fn new_line(alloc: Global, text: &str) -> Result<String, Error> {
+    let mut line = String::from_str(alloc, "new ")?;
+    push_hex(&mut line, text)?;
+    Ok(line)
+}
+
+/// The answer to a question, without a line end. Refused for want of memory alone.
+pub(crate) fn answer(alloc: Global, asked: &Question) -> Result<String, Error> {
+    match edited(alloc, asked) {
+        Ok(Some(new)) => new_line(alloc, new.as_str()),
+        Ok(None) => Ok(String::from_str(alloc, "none")?),
+        Err(EditError::Text(Error::Parse(fault))) => {
+            let (line, column, kind) = (fault.line, fault.col, fault.kind);
+            Ok(format!(in alloc; "refused {line}:{column} {kind:?}")?)
+        }
+        Err(EditError::Text(refusal)) => Err(refusal),
+        Err(refusal) => Ok(format!(in alloc; "refused {refusal:?}")?),
+    }
+}

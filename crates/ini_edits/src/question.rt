@@ -1,0 +1,134 @@
+//! Questions: an edit of a text, and the options by which it is read and written.
+use crate::hex::text_of_hex;
+use ini_text::{EscapePolicy, LineSeparator, ParseOption, WriteOption};
+use std::alloc::Global;
+use std::io::{self, ErrorKind};
+
+/// The calls of `ini_edit`.
+#[derive(Clone, Copy, Debug)]
+pub(crate) enum Call {
+    SetExisting,
+    Delete,
+    Set,
+    Add,
+}
+
+/// What one line of the input asks.
+#[derive(Drop)]
+pub(crate) struct Question {
+    pub(crate) call: Call,
+    pub(crate) read: ParseOption,
+    pub(crate) write: WriteOption,
+    /// The section's name; none is the general one's.
+    pub(crate) name: Option<String>,
+    pub(crate) key: String,
+    pub(crate) value: String,
+    pub(crate) text: String,
+}
+
+fn invalid() -> io::Error {
+    ErrorKind::InvalidInput.into()
+}
+
+fn call_of_name(name: &str) -> io::Result<Call> {
+    match name {
+        "set_existing" => Ok(Call::SetExisting),
+        "delete" => Ok(Call::Delete),
+        "set" => Ok(Call::Set),
+        "add" => Ok(Call::Add),
+        _ => Err(invalid()),
+    }
+}
+
+fn flag(digit: u8) -> io::Result<bool> {
+    match digit {
+        b'0' => Ok(false),
+        b'1' => Ok(true),
+        _ => Err(invalid()),
+    }
+}
+
+fn read_of_flags(flags: &str) -> io::Result<ParseOption> {
+    let [escape, quote, multiline, indent, brackets] = flags.as_bytes() else {
+        return Err(invalid());
+    };
+    Ok(ParseOption {
+        enabled_escape: flag(*escape)?,
+        enabled_quote: flag(*quote)?,
+        enabled_indented_mutiline_value: flag(*multiline)?,
+        enabled_preserve_key_leading_whitespace: flag(*indent)?,
+        enabled_brackets_in_section_names: flag(*brackets)?,
+    })
+}
+
+fn policy_of_name(name: &str) -> io::Result<EscapePolicy> {
+    match name {
+        "Nothing" => Ok(EscapePolicy::Nothing),
+        "Basics" => Ok(EscapePolicy::Basics),
+        "BasicsUnicode" => Ok(EscapePolicy::BasicsUnicode),
+        "BasicsUnicodeExtended" => Ok(EscapePolicy::BasicsUnicodeExtended),
+        "Reserved" => Ok(EscapePolicy::Reserved),
+        "ReservedUnicode" => Ok(EscapePolicy::ReservedUnicode),
+        "ReservedUnicodeExtended" => Ok(EscapePolicy::ReservedUnicodeExtended),
+        "Everything" => Ok(EscapePolicy::Everything),
+        _ => Err(invalid()),
+    }
+}
+
+fn line_end_of_name(name: &str) -> io::Result<LineSeparator> {
+    match name {
+        "LF" => Ok(LineSeparator::SystemDefault),
+        "CRLF" => Ok(LineSeparator::CRLF),
+        _ => Err(invalid()),
+    }
+}
+
+// A separator is a constant of the program: these are asked for, the last two of them not plain.
+fn separator_of_text(text: &str) -> io::Result<&'static str> {
+    match text {
+        "=" => Ok("="),
+        ":" => Ok(":"),
+        " = " => Ok(" = "),
+        ":\t" => Ok(":\t"),
+        "" => Ok(""),
+        " ==" => Ok(" =="),
+        _ => Err(invalid()),
+    }
+}
+
+fn name_of_word(alloc: Global, word: &str) -> io::Result<Option<String>> {
+    if word == "G" {
+        return Ok(None);
+    }
+    match word.strip_prefix('S') {
+        Some(digits) => Ok(Some(text_of_hex(alloc, digits)?)),
+        None => Err(invalid()),
+    }
+}
+
+impl Question {
+    /// The question of a line: `InvalidInput` where the line is none.
+    pub(crate) fn parse(alloc: Global, line: &str) -> io::Result<Question> {
+        let mut words = line.split(' ');
+        let mut word = || words.next().ok_or(invalid());
+        let call = call_of_name(word()?)?;
+        let read = read_of_flags(word()?)?;
+        let escape_policy = policy_of_name(word()?)?;
+        let line_separator = line_end_of_name(word()?)?;
+        let separator = text_of_hex(alloc, word()?)?;
+        let write = WriteOption {
+            escape_policy,
+            line_separator,
+            kv_separator: separator_of_text(separator.as_str())?,
+        };
+        Ok(Question {
+            call,
+            read,
+            write,
+            name: name_of_word(alloc, word()?)?,
+            key: text_of_hex(alloc, word()?)?,
+            value: text_of_hex(alloc, word()?)?,
+            text: text_of_hex(alloc, word()?)?,
+        })
+    }
+}

@@ -1,0 +1,122 @@
+"""The stored edits: those that the documents show, what is refused, and some texts under every set of options."""
+import itertools
+
+from model import POLICIES, Option, Question, Writing
+
+DEFAULT = Option(escape=True, quote=True, multiline=False, indent=False, brackets=False)
+MULTILINE = DEFAULT._replace(multiline=True)
+ESCAPES_OFF = DEFAULT._replace(escape=False)
+INDENT = DEFAULT._replace(indent=True)
+BASICS = Writing("Basics", "\n", "=")
+CRLF = Writing("Reserved", "\r\n", " = ")
+
+# The option set, the section, the key, and the text.
+SET = (
+    (DEFAULT, "server", "port", "[server]\n  port\t= 80   \n# of the proxy\n"),
+    (DEFAULT, "server", "port", "[server]\nport='80'\n"),
+    (DEFAULT, "server", "port", "[server]\nport=80\n# old\nport=81\nhost=h\n"),
+    (DEFAULT, "server", "port", "[server] port=80\r\n"),
+    (DEFAULT, None, "k", "k=\n"),
+    (DEFAULT, None, "k", "k= \\ v\\ \n"),
+    (DEFAULT, None, "k", 'k="a""b" c \xa0\n'),
+    (DEFAULT, "a", "k", "[a]k=1 k=2\nj=3\rk=4\n#c\nk=5"),
+    (DEFAULT, "b", "k", "[a]\nk=1\n[b]\n[b]\nk=2\n"),
+    (MULTILINE, None, "k", "k=\n  v\n\n  w \n\n \t\n[a]"),
+    (MULTILINE, None, "k", "k=v\r\n w\r\n\r\nj=1\n"),
+    (MULTILINE, None, "k", 'k=v\n ""\n \\n\n w\n ""\n \\n\n  '),
+    (INDENT, None, " k", " k=v\nk=w\n k = 2"),
+)
+TAKEN_OUT = (
+    (DEFAULT, "a", "k", "[a]\nk=v\n# c\n"),
+    (DEFAULT, "a", "k", "[a]k=v\n# c"),
+    (DEFAULT, None, "k", "x=y\rk=v\n#c"),
+    (DEFAULT, None, "k", "x=y\rk=v\rj=w"),
+    (DEFAULT, None, "k", "k=1\nk=2\n"),
+    (DEFAULT, "a", "k", "[a]k=v\n"),
+    (MULTILINE, "a", "k", "[a]\nk=v\n  w\n\nj=w"),
+    (MULTILINE, "a", "k", "[a]k=v\n#c"),
+    (MULTILINE, "a", "k", "[a]k=v\r\n"),
+    (MULTILINE, None, "k", "x=y\rk=v\n\n#c"),
+    (MULTILINE, None, "k", "x=y\rk=v\r[a]"),
+)
+ADDED = (
+    (DEFAULT, "a", "k", "[a]\nj=w\n# of b\n[b]"),
+    (DEFAULT, "a", "k", "[a][b]"),
+    (DEFAULT, "a", "k", "[a]j=\\"),
+    (DEFAULT, None, "k", "j=w\r[b]"),
+    (DEFAULT, "a", "k", "[a]\t \xa0\n[b]"),
+    (DEFAULT, "a", "k", "[a]  [b]"),
+    (DEFAULT, None, "k", ""),
+    (DEFAULT, None, "k", "\n; c\n[a]"),
+    (DEFAULT, "a", "k", "[a]\nj=w\\\n"),
+    (DEFAULT, "a", "k", "[a]\n  j"),
+    (MULTILINE, None, "k", "j=w\r[b]"),
+    (MULTILINE, "a", "k", "[a]\n  \n[b]"),
+    (MULTILINE, "a", "k", "[a]\n \n# c\n j"),
+    (MULTILINE, "a", "k", "[a]\n  j"),
+    (MULTILINE, None, "k", "j=w\n  u\n\n"),
+    (ESCAPES_OFF, "a", "k", "[a]j=\\"),
+    (ESCAPES_OFF, "a", "k", "[a]\nj=w\\\\"),
+)
+NEW_SECTIONS = (
+    (DEFAULT, ""),
+    (DEFAULT, "\r\n"),
+    (DEFAULT, "[a]\nj=w"),
+    (DEFAULT, "[a]\nj=w\n\n"),
+    (DEFAULT, "[a]\n# c"),
+    (DEFAULT, "[a]\nj=w\n  junk"),
+    (DEFAULT, "[a]\r\nj=\\"),
+    (MULTILINE, "[a]\nj=w\n  x"),
+    (MULTILINE, "[a]\n  x"),
+)
+VALUES = ["", " v", '"v', "'", "a\tb", "a\nb", "a\\b", "\v", "é", "\U0001f431", "#", "a=b"]
+KEYS = ["", " k", "k ", "[k", ";k", "a=b", "a:b", "\tk", "é", "k\n", "  \tk", "\xa0k"]
+FAULTS = ["k", "[a", "k=v\n=w", "k='v", "k=\\x", "k=\\x\\k", "k=v\n[a] ; c", "[a]\n #c\nk=\\xd800", "é\r\n\r\n;\n ="]
+
+# Texts that options read in their own ways.
+EVERYWHERE = (
+    "[a]\nj=1\nk = \"v\" w\\x0041 \n  \\ k=2\n\n# c\nk=3 \n[b]\nk=4\n",
+    "[a]]\r\nx=w\n\tk : 'v'\n\tk=\\\n w\n  \n[b]\r\n",
+    "[a]]\n x=\n  k=\\=\\\n\r \tj='\\0' w\r\n\r\n k =1\n\n\n[b]\n#",
+)
+
+
+def document_examples():
+    for option, name, key, text in SET:
+        yield Question("set_existing", option, BASICS, name, key, "443", text)
+    for option, name, key, text in TAKEN_OUT:
+        yield Question("delete", option, BASICS, name, key, "", text)
+    for (option, text), call in itertools.product(NEW_SECTIONS, ("set", "add")):
+        yield Question(call, option, CRLF, "b", "k", "v", text)
+    for (option, name, key, text), writing in itertools.product(ADDED, (BASICS, CRLF)):
+        yield Question("add", option, writing, name, key, "v", text)
+
+
+def plain_and_unplain():
+    """Values, keys and separators, some of them plain, and names that are and aren't there."""
+    policies = itertools.cycle(POLICIES)
+    for value in VALUES:
+        yield Question("set_existing", DEFAULT, BASICS, None, "k", value, "k = v \n")
+        yield Question("add", DEFAULT, BASICS._replace(policy=next(policies)), None, "k", value, "j=w")
+    for key in KEYS:
+        yield Question("add", DEFAULT, BASICS, None, key, "v", "j=w")
+        yield Question("add", INDENT, BASICS._replace(policy=next(policies)), None, key, "v", "j=w")
+    for separator in ("=", ":", " = ", ":\t", "", " =="):
+        yield Question("add", DEFAULT, BASICS._replace(separator=separator), None, "", "'", "=")
+        yield Question("add", DEFAULT, BASICS._replace(separator=separator), None, "k", "v", "j=w\n")
+    for call, name in itertools.product(("set_existing", "delete", "set", "add"), (None, "", "b", "c")):
+        yield Question(call, DEFAULT, BASICS, name, "k", "v", "k=1\n[]\nk=2\n[b]\nj=3")
+
+
+def questions():
+    """Every stored edit."""
+    yield from document_examples()
+    yield from plain_and_unplain()
+    for text, call in zip(FAULTS, itertools.cycle(("set_existing", "delete", "set", "add"))):
+        yield Question(call, DEFAULT, BASICS, None, "k", "v", text)
+    options = [Option(*flags) for flags in itertools.product((True, False), repeat=5)]
+    ways = itertools.cycle((BASICS, CRLF))
+    for option, text in itertools.product(options, EVERYWHERE):
+        name = "a]" if option.brackets and "]]" in text else "a"
+        for call, key in (("set_existing", "k"), ("set_existing", "\tk"), ("delete", "k"), ("set", "j"), ("add", "k")):
+            yield Question(call, option, next(ways), name, key, "new", text)

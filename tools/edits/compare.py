@@ -1,0 +1,148 @@
+#!/usr/bin/env python3
+"""Compares the bytes of edits: `ini_edits`, over the library's calls, and the model in model.py.
+
+    compare.py random PROGRAM N [SEED]
+    compare.py stored FOLDER
+
+`random` asks N random edits of both, and prints every difference with the smallest text that was found to show it; the
+status is 1 if there is one. PROGRAM may be a command of several words.
+
+`stored` writes the stored run of `ini_edits`, the files `stdin` and `stdout`, into FOLDER: the edits of cases.py. What
+stands in `stdout` is what the model answers, never the program.
+"""
+import collections
+import pathlib
+import random
+import shlex
+import subprocess
+import sys
+
+import cases
+from model import POLICIES, Option, Question, Writing, answer
+
+BATCH = 20_000
+CALLS = ["set_existing", "delete", "set", "add"]
+PIECES = ["\n", "\n", "\n", "\r", "\r\n", " ", "\t", "=", ":", "a", "k", "[a]", "[b]", "[a]\n", "k=", "a=v", "k=v\n", "\nk = w"]
+PIECES += ["\n k=v", "=v"]
+PIECES += ["\n ", "\n\n", "\n  ", "\r\n  w", '"', "'", "\"q\"", "\\", "\\\n", "\\n", "\\x", "\\x0041", "#", "\n#c\n", ";", "\x0b"]
+PIECES += ["\xa0", "]", "[", "x"]
+VALUES = ["v", "w", "", "a b", '"q', "'", "é", " x", "a=b", "#", "a\\b", "l\nm", "\U0001f431", "\t", "]", "\x0b"]
+KEYS = ["k", "a", "x", "", " k", "\tk", "k ", "a=b", ";k", "[k", "é", "k\n", "\xa0k", "  \U0001f431"]
+NAMES = ["d", " a", "a]", "é", "\t", "[a]"]
+SEPARATORS = ["=", ":", " = ", ":\t"]
+UNPLAIN_SEPARATORS = ["", " =="]
+
+
+def line_of(question):
+    """The question as `ini_edits` reads it."""
+
+    def digits(text):
+        return text.encode().hex()
+
+    option, writing = question.option, question.writing
+    flags = "".join(str(int(flag)) for flag in option)
+    line_end = "LF" if writing.line_end == "\n" else "CRLF"
+    name = "G" if question.name is None else "S" + digits(question.name)
+    words = [question.call, flags, writing.policy, line_end, digits(writing.separator), name]
+    return " ".join(words + [digits(text) for text in (question.key, question.value, question.text)])
+
+
+def random_question(chance):
+    """An edit of a random text by random options, mostly of a name and a key that it may have."""
+    text = "".join(chance.choices(PIECES, k=chance.randrange(14)))
+    option = Option(*(chance.random() < 0.5 for _ in range(5)))
+    separator = chance.choice(SEPARATORS if chance.random() < 0.95 else UNPLAIN_SEPARATORS)
+    writing = Writing(chance.choice(POLICIES), chance.choice(["\n", "\r\n"]), separator)
+    name = chance.choice([None, None, "a", "a", "b", "c", "", chance.choice(NAMES)])
+    key = chance.choice(["k", "a", "k", "a", chance.choice(KEYS)])
+    value = chance.choice(["v", "w", chance.choice(VALUES)])
+    return Question(chance.choice(CALLS), option, writing, name, key, value, text)
+
+
+def answers(program, questions):
+    """The lines with which the program answers."""
+    lines = "".join(line_of(question) + "\n" for question in questions)
+    found = subprocess.run(shlex.split(program), input=lines, stdout=subprocess.PIPE, text=True, check=True).stdout
+    found = found.splitlines()
+    if len(found) != len(questions):
+        sys.exit(f"{program}: {len(questions)} lines in, {len(found)} out")
+    return found
+
+
+def differing(program, questions):
+    """The questions that the two answer differently, each with both answers."""
+    for question, theirs in zip(questions, answers(program, questions)):
+        ours = answer(question)
+        if ours != theirs:
+            yield question, theirs, ours
+
+
+def smaller(question):
+    """The same edit of each text that is a character shorter, and with each option as it is by default."""
+    text = question.text
+    for place in range(len(text)):
+        yield question._replace(text=text[:place] + text[place + 1 :])
+    for field, default in zip(Option._fields, (True, True, False, False, False)):
+        if getattr(question.option, field) != default:
+            yield question._replace(option=question.option._replace(**{field: default}))
+    if question.writing != cases.BASICS:
+        yield question._replace(writing=cases.BASICS)
+
+
+def smallest(program, difference):
+    """A difference that gets no smaller by one step."""
+    while found := list(differing(program, list(smaller(difference[0])))):
+        difference = found[0]
+    return difference
+
+
+def shown(line):
+    return repr(bytes.fromhex(line[4:]).decode()) if line.startswith("new ") else line
+
+
+def kind(line):
+    """Of an answer the word that counts: `new`, `none`, or why it was refused."""
+    first, *rest = line.split(" ")
+    return rest[-1] if first == "refused" else first
+
+
+def compare(program, number, seed):
+    """Whether the two answer alike."""
+    chance = random.Random(seed)
+    counted, seen, differences = collections.Counter(), set(), 0
+    for start in range(0, number, BATCH):
+        questions = [random_question(chance) for _ in range(min(BATCH, number - start))]
+        counted.update(f"{question.call} {kind(answer(question))}" for question in questions)
+        for difference in differing(program, questions):
+            differences += 1
+            if len(seen) < 40:
+                question, theirs, ours = smallest(program, difference)
+                if question not in seen:
+                    seen.add(question)
+                    print(question, f"\n    the program: {shown(theirs)}\n    the model:   {shown(ours)}", flush=True)
+    for words, count in sorted(counted.items()):
+        print(f"{words}: {count:,}")
+    print(f"{number:,} edits, {differences:,} differences")
+    return differences == 0
+
+
+def stored(folder):
+    """Writes the stored run."""
+    questions = list(cases.questions())
+    (folder / "stdin").write_text("".join(line_of(question) + "\n" for question in questions))
+    (folder / "stdout").write_text("".join(answer(question) + "\n" for question in questions))
+    print(f"{len(questions)} edits")
+
+
+def main():
+    match sys.argv[1:]:
+        case ["random", program, number, *seed] if len(seed) < 2:
+            sys.exit(not compare(program, int(number), seed[0] if seed else "1"))
+        case ["stored", folder]:
+            stored(pathlib.Path(folder))
+        case _:
+            sys.exit(__doc__)
+
+
+if __name__ == "__main__":
+    main()
