@@ -1,0 +1,14 @@
+use Rattle.std.proofs.Common.{◌≡◌, length, chars}
+use denote.Text.{Utf8}
+use denote.Shadow.{shadow}
+use Rattle.ini_check.specs.Traps.{begins_like_comment}
+use Rattle.ini_check.proofs.trap.begins_like_comment.Given as goal
+
+abbrev pub decreases-blanks : goal.decreases-blanks
+decreases-blanks l = length (chars l.rest)
+
+abbrev pub invariant-blanks : goal.invariant-blanks
+invariant-blanks l = record {
+  text : shadow (Utf8 l.rest);
+  begins : begins_like_comment (chars l.rest) ≡ begins_like_comment (chars l.fn.source);
+}

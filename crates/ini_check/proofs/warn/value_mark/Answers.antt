@@ -1,0 +1,28 @@
+use Rattle.std.proofs.Common.{◌+◌, ◌∷◌, ◌++◌, [], arith, append_assoc, length, subst}
+use Rattle.ini_text.specs.Parsing.Places.{stretches_of}
+use Rattle.ini_check.specs.Inside.Marks.{IsAt}
+use Rattle.ini_check.proofs.MarkLemmas.{room_less, separator_at, value_room}
+use Rattle.ini_check.proofs.warn.value_mark.Goals as goal
+
+pub behind_separator-requires : goal.behind_separator-requires
+behind_separator-requires c =
+    let p = stretches_of c.args.pair.now.places in
+    room_less (omega arith)
+    (c.over.ensures.room (1 + length p.lead) (room_less (value_room p) c.requires.room))
+
+pub over-requires-2 : goal.over-requires-2
+over-requires-2 c =
+    let p = stretches_of c.args.pair.now.places in
+    let room = c.over.ensures.room (1 + length p.lead) (room_less (value_room p) c.requires.room) in
+    record {
+      line = omega (arith, room.line, c.behind_separator.ensures.line);
+      column = omega (arith, room.column, c.behind_separator.ensures.column);
+    }
+
+pub returns : goal.returns
+returns c b at =
+    let p = stretches_of c.args.pair.now.places in
+    subst (λ x. IsAt x c.over-2.result) (append_assoc (b ++ p.key) (p.separator ∷ []) p.lead)
+    (c.over-2.ensures.at ((b ++ p.key) ++ p.separator ∷ [])
+    (separator_at (b ++ p.key) p.separator c.over.result c.behind_separator.result c.requires.separates
+    c.behind_separator.ensures.line c.behind_separator.ensures.column (c.over.ensures.at b at)))

@@ -1,0 +1,4 @@
+pub mod Traps
+pub mod Messages
+pub mod Warnings
+pub mod Inside

@@ -1,0 +1,96 @@
+-- The warnings of a text, one element after another.
+use Rattle.std.specs.Prelude.{◌≡◌, ◌↔◌, ◌∷◌, ◌++◌, Bool, not, List, [], IsTrue, chars, if◌then◌else◌}
+use Rattle.ini_text.specs.Grammar.Places as grammar
+use Rattle.ini_text.specs.Grammar.Positions.{column_of, line_of}
+use Rattle.ini_text.specs.Laws.Plain.{IsPlainName, IsPlainPair}
+use Rattle.ini_text.specs.Parsing.Items.{string_text}
+use Rattle.ini_text.specs.Parsing.Places.{StandsBetween, stretches_of}
+use Rattle.ini_text.specs.declared.option.ParseOption.{ParseOption}
+use Rattle.ini_text.specs.declared.parser.placed.Content.{Content}
+use Rattle.ini_text.specs.declared.parser.placed.Content.TheVariants as contents
+use Rattle.ini_text.specs.declared.parser.placed.PlacedElement.{PlacedElement}
+use Rattle.ini_text.specs.declared.parser.placed.PlacedPair.{PlacedPair}
+use Rattle.ini_text.specs.declared.write.policy.EscapePolicy.TheVariants.{Basics}
+use Rattle.ini.specs.Texts.{Text}
+use Rattle.ini.specs.Properties.{Pairs}
+use Rattle.ini_check.specs.Traps.{begins_like_comment, has_comment_mark, has_escape, is_repeated, runs_on}
+use Rattle.ini_check.specs.declared.warning.Trap.{Trap}
+use Rattle.ini_check.specs.declared.warning.Trap.TheVariants as traps
+use Rattle.ini_check.specs.declared.warning.Warning.{Warning}
+
+-- where there is the trap, the warning of it at the end of the front b
+abbrev pub warned : Bool → Text → Trap → List Warning
+warned there b trap =
+    if there then record { line = line_of b; column = column_of b; trap = trap } ∷ [] else []
+
+-- the front behind which a pair's value begins
+abbrev pub value_front : Text → grammar.Stretches → Text
+value_front b p = (b ++ p.key) ++ p.separator ∷ p.lead
+
+-- of a pair's key behind the front b, and behind pairs of its section
+abbrev pub key_warnings : Text → Pairs → Text → Text → List Warning
+key_warnings b before source key =
+    warned (runs_on source) b traps.RunsOn
+    ++ (warned (begins_like_comment source) b traps.MarkBeginsKey
+    ++ warned (is_repeated key before) b traps.RepeatedKey)
+
+-- of a pair's value behind the front b
+abbrev pub value_warnings : ParseOption → Text → Text → Text → List Warning
+value_warnings o b own value =
+    warned (has_escape o own value) b traps.Escape
+    ++ warned (has_comment_mark own) b traps.MarkInValue
+
+-- of a header behind the front b, and behind headers of these names
+pub record HeaderWarns (o : ParseOption) (b : Text) (before : Pairs) (name : Text) (ws : List Warning)
+    : Type 0 where
+  pub plain : Bool
+  pub is_plain : IsTrue plain ↔ IsPlainName o Basics name
+  pub warnings : ws ≡ warned (is_repeated name before) b traps.RepeatedSection
+      ++ warned (not plain) b traps.NotPlain
+
+-- of a pair
+pub record PairWarns (o : ParseOption) (b : Text) (before : Pairs) (p : PlacedPair) (ws : List Warning)
+    : Type 0 where
+  pub plain : Bool
+  pub is_plain : IsTrue plain ↔ IsPlainPair o Basics (string_text p.key) (string_text p.value)
+  pub warnings : ws ≡ key_warnings b before (chars p.places.key.now) (string_text p.key)
+      ++ (warned (not plain) b traps.NotPlain
+      ++ value_warnings o (value_front b (stretches_of p.places)) (chars p.places.own.now)
+      (string_text p.value))
+
+-- of an element; the names of headers before it, and the keys of its section, stand there as keys of pairs
+abbrev pub ElementWarns : ParseOption → Text → Pairs → Pairs → Content → List Warning → Type 0
+ElementWarns o b names pairs contents.Nothing ws = ws ≡ []
+ElementWarns o b names pairs (contents.Header name) ws = HeaderWarns o b names (string_text name) ws
+ElementWarns o b names pairs (contents.Pair pair) ws = PairWarns o b pairs pair ws
+
+-- the names behind an element
+abbrev pub names_behind : Pairs → Content → Pairs
+names_behind names (contents.Header name) = names ++ (string_text name, []) ∷ []
+names_behind names _ = names
+
+-- the keys of the section behind an element
+abbrev pub keys_behind : Pairs → Content → Pairs
+keys_behind keys contents.Nothing = keys
+keys_behind keys (contents.Header name) = []
+keys_behind keys (contents.Pair pair) = keys ++ (string_text pair.key, []) ∷ []
+
+-- elements reach the front b of the text T, with headers of these names, the last section's keys, and these
+-- warnings
+pub data Warns (o : ParseOption) (T : Text) : Text → Pairs → Pairs → List Warning → Type 0 where
+  front : Warns o T [] [] [] []
+  behind : {b c : Text} {names keys : Pairs} {ws : List Warning} (e : PlacedElement) (more : List Warning)
+      → Warns o T b names keys ws → StandsBetween o T b c e → ElementWarns o b names keys e.content more
+      → Warns o T c (names_behind names e.content) (keys_behind keys e.content) (ws ++ more)
+
+-- the warnings are those of the whole text
+pub record AreWarningsOf (o : ParseOption) (T : Text) (ws : List Warning) : Type 0 where
+  pub names : Pairs
+  pub keys : Pairs
+  pub warns : Warns o T T names keys ws
+
+-- behind a list stand more warnings
+pub record Adds (P : List Warning → Type 0) (old new : List Warning) : Type 0 where
+  pub more : List Warning
+  pub holds : P more
+  pub added : new ≡ old ++ more

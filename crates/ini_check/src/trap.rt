@@ -1,0 +1,76 @@
+//! Whether a stretch of a pair is a trap. This file knows characters, and no element.
+ghost use Rattle.std.specs.Prelude.{◌≡◌, ◌==◌, chars};
+ghost use Rattle.std.specs.List.{list_any};
+ghost use Rattle.ini_text.specs.Grammar.CharacterKinds.{backslash, is_blank, is_comment_mark, is_line_end};
+ghost use Rattle.ini_check.specs.Traps.{begins_like_comment, has_comment_mark, has_escape, runs_on};
+
+use crate::text::{is_same_text, split_first};
+use ini_text::ParseOption;
+
+/// Whether a key's line runs on into the next one.
+pub(crate) fn runs_on(source: &str) -> bool
+    ensures { result ≡ runs_on (chars source.now) }
+{
+    source.chars().any(|c| is_line_end(c))
+}
+
+/// Whether a comment mark begins a key behind blanks.
+pub(crate) fn begins_like_comment(source: &str) -> bool
+    ensures { result ≡ begins_like_comment (chars source.now) }
+{
+    let mut rest = source;
+    'blanks: while let Some((c, after)) = split_first(rest) {
+        if !is_blank(c) {
+            return is_comment_mark(c);
+        }
+        rest = after;
+    }
+    false
+}
+
+/// Whether a comment mark stands in a value's own source behind white space.
+pub(crate) fn has_comment_mark(own: &str) -> bool
+    ensures { result ≡ has_comment_mark (chars own.now) }
+{
+    let mut white = false;
+    let mut rest = own;
+    'characters: while let Some((c, after)) = split_first(rest) {
+        if white && is_comment_mark(c) {
+            return true;
+        }
+        white = c.is_whitespace();
+        rest = after;
+    }
+    false
+}
+
+/// Whether a backslash begins an escape in a value's own source.
+pub(crate) fn has_escape(own: &str, value: &str, read: ParseOption) -> bool
+    ensures { result ≡ has_escape read (chars own.now) (chars value.now) }
+{
+    read.enabled_escape && has_backslash(own) && !is_same_text(own, value)
+}
+
+fn has_backslash(own: &str) -> bool
+    ensures { result ≡ list_any (λ c. c == backslash) (chars own.now) }
+{
+    own.chars().any(|c| c == '\\')
+}
+
+fn is_blank(c: char) -> bool
+    ensures { result ≡ is_blank c }
+{
+    c == ' ' || c == '\t'
+}
+
+fn is_line_end(c: char) -> bool
+    ensures { result ≡ is_line_end c }
+{
+    c == '\n' || c == '\r'
+}
+
+fn is_comment_mark(c: char) -> bool
+    ensures { result ≡ is_comment_mark c }
+{
+    c == ';' || c == '#'
+}
