@@ -23,7 +23,7 @@ passed=0
 failed=0
 skipped=0
 options='[--noescape] [--noquote] [--multiline] [--indent] [--brackets] [--crlf] [--policy NAME]'
-usage="usage: ini_file $options get FILE KEY [SECTION]|keys FILE [SECTION]|sections FILE|list FILE|format FILE"
+usage="usage: ini_file $options COMMAND [--existing] [--output FILE] [--] FILE [ARGUMENT].."
 source='; a server\nname = one\n[server]\nport = 8080\nhost = a\\tb\nport = 9090\n[client]\n[server]\nlast = 1\n'
 written='name=one\n\n[server]\nport=8080\nhost=a\\tb\nport=9090\n[client]\n\n[server]\nlast=1\n'
 
@@ -93,6 +93,22 @@ reading() {
   ^' get refused.ini a
     printf '\377' >refused.ini
     case_of 'bytes that are no text' 3 '' 'ini_file: refused.ini: the input is not UTF-8' get refused.ini a
+    printf 'k = 1\n[a\n' >refused.ini
+    case_of 'a header without an end: where it begins' 3 '' 'refused.ini:3:1: expecting "[Some('"']'"')]" but found EOF.
+
+^
+refused.ini:2:1: what has no end begins here
+[a
+^' list refused.ini
+    printf '; c\n[a]\n\nk = "b\n' >refused.ini
+    "$program" list refused.ini 2>&1 | tail -n 3 >"$room/have"
+    printf 'refused.ini:4:1: what has no end begins here\nk = "b\n^\n' >"$room/want"
+    count 'a quote without an end: where its pair begins'
+    case_of '--version' 0 'ini_file 0.3.0\n' '' --version
+    "$program" --help >"$room/out" 2>"$room/err"
+    { echo "status $?"; head -n 1 "$room/out"; cat "$room/err"; } >"$room/have"
+    { echo 'status 0'; echo 'usage: ini_file [OPTION].. COMMAND [CHOICE].. [--] FILE [ARGUMENT]..'; } >"$room/want"
+    count '--help'
     case_of 'format of standard input' 0 'a=1\n' '' format - <<END
 a = 1
 END
@@ -148,6 +164,203 @@ saving() {
     count 'a full device'
 }
 
+# edit NAME TEXT WORD..: a run that is done and writes nothing out leaves this text, and no other file
+edit() {
+    name=$1
+    text=$2
+    shift 2
+    case_of "$name: the status" 0 '' '' "$@"
+    stands "$name: the file" "$text"
+}
+
+# refused NAME STATUS ERRORS WORD..: a run with this status leaves the file as it was
+refused() {
+    name=$1
+    status=$2
+    errors=$3
+    shift 3
+    cp settings.ini "$room/before"
+    case_of "$name: the status and the words" "$status" '' "$errors" "$@"
+    { cat "$room/before"; echo settings.ini; } >"$room/want"
+    { cat settings.ini; ls -A; } >"$room/have"
+    count "$name: the file stands"
+}
+
+editing() {
+    fresh
+    edit 'delete: the first pair of the key' \
+        '; a server\nname = one\n[server]\nhost = a\\tb\nport = 9090\n[client]\n[server]\nlast = 1\n' \
+        delete settings.ini port server
+    fresh
+    edit 'delete in the general section: the comment stays' \
+        '; a server\n[server]\nport = 8080\nhost = a\\tb\nport = 9090\n[client]\n[server]\nlast = 1\n' \
+        delete settings.ini name
+    refused 'delete of a key that is not there' 1 '' delete settings.ini other server
+    refused 'delete in a section that is not there' 1 '' delete settings.ini port nowhere
+    refused 'delete in a later section of the name' 1 '' delete settings.ini last server
+    fresh
+    edit 'set --existing: in its place, and the later pair goes' \
+        '; a server\nname = one\n[server]\nport = 443\nhost = a\\tb\n[client]\n[server]\nlast = 1\n' \
+        set --existing settings.ini port 443 server
+    fresh
+    printf '\357\273\277# by hand\r\n\r\nk\t= "1"  \r\n# old\r\nj=2' >settings.ini
+    edit 'set --existing: mark, comments, blanks and line ends stay' \
+        '\357\273\277# by hand\r\n\r\nk\t= --null  \r\n# old\r\nj=2' set --existing settings.ini k --null
+    edit 'set --existing: the policy escapes the value' \
+        '\357\273\277# by hand\r\n\r\nk\t= a\\;b  \r\n# old\r\nj=2' \
+        --policy Reserved set --existing settings.ini k 'a;b'
+    refused 'set --existing of a key that is not there' 1 '' set --existing settings.ini other 1
+    refused 'set --existing of a value that would not be read back' 2 \
+        "ini_file: settings.ini: this value can't be written so that it is read back" set --existing settings.ini k ' v'
+    refused 'such a value for a key that is not there' 2 \
+        "ini_file: settings.ini: this value can't be written so that it is read back" set --existing settings.ini x ' v'
+    refused 'too few words' 2 "$usage" set --existing settings.ini k
+    refused 'too many words' 2 "$usage" delete settings.ini k a b
+    printf 'k = 1\n  =v\n' >settings.ini
+    refused 'delete of a refused text' 3 'settings.ini:2:4: missing key
+  =v
+  ^' delete settings.ini k
+    printf 'k = \377\n' >settings.ini
+    refused 'delete in bytes that are no text' 3 'ini_file: settings.ini: the input is not UTF-8' delete settings.ini k
+    case_of 'delete in a file that is not there' 4 '' 'ini_file: none.ini: No such file or directory (os error 2)' \
+        delete none.ini k
+    case_of 'delete in standard input' 0 '# c\nj=2\n' '' delete - k <<END
+# c
+k=1
+j=2
+END
+}
+
+# a value set where its pair isn't there, and a pair added
+adding() {
+    fresh
+    edit 'set: in its place, and the later pair goes' \
+        '; a server\nname = one\n[server]\nport = 443\nhost = a\\tb\n[client]\n[server]\nlast = 1\n' \
+        set settings.ini port 443 server
+    fresh
+    edit 'set: a new line behind the last pair of the first section of the name' \
+        '; a server\nname = one\n[server]\nport = 8080\nhost = a\\tb\nport = 9090\nlast=2\n[client]\n[server]\nlast = 1\n' \
+        set settings.ini last 2 server
+    fresh
+    edit 'set: a new line in the general section' \
+        '; a server\nname = one\nother=x\n[server]\nport = 8080\nhost = a\\tb\nport = 9090\n[client]\n[server]\nlast = 1\n' \
+        set settings.ini other x
+    fresh
+    edit 'set: a new section' "$source\n[new]\nk=v\n" set settings.ini k v new
+    fresh
+    printf '\357\273\277# by hand\r\n[a]\r\nk\t= 1  \r\n# next\r\n[b]\r\n' >settings.ini
+    edit 'set: mark, comments and line ends stay' \
+        '\357\273\277# by hand\r\n[a]\r\nk\t= 1  \r\nj=a\\;b\r\n# next\r\n[b]\r\n' \
+        --policy Reserved set settings.ini j 'a;b' a
+    refused 'set of a value that would not be read back' 2 \
+        "ini_file: settings.ini: this value can't be written so that it is read back" set settings.ini k ' v'
+    refused 'set of a key that would not be read back' 2 \
+        "ini_file: settings.ini: this key can't be written so that it is read back" set settings.ini a=b v
+    refused 'set in a section that would not be read back' 2 \
+        "ini_file: settings.ini: this name can't be written so that it is read back" set settings.ini k v 'a]b'
+    printf '[a]\n  junk' >settings.ini
+    refused 'set where a new line has no place' 3 \
+        'ini_file: settings.ini: an indented key that the text'"'"'s end cuts short leaves no place for a new line' \
+        --multiline set settings.ini k v a
+    fresh
+    edit 'add: whatever pairs of the key are there' \
+        '; a server\nname = one\n[server]\nport = 8080\nhost = a\\tb\nport = 9090\nport=443\n[client]\n[server]\nlast = 1\n' \
+        add settings.ini port 443 server
+    fresh
+    edit 'add: in the general section' \
+        '; a server\nname = one\nname=two\n[server]\nport = 8080\nhost = a\\tb\nport = 9090\n[client]\n[server]\nlast = 1\n' \
+        add settings.ini name two
+    refused 'add of a key that would not be read back' 2 \
+        "ini_file: settings.ini: this key can't be written so that it is read back" add settings.ini '' v
+    case_of 'set in standard input' 0 '# c\nk=2\n' '' set - k 2 <<END
+# c
+k=1
+END
+    case_of 'add to standard input, with CR LF' 0 'k=v\r\n' '' --crlf add - k v </dev/null
+}
+
+# files that aren't there
+making() {
+    fresh
+    rm settings.ini
+    edit 'set makes a file' 'k=v\n' set settings.ini k v
+    rm settings.ini
+    edit 'add makes a file, with a section and CR LF' '[a]\r\nk=v\r\n' --crlf add settings.ini k v a
+    rm settings.ini
+    case_of 'set --existing makes no file' 4 '' \
+        'ini_file: settings.ini: No such file or directory (os error 2)' set --existing settings.ini k v
+    case_of 'delete makes no file' 4 '' 'ini_file: settings.ini: No such file or directory (os error 2)' delete settings.ini k
+    case_of 'set in a folder that is not there' 4 '' 'ini_file: far/new.ini: No such file or directory (os error 2)' \
+        set far/new.ini k v
+    case_of 'set of a value that would not be read back' 2 '' \
+        "ini_file: settings.ini: this value can't be written so that it is read back" set settings.ini k ' v'
+    ls -A >"$room/have"
+    : >"$room/want"
+    count 'no file is made where a run is refused'
+    case_of 'set --output of a file that is not there' 0 '' '' set --output settings.ini none.ini k v
+    stands 'set --output makes the other file' 'k=v\n'
+    ln -s far.ini link.ini
+    case_of 'set by way of a link to no file' 4 '' 'ini_file: link.ini: File exists (os error 17)' set link.ini k v
+}
+
+# sections and keys: taken out, and under other names
+renaming() {
+    fresh
+    edit 'delete-section: the first of the name' '; a server\nname = one\n[client]\n[server]\nlast = 1\n' \
+        delete-section settings.ini server
+    printf '# top\n[a]\nk = 1\n# about b\n[b]\nj = 2\n' >settings.ini
+    edit 'delete-section: comments behind the last pair stay' '# top\n# about b\n[b]\nj = 2\n' \
+        delete-section settings.ini a
+    refused 'delete-section of a section that is not there' 1 '' delete-section settings.ini nowhere
+    refused 'delete-section without a section' 2 "$usage" delete-section settings.ini
+    fresh
+    edit 'rename-key: the first pair of the key' \
+        '; a server\nname = one\n[server]\ngate = 8080\nhost = a\\tb\nport = 9090\n[client]\n[server]\nlast = 1\n' \
+        rename-key settings.ini port gate server
+    printf '# c\r\n  old\t=  "v" \r\n' >settings.ini
+    edit 'rename-key: blanks, the value and line ends stay' '# c\r\n  a\\=b\t=  "v" \r\n' \
+        --policy Reserved rename-key settings.ini old a=b
+    refused 'rename-key of a key that is not there' 1 '' rename-key settings.ini other x
+    refused 'rename-key to a key that would not be read back' 2 \
+        "ini_file: settings.ini: this key can't be written so that it is read back" rename-key settings.ini other ' x'
+    fresh
+    edit 'rename-section: the first of the name' \
+        '; a server\nname = one\n[host]\nport = 8080\nhost = a\\tb\nport = 9090\n[client]\n[server]\nlast = 1\n' \
+        rename-section settings.ini server host
+    refused 'rename-section of a section that is not there' 1 '' rename-section settings.ini nowhere x
+    refused 'rename-section to a name that would not be read back' 2 \
+        "ini_file: settings.ini: this name can't be written so that it is read back" rename-section settings.ini nowhere 'a]b'
+    refused 'rename-section with too many words' 2 "$usage" rename-section settings.ini client x y
+}
+
+# --output and --
+placing() {
+    fresh
+    case_of '--output -: the file stands' 0 \
+        '; a server\n[server]\nport = 8080\nhost = a\\tb\nport = 9090\n[client]\n[server]\nlast = 1\n' '' \
+        delete --output - settings.ini name
+    stands '--output -' "$source"
+    case_of '--output: a new file' 0 '' '' delete --output new.ini settings.ini name
+    { printf "$source"; printf '; a server\n[server]\nport = 8080\nhost = a\\tb\nport = 9090\n[client]\n[server]\nlast = 1\n'
+      printf 'new.ini\nsettings.ini\n'; } >"$room/want"
+    { cat settings.ini new.ini; ls -A; } >"$room/have"
+    count '--output: the new file, and the file stands'
+    echo other >new.ini
+    chmod 600 new.ini
+    case_of '--output: a file that is there' 0 '' '' get --output new.ini settings.ini name
+    { echo one; echo 600; } >"$room/want"
+    { cat new.ini; stat -c %a new.ini; } >"$room/have"
+    count '--output: what was there is replaced'
+    case_of '--output: a folder that is not there' 4 '' \
+        'ini_file: settings.ini: far/new.ini: No such file or directory (os error 2)' \
+        get --output far/new.ini settings.ini name
+    case_of '--output: no file' 2 '' "$usage" get --output
+    case_of 'an option that is none' 2 '' "$usage" get --frob settings.ini name
+    printf 'k = v\n' >--odd.ini
+    case_of '-- ends the options' 0 'v\n' '' get -- --odd.ini k
+    case_of 'arguments may begin with --' 1 '' '' get settings.ini --existing
+}
+
 # a folder in which nothing may be made, for a user who may not do all
 protected() {
     fresh
@@ -167,27 +380,29 @@ protected() {
     stands 'a folder without the right to write: the file stands' "$source"
 }
 
-# broken CALL ERROR MESSAGE [WHICH]: this call of a save fails
+# broken CALL ERROR MESSAGE: this call of a save fails, in a run of $words
 broken() {
     fresh
-    strace -f -o "$room/trace" -P "$(pwd)/settings.ini.lock" -e "trace=$1" -e "inject=$1:error=$2${4:-}" \
-        "$program" format settings.ini >"$room/out" 2>"$room/err"
+    strace -f -o "$room/trace" -P "$(pwd)/settings.ini.lock" -e "trace=$1" -e "inject=$1:error=$2" \
+        "$program" $words >"$room/out" 2>"$room/err"
     echo "status $?, $(cat "$room/err")" >"$room/have"
     echo "status 4, ini_file: settings.ini: $3" >"$room/want"
-    count "$1 fails: the status and the words"
-    stands "$1 fails: the old file stands, and no other is left" "$source"
+    count "$words, $1 fails: the status and the words"
+    stands "$words, $1 fails: the old file stands, and no other is left" "$source"
 }
 
 faults() {
     if ! strace -o /dev/null true 2>/dev/null; then
-        skipped=$((skipped + 12))
+        skipped=$((skipped + 22))
         return
     fi
-    broken openat EACCES 'Permission denied (os error 13)'
-    broken fchmod EPERM 'Operation not permitted (os error 1)'
-    broken write ENOSPC 'No space left on device (os error 28)'
-    broken fsync EIO 'Input/output error (os error 5)'
-    broken rename EXDEV 'Invalid cross-device link (os error 18)'
+    for words in 'format settings.ini' 'delete settings.ini port server'; do
+        broken openat EACCES 'Permission denied (os error 13)'
+        broken fchmod EPERM 'Operation not permitted (os error 1)'
+        broken write ENOSPC 'No space left on device (os error 28)'
+        broken fsync EIO 'Input/output error (os error 5)'
+        broken rename EXDEV 'Invalid cross-device link (os error 18)'
+    done
     fresh
     strace -f -o "$room/trace" -P "$(pwd)/settings.ini.lock" -e trace=openat -e inject=openat:delay_enter=8000000 \
         "$program" format settings.ini >"$room/out" 2>"$room/have" &
@@ -225,6 +440,11 @@ at_once() {
 }
 
 reading
+editing
+adding
+making
+renaming
+placing
 saving
 at_once
 protected

@@ -1,31 +1,72 @@
--- What the program may be asked to do with the document of a file.
+-- What the program may be asked to do with a file.
 use Rattle.std.specs.Prelude.{Option}
-use Rattle.std.specs.Borrow.{Bor}
-use Rattle.std.specs.Option.{option_map}
-use Rattle.std.specs.Prelude.{ℕ, List}
 use Rattle.ini.specs.Texts.{Text, str_name, str_text}
 use Rattle.ini_options.specs.Words.{Word}
 use Rattle.ini_options.specs.declared.options.Options.{Options}
+use Rattle.ini_file.specs.Choices.{Chosen, chosen_of}
+use Rattle.ini_file.specs.declared.words.Asked.{Asked}
 use Rattle.ini_file.specs.declared.words.Command.{Command}
 use Rattle.ini_file.specs.declared.words.Command.TheVariants as command
+use Rattle.ini_file.specs.declared.words.Edit.{Edit}
+use Rattle.ini_file.specs.declared.words.Edit.TheVariants as edit
+use Rattle.ini_file.specs.declared.words.Question.{Question}
+use Rattle.ini_file.specs.declared.words.Question.TheVariants as question
 
 -- where no section is named it is the general one
+pub data Asking : Type 0 where
+  Format : Asking
+  Listing : Asking
+  Sections : Asking
+  Keys : (section : Option Text) → Asking
+  Get : (key : Text) (section : Option Text) → Asking
+
+pub data Editing : Type 0 where
+  Delete : (key : Text) (section : Option Text) → Editing
+  SetExisting : (key value : Text) (section : Option Text) → Editing
+  Set : (key value : Text) (section : Option Text) → Editing
+  Add : (key value : Text) (section : Option Text) → Editing
+  RenameKey : (old new : Text) (section : Option Text) → Editing
+  RenameSection : (old new : Text) → Editing
+  DeleteSection : (section : Text) → Editing
+
+-- to write something of the file's document, or to change its text
 pub data Request : Type 0 where
-  Format : Request
-  Listing : Request
-  Sections : Request
-  Keys : (section : Option Text) → Request
-  Get : (key : Text) (section : Option Text) → Request
+  Ask : Asking → Request
+  Change : Editing → Request
+
+abbrev pub asking_of : Question → Asking
+asking_of question.Format = Format
+asking_of question.List = Listing
+asking_of question.Sections = Sections
+asking_of (question.Keys section) = Keys (str_name section)
+asking_of (question.Get key section) = Get (str_text key) (str_name section)
+
+abbrev pub editing_of : Edit → Editing
+editing_of (edit.Delete key section) = Delete (str_text key) (str_name section)
+editing_of (edit.SetExisting key value section) =
+    SetExisting (str_text key) (str_text value) (str_name section)
+editing_of (edit.Set key value section) = Set (str_text key) (str_text value) (str_name section)
+editing_of (edit.Add key value section) = Add (str_text key) (str_text value) (str_name section)
+editing_of (edit.RenameKey old new section) = RenameKey (str_text old) (str_text new) (str_name section)
+editing_of (edit.RenameSection old new) = RenameSection (str_text old) (str_text new)
+editing_of (edit.DeleteSection section) = DeleteSection (str_text section)
 
 -- the request that a command stands for
 abbrev pub request_of : Command → Request
-request_of command.Format = Format
-request_of command.List = Listing
-request_of command.Sections = Sections
-request_of (command.Keys section) = Keys (str_name section)
-request_of (command.Get key section) = Get (str_text key) (str_name section)
+request_of (command.Ask q) = Ask (asking_of q)
+request_of (command.Change e) = Change (editing_of e)
 
--- what a parse of the words answers: the options, the file's name, and the request that the command stands
--- for
-abbrev pub given_by : Option (Options × Bor (List ℕ) × Command) → Option (Options × Word × Request)
-given_by parsed = option_map (λ p. (p.0, p.1.now, request_of p.2)) parsed
+-- what the words of the program ask for
+pub record Asks : Type 0 where
+  pub options : Options
+  pub choices : Chosen
+  pub file : Word
+  pub request : Request
+
+abbrev pub asks_of : Asked → Asks
+asks_of a = record {
+  options = a.options;
+  choices = chosen_of a.choices;
+  file = a.file.now;
+  request = request_of a.command;
+}

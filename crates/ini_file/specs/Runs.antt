@@ -1,52 +1,87 @@
--- What a run of the program is, as a function of its words and of the bytes that it reads.
-use Rattle.std.specs.Prelude.{◌≡◌, ℕ, List, Option, Some, true, ⊤, IfSome, encode_utf8_all}
-use Rattle.std.specs.Prelude.{◌++◌, codes, map, string_bytes, String}
+-- What a run of the program is, as a function of its words and of a file's bytes.
+use Rattle.std.specs.Prelude.{◌≡◌, ◌↔◌, ℕ, List, [], Option, Some, None, ⊤, IfSome, MatchOption}
+use Rattle.std.specs.Prelude.{◌++◌, chars, codes, encode_utf8_all, map, string_bytes, String}
+use Rattle.std.specs.Option.{option_map}
 use Rattle.std.specs.Str.{IsUtf8}
 use Rattle.std.specs.declared.alloc.Global.{Global}
-use Rattle.ini_text.specs.Device.Watched.{WritesAll, WritesFront}
-use Rattle.ini_text.specs.declared.device.Watched.{Watched}
+use Rattle.std.specs.declared.vec.Vec.{Vec}
 use Rattle.ini_text.specs.declared.error.Error.TheVariants.{Io, Parse, Memory, NotUtf8, NoProgress}
-use Rattle.ini_text.specs.declared.error.ParseError.{ParseError}
 use Rattle.ini_text.specs.declared.write.option.WriteOption.{WriteOption}
 use Rattle.ini.specs.Documents.{Document}
-use Rattle.ini.specs.Loading.{IsDocumentOf, IsStopOf, IsTextWith, text_bytes}
+use Rattle.ini.specs.Loading.{IsDocumentOf, IsParseOrMemory, IsStopOf, IsTextWith, without_mark}
 use Rattle.ini.specs.Texts.{Text}
-use Rattle.ini_options.specs.Words.{IsWriteOption, Word, default_options}
+use Rattle.ini_edit.specs.declared.error.EditError.{EditError}
+use Rattle.ini_edit.specs.declared.error.EditError.TheVariants as refusal
+use Rattle.ini_options.specs.Words.{IsWriteOption}
 use Rattle.ini_options.specs.declared.options.Options.{Options}
+use Rattle.ini_file.specs.Bytes.{mark_of}
+use Rattle.ini_file.specs.Edits.{HasNothingToEdit, IsEdited, RefusesEdit}
 use Rattle.ini_file.specs.Outputs.{output}
-use Rattle.ini_file.specs.Requests.{Request}
+use Rattle.ini_file.specs.Requests.{Asking, Asks, Editing, Request, Ask, Change}
 use Rattle.ini_file.specs.Words.{asked}
 use Rattle.ini_file.specs.declared.run.Outcome.{Outcome}
 use Rattle.ini_file.specs.declared.run.Outcome.TheVariants.{Done, NotFound, Usage, Refused}
 
--- the options, the file and the request of the words, if they are the program's
-abbrev pub asked_by : List (String Global) → Option (Options × Word × Request)
-asked_by words = asked default_options (map string_bytes words)
+-- what the words ask for, if they are the program's
+abbrev pub asked_by : List (String Global) → Option Asks
+asked_by words = asked (map string_bytes words)
 
--- what the words ask to be written of the document that the file's bytes give without a mark; no text where
--- what they ask for isn't there
-pub record IsOutput (words : List (String Global)) (input : List ℕ) (out : Option Text) : Type 0 where
-  pub options : Options
-  pub file : Word
-  pub request : Request
+-- what a question is answered of the document that a text gives; no text where what it asks for isn't there
+pub record IsAnswer (o : Options) (q : Asking) (T : Text) (out : Option Text) : Type 0 where
   pub option : WriteOption
   pub document : Document
-  pub asks : asked_by words ≡ Some (options, file, request)
-  pub is_option : IsWriteOption options option
-  pub loaded : IsTextWith (λ T. IsDocumentOf options.reading T document) (text_bytes true input)
-  pub is_output : out ≡ output option request document
+  pub is_option : IsWriteOption o option
+  pub loaded : IsDocumentOf o.reading T document
+  pub is_output : out ≡ output option q document
 
--- the words' options stop reading the input's text where the error says
-abbrev pub IsStop : List (String Global) → ParseError → List ℕ → Type 0
-IsStop words e input =
-    IfSome (asked_by words) (λ a. IsTextWith (λ T. IsStopOf a.0.reading T e) (text_bytes true input))
+-- the bytes are the file's mark, and behind it a text with the edit made in it
+pub record IsChanged (o : Options) (e : Editing) (mark : List ℕ) (T : Text) (bytes : List ℕ) : Type 0 where
+  pub new : List ℕ
+  pub whole : bytes ≡ mark ++ new
+  pub is_edited : IsEdited o e T (chars new)
 
--- the input without a mark is UTF-8
-abbrev pub IsText : List ℕ → Type 0
-IsText bytes = IsUtf8 (text_bytes true bytes)
+-- the bytes are what the request asks to be written of a file with this mark and text
+abbrev pub IsWritten : Options → Request → List ℕ → Text → List ℕ → Type 0
+IsWritten o (Ask q) mark T bytes = (out : Text) × IsAnswer o q T (Some out) × bytes ≡ encode_utf8_all out
+IsWritten o (Change e) mark T bytes = IsChanged o e mark T bytes
+
+-- what the request is about isn't in the text
+abbrev pub IsAbsent : Options → Request → Text → Type 0
+IsAbsent o (Ask q) T = IsAnswer o q T None
+IsAbsent o (Change e) T = HasNothingToEdit o e T
+
+-- what a request is refused with, but for the text's own faults and memory's; a question is with nothing else
+abbrev pub RefusesRequest : Options → Request → Text → EditError → Type 0
+RefusesRequest o (Ask q) T refused = ⊥
+RefusesRequest o (Change e) T refused = RefusesEdit o e T refused
+
+-- how a run ends that asks for the request of a file with this mark and text
+abbrev pub EndsAs : Options → Request → List ℕ → Text → Outcome → Type 0
+EndsAs o r mark T (Done bytes) = IsWritten o r mark T bytes.items
+EndsAs o r mark T NotFound = IsAbsent o r T
+EndsAs o r mark T Usage = ⊥
+EndsAs o r mark T (Refused (refusal.Text (Parse e))) = IsStopOf o.reading T e
+EndsAs o r mark T (Refused (refusal.Text (Memory _))) = ⊤
+EndsAs o r mark T (Refused (refusal.Text _)) = ⊥
+EndsAs o r mark T (Refused refused) = RefusesRequest o r T refused
+
+-- the same of a file's bytes, which may be no text
+abbrev pub EndsOn : List ℕ → Asks → Outcome → Type 0
+EndsOn input a (Refused (refusal.Text NotUtf8)) = ¬ (IsUtf8 (without_mark input))
+EndsOn input a end =
+    IsTextWith (λ T. EndsAs a.options a.request (mark_of input) T end) (without_mark input)
+
+-- how a run of the words over the file's bytes ends
+abbrev pub HasOutcome : List (String Global) → List ℕ → Outcome → Type 0
+HasOutcome words input end = IfSome (asked_by words) (λ a. EndsOn input a end)
+
+-- the bytes that a call answers are those that answer the question; none where what it asks for isn't there
+abbrev pub IsAnsweredAs : Options → Asking → Text → Option (Vec ℕ Global) → Type 0
+IsAnsweredAs o q T None = IsAnswer o q T None
+IsAnsweredAs o q T (Some bytes) = (out : Text) × IsAnswer o q T (Some out) × bytes.items ≡ encode_utf8_all out
 
 abbrev pub IsDone : Outcome → Type 0
-IsDone Done = ⊤
+IsDone (Done _) = ⊤
 IsDone _ = ⊥
 
 abbrev pub IsNotFound : Outcome → Type 0
@@ -57,59 +92,24 @@ abbrev pub IsUsage : Outcome → Type 0
 IsUsage Usage = ⊤
 IsUsage _ = ⊥
 
--- what holds where the text was refused
-abbrev pub OnParse : Outcome → (ParseError → Type 0) → Type 0
-OnParse (Refused (Parse e)) P = P e
-OnParse _ P = ⊤
-
--- what holds where the bytes were no text
-abbrev pub OnNotUtf8 : Outcome → Type 0 → Type 0
-OnNotUtf8 (Refused NotUtf8) P = P
-OnNotUtf8 _ P = ⊤
-
--- what holds but where the run is done, or a device failed: there nothing may have been written
-abbrev pub OnSilent : Outcome → Type 0 → Type 0
-OnSilent Done P = ⊤
-OnSilent (Refused (Io _)) P = ⊤
-OnSilent (Refused NoProgress) P = ⊤
-OnSilent _ P = P
-
--- the words ask for an output of the input, and P holds of its bytes
-abbrev pub HasOutput : List (String Global) → (List ℕ → Type 0) → List ℕ → Type 0
-HasOutput words P input = (text : Text) × IsOutput words input (Some text) × P (encode_utf8_all text)
-
-module _ {W : Type 0} (contents : W → Option (List ℕ)) (words : List (String Global)) where
-  -- the output was written, where it is known what is read; a front of it was
-  abbrev pub WritesOutput : Option (List ℕ) → Watched W → Watched W → Type 0
-  WritesOutput input old new = IfSome input (HasOutput words (WritesAll contents old new))
-
-  abbrev pub WritesOutputFront : Option (List ℕ) → Watched W → Watched W → Type 0
-  WritesOutputFront input old new = IfSome input (HasOutput words (WritesFront contents old new))
-
--- 1 where a device failed, else 0
-abbrev pub failures_of : Outcome → ℕ
-failures_of (Refused (Io _)) = 1
-failures_of _ = 0
-
--- 1 where a write took no bytes, else 0
-abbrev pub stalls_of : Outcome → ℕ
-stalls_of (Refused NoProgress) = 1
-stalls_of _ = 0
-
 -- the exit status
 abbrev pub status_of : Outcome → ℕ
-status_of Done = 0
+status_of (Done _) = 0
 status_of NotFound = 1
 status_of Usage = 2
-status_of (Refused (Parse _)) = 3
-status_of (Refused NotUtf8) = 3
-status_of (Refused (Io _)) = 4
-status_of (Refused (Memory _)) = 4
-status_of (Refused NoProgress) = 4
+status_of (Refused (refusal.Text (Parse _))) = 3
+status_of (Refused (refusal.Text NotUtf8)) = 3
+status_of (Refused (refusal.Text (Io _))) = 4
+status_of (Refused (refusal.Text (Memory _))) = 4
+status_of (Refused (refusal.Text NoProgress)) = 4
+status_of (Refused refusal.NoPlace) = 3
+status_of (Refused refusal.Name) = 2
+status_of (Refused refusal.Key) = 2
+status_of (Refused refusal.Value) = 2
+status_of (Refused refusal.Separator) = 2
 
 -- what is told of words that are none of the program's
 abbrev pub usage_line : List ℕ
 usage_line =
     codes "usage: ini_file [--noescape] [--noquote] [--multiline] [--indent] [--brackets] [--crlf] "
-    ++ codes "[--policy NAME] get FILE KEY [SECTION]|keys FILE [SECTION]|sections FILE|list FILE"
-    ++ codes "|format FILE\n"
+    ++ codes "[--policy NAME] COMMAND [--existing] [--output FILE] [--] FILE [ARGUMENT]..\n"

@@ -1,35 +1,79 @@
--- What the words of the program ask for: options in any order, and then a command, a file and its arguments.
-use Rattle.std.specs.Prelude.{if◌then◌else◌, List, [], ◌∷◌, codes, chars}
+-- What the words of the program ask for: options in any order, and then a command, its options, a file and
+-- its arguments.
+use Rattle.std.specs.Prelude.{Bool, if◌then◌else◌, List, [], ◌∷◌, codes, chars}
 use Rattle.std.specs.Prelude.{Option, None, Some, option_and_then}
 use Rattle.std.specs.Option.{option_map}
-use Rattle.ini.specs.Texts.{is_text}
-use Rattle.ini_options.specs.Words.{Word, given}
+use Rattle.std.specs.Str.{bytes_eq}
+use Rattle.ini.specs.Texts.{Text}
+use Rattle.ini_options.specs.Words.{Word, default_options, given}
 use Rattle.ini_options.specs.declared.options.Options.{Options}
-use Rattle.ini_file.specs.Requests.{Request, Format, Listing, Sections, Keys, Get}
+use Rattle.ini_file.specs.Choices.{Chosen, chosen, no_choice}
+use Rattle.ini_file.specs.Requests.{Asks, Request, Ask, Change}
+use Rattle.ini_file.specs.Requests.{Format, Listing, Sections, Keys, Get, Delete, SetExisting, Set, Add}
+use Rattle.ini_file.specs.Requests.{RenameKey, RenameSection, DeleteSection}
 
--- the request of a command and its arguments
-abbrev pub requested : Word → List Word → Option Request
-requested command [] =
-    if is_text command (codes "format") then Some Format
-    else if is_text command (codes "list") then Some Listing
-    else if is_text command (codes "sections") then Some Sections
-    else if is_text command (codes "keys") then Some (Keys None)
+-- the request of a command without arguments, and of one with one, two or three
+abbrev pub requested_alone : Word → Option Request
+requested_alone command =
+    if bytes_eq command (codes "format") then Some (Ask Format)
+    else if bytes_eq command (codes "list") then Some (Ask Listing)
+    else if bytes_eq command (codes "sections") then Some (Ask Sections)
+    else if bytes_eq command (codes "keys") then Some (Ask (Keys None))
     else None
-requested command (first ∷ []) =
-    if is_text command (codes "get") then Some (Get (chars first) None)
-    else if is_text command (codes "keys") then Some (Keys (Some (chars first)))
-    else None
-requested command (key ∷ section ∷ []) =
-    if is_text command (codes "get") then Some (Get (chars key) (Some (chars section)))
-    else None
-requested command _ = None
 
--- the file and the request of the words behind the options: a command, a file, and the command's arguments
-abbrev pub commanded : Options → List Word → Option (Options × Word × Request)
-commanded o (command ∷ file ∷ arguments) = option_map (λ r. (o, file, r)) (requested command arguments)
-commanded o _ = None
+abbrev pub requested_with_one : Word → Text → Option Request
+requested_with_one command first =
+    if bytes_eq command (codes "get") then Some (Ask (Get first None))
+    else if bytes_eq command (codes "keys") then Some (Ask (Keys (Some first)))
+    else if bytes_eq command (codes "delete") then Some (Change (Delete first None))
+    else if bytes_eq command (codes "delete-section") then Some (Change (DeleteSection first))
+    else None
 
--- the options, the file and the request that words give, where `o` holds before them; None where the words
--- are none of the program's
-abbrev pub asked : Options → List Word → Option (Options × Word × Request)
-asked o words = option_and_then (λ p. commanded p.0 p.1) (given o words)
+-- to set a value: wherever its pair stands, or only where the key is there
+abbrev pub setting : Bool → Text → Text → Option Text → Option Request
+setting existing key value section =
+    if existing then Some (Change (SetExisting key value section))
+    else Some (Change (Set key value section))
+
+abbrev pub requested_with_two : Word → Bool → Text → Text → Option Request
+requested_with_two command existing key second =
+    if bytes_eq command (codes "get") then Some (Ask (Get key (Some second)))
+    else if bytes_eq command (codes "delete") then Some (Change (Delete key (Some second)))
+    else if bytes_eq command (codes "set") then setting existing key second None
+    else if bytes_eq command (codes "add") then Some (Change (Add key second None))
+    else if bytes_eq command (codes "rename-key") then Some (Change (RenameKey key second None))
+    else if bytes_eq command (codes "rename-section") then Some (Change (RenameSection key second))
+    else None
+
+abbrev pub requested_with_three : Word → Bool → Text → Text → Text → Option Request
+requested_with_three command existing key value section =
+    if bytes_eq command (codes "set") then setting existing key value (Some section)
+    else if bytes_eq command (codes "add") then Some (Change (Add key value (Some section)))
+    else if bytes_eq command (codes "rename-key") then Some (Change (RenameKey key value (Some section)))
+    else None
+
+-- the request of a command and its arguments; with `existing` a value is set only where its key is there
+abbrev pub requested : Word → Bool → List Word → Option Request
+requested command existing [] = requested_alone command
+requested command existing (first ∷ []) = requested_with_one command (chars first)
+requested command existing (first ∷ second ∷ []) =
+    requested_with_two command existing (chars first) (chars second)
+requested command existing (first ∷ second ∷ third ∷ []) =
+    requested_with_three command existing (chars first) (chars second) (chars third)
+requested command existing _ = None
+
+-- what is asked for behind the options and the command: a file, and the command's arguments
+abbrev pub filed : Options → Word → Chosen → List Word → Option Asks
+filed o command c [] = None
+filed o command c (file ∷ arguments) =
+    option_map (λ r. record { options = o; choices = c; file = file; request = r })
+    (requested command c.existing arguments)
+
+-- the same behind the options: a command comes first, and then its own options
+abbrev pub commanded : Options → List Word → Option Asks
+commanded o [] = None
+commanded o (command ∷ words) = option_and_then (λ p. filed o command p.0 p.1) (chosen no_choice words)
+
+-- what words ask for; None where they are none of the program's
+abbrev pub asked : List Word → Option Asks
+asked words = option_and_then (λ p. commanded p.0 p.1) (given default_options words)

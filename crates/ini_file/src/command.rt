@@ -1,31 +1,31 @@
-//! What each command writes of a document. This file knows no word and no reader.
+//! What each question is answered of a document. This file knows no word and no reader.
 ghost use Rattle.ini_text.specs.Device.Watched.{IsClear};
-ghost use Rattle.ini_file.specs.Requests.{Format, request_of};
+ghost use Rattle.ini_file.specs.Requests.{Format, asking_of};
 ghost use Rattle.ini_file.specs.Outputs.{output};
 ghost use Rattle.ini_lines.specs.Prints.{Prints};
 
-use crate::words::Command;
+use crate::words::Question;
 use ini::{Error, Ini, Watched, WriteOption};
 use ini_lines::{get, keys, list, sections};
 use std::io::Write;
 
-/// Writes what the command asks of the document, and answers whether what it asks for was there.
+/// Writes what the question asks of the document, and answers whether what it asks for was there.
 pub fn answer<W: Write>(
-    command: Command<'_>,
+    question: Question<'_>,
     document: &Ini,
     option: WriteOption,
     out: &mut Watched<'_, W>,
 ) -> Result<bool, Error>
     requires { IsClear out.old }
     ensures { Prints W.contents out.old out.new result
-        (output option (request_of command.entry) document.now) }
+        (output option (asking_of question.entry) document.now) }
 {
-    match command {
-        Command::Format => format_document(document, option, out),
-        Command::List => list(document, out),
-        Command::Sections => sections(document, out),
-        Command::Keys { section } => keys(document, section, out),
-        Command::Get { key, section } => get(document, key, section, out),
+    match question {
+        Question::Format => format_document(document, option, out),
+        Question::List => list(document, out),
+        Question::Sections => sections(document, out),
+        Question::Keys { section } => keys(document, section, out),
+        Question::Get { key, section } => get(document, key, section, out),
     }
 }
 

@@ -1,22 +1,55 @@
-//! The line of a text at which reading stopped. This file knows no grammar and no device.
-use ini::ParseError;
+//! The lines of a text at which a fault is shown. This file knows no grammar and no device.
+use ini::{ParseError, ParseKind, ParseOption, Parser};
+use std::alloc::Global;
 use std::io::Write;
 
 // How far a caret may stand from the line's front.
 const WIDEST: usize = 1000;
 
-/// Prints the line of a fault, and below it a caret at the last character that was looked at. Where the bytes
-/// are no text nothing is printed; a fault of the writer is dropped.
-pub fn point_at<W: Write>(input: &[u8], fault: &ParseError, err: &mut W) {
+/// Prints the line of a fault, and below it a caret at the last character that was looked at. Where the text
+/// ends within a name, a key, quotes or an escape, the place where its element begins is told too, and shown
+/// in the same way. Where the bytes are no text nothing is printed; a fault of the writer is dropped.
+///
+/// No contract says what is printed; `tests/files.sh` tests it.
+pub fn point_at<W: Write>(
+    alloc: Global,
+    file: &str,
+    input: &[u8],
+    reading: ParseOption,
+    fault: &ParseError,
+    err: &mut W,
+) {
     let Ok(text) = str::from_utf8(input) else {
         return;
     };
     let text = text.strip_prefix('\u{feff}').unwrap_or(text);
-    let Some(line) = text.split('\n').nth(fault.line.saturating_sub(1)) else {
+    show(text, fault.line, fault.col.saturating_sub(1), err);
+    if matches!(&fault.kind, ParseKind::EndOfText) {
+        let (line, column) = beginning(alloc, text, reading);
+        let _ = writeln!(err, "{file}:{line}:{column}: what has no end begins here");
+        show(text, line, column, err);
+    }
+}
+
+// Prints a line of a text, and below it a caret at the character of this number.
+fn show<W: Write>(text: &str, line: usize, column: usize, err: &mut W) {
+    let Some(line) = text.split('\n').nth(line.saturating_sub(1)) else {
         return;
     };
     let line = line.strip_suffix('\r').unwrap_or(line);
     let _ = writeln!(err, "{line}");
-    let width = fault.col.saturating_sub(1).min(WIDEST);
+    let width = column.min(WIDEST);
     let _ = writeln!(err, "{:>width$}", '^');
+}
+
+// Where the element begins at which reading a text stops. Each element takes a character at least.
+fn beginning(alloc: Global, text: &str, reading: ParseOption) -> (usize, usize) {
+    let mut parser = Parser::new(alloc, text, reading);
+    for _ in 0..text.len() {
+        match parser.next_element() {
+            Ok(Some(_)) => {}
+            _ => break,
+        }
+    }
+    parser.position()
 }

@@ -1,26 +1,31 @@
 //! The program: reads an INI file, and writes to standard output, or into the file's place, what its words
 //! ask.
 //!
-//! `run` is the program as a function of its words, of a file's bytes and of what they are written to; this
-//! file hands it the bytes of a file and memory, and then hands on what is written there.
+//! `run` is the program as a function of its words and of a file's bytes; this file hands it the bytes of a
+//! file, and hands on what it answers. Nothing goes out before all is known.
 #![tactic(auto)]
 
+mod bytes;
+mod choices;
 mod command;
 mod diagnosis;
+mod edit;
+mod page;
 mod run;
 mod save;
 mod words;
 
 use diagnosis::point_at;
-use ini::{Error, Watched};
+use ini::Error;
+use ini_edit::EditError;
 use ini_options::{named, words_of};
+use page::page_of;
 use run::{Outcome, run, status, tell};
 use save::save;
-use std::alloc::Global;
 use std::fs;
-use std::io::{Read, Write};
+use std::io::{self, Read, Write};
 use std::process::ExitCode;
-use words::{Command, parse};
+use words::{Asked, Command, Edit, Question, parse};
 
 /// The bytes of a file; `-` is standard input.
 fn read_input(rt: &HostRuntime, file: &str) -> Result<Vec<u8>, Error> {
@@ -35,47 +40,117 @@ fn read_input(rt: &HostRuntime, file: &str) -> Result<Vec<u8>, Error> {
     }
 }
 
-/// Hands on what a command wrote: to the file's place, where the file is to be written anew and would change;
-/// else to standard output.
-fn hand_on(
-    rt: &HostRuntime,
-    file: &str,
-    command: Command<'_>,
-    input: &[u8],
-    output: &[u8],
-) -> Result<(), Error> {
-    if matches!(command, Command::Format) && file != "-" {
-        if input == output {
-            return Ok(());
-        }
-        return save(rt, rt.alloc(), file, input, output);
+/// The file that is written: the one that `--output` names; else the file itself, where the command is to
+/// change it; else standard output, `-`.
+fn place_of<'a>(asked: &Asked<'a>) -> &'a str {
+    match (asked.choices.output, asked.command) {
+        (Some(file), _) => file,
+        (None, Command::Ask(Question::Format) | Command::Change(_)) => asked.file,
+        (None, Command::Ask(_)) => "-",
     }
+}
+
+/// Whether the command makes a file that isn't there.
+fn makes_file(command: &Command<'_>) -> bool {
+    matches!(
+        command,
+        Command::Change(Edit::Set { .. } | Edit::Add { .. })
+    )
+}
+
+/// Whether a file can't be read because it isn't there.
+fn is_missing(refusal: &Error) -> bool {
+    match refusal {
+        Error::Io(fault) => fault.kind() == io::ErrorKind::NotFound,
+        _ => false,
+    }
+}
+
+/// Writes to standard output.
+fn print(rt: &HostRuntime, output: &[u8]) -> Result<(), Error> {
     match rt.stdout().write_all(output) {
         Ok(()) => Ok(()),
         Err(fault) => Err(Error::Io(named(rt.alloc(), "standard output", fault))),
     }
 }
 
+/// Hands on what a command is to write; nothing was read of a file that wasn't there, which is made. A file
+/// that would not change is not written.
+fn hand_on(
+    rt: &HostRuntime,
+    asked: &Asked<'_>,
+    read: Option<&[u8]>,
+    output: &[u8],
+) -> Result<(), Error> {
+    let place = place_of(asked);
+    if place == "-" {
+        return print(rt, output);
+    }
+    if place == asked.file {
+        return match read {
+            Some(there) => replace(rt, place, there, output),
+            None => save(rt, rt.alloc(), place, None, output),
+        };
+    }
+    match put(rt, place, output) {
+        Err(Error::Io(fault)) => Err(Error::Io(named(rt.alloc(), place, fault))),
+        done => done,
+    }
+}
+
+/// Puts bytes into a file, whatever it has, or into a new one.
+fn put(rt: &HostRuntime, place: &str, output: &[u8]) -> Result<(), Error> {
+    match fs::read(rt, place) {
+        Ok(there) => replace(rt, place, there.as_slice(), output),
+        Err(fault) if fault.kind() == io::ErrorKind::NotFound => {
+            save(rt, rt.alloc(), place, None, output)
+        }
+        Err(fault) => Err(Error::Io(fault)),
+    }
+}
+
+/// Puts bytes in the place of those that a file has, if they are other bytes.
+fn replace(rt: &HostRuntime, place: &str, there: &[u8], output: &[u8]) -> Result<(), Error> {
+    if there == output {
+        return Ok(());
+    }
+    save(rt, rt.alloc(), place, Some(there), output)
+}
+
 /// Runs over a file and the process's own streams, and keeps the bytes that were read.
 fn run_here(rt: &HostRuntime, words: &[String], input: &mut Vec<u8>) -> Outcome {
-    let Some((_, file, command)) = parse(words) else {
+    if let Some(page) = page_of(words) {
+        return match print(rt, page.text().as_bytes()) {
+            Ok(()) => Outcome::Done(Vec::new(rt.alloc())),
+            Err(refusal) => Outcome::from(refusal),
+        };
+    }
+    let Some(asked) = parse(words) else {
         return Outcome::Usage;
     };
-    match read_input(rt, file) {
-        Ok(bytes) => *input = bytes,
-        Err(refusal) => return Outcome::Refused(refusal),
-    }
-    let mut bytes = input.as_slice();
-    let mut output: Vec<u8> = Vec::new(rt.alloc());
-    let mut reader = Watched::new(&mut bytes);
-    let mut writer = Watched::new(&mut output);
-    let outcome = run(rt.alloc(), words, &mut reader, &mut writer);
-    if !matches!(outcome, Outcome::Done) {
-        return outcome;
-    }
-    match hand_on(rt, file, command, input.as_slice(), output.as_slice()) {
-        Ok(()) => Outcome::Done,
-        Err(refusal) => Outcome::Refused(refusal),
+    let is_there = match read_input(rt, asked.file) {
+        Ok(bytes) => {
+            *input = bytes;
+            true
+        }
+        Err(refusal) if makes_file(&asked.command) && is_missing(&refusal) => false,
+        Err(refusal) => return Outcome::from(refusal),
+    };
+    let outcome = run(rt.alloc(), words, input.as_slice());
+    let refused = match &outcome {
+        Outcome::Done(output) => {
+            let read = if is_there {
+                Some(input.as_slice())
+            } else {
+                None
+            };
+            hand_on(rt, &asked, read, output.as_slice()).err()
+        }
+        _ => None,
+    };
+    match refused {
+        Some(refusal) => Outcome::from(refusal),
+        None => outcome,
     }
 }
 
@@ -87,12 +162,17 @@ fn main(rt: HostRuntime) -> ExitCode {
             words = given;
             run_here(&rt, words.as_slice(), &mut input)
         }
-        Err(refusal) => Outcome::Refused(refusal),
+        Err(refusal) => Outcome::from(refusal),
     };
-    let file = parse(words.as_slice()).map_or("", |asked| asked.1);
+    let asked = parse(words.as_slice());
+    let file = asked.map_or("", |asked| asked.file);
     tell(file, &outcome, &mut rt.stderr());
-    if let Outcome::Refused(Error::Parse(fault)) = &outcome {
-        point_at(input.as_slice(), fault, &mut rt.stderr());
+    if let (Outcome::Refused(EditError::Text(Error::Parse(fault))), Some(asked)) = (
+        &outcome, asked,
+    ) {
+        let reading = asked.options.reading;
+        let mut err = rt.stderr();
+        point_at(rt.alloc(), file, input.as_slice(), reading, fault, &mut err);
     }
     ExitCode::from(status(&outcome))
 }

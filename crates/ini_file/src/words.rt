@@ -1,22 +1,24 @@
 //! The words of the program: options, a command, a file and the command's arguments. This file knows no
 //! document and no device.
-ghost use Rattle.std.specs.Prelude.{◌≡◌, map, string_bytes};
+ghost use Rattle.std.specs.Prelude.{◌≡◌, chars, map, string_bytes};
 ghost use Rattle.std.specs.Option.{option_map};
-ghost use Rattle.ini_options.specs.Words.{default_options};
-ghost use Rattle.ini_file.specs.Requests.{given_by, request_of};
-ghost use Rattle.ini_file.specs.Words.{asked, requested};
+ghost use Rattle.ini.specs.Texts.{str_name};
+ghost use Rattle.ini_file.specs.Requests.{asks_of, request_of};
+ghost use Rattle.ini_file.specs.Words.{asked, requested, requested_alone, requested_with_one};
+ghost use Rattle.ini_file.specs.Words.{requested_with_three, requested_with_two, setting};
 
+use crate::choices::Choices;
 use ini_options::{Options, usage_line};
 
 /// The line that tells what the program takes, with its line end.
 pub const USAGE: &str = usage_line!(
     "ini_file",
-    "get FILE KEY [SECTION]|keys FILE [SECTION]|sections FILE|list FILE|format FILE",
+    "COMMAND [--existing] [--output FILE] [--] FILE [ARGUMENT]..",
 );
 
 /// What is asked of the document of a file. Where no section is named it is the general one.
 #[derive(Clone, Copy)]
-pub enum Command<'a> {
+pub enum Question<'a> {
     /// The document, written anew in the file's place.
     Format,
     /// A line for each pair.
@@ -34,51 +36,226 @@ pub enum Command<'a> {
     },
 }
 
+/// What is changed in the text of a file. Where no section is named it is the general one.
+#[derive(Clone, Copy)]
+pub enum Edit<'a> {
+    /// The first pair of the key in the first section of the name is taken out.
+    Delete {
+        key: &'a str,
+        section: Option<&'a str>,
+    },
+    /// The value of the key is set where the key is there.
+    SetExisting {
+        key: &'a str,
+        value: &'a str,
+        section: Option<&'a str>,
+    },
+    /// The value of the key is set, in a new pair where the key isn't there.
+    Set {
+        key: &'a str,
+        value: &'a str,
+        section: Option<&'a str>,
+    },
+    /// A pair is added, whatever pairs of the key are there.
+    Add {
+        key: &'a str,
+        value: &'a str,
+        section: Option<&'a str>,
+    },
+    /// The first pair of the key gets another key.
+    RenameKey {
+        old: &'a str,
+        new: &'a str,
+        section: Option<&'a str>,
+    },
+    /// The first section of the name gets another name.
+    RenameSection {
+        old: &'a str,
+        new: &'a str,
+    },
+    /// The first section of the name is taken out.
+    DeleteSection {
+        section: &'a str,
+    },
+}
+
+/// What is asked of a file.
+#[derive(Clone, Copy)]
+pub enum Command<'a> {
+    /// Something of its document.
+    Ask(Question<'a>),
+    /// A change in its text, which keeps every byte that it isn't about.
+    Change(Edit<'a>),
+}
+
+/// What the words of the program are.
+#[derive(Clone, Copy)]
+pub struct Asked<'a> {
+    /// How the file is read and written.
+    pub options: Options,
+    /// The options behind the command.
+    pub choices: Choices<'a>,
+    /// The file's name.
+    pub file: &'a str,
+    /// What is asked of the file.
+    pub command: Command<'a>,
+}
+
 // The command of a word and its arguments.
-fn command_of<'a>(word: &'a str, arguments: &'a [String]) -> Option<Command<'a>>
-    ensures { option_map request_of result ≡ requested word.now (map string_bytes arguments.now) }
+fn command_of<'a>(word: &str, existing: bool, arguments: &'a [String]) -> Option<Command<'a>>
+    ensures { option_map request_of result ≡ requested word.now existing (map string_bytes arguments.now) }
 {
     match arguments {
-        [] => match word {
-            "format" => Some(Command::Format),
-            "list" => Some(Command::List),
-            "sections" => Some(Command::Sections),
-            "keys" => Some(Command::Keys { section: None }),
-            _ => None,
-        },
-        [first] => match word {
-            "get" => Some(Command::Get {
-                key: first,
-                section: None,
-            }),
-            "keys" => Some(Command::Keys {
-                section: Some(first),
-            }),
-            _ => None,
-        },
-        [key, section] => match word {
-            "get" => Some(Command::Get {
-                key,
-                section: Some(section),
-            }),
-            _ => None,
-        },
+        [] => with_none(word),
+        [first] => with_one(word, first.as_str()),
+        [first, second] => with_two(word, existing, first.as_str(), second.as_str()),
+        [first, second, third] => {
+            with_three(
+                word,
+                existing,
+                first.as_str(),
+                second.as_str(),
+                third.as_str(),
+            )
+        }
         _ => None,
     }
 }
 
-/// The options, the file and the command that the words are, if they are the program's: options in any
-/// order, each as often as one likes, of which the last `--policy` holds, and then a command, the name of a
-/// file, and the command's arguments. Takes no memory.
-pub fn parse(words: &[String]) -> Option<(Options, &str, Command<'_>)>
-    ensures { given_by result ≡ asked default_options (map string_bytes words.now) }
+// The command of a word without arguments.
+fn with_none<'a>(word: &str) -> Option<Command<'a>>
+    ensures { option_map request_of result ≡ requested_alone word.now }
+{
+    match word {
+        "format" => Some(Command::Ask(Question::Format)),
+        "list" => Some(Command::Ask(Question::List)),
+        "sections" => Some(Command::Ask(Question::Sections)),
+        "keys" => Some(Command::Ask(Question::Keys { section: None })),
+        _ => None,
+    }
+}
+
+// The command of a word with one argument.
+fn with_one<'a>(word: &str, first: &'a str) -> Option<Command<'a>>
+    ensures { option_map request_of result ≡ requested_with_one word.now (chars first.now) }
+{
+    let (key, section) = (first, Some(first));
+    match word {
+        "get" => Some(Command::Ask(Question::Get { key, section: None })),
+        "keys" => Some(Command::Ask(Question::Keys { section })),
+        "delete" => Some(Command::Change(Edit::Delete { key, section: None })),
+        "delete-section" => Some(Command::Change(Edit::DeleteSection { section: first })),
+        _ => None,
+    }
+}
+
+// The command of a word with two arguments.
+fn with_two<'a>(word: &str, existing: bool, key: &'a str, second: &'a str) -> Option<Command<'a>>
+    ensures { option_map request_of result
+        ≡ requested_with_two word.now existing (chars key.now) (chars second.now) }
+{
+    let section = Some(second);
+    match word {
+        "get" => Some(Command::Ask(Question::Get { key, section })),
+        "delete" => Some(Command::Change(Edit::Delete { key, section })),
+        "set" => set_of(existing, key, second, None),
+        "add" => {
+            Some(Command::Change(Edit::Add {
+                key,
+                value: second,
+                section: None,
+            }))
+        }
+        "rename-key" => {
+            Some(Command::Change(Edit::RenameKey {
+                old: key,
+                new: second,
+                section: None,
+            }))
+        }
+        "rename-section" => {
+            Some(Command::Change(Edit::RenameSection {
+                old: key,
+                new: second,
+            }))
+        }
+        _ => None,
+    }
+}
+
+// The command of a word with three arguments.
+fn with_three<'a>(
+    word: &str,
+    existing: bool,
+    key: &'a str,
+    value: &'a str,
+    section: &'a str,
+) -> Option<Command<'a>>
+    ensures { option_map request_of result
+        ≡ requested_with_three word.now existing (chars key.now) (chars value.now) (chars section.now) }
+{
+    match word {
+        "set" => set_of(existing, key, value, Some(section)),
+        "add" => {
+            Some(Command::Change(Edit::Add {
+                key,
+                value,
+                section: Some(section),
+            }))
+        }
+        "rename-key" => {
+            Some(Command::Change(Edit::RenameKey {
+                old: key,
+                new: value,
+                section: Some(section),
+            }))
+        }
+        _ => None,
+    }
+}
+
+// The command `set`.
+fn set_of<'a>(
+    existing: bool,
+    key: &'a str,
+    value: &'a str,
+    section: Option<&'a str>,
+) -> Option<Command<'a>>
+    ensures { option_map request_of result
+        ≡ setting existing (chars key.now) (chars value.now) (str_name section.entry) }
+{
+    let edit = if existing {
+        Edit::SetExisting {
+            key,
+            value,
+            section,
+        }
+    } else {
+        Edit::Set {
+            key,
+            value,
+            section,
+        }
+    };
+    Some(Command::Change(edit))
+}
+
+/// What the words are, if they are the program's: options of reading and writing in any order, each as often
+/// as one likes, of which the last `--policy` holds; then a command, and options of the program's own up to
+/// the first word that is none, or up to `--`; then the name of a file, and the command's arguments, whatever
+/// they begin with. Takes no memory.
+pub fn parse(words: &[String]) -> Option<Asked<'_>>
+    ensures { option_map asks_of result ≡ asked (map string_bytes words.now) }
 {
     let (options, behind) = Options::of_words(words)?;
-    let (command, behind) = behind.split_first()?;
+    let (word, behind) = behind.split_first()?;
+    let (choices, behind) = Choices::of_words(behind)?;
     let (file, arguments) = behind.split_first()?;
-    Some((
+    let command = command_of(word.as_str(), choices.existing, arguments)?;
+    Some(Asked {
         options,
-        file.as_str(),
-        command_of(command.as_str(), arguments)?,
-    ))
+        choices,
+        file: file.as_str(),
+        command,
+    })
 }

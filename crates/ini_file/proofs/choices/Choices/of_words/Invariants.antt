@@ -1,0 +1,12 @@
+use Rattle.std.proofs.Common.{◌≡◌, length, map, string_bytes}
+use Rattle.std.specs.Option.{option_map}
+use Rattle.ini_file.specs.Choices.{Chosen, chosen, no_choice}
+use Rattle.ini_file.proofs.choices.Choices.of_words.Given as goal
+
+abbrev pub invariant-words : goal.invariant-words
+invariant-words l =
+    chosen (record { existing = l.existing; output = option_map (λ file. file.now) l.output })
+    (map string_bytes l.rest) ≡ chosen no_choice (map string_bytes l.words)
+
+abbrev pub decreases-words : goal.decreases-words
+decreases-words l = length l.rest

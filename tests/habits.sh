@@ -1,0 +1,116 @@
+#!/bin/sh
+# What a program's surroundings are used to: the pages of the manual, the completions of bash, and the script that installs
+# them. Pages are read by man and mandoc, completions are asked of bash; what has no such tool here is skipped and told. Each
+# case that fails is told. The last line is 'N passed, M failed', and the status is 1 if a case failed.
+set -u
+LC_ALL=C
+export LC_ALL
+top=$(cd "$(dirname "$0")/.." && pwd)
+room=$(mktemp -d)
+trap 'rm -rf "$room"' EXIT
+passed=0
+failed=0
+
+# is NAME WANTED HAD
+is() {
+    if [ "$2" = "$3" ]; then
+        passed=$((passed + 1))
+    else
+        failed=$((failed + 1))
+        printf 'FAILED: %s\nwanted: %s\nhad: %s\n' "$1" "$2" "$3"
+    fi
+}
+
+# has TOOL CASES: whether the tool is here
+has() {
+    command -v "$1" >/dev/null && return
+    echo "skipped: $2 (no $1)"
+    return 1
+}
+
+# Pages.
+programs='ini_tool ini_merge ini_file'
+if has man 'pages under man'; then
+    for name in $programs; do
+        is "man $name" '' "$(man --warnings -E UTF-8 -l -Tutf8 -Z "$top/man/$name.1" 2>&1 >/dev/null)"
+    done
+fi
+if has mandoc 'pages under mandoc'; then
+    for name in $programs; do
+        is "mandoc $name" '' "$(mandoc -T lint "$top/man/$name.1" 2>&1)"
+    done
+fi
+for name in $programs; do
+    page=$(tr -d '\\' <"$top/man/$name.1")
+    for option in --noescape --noquote --multiline --indent --brackets --crlf --policy; do
+        is "$name.1 tells $option" yes "$(case $page in *"$option"*) echo yes ;; esac)"
+    done
+done
+
+# offered WANTED WORD ..: what bash offers for the last of these words
+offered() {
+    want=$1
+    shift
+    # shellcheck disable=SC2016
+    is "completion of '$*'" "$want" "$(cd "$room/files" && bash -c '
+        . "$0" || exit
+        COMP_WORDS=("$@")
+        COMP_CWORD=$(($# - 1))
+        _bigrosk
+        printf "%s\n" "${COMPREPLY[@]}" | sort | tr "\n" " "
+    ' "$top/completions/bigrosk" "$@")"
+}
+mkdir "$room/files"
+: >"$room/files/one.ini"
+: >"$room/files/one two"
+options='--brackets --crlf --indent --multiline --noescape --noquote --policy '
+if has bash completions; then
+    offered 'del fmt get list set ' ini_tool ''
+    offered 'get ' ini_tool g
+    offered 'get ' /usr/bin/ini_tool --crlf --policy Basics g
+    offered "$options" ini_tool -
+    offered '--noescape --noquote ' ini_tool --crlf --no
+    offered 'Nothing ' ini_tool --policy N
+    offered 'Reserved ReservedUnicode ReservedUnicodeExtended ' ini_merge --policy Res
+    offered ' ' ini_tool get ''
+    offered 'one two one.ini ' ini_merge ''
+    offered 'one.ini ' ini_merge --crlf one.ini one.
+    offered 'add delete delete-section format get keys list rename-key rename-section sections set ' ini_file ''
+    offered 'one two one.ini ' ini_file get ''
+    offered '--existing ' ini_file set --e
+    offered 'one.ini ' ini_file set --existing --output one.
+    is 'completions are registered' "$programs" "$(bash -c '. "$0" && for name; do complete -p "$name"; done' \
+        "$top/completions/bigrosk" $programs | sed 's/^complete -F _bigrosk //' | tr '\n' ' ' | sed 's/ $//')"
+fi
+
+# Installing, over a copy whose run.sh writes down what is built. The programs there are of a line.
+copy=$room/copy
+mkdir -p "$copy/tools"
+cp -R "$top/man" "$top/completions" "$copy"
+cp "$top/tools/install.sh" "$copy/tools"
+printf '#!/bin/sh\necho "$*" >>"%s"\n[ "$2" != "$(cat "%s")" ]\n' "$room/built" "$room/broken" >"$copy/tools/run.sh"
+chmod +x "$copy/tools/run.sh"
+: >"$room/broken"
+for name in $programs; do
+    mkdir -p "$copy/crates/$name/out"
+    printf '#!/bin/sh\necho %s\n' "$name" >"$copy/crates/$name/out/$name"
+done
+"$copy/tools/install.sh" "$room/a place" >"$room/told" 2>&1
+is 'installing' 'status 0, ' "status $?, $(cat "$room/told")"
+is 'programs are built' '--build ini_tool --build ini_merge --build ini_file' "$(tr '\n' ' ' <"$room/built" | sed 's/ $//')"
+for name in $programs; do
+    is "$name runs where it was installed" "$name" "$("$room/a place/bin/$name")"
+    cmp -s "$top/man/$name.1" "$room/a place/share/man/man1/$name.1"
+    is "the page of $name" 0 $?
+    cmp -s "$top/completions/bigrosk" "$room/a place/share/bash-completion/completions/$name"
+    is "the completions of $name" 0 $?
+done
+is 'nothing else is installed' 9 "$(find "$room/a place" -type f | wc -l | tr -d ' ')"
+echo ini_merge >"$room/broken"
+"$copy/tools/install.sh" "$room/nothing" >/dev/null 2>&1
+is 'a program that is not built' 'status 1, nothing there' "status $?, $([ -e "$room/nothing" ] || echo nothing there)"
+"$copy/tools/install.sh" >"$room/told" 2>&1
+is 'no folder' 'status 2, usage: tools/install.sh PREFIX' "status $?, $(cat "$room/told")"
+
+echo "$passed passed, $failed failed"
+[ "$failed" -eq 0 ]

@@ -1,0 +1,129 @@
+#!/bin/sh
+# Runs ini_file beside crudini and `git config` on the same files: what each of them reads, and what stands in the file after an
+# edit, by its values, and by its bytes where both keep the layout. A peer that isn't here is skipped and told, and so is a
+# command that the program hasn't. Each case that fails is told. The last line is 'N passed, M failed', and the status is 1 if a
+# case failed.
+#
+#     tests/peers.sh [INI_FILE]
+#
+# The program is by default the one that ini_file.sh builds.
+set -u
+LC_ALL=C
+export LC_ALL
+top=$(cd "$(dirname "$0")/.." && pwd)
+room=$(mktemp -d)
+trap 'rm -rf "$room"' EXIT
+program=${1:-}
+if [ -z "$program" ]; then
+    "$top/ini_file.sh" list - </dev/null || exit 1
+    program=$top/crates/ini_file/out/ini_file
+fi
+program=$(readlink -f "$program")
+passed=0
+failed=0
+
+# is NAME WANTED HAD
+is() {
+    if [ "$2" = "$3" ]; then
+        passed=$((passed + 1))
+    else
+        failed=$((failed + 1))
+        printf 'FAILED: %s\nthe peer: %s\nini_file: %s\n' "$1" "$2" "$3"
+    fi
+}
+
+# peer NAME: whether it is here
+peer() {
+    command -v "$1" >/dev/null && return
+    echo "skipped: what is compared with $1 (it isn't here)"
+    return 1
+}
+
+# answer COMMAND..: what it writes, and whether it found what it was asked for
+answer() {
+    if "$@" 2>/dev/null; then echo found; else echo not found; fi
+}
+
+tab=$(printf '\t')
+cd "$room" || exit 1
+printf '; the fleet\n[server]\nport = 8080\nhost=a.example\n\n# where\n[paths]\nlog   = /var/log/app\ncache = /var/cache/app data\n[none]\n' \
+    >settings.ini
+
+# The words of each program for: the value of KEY in SECTION, the keys of SECTION, the sections.
+value() { answer "$program" get settings.ini "$2" "$1"; }
+keys() { answer "$program" keys settings.ini "$1"; }
+crudini_value() { answer crudini --get settings.ini "$1" "$2"; }
+crudini_keys() { answer crudini --get settings.ini "$1"; }
+git_value() { answer git config -f settings.ini "$1.$2"; }
+
+if peer crudini; then
+    is 'crudini: sections' "$(crudini --get settings.ini)" "$("$program" sections settings.ini)"
+    for section in server paths none; do
+        is "crudini: keys of $section" "$(crudini_keys $section)" "$(keys $section)"
+    done
+    for pair in 'server port' 'server host' 'paths cache' 'paths port'; do
+        # shellcheck disable=SC2086
+        is "crudini: $pair" "$(crudini_value $pair)" "$(value $pair)"
+    done
+fi
+if peer git; then
+    is 'git: list' "$(git config -f settings.ini --list)" \
+        "$("$program" list settings.ini | sed "s/^\[\(.*\)\]$tab\(.*\)$tab/\1.\2=/")"
+    for pair in 'server port' 'server host' 'paths cache' 'paths port'; do
+        # shellcheck disable=SC2086
+        is "git: $pair" "$(git_value $pair)" "$(value $pair)"
+    done
+fi
+
+# edited NAME WANTED COMMAND..: runs the edit on a copy of the file, which then stands in $room/NAME
+edited() {
+    cp settings.ini "$1"
+    file=$1
+    shift
+    "$@" "$file" 2>/dev/null || echo "status $?" >"$file"
+}
+
+set_ours() { "$program" set --existing "$3" "$2" 'new value' "$1"; }
+set_crudini() { crudini --set --existing "$3" "$1" "$2" 'new value'; }
+set_git() { git config -f "$3" "$1.$2" 'new value'; }
+delete_ours() { "$program" delete "$3" "$2" "$1"; }
+delete_crudini() { crudini --del --existing "$3" "$1" "$2"; }
+delete_git() { git config -f "$3" --unset "$1.$2"; }
+
+# same_bytes NAME THEIRS OURS, and same_pairs
+same_bytes() {
+    is "$1, bytes" "$(od -c <"$2")" "$(od -c <"$3")"
+}
+same_pairs() {
+    is "$1, pairs" "$("$program" list "$2")" "$("$program" list "$3")"
+}
+
+# edits COMMAND PEER PAIR..: the edit of each pair by both
+edits() {
+    edit=$1 by=$2
+    shift 2
+    for pair; do
+        # shellcheck disable=SC2086
+        edited theirs "${edit}_$by" $pair
+        # shellcheck disable=SC2086
+        edited ours "${edit}_ours" $pair
+        same_pairs "$by: $edit $pair" theirs ours
+        # git lays out anew the line that it sets
+        [ "$edit,$by" = set,git ] || same_bytes "$by: $edit $pair" theirs ours
+    done
+}
+
+for edit in 'set' delete; do
+    cp settings.ini tried
+    "${edit}_ours" server port tried 2>/dev/null
+    if [ $? -eq 2 ]; then
+        echo "skipped: $edit (ini_file hasn't it)"
+        continue
+    fi
+    for name in crudini git; do
+        command -v "$name" >/dev/null && edits "$edit" "$name" 'server port' 'server host' 'paths log' 'paths cache'
+    done
+done
+
+echo "$passed passed, $failed failed"
+[ "$failed" -eq 0 ]

@@ -1,0 +1,25 @@
+#!/bin/sh
+# Installs ini_tool, ini_merge and ini_file, their pages and the completions of bash:
+#
+#     tools/install.sh PREFIX
+#
+# The programs go to PREFIX/bin, the pages to PREFIX/share/man/man1, and the completions to
+# PREFIX/share/bash-completion/completions, under each program's name. Programs are built first where they have to be
+# (tools/run.sh). The status is 2 where no one folder is named, and else that of the step that failed.
+set -eu
+top=$(dirname "$(dirname "$(readlink -f "$0")")")
+if [ $# -ne 1 ] || [ -z "$1" ]; then
+    echo 'usage: tools/install.sh PREFIX' >&2
+    exit 2
+fi
+programs='ini_tool ini_merge ini_file'
+for name in $programs; do
+    "$top/tools/run.sh" --build "$name"
+done
+completions=$1/share/bash-completion/completions
+mkdir -p -- "$1/bin" "$1/share/man/man1" "$completions"
+for name in $programs; do
+    install -m 755 -- "$top/crates/$name/out/$name" "$1/bin/$name"
+    install -m 644 -- "$top/man/$name.1" "$1/share/man/man1/$name.1"
+    install -m 644 -- "$top/completions/bigrosk" "$completions/$name"
+done
