@@ -3,7 +3,7 @@
  * A document lives in a struct bigrosk_ini_document of the caller's. It begins as BIGROSK_INI_EMPTY; bigrosk_ini_load puts
  * a document in, bigrosk_ini_free takes it out. Texts are UTF-8, each a pointer and a number of bytes; the functions at
  * the end take strings that end in 0. A call that is refused changes no document. The library opens no file: the caller
- * reads and writes.
+ * reads and writes. The calls bigrosk_ini_edit_.. change a text itself, and keep its comments and its layout.
  *
  * What a caller owes, and nothing checks:
  *   - a struct bigrosk_ini_document is written by these calls alone; it may be moved, but of two copies only one may be
@@ -35,7 +35,11 @@ enum bigrosk_ini_status {
     BIGROSK_INI_BROKEN = 3,     /* the text breaks the grammar: struct bigrosk_ini_fault says where and why */
     BIGROSK_INI_NOT_UTF8 = 4,   /* a text, a name, a key or a value is no UTF-8 */
     BIGROSK_INI_NO_MEMORY = 5,
-    BIGROSK_INI_NO_DOCUMENT = 6 /* nothing is loaded */
+    BIGROSK_INI_NO_DOCUMENT = 6,   /* nothing is loaded */
+    BIGROSK_INI_UNPLAIN_VALUE = 7, /* the value of an edit of a text, written, is not read back */
+    BIGROSK_INI_UNPLAIN_KEY = 8,   /* the same of its key */
+    BIGROSK_INI_NO_PLACE = 9,      /* a new line can be put into the text nowhere */
+    BIGROSK_INI_UNPLAIN_NAME = 10  /* the name of a section that an edit of a text would open, written, is not read back */
 };
 
 /* What is wrong where reading a text stops. */
@@ -183,6 +187,41 @@ uint32_t bigrosk_ini_write(struct bigrosk_ini_document *document, const struct b
 bool bigrosk_ini_is_plain(struct bigrosk_ini_document *document, const struct bigrosk_ini_write_option *write,
                           const struct bigrosk_ini_read_option *read);
 
+/* The next two edit a text itself, and keep every byte that the edit is not about: comments, blank lines, alignment, line ends.
+ * No document is used: the text comes in as bytes, and the new one is copied into `out`, and a 0 behind it; count says how many
+ * bytes it has, with OK and with NO_ROOM. The text that comes in stays as it is. The options say how it is read, and how what is put
+ * in is written. A mark at its front (the bytes EF BB BF) is a character like others: bigrosk_ini_mark says how many bytes to leave
+ * out before the call, and to keep.
+ * Both answer NOT_UTF8 before anything else, and BROKEN, and only then is the fault written, where reading the text stops,
+ * also behind the pair that the edit is about; NO_MEMORY; NO_ROOM where the buffer has room for no more than count bytes. With
+ * anything but OK the buffer is as it was. */
+
+/* Sets the key's value: in the place of that of its first pair, and the key's later pairs in that section go; where the section
+ * lacks the key, in a new line behind its last item, before comments there; and where no section has the name (the general one is
+ * always there), in a new one at the text's end, behind an empty line. Every other byte stays. The new text loads as the document in
+ * which the key is set.
+ * OK; UNPLAIN_VALUE, before the text is read; where the key is not there UNPLAIN_KEY, UNPLAIN_NAME where no section has the name, and
+ * NO_PLACE, with multiline values alone, before an indented key that the text's end cuts short; and those above. */
+uint32_t bigrosk_ini_edit_set(const uint8_t *text, size_t text_count, const struct bigrosk_ini_read_option *read,
+                              const struct bigrosk_ini_write_option *write, bool named, const uint8_t *section,
+                              size_t section_count, const uint8_t *key, size_t key_count, const uint8_t *value,
+                              size_t value_count, uint8_t *out, size_t room, size_t *count,
+                              struct bigrosk_ini_fault *fault);
+
+/* Takes the key's first pair out, with its line end where what follows is read as before. The new text loads as the document
+ * without the pair.
+ * OK; ABSENT where the key is not there; and those above. */
+uint32_t bigrosk_ini_edit_delete(const uint8_t *text, size_t text_count, const struct bigrosk_ini_read_option *read,
+                                 bool named, const uint8_t *section, size_t section_count, const uint8_t *key,
+                                 size_t key_count, uint8_t *out, size_t room, size_t *count,
+                                 struct bigrosk_ini_fault *fault);
+
+/* How many bytes of the text are a mark at its front: 3 or 0. Plain C. */
+static inline size_t bigrosk_ini_mark(const uint8_t *text, size_t text_count)
+{
+    return text_count >= 3 && memcmp(text, "\xef\xbb\xbf", 3) == 0 ? 3 : 0;
+}
+
 /* ---- The same for strings that end in 0; a section of NULL is the general one. Plain C, proved by nobody. ---- */
 
 static inline const uint8_t *bigrosk_ini_bytes(const char *s) { return (const uint8_t *)(s ? s : ""); }
@@ -259,6 +298,26 @@ static inline uint32_t bigrosk_ini_delete_section_str(struct bigrosk_ini_documen
 {
     return bigrosk_ini_delete_section(document, section != NULL, bigrosk_ini_bytes(section),
                                       bigrosk_ini_count(section));
+}
+
+static inline uint32_t bigrosk_ini_edit_set_str(const char *text, const char *section, const char *key, const char *value,
+                                                char *out, size_t room, size_t *count, struct bigrosk_ini_fault *fault)
+{
+    struct bigrosk_ini_read_option read = BIGROSK_INI_READ_DEFAULT;
+    struct bigrosk_ini_write_option write = BIGROSK_INI_WRITE_DEFAULT;
+    return bigrosk_ini_edit_set(bigrosk_ini_bytes(text), bigrosk_ini_count(text), &read, &write, section != NULL,
+                                bigrosk_ini_bytes(section), bigrosk_ini_count(section), bigrosk_ini_bytes(key),
+                                bigrosk_ini_count(key), bigrosk_ini_bytes(value), bigrosk_ini_count(value),
+                                (uint8_t *)out, room, count, fault);
+}
+
+static inline uint32_t bigrosk_ini_edit_delete_str(const char *text, const char *section, const char *key, char *out,
+                                                   size_t room, size_t *count, struct bigrosk_ini_fault *fault)
+{
+    struct bigrosk_ini_read_option read = BIGROSK_INI_READ_DEFAULT;
+    return bigrosk_ini_edit_delete(bigrosk_ini_bytes(text), bigrosk_ini_count(text), &read, section != NULL,
+                                   bigrosk_ini_bytes(section), bigrosk_ini_count(section), bigrosk_ini_bytes(key),
+                                   bigrosk_ini_count(key), (uint8_t *)out, room, count, fault);
 }
 
 /* A walk over what a call has listed. */

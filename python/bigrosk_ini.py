@@ -8,10 +8,17 @@
     document[None]                      # the general section, which stands before the first header
     list(document)                      # [None, "paths"]: each name once, in order
     list(document["paths"].items())     # each key once, with its first value
+    document.get("paths", "log", fallback="/tmp")
     document["paths"].get_all("log")    # all values of a key that is there more than once
     document["paths"].pairs()           # all pairs, repeated keys too
     document.walk()                     # all sections with their pairs, repeated names too
     str(document)                       # the text
+
+A text itself is edited by two functions, which keep its comments, its blank lines and its layout:
+
+    text = edit_set(text, "paths", "log", "/srv/log")   # in the place of the first value
+    text = edit_set(text, "paths", "tmp", "/tmp")       # which isn't there: in a new line of the section
+    text = edit_delete(text, "paths", "cache")
 
 The shared library is the one that BIGROSK_INI_LIBRARY names, or libbigrosk_ini.so. A text that is refused raises Broken, which
 has .line, .column, .kind and .message.
@@ -21,9 +28,11 @@ import os
 from collections.abc import MutableMapping
 
 _library = ctypes.CDLL(os.environ.get("BIGROSK_INI_LIBRARY", "libbigrosk_ini.so"))
-_OK, _ABSENT, _NO_ROOM, _BROKEN, _NOT_UTF8, _NO_MEMORY, _NO_DOCUMENT = range(7)
+_OK, _ABSENT, _NO_ROOM, _BROKEN, _NOT_UTF8, _NO_MEMORY, _NO_DOCUMENT, _UNPLAIN_VALUE, _UNPLAIN_KEY, _NO_PLACE = range(10)
+_UNPLAIN_NAME = 10
 _UNNAMED = ctypes.c_size_t(-1).value
 KINDS = (None, "end of text", "broken escape", "unknown character", "inline comment", "missing key", "CR alone", "header end")
+_UNWRITABLE = {_UNPLAIN_VALUE: "value", _UNPLAIN_KEY: "key", _NO_PLACE: "place", _UNPLAIN_NAME: "name"}
 
 
 class _Document(ctypes.Structure):
@@ -66,9 +75,9 @@ _text = [ctypes.c_char_p, ctypes.c_size_t]
 _name = [ctypes.c_bool] + _text
 _out = [ctypes.c_char_p, ctypes.c_size_t, ctypes.POINTER(ctypes.c_size_t)]
 _list = [ctypes.c_char_p, ctypes.c_size_t, ctypes.POINTER(ctypes.c_size_t), ctypes.c_size_t, ctypes.POINTER(_Sizes)]
-_read, _write = ctypes.POINTER(ReadOption), ctypes.POINTER(WriteOption)
+_read, _write, _fault = ctypes.POINTER(ReadOption), ctypes.POINTER(WriteOption), ctypes.POINTER(_Fault)
 for _call, _arguments, _result in [
-    ("load", _text + [ctypes.c_bool, _read, _document, ctypes.POINTER(_Fault)], ctypes.c_uint32),
+    ("load", _text + [ctypes.c_bool, _read, _document, _fault], ctypes.c_uint32),
     ("free", [_document], None),
     ("get", [_document] + _name + _text + _out, ctypes.c_uint32),
     ("get_all", [_document] + _name + _text + _list, ctypes.c_uint32),
@@ -82,6 +91,8 @@ for _call, _arguments, _result in [
     ("delete_section", [_document] + _name, ctypes.c_uint32),
     ("write", [_document, _write] + _out, ctypes.c_uint32),
     ("is_plain", [_document, _write, _read], ctypes.c_bool),
+    ("edit_set", _text + [_read, _write] + _name + _text + _text + _out + [_fault], ctypes.c_uint32),
+    ("edit_delete", _text + [_read] + _name + _text + _out + [_fault], ctypes.c_uint32),
     ("version", [], ctypes.c_uint32),
 ]:
     _function = getattr(_library, "bigrosk_ini_" + _call)
@@ -97,7 +108,18 @@ class Broken(ValueError):
         super().__init__(f"{self.line}:{self.column} {self.message}")
 
 
+class Unwritable(ValueError):
+    """A value, a key or a section's name that an edit of a text can't write so that it is read back, or a line that finds no place:
+    .what is "value", "key", "name" or "place"."""
+
+    def __init__(self, what):
+        self.what = what
+        super().__init__(f"no {what} for an edit of this text")
+
+
 def _is_done(status):
+    if status in _UNWRITABLE:
+        raise Unwritable(_UNWRITABLE[status])
     if status == _NOT_UTF8:
         raise UnicodeError("not UTF-8")
     if status == _NO_MEMORY:
@@ -195,9 +217,19 @@ class Document:
         if not _is_done(_library.bigrosk_ini_delete_section(self._it, *_texts(section))):
             raise KeyError(section)
 
-    def get(self, section, key, default=None):
+    def keys(self):
+        return list(self)
+
+    def values(self):
+        return [self[name] for name in self]
+
+    def items(self):
+        """Each section's name once, with its first section."""
+        return [(name, self[name]) for name in self]
+
+    def get(self, section, key, fallback=None):
         value = _copied(_library.bigrosk_ini_get, self._it, *_texts(section, key))
-        return default if value is None else value
+        return fallback if value is None else value
 
     def set(self, section, key, value):
         _is_done(_library.bigrosk_ini_set(self._it, *_texts(section, key, value)))
@@ -253,8 +285,8 @@ class Section(MutableMapping):
     def __len__(self):
         return sum(1 for _ in self)
 
-    def get(self, key, default=None):
-        return self._document.get(self.name, key, default)
+    def get(self, key, fallback=None):
+        return self._document.get(self.name, key, fallback)
 
     def get_all(self, key):
         """All values of the key, in order."""
@@ -264,6 +296,38 @@ class Section(MutableMapping):
         """All pairs in order; two may have one key."""
         texts = _Listing(_library.bigrosk_ini_pairs, self._document._it, *_texts(self.name)).texts()
         return list(zip(texts, texts))
+
+
+def _edited(call, text, options, section, *texts):
+    """The text as the call edits it, as str or bytes as it came; a mark at its front stays."""
+    is_bytes = isinstance(text, bytes)
+    whole = text if is_bytes else text.encode()
+    mark = whole[:3] if whole.startswith(b"\xef\xbb\xbf") else b""
+    old, room, count, fault = whole[len(mark) :], len(whole) + 256, ctypes.c_size_t(), _Fault()
+    while True:
+        out = ctypes.create_string_buffer(room)
+        status = call(old, len(old), *options, *_texts(section, *texts), out, room, count, fault)
+        if status != _NO_ROOM:
+            break
+        room = count.value + 1
+    if status == _BROKEN:
+        raise Broken(fault)
+    if not _is_done(status):
+        raise KeyError(texts[0])
+    new = mark + out.raw[: count.value]
+    return new if is_bytes else new.decode()
+
+
+def edit_set(text, section, key, value, read=None, write=None):
+    """The text with the key's value set: in the place of that of its first pair, and the later ones there go; or in a new line of the
+    section, or in a new section."""
+    options = read or ReadOption(), write or WriteOption()
+    return _edited(_library.bigrosk_ini_edit_set, text, options, section, key, value)
+
+
+def edit_delete(text, section, key, read=None):
+    """The text without the key's first pair. KeyError where it isn't there."""
+    return _edited(_library.bigrosk_ini_edit_delete, text, (read or ReadOption(),), section, key)
 
 
 def version():

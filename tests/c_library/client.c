@@ -271,6 +271,136 @@ static void long_walk(void)
     free(counts);
 }
 
+enum edit { set, del };
+
+/* an edit of the text, by these options */
+static uint32_t edit_by(enum edit what, const struct bigrosk_ini_read_option *read,
+                        const struct bigrosk_ini_write_option *write, const char *text, const char *section,
+                        const char *key, const char *value, uint8_t *out, size_t room, size_t *count, fault *f)
+{
+    const uint8_t *t = bigrosk_ini_bytes(text), *s = bigrosk_ini_bytes(section), *k = bigrosk_ini_bytes(key);
+    size_t texts = bigrosk_ini_count(text), sections = bigrosk_ini_count(section), keys = bigrosk_ini_count(key);
+    if (what == del)
+        return bigrosk_ini_edit_delete(t, texts, read, section != NULL, s, sections, k, keys, out, room, count, f);
+    return bigrosk_ini_edit_set(t, texts, read, write, section != NULL, s, sections, k, keys, bigrosk_ini_bytes(value),
+                                bigrosk_ini_count(value), out, room, count, f);
+}
+
+/* whether the edit gives this text, or where want is NULL this status, and then leaves buffer and fault */
+static bool is_edited_by(enum edit what, const struct bigrosk_ini_read_option *read,
+                         const struct bigrosk_ini_write_option *write, const char *text, const char *section,
+                         const char *key, const char *value, const char *want, uint32_t refused)
+{
+    fault f;
+    memset(&f, 'f', sizeof f);
+    uint8_t out[256], none[1] = { 'x' };
+    memset(out, 'y', sizeof out);
+    size_t count = 0, room;
+    if (!want) {
+        uint32_t status = edit_by(what, read, write, text, section, key, value, out, sizeof out, &count, &f);
+        if (status != refused) printf("%s: status %u\n", text, (unsigned)status);
+        return status == refused && out[0] == 'y' && f.message[0] == 'f';
+    }
+    /* what it takes is told; one byte less is refused, and leaves the buffer; that many and a 0 fit */
+    bool good = edit_by(what, read, write, text, section, key, value, none, 0, &count, &f) == BIGROSK_INI_NO_ROOM;
+    good = good && none[0] == 'x' && count == strlen(want);
+    room = strlen(want);
+    good = good && edit_by(what, read, write, text, section, key, value, out, room, &count, &f) == BIGROSK_INI_NO_ROOM;
+    good = good && out[0] == 'y' && count == room;
+    good = good && edit_by(what, read, write, text, section, key, value, out, room + 1, &count, &f) == BIGROSK_INI_OK;
+    good = good && count == room && !strcmp((char *)out, want) && out[room + 1] == 'y' && f.message[0] == 'f';
+    if (!good) printf("%s: %.*s\n", text, (int)count, (char *)out);
+    return good;
+}
+
+static bool is_edited(enum edit what, const char *text, const char *section, const char *key, const char *value,
+                      const char *want)
+{
+    return is_edited_by(what, &usual, &plain, text, section, key, value, want, 0);
+}
+
+static bool is_left(enum edit what, const char *text, const char *section, const char *key, const char *value,
+                    uint32_t status)
+{
+    return is_edited_by(what, &usual, &plain, text, section, key, value, NULL, status);
+}
+
+static void text_edits(void)
+{
+    struct bigrosk_ini_write_option spaced = { BIGROSK_INI_EVERYTHING, true, 1 };
+    struct bigrosk_ini_read_option lines = { true, true, true, false, false };
+    /* a value */
+    CHECK(is_edited(set, "; c\n[s]\n  port\t= 80   \n# d\n", "s", "port", "443", "; c\n[s]\n  port\t= 443   \n# d\n"));
+    CHECK(is_edited(set, "[s]\nport='80'\n", "s", "port", "443", "[s]\nport=443\n"));
+    CHECK(is_edited(set, "[s]\nport=80\n# old\nport=81\nhost=h\n", "s", "port", "443",
+                    "[s]\nport=443\n# old\nhost=h\n"));
+    CHECK(is_edited(set, "[s] port=80\r\n", "s", "port", "", "[s] port=\r\n"));
+    CHECK(is_edited(set, "gr\xc3\xbc\xc3\x9f: x", NULL, "gr\xc3\xbc\xc3\x9f", "a\tb", "gr\xc3\xbc\xc3\x9f: a\\tb"));
+    CHECK(is_edited_by(set, &usual, &spaced, "a=b\n", NULL, "a", "\xc3\xbc", "a=\\x00fc\n", 0));
+    CHECK(is_edited(set, "[s]\na=1\n[s]\nb=2\n", "s", "b", "3", "[s]\na=1\nb=3\n[s]\nb=2\n"));
+    CHECK(is_edited(set, "host=h\n", "server", "port", "443", "host=h\n\n[server]\nport=443\n"));
+    CHECK(is_left(set, "host=h\n", "a\nb", "", "443", BIGROSK_INI_UNPLAIN_KEY));
+    CHECK(is_left(set, "host=h\n", " s", "port", "443", BIGROSK_INI_UNPLAIN_NAME));
+    CHECK(is_left(set, "a=1\n", NULL, "a", " 1", BIGROSK_INI_UNPLAIN_VALUE));
+    CHECK(is_left(set, "= no key", NULL, "a", "'1", BIGROSK_INI_UNPLAIN_VALUE));
+    CHECK(is_left(set, "a=1\n", NULL, "a", "\xff", BIGROSK_INI_NOT_UTF8));
+    CHECK(is_left(set, "a=1\n\xff", NULL, "a", " ", BIGROSK_INI_NOT_UTF8));
+    /* a pair taken out */
+    CHECK(is_edited(del, "[a]\nk=v\n# c\n", "a", "k", NULL, "[a]\n# c\n"));
+    CHECK(is_edited(del, "[a]k=v\n# c", "a", "k", NULL, "[a]\n# c"));
+    CHECK(is_edited(del, "k=1\nk=2\n", NULL, "k", NULL, "k=2\n"));
+    CHECK(is_edited_by(del, &lines, &plain, "[a]\nk=v\n  w\n\nj=w", "a", "k", NULL, "[a]\nj=w", 0));
+    CHECK(is_left(del, "[a]\nk=v\n", "a", "v", NULL, BIGROSK_INI_ABSENT));
+    CHECK(is_left(del, "[a]\nk=v\n", "\xff", "k", NULL, BIGROSK_INI_NOT_UTF8));
+    /* a new line */
+    CHECK(is_edited(set, "[a]\nj=w\n# of b\n[b]", "a", "k", "v", "[a]\nj=w\nk=v\n# of b\n[b]"));
+    CHECK(is_edited(set, "[a][b]", "a", "k", "v", "[a]\nk=v\n[b]"));
+    CHECK(is_edited(set, "", NULL, "k", "v", "k=v\n"));
+    CHECK(is_edited_by(set, &usual, &spaced, "[a]\r\nj=w\r\n", "a", "k", "v", "[a]\r\nj=w\r\nk = v\r\n", 0));
+    CHECK(is_edited(set, "[a]\nj=w", "b", "k", "v", "[a]\nj=w\n\n[b]\nk=v\n"));
+    CHECK(is_left(set, "[a]\n", " b", "k", "v", BIGROSK_INI_UNPLAIN_NAME));
+    CHECK(is_left(set, "[a]\n", "a", "", "v", BIGROSK_INI_UNPLAIN_KEY));
+    CHECK(is_left(set, "[a]\n", "a", "", " v", BIGROSK_INI_UNPLAIN_VALUE));
+    CHECK(is_left(set, "[a]\n", "a", "\xff", "v", BIGROSK_INI_NOT_UTF8));
+    CHECK(is_edited_by(set, &lines, &plain, "[a]\n  k", "a", "j", "v", NULL, BIGROSK_INI_NO_PLACE));
+}
+
+/* whether each edit of the text is refused so, and the buffer stays */
+static bool are_edits_refused(const char *text, uint32_t kind, size_t line, size_t column, const char *message)
+{
+    bool same = true;
+    for (enum edit what = set; what <= del; what++) {
+        fault f = { 0, 0, 0, "" };
+        uint8_t out[64] = "as it was";
+        size_t count = 0;
+        same = edit_by(what, &usual, &plain, text, NULL, "a", "2", out, sizeof out, &count, &f) == BIGROSK_INI_BROKEN
+            && f.kind == kind && f.line == line && f.column == column && !strcmp(f.message, message)
+            && !strcmp((char *)out, "as it was") && same;
+    }
+    return same;
+}
+
+static void refused_text_edits(void)
+{
+    CHECK(are_edits_refused("a=1\n =v", BIGROSK_INI_MISSING_KEY, 2, 3, "missing key"));
+    CHECK(are_edits_refused("a=1\nb=\\xD800", BIGROSK_INI_UNKNOWN_CHARACTER, 2, 9, "unknown character in \\xHH form"));
+    /* the helpers for strings, and a mark */
+    char out[64];
+    fault f;
+    size_t count, mark;
+    CHECK(bigrosk_ini_edit_set_str("a=1 \n", NULL, "a", "2", out, sizeof out, &count, &f) == BIGROSK_INI_OK
+        && !strcmp(out, "a=2 \n") && count == 5);
+    CHECK(bigrosk_ini_edit_set_str("[s]", "s", "a", "2", out, sizeof out, &count, &f) == BIGROSK_INI_OK
+        && !strcmp(out, "[s]\na=2\n"));
+    CHECK(bigrosk_ini_edit_delete_str("[s]\na=2\n", "s", "a", out, sizeof out, &count, &f) == BIGROSK_INI_OK
+        && !strcmp(out, "[s]\n"));
+    const char *marked = "\xef\xbb\xbf" "a=1";
+    mark = bigrosk_ini_mark((const uint8_t *)marked, strlen(marked));
+    CHECK(mark == 3 && bigrosk_ini_mark((const uint8_t *)"\xef\xbb", 2) == 0);
+    CHECK(bigrosk_ini_edit_delete_str(marked, NULL, "a", out, sizeof out, &count, &f) == BIGROSK_INI_ABSENT);
+    CHECK(bigrosk_ini_edit_set_str(marked + mark, NULL, "a", "2", out, sizeof out, &count, &f) == BIGROSK_INI_OK);
+}
+
 /* as many documents as one likes; a document may be moved, and loaded over */
 static void many(void)
 {
@@ -302,6 +432,8 @@ int main(void)
     options();
     walks();
     long_walk();
+    text_edits();
+    refused_text_edits();
     many();
     printf("%d checks, %d failed\n", checks, failed);
     return failed != 0;

@@ -39,12 +39,13 @@ void rattle_dealloc(void *at)
     free(at);
 }
 
-enum { load, set, add, write, all, pairs, items, calls };
+enum { load, set, add, write, all, pairs, items, edit_set, edit_new, edit_delete, calls };
 
 /* one call with n requests granted */
 static uint32_t call(int which, long n, struct bigrosk_ini_document *d)
 {
     static const struct bigrosk_ini_write_option option = BIGROSK_INI_WRITE_DEFAULT;
+    static const char lines[] = "# of s\n[s]\nc = 3 # no comment\nd = 4\nc = \"5\"\n# of t\n[t]\n";
     struct bigrosk_ini_fault f;
     uint8_t text[512];
     size_t count, counts[32];
@@ -58,6 +59,9 @@ static uint32_t call(int which, long n, struct bigrosk_ini_document *d)
     case all: status = bigrosk_ini_get_all_str(d, "s", "c", text, sizeof text, counts, 32, &sizes); break;
     case pairs: status = bigrosk_ini_pairs_str(d, "s", text, sizeof text, counts, 32, &sizes); break;
     case items: status = bigrosk_ini_items(d, text, sizeof text, counts, 32, &sizes); break;
+    case edit_set: status = bigrosk_ini_edit_set_str(lines, "s", "c", "9", (char *)text, sizeof text, &count, &f); break;
+    case edit_delete: status = bigrosk_ini_edit_delete_str(lines, "s", "c", (char *)text, sizeof text, &count, &f); break;
+    case edit_new: status = bigrosk_ini_edit_set_str(lines, "u", "e", "9", (char *)text, sizeof text, &count, &f); break;
     default: status = bigrosk_ini_write(d, &option, text, sizeof text, &count); break;
     }
     left = 1000000;

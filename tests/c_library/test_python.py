@@ -2,7 +2,7 @@
 import random
 import resource
 import time
-from bigrosk_ini import Broken, Document, WriteOption, version
+from bigrosk_ini import Broken, Document, ReadOption, Unwritable, WriteOption, edit_delete, edit_set, version
 
 
 def refusal(text):
@@ -50,6 +50,9 @@ def walks():
     assert dict(d["s"]) == {"k": "one", "j": ""} and d["s"] == {"k": "one", "j": ""}
     assert d["s"].get_all("k") == ["one", "two"] and d["s"].get_all("z") == [] and d["t"].get_all("k") == []
     assert list(d["t"]) == [] and len(d["t"]) == 0 and d["t"].pairs() == [] and d[""].pairs() == []
+    assert d.keys() == [None, "s", ""] and [name for name, _ in d.items()] == [None, "s", ""]
+    assert dict(d.items()[1][1]) == {"k": "one", "j": ""} and [dict(s) for s in d.values()][0] == {"a": "1"}
+    assert d.get("s", "z", fallback="x") == "x" and d["s"].get("z", fallback="x") == "x" and d["s"].get("j", "x") == ""
     d["t"].update(x="1", y="2")
     assert d["t"].pop("x") == "1" and list(d["t"].items()) == [("y", "2")]
     # longer than any buffer at first, with a pair taken out before
@@ -97,6 +100,81 @@ def edits():
         assert str(again) == str(d)
 
 
+def text_edits():
+    text = "; head\n[s]\n  port\t= 80   # no comment\n# d\nport=81\n"
+    assert edit_set(text, "s", "port", "443") == "; head\n[s]\n  port\t= 443\n# d\n"
+    assert edit_delete(text, "s", "port") == "; head\n[s]\n# d\nport=81\n"
+    assert edit_set("\ufeffa=1\r\n", None, "a", "2") == "\ufeffa=2\r\n"
+    assert edit_set(b"\xef\xbb\xbfa=1\r\n", None, "a", "ü") == b"\xef\xbb\xbfa=\xc3\xbc\r\n"
+    assert edit_set("a=1", None, "a", "x" * 5000) == "a=" + "x" * 5000
+    assert edit_set("a=1\n", None, "a", "b\tc", ReadOption(), WriteOption(policy=0x99)) == "a=b\\tc\n"
+    assert edit_set(text, "s", "host", "h") == text + "host=h\n"
+    assert edit_set(text, "t", "host", "h") == text + "\n[t]\nhost=h\n"
+    assert is_raised(KeyError, lambda: edit_delete(text, None, "port"))
+    assert is_raised(UnicodeError, lambda: edit_delete(b"\xff", None, "port"))
+    for what, call in (
+        ("value", lambda: edit_set(text, "s", "port", " 1")),
+        ("value", lambda: edit_set(text, "s", "", "'1")),
+        ("key", lambda: edit_set(text, "s", "", "1")),
+        ("name", lambda: edit_set(text, " s", "port", "1")),
+        ("place", lambda: edit_set("[a]\n  junk", "a", "k", "v", ReadOption(multiline=True))),
+    ):
+        try:
+            call()
+            assert False, what
+        except Unwritable as error:
+            assert error.what == what
+    try:
+        edit_delete("a=1\n =v", None, "a")
+        assert False
+    except Broken as broken:
+        assert (broken.line, broken.column, broken.kind) == (2, 3, "missing key")
+
+
+def text_lines():
+    """A random text without two line ends in a row that a comment could not follow."""
+    lines = []
+    for _ in range(random.randrange(12)):
+        name, key, value = random.choice("ab"), random.choice("xyz"), random.choice(("1", "zwei drei", "", "# no comment"))
+        lines.append(random.choice((f"[{name}]", f" {key} = {value} ", f"{key}: '{value}'", f"# {key}={value}", f"; [{name}]", "")))
+    return lines
+
+
+def text_runs():
+    """Random edits of texts, beside a list of sections: the new text loads as that list, and keeps all comments."""
+    random.seed(11)
+    done = {"set": 0, "delete": 0, "none": 0}
+    for _ in range(600):
+        text = random.choice(("\n", "\r\n")).join(text_lines()) + "\n"
+        for _ in range(6):
+            comments = [line for line in text.splitlines() if line[:1] in ("#", ";")]
+            model = [(name, list(pairs)) for name, pairs in Document(text).walk()]
+            name, key, value = random.choice((None, "a", "b")), random.choice("xyz"), random.choice(("7", "ü", "a\tb", ""))
+            section = next((pairs for other, pairs in model if other == name), None)
+            at = next((i for i, pair in enumerate(section or ()) if pair[0] == key), None)
+            what = random.choice(("set", "delete"))
+            try:
+                if what == "set":
+                    text = edit_set(text, name, key, value)
+                    if section is None:
+                        section = []
+                        model.append((name, section))
+                    if at is not None:
+                        section[at:] = [(key, value)] + [pair for pair in section[at + 1 :] if pair[0] != key]
+                    else:
+                        section.append((key, value))
+                else:
+                    text = edit_delete(text, name, key)
+                    del section[at]
+                done[what] += 1
+            except KeyError:
+                assert what == "delete" and at is None
+                done["none"] += 1
+            assert Document(text).walk() == model
+            assert [line for line in text.splitlines() if line[:1] in ("#", ";")] == comments
+    assert min(done.values()) > 100, done
+
+
 def memory():
     before = resource.getrusage(resource.RUSAGE_SELF).ru_maxrss
     for _ in range(20000):
@@ -105,6 +183,6 @@ def memory():
     assert grown < 5000, f"grown by {grown} KB"
 
 
-for part in (calls, walks, refusals, edits, memory):
+for part in (calls, walks, refusals, edits, text_edits, text_runs, memory):
     part()
 print("all of the Python module")

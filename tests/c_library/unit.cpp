@@ -30,11 +30,37 @@ public:
     }
 };
 
+// The text without the key's first pair, with its comments kept; the text itself where there is none.
+static std::string without(const std::string &text, const char *section, const char *key)
+{
+    bigrosk_ini_fault fault;
+    std::size_t count = 0;
+    std::string out(text.size() + 16, 0);
+    uint32_t status = bigrosk_ini_edit_delete_str(text.c_str(), section, key, &out[0], out.size(), &count, &fault);
+    if (status == BIGROSK_INI_ABSENT) return text;
+    if (status != BIGROSK_INI_OK) throw status;
+    out.resize(count);
+    return out;
+}
+
+// The text with a value set, and with another in a new line.
+static std::string with(const char *text, const char *section, const char *key, const char *value)
+{
+    bigrosk_ini_fault fault;
+    std::size_t count = 0;
+    char set[128], added[128];
+    if (bigrosk_ini_edit_set_str(text, section, key, value, set, sizeof set, &count, &fault) != BIGROSK_INI_OK) return "";
+    if (bigrosk_ini_edit_set_str(set, section, "new", value, added, sizeof added, &count, &fault) != BIGROSK_INI_OK) return "";
+    return std::string(added, count);
+}
+
 int main()
 {
     Settings settings("port = 8080\n[paths]\nlog = /var/log/app\n");
     bool good = settings.get(nullptr, "port") == "8080" && settings.get("paths", "log") == "/var/log/app"
         && settings.get("paths", "port").empty();
+    good = good && without("# c\n[s]\na=1\nb=2\n", "s", "a") == "# c\n[s]\nb=2\n" && without("a=1", "s", "a") == "a=1"
+        && with("# c\n[s]\na = 1 \n", "s", "a", "2") == "# c\n[s]\na = 2 \nnew=2\n";
     std::puts(good ? "good" : "FAILED");
     return !good;
 }

@@ -5,3 +5,4 @@ pub mod Inside
 pub mod Listings
 pub mod LookUps
 pub mod Statuses
+pub mod TextEdits

@@ -22,6 +22,18 @@ no_memory = 5
 abbrev pub no_document : ℕ
 no_document = 6
 
+abbrev pub unplain_value : ℕ
+unplain_value = 7
+
+abbrev pub unplain_key : ℕ
+unplain_key = 8
+
+abbrev pub no_place : ℕ
+no_place = 9
+
+abbrev pub unplain_name : ℕ
+unplain_name = 10
+
 -- whether a status is one of these
 abbrev pub is_among : ℕ → List ℕ → Bool
 is_among status [] = false

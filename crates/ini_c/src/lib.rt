@@ -31,6 +31,7 @@ mod loading;
 mod look_up;
 mod options;
 mod parts;
+mod text_edits;
 mod walks;
 mod writing;
 
@@ -38,6 +39,7 @@ pub use crate::copies::Sizes;
 pub use crate::document::{Document, Kept};
 pub use crate::fault::Fault;
 pub use crate::options::{ReadChoice, WriteChoice};
+pub use crate::text_edits::{bigrosk_ini_edit_delete, bigrosk_ini_edit_set};
 use std::alloc::Global;
 
 /// Done, or there.
@@ -54,6 +56,14 @@ pub const NOT_UTF8: u32 = 4;
 pub const NO_MEMORY: u32 = 5;
 /// No document is loaded.
 pub const NO_DOCUMENT: u32 = 6;
+/// The value of an edit can't be written so that it is read back.
+pub const UNPLAIN_VALUE: u32 = 7;
+/// The key of an edit can't be written so that it is read back.
+pub const UNPLAIN_KEY: u32 = 8;
+/// A new line can be put into the text nowhere.
+pub const NO_PLACE: u32 = 9;
+/// The name of a new section can't be written so that it is read back.
+pub const UNPLAIN_NAME: u32 = 10;
 
 /// The version: a hundred for each minor one, ten thousand for each major one.
 #[unsafe(no_mangle)]

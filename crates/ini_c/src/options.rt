@@ -1,6 +1,7 @@
 //! Options as C gives them: numbers and bools. This file knows their names in `ini`.
-ghost use Rattle.std.specs.Prelude.{◌≡◌};
-ghost use Rattle.ini_c.specs.Choices.{IsWriteOption, parse_option};
+ghost use Rattle.std.specs.Prelude.{◌≡◌, chars};
+ghost use Rattle.ini_text.specs.Laws.Plain.{IsPlainSeparator};
+ghost use Rattle.ini_c.specs.Choices.{IsWriteOption, parse_option, separator_of};
 
 use ini::{EscapePolicy, LineSeparator, ParseOption, WriteOption};
 
@@ -46,9 +47,23 @@ impl ReadChoice {
     }
 }
 
+// What stands between a key and its value.
+fn separator(number: u32) -> &'static str
+    ensures text { result.now ≡ separator_of number }
+    ensures plain { IsPlainSeparator (chars result.now) }
+{
+    match number {
+        0 => "=",
+        1 => " = ",
+        2 => ":",
+        _ => ": ",
+    }
+}
+
 impl WriteChoice {
     pub(crate) fn to_option(&self) -> WriteOption
-        ensures { IsWriteOption self.now result }
+        ensures asked { IsWriteOption self.now result }
+        ensures separates { IsPlainSeparator (chars result.kv_separator.now) }
     {
         WriteOption {
             escape_policy: match self.policy {
@@ -66,12 +81,7 @@ impl WriteChoice {
             } else {
                 LineSeparator::SystemDefault
             },
-            kv_separator: match self.separator {
-                0 => "=",
-                1 => " = ",
-                2 => ":",
-                _ => ": ",
-            },
+            kv_separator: separator(self.separator),
         }
     }
 }

@@ -1,0 +1,40 @@
+-- What an edit of a text gives, as C is told.
+use Rattle.std.specs.Prelude.{◌≡◌, ℕ, List, Option, length, chars}
+use Rattle.std.specs.Str.{IsUtf8}
+use Rattle.ini.specs.Edits.{set_in}
+use Rattle.ini.specs.Texts.{Text}
+use Rattle.ini_text.specs.declared.option.ParseOption.{ParseOption}
+use Rattle.ini_text.specs.declared.write.option.WriteOption.{WriteOption}
+use Rattle.ini_edit.specs.Added.{LoadsEdited}
+use Rattle.ini_edit.specs.NewLines.{like_lines_of}
+use Rattle.ini_edit.specs.Settings.{IsSet, RefusesToSet}
+use Rattle.ini_edit.specs.declared.error.EditError.{EditError}
+use Rattle.ini_c.specs.Choices.{IsWriteOption}
+use Rattle.ini_c.specs.LookUps.{AreTexts}
+use Rattle.ini_c.specs.declared.options.WriteChoice.{WriteChoice}
+
+-- a text, a section's name and a key are UTF-8
+abbrev pub AreEdit : List ℕ → List ℕ → List ℕ → Type 0
+AreEdit text section key = IsUtf8 text × AreTexts section key
+
+-- a text of which P holds has so many bytes
+pub record IsCountOfText (P : Text → Type 0) (count : ℕ) : Type 0 where
+  pub bytes : List ℕ
+  pub is_utf8 : IsUtf8 bytes
+  pub holds : P (chars bytes)
+  pub is_length : count ≡ length bytes
+
+-- The text U is T with the key set, by the option that the choice asks for, and loads so.
+pub record IsSetBy (o : ParseOption) (choice : WriteChoice) (T : Text) (name : Option Text)
+    (key value U : Text) : Type 0 where
+  pub option : WriteOption
+  pub asked : IsWriteOption choice option
+  pub is_set : IsSet o (like_lines_of T option) T key value U name
+  pub loads : LoadsEdited o T U (set_in name key value)
+
+-- setting the key, by the option that the choice asks for, is refused so
+pub record RefusesToSetBy (o : ParseOption) (choice : WriteChoice) (T : Text) (name : Option Text)
+    (key value : Text) (e : EditError) : Type 0 where
+  pub option : WriteOption
+  pub asked : IsWriteOption choice option
+  pub refuses : RefusesToSet o option T name key value e

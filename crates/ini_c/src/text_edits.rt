@@ -1,0 +1,155 @@
+//! Edits of a text itself, which keep every byte that they aren't about. No document is kept between these
+//! calls: a text comes in as bytes, and the new one goes into the caller's buffer.
+ghost use Rattle.std.specs.Prelude.{◌≡◌, ◌∷◌, [], ◌≤◌, ◌↔◌, IsTrue, Some, length, slice_get, take};
+ghost use Rattle.std.specs.Str.{IsUtf8, chars};
+ghost use Rattle.ini.specs.Loading.{IsTextWith};
+ghost use Rattle.ini_edit.specs.Edited.{IsDeleted};
+ghost use Rattle.ini_edit.specs.FirstPairs.{LacksPair};
+ghost use Rattle.ini_edit.specs.declared.error.EditError.TheVariants.{Key, Name, NoPlace, Value};
+ghost use Rattle.ini_c.specs.Choices.{parse_option};
+ghost use Rattle.ini_c.specs.Faults.{IsStopAt};
+ghost use Rattle.ini_c.specs.LookUps.{name_if};
+ghost use Rattle.ini_c.specs.Statuses.{absent, broken, is_among, no_memory, no_place, no_room};
+ghost use Rattle.ini_c.specs.Statuses.{not_utf8, ok, unplain_key, unplain_name, unplain_value};
+ghost use Rattle.ini_c.specs.TextEdits.{AreEdit, IsCountOfText, IsSetBy, RefusesToSetBy};
+
+use crate::copies::{copy_out, pair_of, place_of};
+use crate::fault::{Fault, tell};
+use crate::options::{ReadChoice, WriteChoice};
+use crate::{
+    ABSENT, BROKEN, NO_MEMORY, NO_PLACE, NO_ROOM, NOT_UTF8, OK, UNPLAIN_KEY, UNPLAIN_NAME,
+    UNPLAIN_VALUE,
+};
+use ini_edit::{EditError, delete, set};
+use ini_text::Error;
+use std::alloc::Global;
+
+// Copies a new text out, and a 0 behind it.
+fn give(new: &str, out: &mut [u8], count: &mut usize) -> u32
+    ensures text { result ≡ ok → take count.new out.new ≡ new.now }
+    ensures zero { result ≡ ok → slice_get out.new count.new ≡ Some 0 }
+    ensures no_room { result ≡ no_room → length out.old ≤ count.new }
+    ensures count { count.new ≡ length new.now }
+    ensures stays { ¬ (result ≡ ok) → out.new ≡ out.old }
+    ensures statuses { IsTrue (is_among result (ok ∷ no_room ∷ [])) }
+{
+    if copy_out(new.as_bytes(), out, count) {
+        OK
+    } else {
+        NO_ROOM
+    }
+}
+
+/// Copies the text out with the key's value set: in the place of that of its first pair in the first section
+/// of the name, where the later pairs of the key then go; where the section lacks the key, in a new line
+/// there; and where the text lacks the section, in a new one at its end. Every other byte stays.
+///
+/// `NOT_UTF8`, then `UNPLAIN_VALUE` where the value, written, isn't read back, then `BROKEN` where reading
+/// the text stops; and where the pair isn't there, `UNPLAIN_KEY`, `UNPLAIN_NAME` where a section would be
+/// new, and `NO_PLACE` where no place for a line was found. `count` is the new text's number of bytes, where
+/// it fits and where it doesn't.
+#[unsafe(no_mangle)]
+pub extern "C" fn bigrosk_ini_edit_set(
+    alloc: Global,
+    text: &[u8],
+    read: &ReadChoice,
+    write: &WriteChoice,
+    named: bool,
+    section: &[u8],
+    key: &[u8],
+    value: &[u8],
+    out: &mut [u8],
+    count: &mut usize,
+    fault: &mut Fault,
+) -> u32
+    ensures not_utf8 { result ≡ not_utf8 ↔ ¬ (AreEdit text.now section.now key.now × IsUtf8 value.now) }
+    ensures edited { result ≡ ok → IsTextWith
+        (IsSetBy (parse_option read.now) write.now (chars text.now)
+        (name_if named section.now) (chars key.now) (chars value.now)) (take count.new out.new) }
+    ensures zero { result ≡ ok → slice_get out.new count.new ≡ Some 0 }
+    ensures count { result ≡ no_room → IsCountOfText
+        (IsSetBy (parse_option read.now) write.now (chars text.now)
+        (name_if named section.now) (chars key.now) (chars value.now)) count.new }
+    ensures no_room { result ≡ no_room → length out.old ≤ count.new }
+    ensures unplain_value { result ≡ unplain_value → RefusesToSetBy (parse_option read.now) write.now
+        (chars text.now) (name_if named section.now) (chars key.now) (chars value.now) Value }
+    ensures unplain_key { result ≡ unplain_key → RefusesToSetBy (parse_option read.now) write.now
+        (chars text.now) (name_if named section.now) (chars key.now) (chars value.now) Key }
+    ensures unplain_name { result ≡ unplain_name → RefusesToSetBy (parse_option read.now) write.now
+        (chars text.now) (name_if named section.now) (chars key.now) (chars value.now) Name }
+    ensures no_place { result ≡ no_place → RefusesToSetBy (parse_option read.now) write.now
+        (chars text.now) (name_if named section.now) (chars key.now) (chars value.now) NoPlace }
+    ensures broken { result ≡ broken → IsStopAt (parse_option read.now) (chars text.now) fault.new }
+    ensures stays { ¬ (result ≡ ok) → out.new ≡ out.old }
+    ensures fault_stays { ¬ (result ≡ broken) → fault.new ≡ fault.old }
+    ensures statuses { IsTrue (is_among result (ok ∷ no_room ∷ broken ∷ not_utf8 ∷ no_memory
+        ∷ unplain_value ∷ unplain_key ∷ no_place ∷ unplain_name ∷ [])) }
+{
+    let Ok(text) = str::from_utf8(text) else {
+        return NOT_UTF8;
+    };
+    let Some((name, key, value)) = pair_of(named, section, key, value) else {
+        return NOT_UTF8;
+    };
+    let option = write.to_option();
+    match set(alloc, text, read.to_option(), &option, name, key, value) {
+        Ok(new) => give(new.as_str(), out, count),
+        Err(EditError::Value) => UNPLAIN_VALUE,
+        Err(EditError::Key) => UNPLAIN_KEY,
+        Err(EditError::Name) => UNPLAIN_NAME,
+        Err(EditError::NoPlace) => NO_PLACE,
+        Err(EditError::Text(Error::Parse(stop))) => {
+            tell(&stop, fault);
+            BROKEN
+        }
+        Err(_) => NO_MEMORY,
+    }
+}
+
+/// Copies the text out without the first pair of the key in the first section of the name; every other byte
+/// stays, but for a line end that goes with the pair. `ABSENT` where it isn't there.
+///
+/// `NOT_UTF8`, and then `BROKEN` where reading the text stops. `count` is as with `bigrosk_ini_edit_set`.
+#[unsafe(no_mangle)]
+pub extern "C" fn bigrosk_ini_edit_delete(
+    alloc: Global,
+    text: &[u8],
+    read: &ReadChoice,
+    named: bool,
+    section: &[u8],
+    key: &[u8],
+    out: &mut [u8],
+    count: &mut usize,
+    fault: &mut Fault,
+) -> u32
+    ensures not_utf8 { result ≡ not_utf8 ↔ ¬ (AreEdit text.now section.now key.now) }
+    ensures edited { result ≡ ok → IsTextWith (IsDeleted (parse_option read.now) (chars text.now)
+        (name_if named section.now) (chars key.now)) (take count.new out.new) }
+    ensures zero { result ≡ ok → slice_get out.new count.new ≡ Some 0 }
+    ensures count { result ≡ no_room → IsCountOfText (IsDeleted (parse_option read.now) (chars text.now)
+        (name_if named section.now) (chars key.now)) count.new }
+    ensures no_room { result ≡ no_room → length out.old ≤ count.new }
+    ensures absent { result ≡ absent → LacksPair (parse_option read.now) (chars text.now)
+        (name_if named section.now) (chars key.now) }
+    ensures broken { result ≡ broken → IsStopAt (parse_option read.now) (chars text.now) fault.new }
+    ensures stays { ¬ (result ≡ ok) → out.new ≡ out.old }
+    ensures fault_stays { ¬ (result ≡ broken) → fault.new ≡ fault.old }
+    ensures statuses { IsTrue (is_among result
+        (ok ∷ absent ∷ no_room ∷ broken ∷ not_utf8 ∷ no_memory ∷ [])) }
+{
+    let Ok(text) = str::from_utf8(text) else {
+        return NOT_UTF8;
+    };
+    let Some((name, key)) = place_of(named, section, key) else {
+        return NOT_UTF8;
+    };
+    match delete(alloc, text, read.to_option(), name, key) {
+        Ok(Some(new)) => give(new.as_str(), out, count),
+        Ok(None) => ABSENT,
+        Err(EditError::Text(Error::Parse(stop))) => {
+            tell(&stop, fault);
+            BROKEN
+        }
+        Err(_) => NO_MEMORY,
+    }
+}
