@@ -1,9 +1,10 @@
 #!/bin/sh
 # Every proof and every test: `rt ci`, and then the programs that it built, over real streams, files and long texts
 # (tests/program.sh, tests/files.sh, tests/streams.sh, tests/passing.sh), the scripts that build and run them
-# (tests/scripts.sh), what the programs cost (tests/costs.sh), the page of the public calls (tests/pages.sh), and clients of the
-# C library (tests/c_library.sh). Each step ends with the time that it took. The last line is 'N passed, M failed' over all,
-# and the status is 1 if anything failed.
+# (tests/scripts.sh), what the programs cost (tests/costs.sh), the page of the public calls (tests/pages.sh), pages of the manual,
+# completions and installing (tests/habits.sh), ini_file beside its peers (tests/peers.sh), and clients of the C library
+# (tests/c_library.sh). Each step ends with the time that it took. The last line is 'N passed, M failed' over all, and the
+# status is 1 if anything failed.
 set -u
 cd "$(dirname "$0")/.." || exit 1
 log=$(mktemp)
@@ -42,6 +43,8 @@ run tests/passing.sh
 run tests/scripts.sh
 run tests/costs.sh
 run tests/pages.sh
+run tests/habits.sh
+run tests/peers.sh
 run tests/c_library.sh
 echo "$passed passed, $failed failed"
 [ "$failed" -eq 0 ]
