@@ -9,6 +9,7 @@ pub mod DocumentLemmas
 pub mod EmptyLineLemmas
 pub mod EndedLemmas
 pub mod EndingLemmas
+pub mod ExchangeLemmas
 pub mod FindLemmas
 pub mod GlueLemmas
 pub mod GlueTextLemmas
@@ -16,6 +17,7 @@ pub mod GluedLemmas
 pub mod InsertLemmas
 pub mod InsertedLemmas
 pub mod KeptLemmas
+pub mod KeptPlaceLemmas
 pub mod KeyEdgeLemmas
 pub mod LaterLemmas
 pub mod NewKeyLemmas

@@ -2,8 +2,10 @@ pub mod Added
 pub mod Edited
 pub mod EditedTexts
 pub mod Endings
+pub mod Exchanges
 pub mod FirstPairs
 pub mod Inside
+pub mod KeptPlaces
 pub mod LinePlaces
 pub mod NewLines
 pub mod NewSections

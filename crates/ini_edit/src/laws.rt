@@ -3,6 +3,8 @@
 ghost use Rattle.std.specs.Prelude.{chars};
 ghost use Rattle.ini_text.specs.Laws.Plain.{IsPlainName, IsPlainPair, IsPlainSeparator, IsPlainValue};
 ghost use Rattle.ini_edit.specs.EditedTexts.{Adds, Appends, Deletes, Inserts, KeepsValue, SetsValue};
+ghost use Rattle.ini_edit.specs.Exchanges.{EditsChangePlaces};
+ghost use Rattle.ini_edit.specs.KeptPlaces.{ColumnsStay};
 ghost use Rattle.ini_edit.specs.LinePlaces.{AddsAtPlace, AppendsAtPlace, InsertsAtPlace};
 ghost use Rattle.ini_edit.specs.NewSections.{AppendsBehindEmptyLine};
 
@@ -85,4 +87,16 @@ pub fn section_appended_behind_empty_line(
     requires name { IsPlainName read write.now.escape_policy (chars name.now) }
     requires plain { IsPlainPair read write.now.escape_policy (chars key.now) (chars value.now) }
     ensures { AppendsBehindEmptyLine read write.now (chars name.now) (chars key.now) (chars value.now) }
+{}
+
+/// Two pairs that are there are edited, each given another value or taken out: in either order the texts load
+/// as one document, where the keys are different ones, or those of sections with different names.
+pub fn edits_change_places(text: &str, policy: EscapePolicy, read: ParseOption)
+    ensures { EditsChangePlaces read policy (chars text.now) }
+{}
+
+/// Behind a line feed a place has its column in the old text and in the new one, if what stands behind the
+/// edited stretches is the same: where a text is edited, only places of that line move.
+pub fn columns_stay(old: &str, new: &str, line: &str)
+    ensures { ColumnsStay (chars old.now) (chars new.now) (chars line.now) }
 {}
