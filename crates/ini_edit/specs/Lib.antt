@@ -1,10 +1,13 @@
 pub mod Added
 pub mod Edited
 pub mod EditedTexts
+pub mod Editings
 pub mod Endings
 pub mod FirstPairs
 pub mod Inside
 pub mod LinePlaces
+pub mod Made
+pub mod MadeLists
 pub mod NewLines
 pub mod NewSections
 pub mod NoPlaces
