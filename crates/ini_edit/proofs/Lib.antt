@@ -22,6 +22,7 @@ pub mod KeyEdgeLemmas
 pub mod LaterLemmas
 pub mod NewKeyLemmas
 pub mod LineEndLemmas
+pub mod MadeListLemmas
 pub mod NoPlaceLemmas
 pub mod PadLemmas
 pub mod PairListLemmas

@@ -1,12 +1,15 @@
 pub mod Added
 pub mod Edited
 pub mod EditedTexts
+pub mod Editings
 pub mod Endings
 pub mod Exchanges
 pub mod FirstPairs
 pub mod Inside
 pub mod KeptPlaces
 pub mod LinePlaces
+pub mod Made
+pub mod MadeLists
 pub mod NewLines
 pub mod NewSections
 pub mod NoPlaces

@@ -1,11 +1,14 @@
 //! Where a pair stands in a text, laws of edited texts, of which one stretch was changed and every other
-//! byte kept, and calls that set a key, add a pair, take a pair or a section out, and rename them.
+//! byte kept, and calls that set a key, add a pair, take a pair or a section out, and rename them, each alone
+//! or as a list of edits.
 #![tactic(auto)]
 
 mod addition;
 mod append;
 mod cut;
 mod deletion;
+mod edit_list;
+mod edits;
 mod error;
 mod escape;
 mod find;
@@ -28,6 +31,8 @@ mod walk;
 
 pub use addition::add;
 pub use deletion::delete;
+pub use edit_list::{EditedText, RefusedEdit, make_edits};
+pub use edits::{Edit, make_edit};
 pub use error::EditError;
 pub use find::{FoundPair, find_pair};
 pub use rename::rename_key;

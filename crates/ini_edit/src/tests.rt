@@ -8,6 +8,7 @@ use std::test::Fail;
 
 mod add;
 mod deletion;
+mod edit_list;
 mod find;
 mod new_section;
 mod page;

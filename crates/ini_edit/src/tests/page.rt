@@ -1,5 +1,5 @@
-//! The example of the page on editing, docs/EDITING.md, and its first table.
-use crate::{EditError, set};
+//! The examples of the page on editing, docs/EDITING.md, and its first table.
+use crate::{Edit, EditError, EditedText, RefusedEdit, make_edits, set};
 use ini::{ParseOption, WriteOption};
 use std::alloc::Global;
 use std::test::Fail;
@@ -30,6 +30,49 @@ fn a_port(rt: HostRuntime) -> Result<(), Fail> {
             panic!(&rt; "{text:?} is refused");
         };
         assert!(&rt; is.as_str() == *want, "{text:?}: {is:?}");
+    }
+    Ok(())
+}
+
+/// The text with the port set, the old switch taken out, and the section under another name.
+fn moved(alloc: Global, text: &str) -> Result<EditedText, RefusedEdit> {
+    let (read, write) = (ParseOption::default(), WriteOption::default());
+    let name = Some("server");
+    let edits = [
+        Edit::Set {
+            name,
+            key: "port",
+            value: "443",
+        },
+        Edit::Delete { name, key: "ssl" },
+        Edit::RenameSection {
+            old: "server",
+            new: "web",
+        },
+    ];
+    make_edits(alloc, text, read, &write, &edits)
+}
+
+#[test]
+fn a_list(rt: HostRuntime) -> Result<(), Fail> {
+    for (text, want, is_switch_there) in &[
+        (
+            "[server]\n# of the proxy\nport = 80\nssl=off\n",
+            "[web]\n# of the proxy\nport = 443\n",
+            true,
+        ),
+        ("[server]\nhost=h\n", "[web]\nhost=h\nport=443\n", false),
+    ] {
+        let Ok(is) = moved(rt.alloc(), text) else {
+            panic!(&rt; "{text:?} is refused");
+        };
+        let want_found = [true, *is_switch_there, true];
+        assert!(&rt; is.text.as_str() == *want, "{text:?}: {:?}", is.text);
+        assert!(&rt;
+            is.found.as_slice() == want_found.as_slice(),
+            "{:?}",
+            is.found
+        );
     }
     Ok(())
 }
