@@ -39,7 +39,7 @@ enum bigrosk_ini_status {
     BIGROSK_INI_UNPLAIN_VALUE = 7, /* the value of an edit of a text, written, is not read back */
     BIGROSK_INI_UNPLAIN_KEY = 8,   /* the same of its key */
     BIGROSK_INI_NO_PLACE = 9,      /* a new line can be put into the text nowhere */
-    BIGROSK_INI_UNPLAIN_NAME = 10  /* the name of a section that an edit of a text would open, written, is not read back */
+    BIGROSK_INI_UNPLAIN_NAME = 10  /* the same of the name of a section, which an edit of a text would open or rename */
 };
 
 /* What is wrong where reading a text stops. */
@@ -187,13 +187,13 @@ uint32_t bigrosk_ini_write(struct bigrosk_ini_document *document, const struct b
 bool bigrosk_ini_is_plain(struct bigrosk_ini_document *document, const struct bigrosk_ini_write_option *write,
                           const struct bigrosk_ini_read_option *read);
 
-/* The next two edit a text itself, and keep every byte that the edit is not about: comments, blank lines, alignment, line ends.
+/* The next six edit a text itself, and keep every byte that the edit is not about: comments, blank lines, alignment, line ends.
  * No document is used: the text comes in as bytes, and the new one is copied into `out`, and a 0 behind it; count says how many
  * bytes it has, with OK and with NO_ROOM. The text that comes in stays as it is. The options say how it is read, and how what is put
  * in is written. A mark at its front (the bytes EF BB BF) is a character like others: bigrosk_ini_mark says how many bytes to leave
  * out before the call, and to keep.
- * Both answer NOT_UTF8 before anything else, and BROKEN, and only then is the fault written, where reading the text stops,
- * also behind the pair that the edit is about; NO_MEMORY; NO_ROOM where the buffer has room for no more than count bytes. With
+ * Each answers NOT_UTF8 before anything else, and BROKEN, and only then is the fault written, where reading the text stops,
+ * also behind the place that the edit is about; NO_MEMORY; NO_ROOM where the buffer has room for no more than count bytes. With
  * anything but OK the buffer is as it was. */
 
 /* Sets the key's value: in the place of that of its first pair, and the key's later pairs in that section go; where the section
@@ -208,6 +208,17 @@ uint32_t bigrosk_ini_edit_set(const uint8_t *text, size_t text_count, const stru
                               size_t value_count, uint8_t *out, size_t room, size_t *count,
                               struct bigrosk_ini_fault *fault);
 
+/* Adds a further pair, whatever pairs of the key are there: in a new line behind the section's last item, before comments there; and
+ * where no section has the name, in a new one at the text's end, behind an empty line. Every byte stays. The new text loads as the
+ * document to which the pair is added.
+ * OK; UNPLAIN_VALUE and UNPLAIN_KEY, in this order, before the text is read; UNPLAIN_NAME where no section has the name; NO_PLACE,
+ * as above; and those above. */
+uint32_t bigrosk_ini_edit_add(const uint8_t *text, size_t text_count, const struct bigrosk_ini_read_option *read,
+                              const struct bigrosk_ini_write_option *write, bool named, const uint8_t *section,
+                              size_t section_count, const uint8_t *key, size_t key_count, const uint8_t *value,
+                              size_t value_count, uint8_t *out, size_t room, size_t *count,
+                              struct bigrosk_ini_fault *fault);
+
 /* Takes the key's first pair out, with its line end where what follows is read as before. The new text loads as the document
  * without the pair.
  * OK; ABSENT where the key is not there; and those above. */
@@ -215,6 +226,32 @@ uint32_t bigrosk_ini_edit_delete(const uint8_t *text, size_t text_count, const s
                                  bool named, const uint8_t *section, size_t section_count, const uint8_t *key,
                                  size_t key_count, uint8_t *out, size_t room, size_t *count,
                                  struct bigrosk_ini_fault *fault);
+
+/* Gives the key's first pair another key: the key alone changes. Other pairs, of either key, stay.
+ * OK; ABSENT where the key is not there; UNPLAIN_KEY where the new key, written in any pair's place, is not read back, before the
+ * text is read; and those above. */
+uint32_t bigrosk_ini_edit_rename_key(const uint8_t *text, size_t text_count, const struct bigrosk_ini_read_option *read,
+                                     const struct bigrosk_ini_write_option *write, bool named, const uint8_t *section,
+                                     size_t section_count, const uint8_t *key, size_t key_count,
+                                     const uint8_t *new_key, size_t new_key_count, uint8_t *out, size_t room,
+                                     size_t *count, struct bigrosk_ini_fault *fault);
+
+/* Takes the first section of the name out, from its header's bracket up to the next header or the text's end; comments behind its
+ * last pair stay, from the first one on. The general section has no name and does not go.
+ * OK; ABSENT where no section has the name; and those above. */
+uint32_t bigrosk_ini_edit_delete_section(const uint8_t *text, size_t text_count,
+                                         const struct bigrosk_ini_read_option *read, const uint8_t *section,
+                                         size_t section_count, uint8_t *out, size_t room, size_t *count,
+                                         struct bigrosk_ini_fault *fault);
+
+/* Puts another name into the header of the first section of the name: the header alone changes.
+ * OK; ABSENT where no section has the name; UNPLAIN_NAME where the new name, written, is not read back, before the text is read; and
+ * those above. */
+uint32_t bigrosk_ini_edit_rename_section(const uint8_t *text, size_t text_count,
+                                         const struct bigrosk_ini_read_option *read,
+                                         const struct bigrosk_ini_write_option *write, const uint8_t *section,
+                                         size_t section_count, const uint8_t *new_name, size_t new_name_count,
+                                         uint8_t *out, size_t room, size_t *count, struct bigrosk_ini_fault *fault);
 
 /* How many bytes of the text are a mark at its front: 3 or 0. Plain C. */
 static inline size_t bigrosk_ini_mark(const uint8_t *text, size_t text_count)
@@ -311,6 +348,17 @@ static inline uint32_t bigrosk_ini_edit_set_str(const char *text, const char *se
                                 (uint8_t *)out, room, count, fault);
 }
 
+static inline uint32_t bigrosk_ini_edit_add_str(const char *text, const char *section, const char *key, const char *value,
+                                                char *out, size_t room, size_t *count, struct bigrosk_ini_fault *fault)
+{
+    struct bigrosk_ini_read_option read = BIGROSK_INI_READ_DEFAULT;
+    struct bigrosk_ini_write_option write = BIGROSK_INI_WRITE_DEFAULT;
+    return bigrosk_ini_edit_add(bigrosk_ini_bytes(text), bigrosk_ini_count(text), &read, &write, section != NULL,
+                                bigrosk_ini_bytes(section), bigrosk_ini_count(section), bigrosk_ini_bytes(key),
+                                bigrosk_ini_count(key), bigrosk_ini_bytes(value), bigrosk_ini_count(value),
+                                (uint8_t *)out, room, count, fault);
+}
+
 static inline uint32_t bigrosk_ini_edit_delete_str(const char *text, const char *section, const char *key, char *out,
                                                    size_t room, size_t *count, struct bigrosk_ini_fault *fault)
 {
@@ -318,6 +366,41 @@ static inline uint32_t bigrosk_ini_edit_delete_str(const char *text, const char 
     return bigrosk_ini_edit_delete(bigrosk_ini_bytes(text), bigrosk_ini_count(text), &read, section != NULL,
                                    bigrosk_ini_bytes(section), bigrosk_ini_count(section), bigrosk_ini_bytes(key),
                                    bigrosk_ini_count(key), (uint8_t *)out, room, count, fault);
+}
+
+static inline uint32_t bigrosk_ini_edit_rename_key_str(const char *text, const char *section, const char *key,
+                                                       const char *new_key, char *out, size_t room, size_t *count,
+                                                       struct bigrosk_ini_fault *fault)
+{
+    struct bigrosk_ini_read_option read = BIGROSK_INI_READ_DEFAULT;
+    struct bigrosk_ini_write_option write = BIGROSK_INI_WRITE_DEFAULT;
+    return bigrosk_ini_edit_rename_key(bigrosk_ini_bytes(text), bigrosk_ini_count(text), &read, &write,
+                                       section != NULL, bigrosk_ini_bytes(section), bigrosk_ini_count(section),
+                                       bigrosk_ini_bytes(key), bigrosk_ini_count(key), bigrosk_ini_bytes(new_key),
+                                       bigrosk_ini_count(new_key), (uint8_t *)out, room, count, fault);
+}
+
+static inline uint32_t bigrosk_ini_edit_delete_section_str(const char *text, const char *section, char *out,
+                                                           size_t room, size_t *count, struct bigrosk_ini_fault *fault)
+{
+    struct bigrosk_ini_read_option read = BIGROSK_INI_READ_DEFAULT;
+    if (!section) return BIGROSK_INI_ABSENT; /* the general section does not go */
+    return bigrosk_ini_edit_delete_section(bigrosk_ini_bytes(text), bigrosk_ini_count(text), &read,
+                                           bigrosk_ini_bytes(section), bigrosk_ini_count(section), (uint8_t *)out, room,
+                                           count, fault);
+}
+
+static inline uint32_t bigrosk_ini_edit_rename_section_str(const char *text, const char *section, const char *new_name,
+                                                           char *out, size_t room, size_t *count,
+                                                           struct bigrosk_ini_fault *fault)
+{
+    struct bigrosk_ini_read_option read = BIGROSK_INI_READ_DEFAULT;
+    struct bigrosk_ini_write_option write = BIGROSK_INI_WRITE_DEFAULT;
+    if (!section) return BIGROSK_INI_ABSENT; /* the general section has no header */
+    return bigrosk_ini_edit_rename_section(bigrosk_ini_bytes(text), bigrosk_ini_count(text), &read, &write,
+                                           bigrosk_ini_bytes(section), bigrosk_ini_count(section),
+                                           bigrosk_ini_bytes(new_name), bigrosk_ini_count(new_name), (uint8_t *)out,
+                                           room, count, fault);
 }
 
 /* A walk over what a call has listed. */

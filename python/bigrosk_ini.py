@@ -14,11 +14,15 @@
     document.walk()                     # all sections with their pairs, repeated names too
     str(document)                       # the text
 
-A text itself is edited by two functions, which keep its comments, its blank lines and its layout:
+A text itself is edited by functions that keep its comments, its blank lines and its layout:
 
     text = edit_set(text, "paths", "log", "/srv/log")   # in the place of the first value
     text = edit_set(text, "paths", "tmp", "/tmp")       # which isn't there: in a new line of the section
+    text = edit_add(text, "paths", "tmp", "/var/tmp")   # a further pair
     text = edit_delete(text, "paths", "cache")
+    text = edit_rename_key(text, "paths", "log", "logs")
+    text = edit_rename_section(text, "paths", "files")
+    text = edit_delete_section(text, "files")
 
 The shared library is the one that BIGROSK_INI_LIBRARY names, or libbigrosk_ini.so. A text that is refused raises Broken, which
 has .line, .column, .kind and .message.
@@ -92,7 +96,11 @@ for _call, _arguments, _result in [
     ("write", [_document, _write] + _out, ctypes.c_uint32),
     ("is_plain", [_document, _write, _read], ctypes.c_bool),
     ("edit_set", _text + [_read, _write] + _name + _text + _text + _out + [_fault], ctypes.c_uint32),
+    ("edit_add", _text + [_read, _write] + _name + _text + _text + _out + [_fault], ctypes.c_uint32),
     ("edit_delete", _text + [_read] + _name + _text + _out + [_fault], ctypes.c_uint32),
+    ("edit_rename_key", _text + [_read, _write] + _name + _text + _text + _out + [_fault], ctypes.c_uint32),
+    ("edit_delete_section", _text + [_read] + _text + _out + [_fault], ctypes.c_uint32),
+    ("edit_rename_section", _text + [_read, _write] + _text + _text + _out + [_fault], ctypes.c_uint32),
     ("version", [], ctypes.c_uint32),
 ]:
     _function = getattr(_library, "bigrosk_ini_" + _call)
@@ -127,12 +135,16 @@ def _is_done(status):
     return status == _OK
 
 
-def _texts(section, *texts):
-    words = [section is not None]
-    for text in ("" if section is None else section,) + texts:
+def _words(*texts):
+    words = []
+    for text in texts:
         text = text.encode()
         words += [text, len(text)]
     return words
+
+
+def _texts(section, *texts):
+    return [section is not None] + _words("" if section is None else section, *texts)
 
 
 def _copied(call, *words):
@@ -298,22 +310,23 @@ class Section(MutableMapping):
         return list(zip(texts, texts))
 
 
-def _edited(call, text, options, section, *texts):
-    """The text as the call edits it, as str or bytes as it came; a mark at its front stays."""
+def _edited(call, text, options, words, what):
+    """The text as the call edits it, as str or bytes as it came; a mark at its front stays. KeyError of `what` where that isn't
+    there."""
     is_bytes = isinstance(text, bytes)
     whole = text if is_bytes else text.encode()
     mark = whole[:3] if whole.startswith(b"\xef\xbb\xbf") else b""
     old, room, count, fault = whole[len(mark) :], len(whole) + 256, ctypes.c_size_t(), _Fault()
     while True:
         out = ctypes.create_string_buffer(room)
-        status = call(old, len(old), *options, *_texts(section, *texts), out, room, count, fault)
+        status = call(old, len(old), *options, *words, out, room, count, fault)
         if status != _NO_ROOM:
             break
         room = count.value + 1
     if status == _BROKEN:
         raise Broken(fault)
     if not _is_done(status):
-        raise KeyError(texts[0])
+        raise KeyError(what)
     new = mark + out.raw[: count.value]
     return new if is_bytes else new.decode()
 
@@ -322,12 +335,41 @@ def edit_set(text, section, key, value, read=None, write=None):
     """The text with the key's value set: in the place of that of its first pair, and the later ones there go; or in a new line of the
     section, or in a new section."""
     options = read or ReadOption(), write or WriteOption()
-    return _edited(_library.bigrosk_ini_edit_set, text, options, section, key, value)
+    return _edited(_library.bigrosk_ini_edit_set, text, options, _texts(section, key, value), key)
+
+
+def edit_add(text, section, key, value, read=None, write=None):
+    """The text with a further pair, whatever pairs of the key are there: in a new line of the section, or in a new section."""
+    options = read or ReadOption(), write or WriteOption()
+    return _edited(_library.bigrosk_ini_edit_add, text, options, _texts(section, key, value), key)
 
 
 def edit_delete(text, section, key, read=None):
     """The text without the key's first pair. KeyError where it isn't there."""
-    return _edited(_library.bigrosk_ini_edit_delete, text, (read or ReadOption(),), section, key)
+    return _edited(_library.bigrosk_ini_edit_delete, text, (read or ReadOption(),), _texts(section, key), key)
+
+
+def edit_rename_key(text, section, key, new, read=None, write=None):
+    """The text with another key in the key's first pair. KeyError where it isn't there."""
+    options = read or ReadOption(), write or WriteOption()
+    return _edited(_library.bigrosk_ini_edit_rename_key, text, options, _texts(section, key, new), key)
+
+
+def edit_delete_section(text, section, read=None):
+    """The text without the first section of the name, but for comments behind its last pair. KeyError where it isn't there, as the
+    general section, which doesn't go."""
+    if section is None:
+        raise KeyError(section)
+    return _edited(_library.bigrosk_ini_edit_delete_section, text, (read or ReadOption(),), _words(section), section)
+
+
+def edit_rename_section(text, section, new, read=None, write=None):
+    """The text with another name in the header of the first section of the name. KeyError where it isn't there, as the general
+    section, which has no header."""
+    if section is None:
+        raise KeyError(section)
+    options = read or ReadOption(), write or WriteOption()
+    return _edited(_library.bigrosk_ini_edit_rename_section, text, options, _words(section, new), section)
 
 
 def version():

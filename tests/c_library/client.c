@@ -271,19 +271,30 @@ static void long_walk(void)
     free(counts);
 }
 
-enum edit { set, del };
+enum edit { set, del, add, rename_key, del_section, rename_section };
 
-/* an edit of the text, by these options */
+/* an edit of the text, by these options; the value is the new key or the new name where the edit renames */
 static uint32_t edit_by(enum edit what, const struct bigrosk_ini_read_option *read,
                         const struct bigrosk_ini_write_option *write, const char *text, const char *section,
                         const char *key, const char *value, uint8_t *out, size_t room, size_t *count, fault *f)
 {
     const uint8_t *t = bigrosk_ini_bytes(text), *s = bigrosk_ini_bytes(section), *k = bigrosk_ini_bytes(key);
+    const uint8_t *v = bigrosk_ini_bytes(value);
     size_t texts = bigrosk_ini_count(text), sections = bigrosk_ini_count(section), keys = bigrosk_ini_count(key);
-    if (what == del)
-        return bigrosk_ini_edit_delete(t, texts, read, section != NULL, s, sections, k, keys, out, room, count, f);
-    return bigrosk_ini_edit_set(t, texts, read, write, section != NULL, s, sections, k, keys, bigrosk_ini_bytes(value),
-                                bigrosk_ini_count(value), out, room, count, f);
+    size_t values = bigrosk_ini_count(value);
+    bool named = section != NULL;
+    switch (what) {
+    case del: return bigrosk_ini_edit_delete(t, texts, read, named, s, sections, k, keys, out, room, count, f);
+    case add:
+        return bigrosk_ini_edit_add(t, texts, read, write, named, s, sections, k, keys, v, values, out, room, count, f);
+    case rename_key:
+        return bigrosk_ini_edit_rename_key(t, texts, read, write, named, s, sections, k, keys, v, values, out, room, count, f);
+    case del_section: return bigrosk_ini_edit_delete_section(t, texts, read, s, sections, out, room, count, f);
+    case rename_section:
+        return bigrosk_ini_edit_rename_section(t, texts, read, write, s, sections, v, values, out, room, count, f);
+    default:
+        return bigrosk_ini_edit_set(t, texts, read, write, named, s, sections, k, keys, v, values, out, room, count, f);
+    }
 }
 
 /* whether the edit gives this text, or where want is NULL this status, and then leaves buffer and fault */
@@ -365,11 +376,58 @@ static void text_edits(void)
     CHECK(is_edited_by(set, &lines, &plain, "[a]\n  k", "a", "j", "v", NULL, BIGROSK_INI_NO_PLACE));
 }
 
+/* a further pair, and renames */
+static void more_text_edits(void)
+{
+    struct bigrosk_ini_write_option spaced = { BIGROSK_INI_EVERYTHING, true, 1 };
+    struct bigrosk_ini_read_option lines = { true, true, true, false, false };
+    struct bigrosk_ini_read_option indents = { true, true, false, true, false };
+    /* a further pair */
+    CHECK(is_edited(add, "[a]\nj=w\n# of b\n[b]", "a", "k", "v", "[a]\nj=w\nk=v\n# of b\n[b]"));
+    CHECK(is_edited(add, "[a]\nk=u\nj=w\n", "a", "k", "v", "[a]\nk=u\nj=w\nk=v\n"));
+    CHECK(is_edited(add, "[a][b]", "a", "k", "v", "[a]\nk=v\n[b]"));
+    CHECK(is_edited(add, "[a]j=\\", "a", "k", "v", "[a]j=\\\\\nk=v\n"));
+    CHECK(is_edited(add, "host=h\n", "server", "port", "443", "host=h\n\n[server]\nport=443\n"));
+    CHECK(is_edited_by(add, &usual, &spaced, "k=u\n", NULL, "k", "\xc3\xbc", "k=u\nk = \\x00fc\n", 0));
+    CHECK(is_edited_by(add, &usual, &spaced, "", NULL, "k", "v", "k = v\r\n", 0));
+    CHECK(is_left(add, "= no key", "a", "", " v", BIGROSK_INI_UNPLAIN_VALUE));
+    CHECK(is_left(add, "= no key", "a", "", "v", BIGROSK_INI_UNPLAIN_KEY));
+    CHECK(is_left(add, "[a]\nk=u\n", " a", "k", "v", BIGROSK_INI_UNPLAIN_NAME));
+    CHECK(is_left(add, "[a]\n", "a", "k", "\xff", BIGROSK_INI_NOT_UTF8));
+    CHECK(is_left(add, "[a]\n\xff", "a", "k", " v", BIGROSK_INI_NOT_UTF8));
+    CHECK(is_edited_by(add, &lines, &plain, "[a]\n  k", "a", "j", "v", NULL, BIGROSK_INI_NO_PLACE));
+    /* another key */
+    CHECK(is_edited(rename_key, "[a]\n  k\t= 'v'   \n# c\n", "a", "k", "new", "[a]\n  new\t= 'v'   \n# c\n"));
+    CHECK(is_edited(rename_key, "k=1\nk=2\n", NULL, "k", "new", "new=1\nk=2\n"));
+    CHECK(is_edited_by(rename_key, &lines, &plain, "[a]k=v\n  w\n", "a", "k", "new", "[a]new=v\n  w\n", 0));
+    CHECK(is_edited_by(rename_key, &indents, &plain, "\tk =v\n", NULL, "\tk", "new", "new =v\n", 0));
+    CHECK(is_edited_by(rename_key, &usual, &spaced, "k=v", NULL, "k", "\xc3\xbc", "\\x00fc=v", 0));
+    CHECK(is_left(rename_key, "[a]\nk=v\n", NULL, "k", "new", BIGROSK_INI_ABSENT));
+    CHECK(is_left(rename_key, "= no key", NULL, "k", "", BIGROSK_INI_UNPLAIN_KEY));
+    CHECK(is_left(rename_key, "k=v", NULL, "k", " new", BIGROSK_INI_UNPLAIN_KEY));
+    CHECK(is_left(rename_key, "k=v", NULL, "k", "\xff", BIGROSK_INI_NOT_UTF8));
+    /* a section taken out */
+    CHECK(is_edited(del_section, "[a]\n# of k\nk=v\n\n# of b\n[b]", "a", NULL, NULL, "# of b\n[b]"));
+    CHECK(is_edited(del_section, "[a] [b]\nk=v", "a", NULL, NULL, "[b]\nk=v"));
+    CHECK(is_edited(del_section, "[b] [a]\nk=v\n# of c\n[c]", "a", NULL, NULL, "[b] [c]"));
+    CHECK(is_edited(del_section, "  [a]\nk=v\n  [b]", "a", NULL, NULL, "  [b]"));
+    CHECK(is_left(del_section, "a=1\n[a]\n", "", NULL, NULL, BIGROSK_INI_ABSENT));
+    CHECK(is_left(del_section, "[a]\n", "\xff", NULL, NULL, BIGROSK_INI_NOT_UTF8));
+    /* another name */
+    CHECK(is_edited(rename_section, "# c\n [ a ] \nk=v", "a", NULL, "x", "# c\n [x] \nk=v"));
+    CHECK(is_edited(rename_section, "[b] [a]k=v", "a", NULL, "x", "[b] [x]k=v"));
+    CHECK(is_edited(rename_section, "[a]\n[b]\n[a]\n", "a", NULL, "b", "[b]\n[b]\n[a]\n"));
+    CHECK(is_edited_by(rename_section, &usual, &spaced, "[a]", "a", NULL, "\xc3\xbc", "[\\x00fc]", 0));
+    CHECK(is_left(rename_section, "a=1\n", "a", NULL, "x", BIGROSK_INI_ABSENT));
+    CHECK(is_left(rename_section, "= no key", "a", NULL, " x", BIGROSK_INI_UNPLAIN_NAME));
+    CHECK(is_left(rename_section, "[a]", "a", NULL, "\xff", BIGROSK_INI_NOT_UTF8));
+}
+
 /* whether each edit of the text is refused so, and the buffer stays */
 static bool are_edits_refused(const char *text, uint32_t kind, size_t line, size_t column, const char *message)
 {
     bool same = true;
-    for (enum edit what = set; what <= del; what++) {
+    for (enum edit what = set; what <= rename_section; what++) {
         fault f = { 0, 0, 0, "" };
         uint8_t out[64] = "as it was";
         size_t count = 0;
@@ -394,6 +452,16 @@ static void refused_text_edits(void)
         && !strcmp(out, "[s]\na=2\n"));
     CHECK(bigrosk_ini_edit_delete_str("[s]\na=2\n", "s", "a", out, sizeof out, &count, &f) == BIGROSK_INI_OK
         && !strcmp(out, "[s]\n"));
+    CHECK(bigrosk_ini_edit_add_str("[s]\na=1\n", "s", "a", "2", out, sizeof out, &count, &f) == BIGROSK_INI_OK
+        && !strcmp(out, "[s]\na=1\na=2\n"));
+    CHECK(bigrosk_ini_edit_rename_key_str("a=1", NULL, "a", "b", out, sizeof out, &count, &f) == BIGROSK_INI_OK
+        && !strcmp(out, "b=1"));
+    CHECK(bigrosk_ini_edit_delete_section_str("a=1\n[s]\na=2\n", "s", out, sizeof out, &count, &f) == BIGROSK_INI_OK
+        && !strcmp(out, "a=1\n"));
+    CHECK(bigrosk_ini_edit_delete_section_str("a=1\n[]", NULL, out, sizeof out, &count, &f) == BIGROSK_INI_ABSENT);
+    CHECK(bigrosk_ini_edit_rename_section_str("[s]\n", "s", "t", out, sizeof out, &count, &f) == BIGROSK_INI_OK
+        && !strcmp(out, "[t]\n"));
+    CHECK(bigrosk_ini_edit_rename_section_str("[]\n", NULL, "t", out, sizeof out, &count, &f) == BIGROSK_INI_ABSENT);
     const char *marked = "\xef\xbb\xbf" "a=1";
     mark = bigrosk_ini_mark((const uint8_t *)marked, strlen(marked));
     CHECK(mark == 3 && bigrosk_ini_mark((const uint8_t *)"\xef\xbb", 2) == 0);
@@ -433,6 +501,7 @@ int main(void)
     walks();
     long_walk();
     text_edits();
+    more_text_edits();
     refused_text_edits();
     many();
     printf("%d checks, %d failed\n", checks, failed);

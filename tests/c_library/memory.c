@@ -39,7 +39,7 @@ void rattle_dealloc(void *at)
     free(at);
 }
 
-enum { load, set, add, write, all, pairs, items, edit_set, edit_new, edit_delete, calls };
+enum { load, set, add, write, all, pairs, items, edit_set, edit_new, edit_add, edit_delete, edit_rename, edit_out, edit_name, calls };
 
 /* one call with n requests granted */
 static uint32_t call(int which, long n, struct bigrosk_ini_document *d)
@@ -62,6 +62,10 @@ static uint32_t call(int which, long n, struct bigrosk_ini_document *d)
     case edit_set: status = bigrosk_ini_edit_set_str(lines, "s", "c", "9", (char *)text, sizeof text, &count, &f); break;
     case edit_delete: status = bigrosk_ini_edit_delete_str(lines, "s", "c", (char *)text, sizeof text, &count, &f); break;
     case edit_new: status = bigrosk_ini_edit_set_str(lines, "u", "e", "9", (char *)text, sizeof text, &count, &f); break;
+    case edit_add: status = bigrosk_ini_edit_add_str(lines, "s", "c", "9", (char *)text, sizeof text, &count, &f); break;
+    case edit_rename: status = bigrosk_ini_edit_rename_key_str(lines, "s", "c", "e", (char *)text, sizeof text, &count, &f); break;
+    case edit_out: status = bigrosk_ini_edit_delete_section_str(lines, "s", (char *)text, sizeof text, &count, &f); break;
+    case edit_name: status = bigrosk_ini_edit_rename_section_str(lines, "s", "u", (char *)text, sizeof text, &count, &f); break;
     default: status = bigrosk_ini_write(d, &option, text, sizeof text, &count); break;
     }
     left = 1000000;

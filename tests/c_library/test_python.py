@@ -2,7 +2,8 @@
 import random
 import resource
 import time
-from bigrosk_ini import Broken, Document, ReadOption, Unwritable, WriteOption, edit_delete, edit_set, version
+from bigrosk_ini import Broken, Document, ReadOption, Unwritable, WriteOption, version
+from bigrosk_ini import edit_add, edit_delete, edit_delete_section, edit_rename_key, edit_rename_section, edit_set
 
 
 def refusal(text):
@@ -110,7 +111,16 @@ def text_edits():
     assert edit_set("a=1\n", None, "a", "b\tc", ReadOption(), WriteOption(policy=0x99)) == "a=b\\tc\n"
     assert edit_set(text, "s", "host", "h") == text + "host=h\n"
     assert edit_set(text, "t", "host", "h") == text + "\n[t]\nhost=h\n"
+    assert edit_add(text, "s", "port", "82") == text + "port=82\n"
+    assert edit_add(b"\xef\xbb\xbf", None, "a", "1", ReadOption(), WriteOption(crlf=True)) == b"\xef\xbb\xbfa=1\r\n"
+    assert edit_rename_key(text, "s", "port", "ports") == "; head\n[s]\n  ports\t= 80   # no comment\n# d\nport=81\n"
+    assert edit_rename_section("[a]\n[b]", "b", "ü") == "[a]\n[ü]"
+    assert edit_delete_section("[a]\nk=v\n# of b\n[b]", "a") == "# of b\n[b]"
     assert is_raised(KeyError, lambda: edit_delete(text, None, "port"))
+    assert is_raised(KeyError, lambda: edit_rename_key(text, "s", "ports", "port"))
+    assert is_raised(KeyError, lambda: edit_delete_section("a=1\n[]", None))
+    assert is_raised(KeyError, lambda: edit_delete_section(text, "t"))
+    assert is_raised(KeyError, lambda: edit_rename_section(text, None, "t"))
     assert is_raised(UnicodeError, lambda: edit_delete(b"\xff", None, "port"))
     for what, call in (
         ("value", lambda: edit_set(text, "s", "port", " 1")),
@@ -118,6 +128,12 @@ def text_edits():
         ("key", lambda: edit_set(text, "s", "", "1")),
         ("name", lambda: edit_set(text, " s", "port", "1")),
         ("place", lambda: edit_set("[a]\n  junk", "a", "k", "v", ReadOption(multiline=True))),
+        ("value", lambda: edit_add("= no key", "s", "", " 1")),
+        ("key", lambda: edit_add("= no key", "s", "", "1")),
+        ("name", lambda: edit_add(text, " s", "port", "1")),
+        ("place", lambda: edit_add("[a]\n  junk", "a", "k", "v", ReadOption(multiline=True))),
+        ("key", lambda: edit_rename_key("= no key", None, "a", " b")),
+        ("name", lambda: edit_rename_section("= no key", "a", " b")),
     ):
         try:
             call()
@@ -140,38 +156,59 @@ def text_lines():
     return lines
 
 
+def edit_both(what, text, model, name, key, value):
+    """The text edited, and the list of its sections with their pairs edited beside it; KeyError where there is nothing to edit."""
+    place = next((i for i, (other, _) in enumerate(model) if other == name), None)
+    section = model[place][1] if place is not None else []
+    at = next((i for i, pair in enumerate(section) if pair[0] == key), None)
+    if what in ("set", "add"):
+        text = (edit_set if what == "set" else edit_add)(text, name, key, value)
+        if place is None:
+            model.append((name, section))
+        if what == "set" and at is not None:
+            section[at:] = [(key, value)] + [pair for pair in section[at + 1 :] if pair[0] != key]
+        else:
+            section.append((key, value))
+    elif what == "delete":
+        text = edit_delete(text, name, key)
+        del section[at]
+    elif what == "rename_key":
+        text = edit_rename_key(text, name, key, "neu")
+        section[at] = "neu", section[at][1]
+    elif what == "delete_section":
+        text = edit_delete_section(text, name)
+        del model[place]
+    else:
+        text = edit_rename_section(text, name, "ö")
+        model[place] = "ö", section
+    return text
+
+
 def text_runs():
-    """Random edits of texts, beside a list of sections: the new text loads as that list, and keeps all comments."""
+    """Random edits of texts, beside a list of sections: the new text loads as that list, and keeps all comments, but for those of a
+    section that is taken out."""
     random.seed(11)
-    done = {"set": 0, "delete": 0, "none": 0}
-    for _ in range(600):
+    done = dict.fromkeys(("set", "add", "delete", "rename_key", "delete_section", "rename_section", "none"), 0)
+    for _ in range(1200):
         text = random.choice(("\n", "\r\n")).join(text_lines()) + "\n"
         for _ in range(6):
             comments = [line for line in text.splitlines() if line[:1] in ("#", ";")]
             model = [(name, list(pairs)) for name, pairs in Document(text).walk()]
             name, key, value = random.choice((None, "a", "b")), random.choice("xyz"), random.choice(("7", "ü", "a\tb", ""))
+            what = random.choice(("set", "add", "delete", "rename_key", "delete_section", "rename_section"))
+            is_section = what in ("delete_section", "rename_section")
             section = next((pairs for other, pairs in model if other == name), None)
-            at = next((i for i, pair in enumerate(section or ()) if pair[0] == key), None)
-            what = random.choice(("set", "delete"))
+            is_there = section is not None and (is_section or any(pair[0] == key for pair in section))
             try:
-                if what == "set":
-                    text = edit_set(text, name, key, value)
-                    if section is None:
-                        section = []
-                        model.append((name, section))
-                    if at is not None:
-                        section[at:] = [(key, value)] + [pair for pair in section[at + 1 :] if pair[0] != key]
-                    else:
-                        section.append((key, value))
-                else:
-                    text = edit_delete(text, name, key)
-                    del section[at]
+                text = edit_both(what, text, model, name, key, value)
                 done[what] += 1
+                assert is_there or what in ("set", "add")
             except KeyError:
-                assert what == "delete" and at is None
+                assert what not in ("set", "add") and (not is_there or is_section and name is None)
                 done["none"] += 1
             assert Document(text).walk() == model
-            assert [line for line in text.splitlines() if line[:1] in ("#", ";")] == comments
+            kept = [line for line in text.splitlines() if line[:1] in ("#", ";")]
+            assert kept == comments or what == "delete_section" and set(kept) <= set(comments)
     assert min(done.values()) > 100, done
 
 

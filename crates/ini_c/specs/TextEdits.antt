@@ -1,11 +1,11 @@
 -- What an edit of a text gives, as C is told.
 use Rattle.std.specs.Prelude.{◌≡◌, ℕ, List, Option, length, chars}
 use Rattle.std.specs.Str.{IsUtf8}
-use Rattle.ini.specs.Edits.{set_in}
+use Rattle.ini.specs.Edits.{add_in, set_in}
 use Rattle.ini.specs.Texts.{Text}
 use Rattle.ini_text.specs.declared.option.ParseOption.{ParseOption}
 use Rattle.ini_text.specs.declared.write.option.WriteOption.{WriteOption}
-use Rattle.ini_edit.specs.Added.{LoadsEdited}
+use Rattle.ini_edit.specs.Added.{IsAdded, LoadsEdited, RefusesToAdd}
 use Rattle.ini_edit.specs.NewLines.{like_lines_of}
 use Rattle.ini_edit.specs.Settings.{IsSet, RefusesToSet}
 use Rattle.ini_edit.specs.declared.error.EditError.{EditError}
@@ -38,3 +38,18 @@ pub record RefusesToSetBy (o : ParseOption) (choice : WriteChoice) (T : Text) (n
   pub option : WriteOption
   pub asked : IsWriteOption choice option
   pub refuses : RefusesToSet o option T name key value e
+
+-- The text U is T to which the pair is added, by the option that the choice asks for, and loads so.
+pub record IsAddedBy (o : ParseOption) (choice : WriteChoice) (T : Text) (name : Option Text)
+    (key value U : Text) : Type 0 where
+  pub option : WriteOption
+  pub asked : IsWriteOption choice option
+  pub is_added : IsAdded o (like_lines_of T option) T key value U name
+  pub loads : LoadsEdited o T U (add_in name key value)
+
+-- adding the pair, by the option that the choice asks for, is refused so
+pub record RefusesToAddBy (o : ParseOption) (choice : WriteChoice) (T : Text) (name : Option Text)
+    (key value : Text) (e : EditError) : Type 0 where
+  pub option : WriteOption
+  pub asked : IsWriteOption choice option
+  pub refuses : RefusesToAdd o option T name key value e

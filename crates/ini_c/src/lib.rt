@@ -32,6 +32,8 @@ mod look_up;
 mod options;
 mod parts;
 mod text_edits;
+mod text_renames;
+mod text_sections;
 mod walks;
 mod writing;
 
@@ -39,7 +41,9 @@ pub use crate::copies::Sizes;
 pub use crate::document::{Document, Kept};
 pub use crate::fault::Fault;
 pub use crate::options::{ReadChoice, WriteChoice};
-pub use crate::text_edits::{bigrosk_ini_edit_delete, bigrosk_ini_edit_set};
+pub use crate::text_edits::{bigrosk_ini_edit_add, bigrosk_ini_edit_delete, bigrosk_ini_edit_set};
+pub use crate::text_renames::{bigrosk_ini_edit_rename_key, bigrosk_ini_edit_rename_section};
+pub use crate::text_sections::bigrosk_ini_edit_delete_section;
 use std::alloc::Global;
 
 /// Done, or there.

@@ -1,17 +1,23 @@
 //! Edits of a text itself, which keep every byte that they aren't about. No document is kept between these
 //! calls: a text comes in as bytes, and the new one goes into the caller's buffer.
-ghost use Rattle.std.specs.Prelude.{◌≡◌, ◌∷◌, [], ◌≤◌, ◌↔◌, IsTrue, Some, length, slice_get, take};
+ghost use Rattle.std.specs.Prelude.{◌≡◌, ◌∷◌, [], ◌≤◌, ◌↔◌, IfErr, IfOk, IsTrue, Some, length, slice_get};
+ghost use Rattle.std.specs.Prelude.{take};
 ghost use Rattle.std.specs.Str.{IsUtf8, chars};
-ghost use Rattle.ini.specs.Loading.{IsTextWith};
-ghost use Rattle.ini_edit.specs.Edited.{IsDeleted};
+ghost use Rattle.ini.specs.Edits.{add_in};
+ghost use Rattle.ini.specs.Loading.{IsStopOf, IsTextWith};
+ghost use Rattle.ini.specs.Texts.{str_name, text_of};
+ghost use Rattle.ini_edit.specs.Added.{IsAdded, LoadsEdited, RefusesToAdd};
+ghost use Rattle.ini_edit.specs.Edited.{IfEditParse, IsDeleted};
 ghost use Rattle.ini_edit.specs.FirstPairs.{LacksPair};
+ghost use Rattle.ini_edit.specs.NewLines.{like_lines_of};
 ghost use Rattle.ini_edit.specs.declared.error.EditError.TheVariants.{Key, Name, NoPlace, Value};
 ghost use Rattle.ini_c.specs.Choices.{parse_option};
 ghost use Rattle.ini_c.specs.Faults.{IsStopAt};
 ghost use Rattle.ini_c.specs.LookUps.{name_if};
 ghost use Rattle.ini_c.specs.Statuses.{absent, broken, is_among, no_memory, no_place, no_room};
 ghost use Rattle.ini_c.specs.Statuses.{not_utf8, ok, unplain_key, unplain_name, unplain_value};
-ghost use Rattle.ini_c.specs.TextEdits.{AreEdit, IsCountOfText, IsSetBy, RefusesToSetBy};
+ghost use Rattle.ini_c.specs.TextEdits.{AreEdit, IsAddedBy, IsCountOfText, IsSetBy, RefusesToAddBy};
+ghost use Rattle.ini_c.specs.TextEdits.{RefusesToSetBy};
 
 use crate::copies::{copy_out, pair_of, place_of};
 use crate::fault::{Fault, tell};
@@ -20,12 +26,12 @@ use crate::{
     ABSENT, BROKEN, NO_MEMORY, NO_PLACE, NO_ROOM, NOT_UTF8, OK, UNPLAIN_KEY, UNPLAIN_NAME,
     UNPLAIN_VALUE,
 };
-use ini_edit::{EditError, delete, set};
-use ini_text::Error;
+use ini_edit::{EditError, add, delete, set};
+use ini_text::{Error, ParseOption, WriteOption};
 use std::alloc::Global;
 
 // Copies a new text out, and a 0 behind it.
-fn give(new: &str, out: &mut [u8], count: &mut usize) -> u32
+pub(crate) fn give(new: &str, out: &mut [u8], count: &mut usize) -> u32
     ensures text { result ≡ ok → take count.new out.new ≡ new.now }
     ensures zero { result ≡ ok → slice_get out.new count.new ≡ Some 0 }
     ensures no_room { result ≡ no_room → length out.old ≤ count.new }
@@ -93,6 +99,92 @@ pub extern "C" fn bigrosk_ini_edit_set(
     };
     let option = write.to_option();
     match set(alloc, text, read.to_option(), &option, name, key, value) {
+        Ok(new) => give(new.as_str(), out, count),
+        Err(EditError::Value) => UNPLAIN_VALUE,
+        Err(EditError::Key) => UNPLAIN_KEY,
+        Err(EditError::Name) => UNPLAIN_NAME,
+        Err(EditError::NoPlace) => NO_PLACE,
+        Err(EditError::Text(Error::Parse(stop))) => {
+            tell(&stop, fault);
+            BROKEN
+        }
+        Err(_) => NO_MEMORY,
+    }
+}
+
+// The text with the pair added; of a text that is refused its fault alone.
+fn added(
+    alloc: Global,
+    text: &str,
+    read: ParseOption,
+    write: &WriteOption,
+    name: Option<&str>,
+    key: &str,
+    value: &str,
+) -> Result<String, EditError>
+    ensures added { IfOk result (λ new. IsAdded read (like_lines_of (chars text.now) write.now) (chars text.now)
+        (chars key.now) (chars value.now) (text_of new) (str_name name.entry)) }
+    ensures loads { IfOk result (λ new. LoadsEdited read (chars text.now) (text_of new)
+        (add_in (str_name name.entry) (chars key.now) (chars value.now))) }
+    ensures refused { IfErr result (RefusesToAdd read write.now (chars text.now) (str_name name.entry)
+        (chars key.now) (chars value.now)) }
+    ensures fault { IfEditParse result (IsStopOf read (chars text.now)) }
+{
+    add(alloc, text, read, write, name, key, value)
+}
+
+/// Copies the text out with a further pair, whatever pairs of the key are there: in a new line behind the
+/// last item of the first section of the name, or, where the text lacks the section, in a new one at its
+/// end. Every byte stays.
+///
+/// `NOT_UTF8`, then `UNPLAIN_VALUE` or `UNPLAIN_KEY`, in this order, where that, written, isn't read back,
+/// then `BROKEN` where reading the text stops; then `UNPLAIN_NAME` where a section would be new, and
+/// `NO_PLACE` where no place for a line was found. `count` is as with `bigrosk_ini_edit_set`.
+#[unsafe(no_mangle)]
+pub extern "C" fn bigrosk_ini_edit_add(
+    alloc: Global,
+    text: &[u8],
+    read: &ReadChoice,
+    write: &WriteChoice,
+    named: bool,
+    section: &[u8],
+    key: &[u8],
+    value: &[u8],
+    out: &mut [u8],
+    count: &mut usize,
+    fault: &mut Fault,
+) -> u32
+    ensures not_utf8 { result ≡ not_utf8 ↔ ¬ (AreEdit text.now section.now key.now × IsUtf8 value.now) }
+    ensures edited { result ≡ ok → IsTextWith
+        (IsAddedBy (parse_option read.now) write.now (chars text.now)
+        (name_if named section.now) (chars key.now) (chars value.now)) (take count.new out.new) }
+    ensures zero { result ≡ ok → slice_get out.new count.new ≡ Some 0 }
+    ensures count { result ≡ no_room → IsCountOfText
+        (IsAddedBy (parse_option read.now) write.now (chars text.now)
+        (name_if named section.now) (chars key.now) (chars value.now)) count.new }
+    ensures no_room { result ≡ no_room → length out.old ≤ count.new }
+    ensures unplain_value { result ≡ unplain_value → RefusesToAddBy (parse_option read.now) write.now
+        (chars text.now) (name_if named section.now) (chars key.now) (chars value.now) Value }
+    ensures unplain_key { result ≡ unplain_key → RefusesToAddBy (parse_option read.now) write.now
+        (chars text.now) (name_if named section.now) (chars key.now) (chars value.now) Key }
+    ensures unplain_name { result ≡ unplain_name → RefusesToAddBy (parse_option read.now) write.now
+        (chars text.now) (name_if named section.now) (chars key.now) (chars value.now) Name }
+    ensures no_place { result ≡ no_place → RefusesToAddBy (parse_option read.now) write.now
+        (chars text.now) (name_if named section.now) (chars key.now) (chars value.now) NoPlace }
+    ensures broken { result ≡ broken → IsStopAt (parse_option read.now) (chars text.now) fault.new }
+    ensures stays { ¬ (result ≡ ok) → out.new ≡ out.old }
+    ensures fault_stays { ¬ (result ≡ broken) → fault.new ≡ fault.old }
+    ensures statuses { IsTrue (is_among result (ok ∷ no_room ∷ broken ∷ not_utf8 ∷ no_memory
+        ∷ unplain_value ∷ unplain_key ∷ no_place ∷ unplain_name ∷ [])) }
+{
+    let Ok(text) = str::from_utf8(text) else {
+        return NOT_UTF8;
+    };
+    let Some((name, key, value)) = pair_of(named, section, key, value) else {
+        return NOT_UTF8;
+    };
+    let option = write.to_option();
+    match added(alloc, text, read.to_option(), &option, name, key, value) {
         Ok(new) => give(new.as_str(), out, count),
         Err(EditError::Value) => UNPLAIN_VALUE,
         Err(EditError::Key) => UNPLAIN_KEY,

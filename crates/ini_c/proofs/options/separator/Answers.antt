@@ -1,6 +1,5 @@
 use Rattle.std.proofs.Common.{◌∷◌, [], refl}
 use Rattle.std.specs.Str.{chars}
-use Rattle.ini_text.specs.Laws.Plain.{IsPlainSeparator}
 use Rattle.ini_c.proofs.options.separator.Goals as goal
 
 pub returns-in-0-clause-plain : goal.returns-in-0-clause-plain
