@@ -204,11 +204,13 @@ editing() {
         set --existing settings.ini port 443 server
     fresh
     printf '\357\273\277# by hand\r\n\r\nk\t= "1"  \r\n# old\r\nj=2' >settings.ini
-    edit 'set --existing: mark, comments, blanks and line ends stay' \
-        '\357\273\277# by hand\r\n\r\nk\t= --null  \r\n# old\r\nj=2' set --existing settings.ini k --null
+    edit 'set --existing: mark, comments, blanks, quotes and line ends stay' \
+        '\357\273\277# by hand\r\n\r\nk\t= "--null"  \r\n# old\r\nj=2' set --existing settings.ini k --null
     edit 'set --existing: the policy escapes the value' \
-        '\357\273\277# by hand\r\n\r\nk\t= a\\;b  \r\n# old\r\nj=2' \
+        '\357\273\277# by hand\r\n\r\nk\t= "a\\;b"  \r\n# old\r\nj=2' \
         --policy Reserved set --existing settings.ini k 'a;b'
+    edit 'set --existing: a value with the mark of the old one'"'"'s quotes stands bare' \
+        '\357\273\277# by hand\r\n\r\nk\t= a"b  \r\n# old\r\nj=2' set --existing settings.ini k 'a"b'
     refused 'set --existing of a key that is not there' 1 '' set --existing settings.ini other 1
     refused 'set --existing of a value that would not be read back' 2 \
         "ini_file: settings.ini: this value can't be written so that it is read back" set --existing settings.ini k ' v'

@@ -342,7 +342,8 @@ static void text_edits(void)
     struct bigrosk_ini_read_option lines = { true, true, true, false, false };
     /* a value */
     CHECK(is_edited(set, "; c\n[s]\n  port\t= 80   \n# d\n", "s", "port", "443", "; c\n[s]\n  port\t= 443   \n# d\n"));
-    CHECK(is_edited(set, "[s]\nport='80'\n", "s", "port", "443", "[s]\nport=443\n"));
+    CHECK(is_edited(set, "[s]\nport='80'\n", "s", "port", "443", "[s]\nport='443'\n"));
+    CHECK(is_edited(set, "[s]\nport=\"80\" \n", "s", "port", "8\"0", "[s]\nport=8\"0 \n"));
     CHECK(is_edited(set, "[s]\nport=80\n# old\nport=81\nhost=h\n", "s", "port", "443",
                     "[s]\nport=443\n# old\nhost=h\n"));
     CHECK(is_edited(set, "[s] port=80\r\n", "s", "port", "", "[s] port=\r\n"));

@@ -26,6 +26,38 @@ SET = (
     (MULTILINE, None, "k", 'k=v\n ""\n \\n\n w\n ""\n \\n\n  '),
     (INDENT, None, " k", " k=v\nk=w\n k = 2"),
 )
+
+# A value that stands in quotes, or is about to: the option set, the text, and the new value.
+NO_QUOTES = DEFAULT._replace(quote=False)
+QUOTED = (
+    (DEFAULT, 'k = "v" \n# c', "new w"),
+    (DEFAULT, "\tk:'v'\r\n", "new"),
+    (DEFAULT, 'k=""', "new"),
+    (DEFAULT, "k='v'\n", ""),
+    (DEFAULT, 'k="v"\n', "it's"),
+    (DEFAULT, 'k="v"\n', 'a"b'),
+    (DEFAULT, "k='v'\n", "\\'"),
+    (DEFAULT, 'k="a\\"b"\n', "new"),
+    (DEFAULT, 'k="a\\\\" \n', "a\nb\\"),
+    (DEFAULT, "k='a\\\n\\x0041\nb'\n", "new"),
+    (DEFAULT, 'k="a""b"\n', "new"),
+    (DEFAULT, 'k="a"b"c"\n', "new"),
+    (DEFAULT, "k='a'\"b\"\n", "new"),
+    (DEFAULT, 'k="v" ; c\n', "new"),
+    (DEFAULT, 'k="v"\\ \n', "new"),
+    (DEFAULT, 'k="v"\n', " new"),
+    (DEFAULT, 'k="1"\nk=\'2\'\n', "new"),
+    (ESCAPES_OFF, "k='a\\'b'\n", "new"),
+    (ESCAPES_OFF, 'k="a\\\\"\n', "it's"),
+    (ESCAPES_OFF, 'k="v"\n', "\\"),
+    (NO_QUOTES, 'k="v"\n', "new"),
+    (NO_QUOTES, "k='v'\n", '"'),
+    (MULTILINE, 'k = "v" \n\n# c', "new"),
+    (MULTILINE, 'k="v"\n ""\n \nj=w', "new"),
+    (MULTILINE, 'k="v"\n w\n', "new"),
+    (MULTILINE, 'k=\n "v"\n', "new"),
+    (MULTILINE, "k='a\n b'", "new"),
+)
 TAKEN_OUT = (
     (DEFAULT, "a", "k", "[a]\nk=v\n# c\n"),
     (DEFAULT, "a", "k", "[a]k=v\n# c"),
@@ -84,6 +116,9 @@ EVERYWHERE = (
 def document_examples():
     for option, name, key, text in SET:
         yield Question("set_existing", option, BASICS, name, key, "443", text)
+    for option, text, value in QUOTED:
+        yield Question("set_existing", option, BASICS, None, "k", value, text)
+        yield Question("set", option, CRLF, None, "k", value, text)
     for option, name, key, text in TAKEN_OUT:
         yield Question("delete", option, BASICS, name, key, "", text)
     for (option, text), call in itertools.product(NEW_SECTIONS, ("set", "add")):

@@ -61,8 +61,9 @@ class Element:
     """A gap, a comment, a header, a pair or a dropped tail, from `start` to `end`. A header's `text` is its name, a pair's its
     key.
 
-    A pair's own value stands from `lead` to `pad`. A header or a pair is open where it takes no line end behind
-    its last line: a pair does with multiline values, but at the text's end.
+    A pair's own value stands from `lead` to `pad`, and `part` is where its first quoted part ends, if it begins with one. A
+    header or a pair is open where it takes no line end behind its last line: a pair does with multiline values, but at the
+    text's end.
     """
 
     kind: str
@@ -71,6 +72,7 @@ class Element:
     text: str = ""
     lead: int = 0
     pad: int = 0
+    part: Optional[int] = None
     is_open: bool = False
 
 
@@ -89,6 +91,7 @@ class Reader:
     def __init__(self, text, option):
         self.text, self.option, self.at = text, option, 0
         self.ends_in_backslash = False
+        self.parts = []
 
     def sees(self, characters):
         return self.at < len(self.text) and self.text[self.at] in characters
@@ -153,13 +156,14 @@ class Reader:
         White space that a backslash stands before is the value's own.
         """
         self.skip(INLINE_WHITE)
-        quoted, marks, behind = "", 0, self.at
+        quoted, behind, self.parts = "", self.at, []
         while self.option.quote and self.sees("\"'"):
             quoted += self.string(self.take())[0]
             self.at += 1
-            marks, behind = marks + 1, self.at
+            self.parts.append(self.at)
+            behind = self.at
         plain, solid = self.string(LINE_ENDS, may_end=True)
-        plain = plain.strip(WHITE) if is_first and not marks else plain.rstrip(WHITE)
+        plain = plain.strip(WHITE) if is_first and not self.parts else plain.rstrip(WHITE)
         own = self.text[behind : self.at].rstrip(INLINE_WHITE)
         return quoted + plain, self.at if own.endswith("\\") else max(solid, behind)
 
@@ -168,6 +172,7 @@ class Reader:
         self.skip(INLINE_WHITE)
         pair.lead = self.at
         pair.pad = self.line(True)[1]
+        pair.part = self.parts[0] if self.parts else None
         pair.is_open = not (self.option.multiline and self.take_line_end())
         if not pair.is_open:
             self.more_lines(pair)
@@ -351,11 +356,19 @@ def cut(front, text, pair, option):
     return "\n" if last[-1] == "\n" and not is_column_one(front) else "", pair.end
 
 
+def quote_of(text, pair):
+    """The mark of the quotes that a pair's own value stands in, if one quoted part is all of it."""
+    return text[pair.lead] if pair.part == pair.pad else ""
+
+
 def set_existing(question, elements):
     text, new = question.text, escaped(question.writing.policy, question.value)
     pairs = pairs_of(elements, question.name, question.key)
     if not pairs:
         return None
+    quote = quote_of(text, pairs[0])
+    if quote not in question.value:
+        new = quote + new + quote
     front = text[: pairs[0].lead] + new + text[pairs[0].pad : pairs[0].end]
     at = pairs[0].end
     for pair in pairs[1:]:

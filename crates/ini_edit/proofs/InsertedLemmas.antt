@@ -30,7 +30,7 @@ use Rattle.ini_edit.specs.Places.{EndsLike, Follows, IsLineStart}
 use Rattle.ini_edit.proofs.BehindLemmas.{Reads-like}
 use Rattle.ini_edit.proofs.StartLemmas.{column_at, reached}
 use Rattle.ini_edit.proofs.AheadLemmas.{any_follows}
-use Rattle.ini_edit.proofs.ValueLemmas.{value_written}
+use Rattle.ini_edit.proofs.ValueLemmas.{bare_source, value_written}
 
 pub line_end-all : (s : LineSeparator) → list_all is_line_end (line_end s) ≡ true
 line_end-all SystemDefault = refl
@@ -64,7 +64,7 @@ module _ {o : ParseOption} {policy : EscapePolicy} {key value separator : List �
       sep.blank_before sep.separates in
       subst (λ x. Element o b x r (Pair key value ∷ [])) (source-parts ek v sep)
       (Element.pair front (key_some plain.plain_key) sep.separates
-      (value_written sep.after [] (inline_blanks sep.after sep.blank_after) refl plain.plain_value tail))
+      (value_written sep.after [] (inline_blanks sep.after sep.blank_after) refl (bare_source plain.plain_value) tail))
 
   -- the pair's line
   abbrev pub line_of_pair : LineSeparator → List ℕ

@@ -3,12 +3,11 @@ use Rattle.std.proofs.Common.{◌≡◌, ◌≢◌, ◌∙◌, ℕ, List, [], �
 use Rattle.std.proofs.Common.{append-nil}
 use Rattle.std.proofs.Common.{true, false, arith, length, length-append, chars, Option}
 use Rattle.std.specs.List.{list_all}
-use Rattle.std.proofs.lemmas.Bool.{false≢true, and_parts}
+use Rattle.std.proofs.lemmas.Bool.{and_parts}
 use Rattle.ini_text.specs.Grammar.CharacterKinds.{is_line_end}
 use Rattle.ini_text.specs.Grammar.Elements.{Given, Header, Pair, Element}
 use Rattle.ini_text.specs.Grammar.Places.{Tail}
 use Rattle.ini_text.specs.Grammar.Values.{LineEnd}
-use Rattle.ini_text.specs.Escaping.EscapedTexts.{escaped}
 use Rattle.ini_text.specs.Laws.Plain.{IsPlainValue}
 use Rattle.ini_text.specs.Laws.PlainLaws.{BeginsWithHeader}
 use Rattle.ini_text.specs.Parsing.Items.{string_text}
@@ -34,6 +33,7 @@ use Rattle.ini.specs.Properties.{Pairs}
 use Rattle.ini.specs.SectionItems.{pair_items}
 use Rattle.ini_edit.specs.EditedTexts.{LaterOut}
 use Rattle.ini_edit.specs.Places.{Cut, EndsLike, Stretches, StandsAt, pair_with, text_with, up_to_end}
+use Rattle.ini_edit.specs.Quotes.{IsQuoteFor, KeepsQuote, written_in}
 use Rattle.ini_edit.specs.Targets.{Lacks}
 use Rattle.ini_edit.specs.Inside.Later.{ReadAlike, TakesLaterOut, TakesOut, placed_between}
 use Rattle.ini_edit.proofs.BehindLemmas.{Element-like, EndsLike-behind, EndsLike-one, KeyFront-like}
@@ -41,7 +41,8 @@ use Rattle.ini_edit.proofs.BehindLemmas.{Reads-like, line_end_element}
 use Rattle.ini_edit.proofs.CutLemmas.{CutLeft, cut_left, cut_reads}
 use Rattle.ini_edit.proofs.DocumentLemmas.{pair_items-append}
 use Rattle.ini_edit.proofs.FindLemmas.{found_before, lacks_more, white_pad}
-use Rattle.ini_edit.proofs.ReplacedLemmas.{Reads-closes, replaced_front}
+use Rattle.ini_edit.proofs.QuoteLemmas.{quote_for, source_in}
+use Rattle.ini_edit.proofs.ReplacedLemmas.{replaced_front}
 use Rattle.ini_edit.proofs.ValueLemmas.{closes_line_end}
 
 -- a character ends alike behind any front
@@ -291,29 +292,30 @@ section_ends {items = items} (EndsSection.header t first) reads = (Header t ∷ 
 
 -- the text that was read to its end, with its value set
 pub set_there : {o : ParseOption} {T : Text} {p q r : Place} {name : Option Text} {key : Text} {found : FoundPair}
-    {policy : EscapePolicy} {value g : Text} (left : Text) → OpensFirst o T p name → ReachesPair o T p.front q key found
-    → (plain : IsPlainValue o policy value)
-    → TakesLaterOut o T key q.front (chars found.front.now ++ pair_with (stretches_of found) (escaped policy value))
-    (chars found.rest.now) r g
+    {policy : EscapePolicy} {value quote g : Text} (left : Text) → OpensFirst o T p name → ReachesPair o T p.front q key found
+    → (plain : IsPlainValue o policy value) → KeepsQuote o (stretches_of found).own value quote
+    → TakesLaterOut o T key q.front
+    (chars found.front.now ++ pair_with (stretches_of found) (written_in policy quote value)) (chars found.rest.now) r g
     → ReadsOn o T r.front → T ≡ r.front ++ left → IsSetThere o policy T name key value (g ++ left)
 unfolding found_before
-set_there {o} {T} {p} {q} {r} {name} {key} {found} {policy} {value} {g} left opens reaches plain later on whole =
+set_there {o} {T} {p} {q} {r} {name} {key} {found} {policy} {value} {quote} {g} left opens reaches plain keeps later on whole =
     let takes = later.takes in
     let end = section_ends later.ends on.reads in
     let x = stretches_of found in
+    let written = written_in policy quote value in
+    let may : IsQuoteFor o value quote = quote_for keeps in
     let then : Reads o T q.front (pair_items takes.later ++ end.0) T = reads-append takes.passes end.1.1 in
     let first = found_before key opens takes.later end.0 reaches refl end.1.0 then in
     let upto = first.before ++ Pair key value ∷ [] in
-    let new = text_with x (escaped policy value) in
-    let behind : (x.front ++ pair_with x (escaped policy value)) ++ x.rest ≡ new =
-    append_assoc x.front (pair_with x (escaped policy value)) x.rest in
-    let start : Reads o ((x.front ++ pair_with x (escaped policy value)) ++ x.rest) [] upto
-    (x.front ++ pair_with x (escaped policy value)) =
-    subst (λ z. Reads o z [] upto (x.front ++ pair_with x (escaped policy value))) (sym behind)
-    (replaced_front first.stands plain) in
+    let new = text_with x written in
+    let behind : (x.front ++ pair_with x written) ++ x.rest ≡ new =
+    append_assoc x.front (pair_with x written) x.rest in
+    let start : Reads o ((x.front ++ pair_with x written) ++ x.rest) [] upto (x.front ++ pair_with x written) =
+    subst (λ z. Reads o z [] upto (x.front ++ pair_with x written)) (sym behind)
+    (replaced_front first.stands (source_in plain may)) in
     let out : LaterOut o key upto end.0 new takes.later (g ++ left) =
     subst (λ z. LaterOut o key upto end.0 z takes.later (g ++ left)) behind
-    (subst (λ l. LaterOut o key upto end.0 ((x.front ++ pair_with x (escaped policy value)) ++ x.rest) l (g ++ left))
+    (subst (λ l. LaterOut o key upto end.0 ((x.front ++ pair_with x written) ++ x.rest) l (g ++ left))
     (append-nil takes.later)
     (takes.goes upto start [] end.0 end.1.1 (g ++ left)
     (subst (λ z. LaterOut o key upto end.0 (later.written ++ later.rest) (takes.kept ++ []) z) (sym (later.same left whole))
@@ -324,10 +326,12 @@ set_there {o} {T} {p} {q} {r} {name} {key} {found} {policy} {value} {g} left ope
       pair = x;
       old = string_text found.value;
       is_first = first;
+      quote = quote;
+      keeps = keeps;
       without_later = out;
       document = _;
       was = document;
       is =
           sets_value o policy T value plain x name key (string_text found.value) first.before first.after first.stands
-          first.target (g ++ left) out _ document;
+          first.target quote may (g ++ left) out _ document;
     }

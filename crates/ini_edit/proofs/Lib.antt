@@ -30,6 +30,7 @@ pub mod PlaceLemmas
 pub mod PlaceWalkLemmas
 pub mod PlacedLemmas
 pub mod PlainKeyLemmas
+pub mod QuoteLemmas
 pub mod RenamedLemmas
 pub mod ReplacedLemmas
 pub mod SectionLemmas

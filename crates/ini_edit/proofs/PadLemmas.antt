@@ -34,7 +34,7 @@ white_both (c ∷ w) x h g =
     and_from (is_inline_white c) _ parts.0 (white_both w x parts.1 g)
 
 -- and is taken off
-drop_white : (w : List ℕ) → list_all is_inline_white w ≡ true → drop_trailing_whitespace w ≡ []
+pub drop_white : (w : List ℕ) → list_all is_inline_white w ≡ true → drop_trailing_whitespace w ≡ []
 drop_white [] h = refl
 drop_white (c ∷ w) h =
     let parts = and_parts (is_inline_white c) (list_all is_inline_white w) h in

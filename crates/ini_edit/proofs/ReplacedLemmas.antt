@@ -1,19 +1,16 @@
 -- A pair whose value was replaced in its text.
 use Rattle.std.proofs.Common.{◌≡◌, ℕ, List, [], ◌∷◌, ◌++◌, refl, sym, subst, append_assoc, append-nil}
 use Rattle.ini_text.specs.declared.option.ParseOption.{ParseOption}
-use Rattle.ini_text.specs.declared.write.policy.EscapePolicy.{EscapePolicy}
 use Rattle.ini_text.specs.Grammar.CharacterKinds.{}
 use Rattle.ini_text.specs.Grammar.Strings.{Closes, plain_ends}
 use Rattle.ini_text.specs.Grammar.Values.{LineEnd}
 use Rattle.ini_text.specs.Grammar.Elements.{Given, Pair, Element}
 use Rattle.ini_text.specs.Grammar.Texts.{Reads, Derives}
-use Rattle.ini_text.specs.Escaping.EscapedTexts.{escaped}
-use Rattle.ini_text.specs.Laws.Plain.{IsPlainValue}
 use Rattle.ini_text.proofs.LawLemmas.OneAheadLemmas.{Alike, KeyFront-alike, Reads-alike}
 use Rattle.ini_edit.proofs.BehindLemmas.{EndsLike-one, Reads-like, Reads-line_end, nothing_left}
 use Rattle.ini_text.specs.Grammar.Places.{Tail}
 use Rattle.ini_edit.specs.Places.{StandsAt, Stretches, pair_of, pair_with, text_with}
-use Rattle.ini_edit.proofs.ValueLemmas.{closes_line_end, value_written}
+use Rattle.ini_edit.proofs.ValueLemmas.{IsSourceOf, closes_line_end, value_written}
 
 module _ (o : ParseOption) where
   -- behind a tail the rest is read as before, whatever stands before the tail
@@ -43,11 +40,7 @@ alike_key (c ∷ k) m x y r = Alike.same
 
 -- the pair of the stretches p
 module _ {o : ParseOption} {T : List ℕ} {p : Stretches} {key old : List ℕ} {before after : List Given}
-    (s : StandsAt o T p key old before after) {policy : EscapePolicy} {value : List ℕ}
-    (plain : IsPlainValue o policy value) where
-  abbrev new : List ℕ
-  new = escaped policy value
-
+    (s : StandsAt o T p key old before after) {new value : List ℕ} (is : IsSourceOf o new value) where
   abbrev before_tail : List ℕ → List ℕ
   before_tail x = p.front ++ (p.key ++ p.separator ∷ (p.lead ++ (x ++ p.pad)))
 
@@ -60,7 +53,7 @@ module _ {o : ParseOption} {T : List ℕ} {p : Stretches} {key old : List ℕ} {
   element_new : Element o p.front (pair_with p new) p.rest (Pair key value ∷ [])
   element_new =
       Element.pair (KeyFront-alike Alike.same s.key_front) s.some s.separates
-      (value_written p.lead p.pad s.white_lead s.white_pad plain s.is_tail)
+      (value_written p.lead p.pad s.white_lead s.white_pad is s.is_tail)
 
   rest_new : Reads o (text_with p new) (p.front ++ pair_with p new) after (text_with p new)
   rest_new =
@@ -69,9 +62,9 @@ module _ {o : ParseOption} {T : List ℕ} {p : Stretches} {key old : List ℕ} {
       let was : RestBehind o p.tail p.rest after (before_tail p.own) =
       subst (λ z. Reads o z (before_tail p.own ++ p.tail) after z) (whole_text p.own)
       (subst (λ z. Reads o (text_with p p.own) z after (text_with p p.own)) (to_tail p.own) then) in
-      let is = rest_behind o (before_tail p.own) (before_tail new) s.is_tail was in
+      let then_new = rest_behind o (before_tail p.own) (before_tail new) s.is_tail was in
       subst (λ z. Reads o (text_with p new) z after (text_with p new)) (sym (to_tail new))
-      (subst (λ z. Reads o z (before_tail new ++ p.tail) after z) (sym (whole_text new)) is)
+      (subst (λ z. Reads o z (before_tail new ++ p.tail) after z) (sym (whole_text new)) then_new)
 
   -- the same up to the pair's end
   pub replaced_front : Reads o (text_with p new) [] (before ++ Pair key value ∷ []) (p.front ++ pair_with p new)

@@ -2,7 +2,6 @@
 use Rattle.std.proofs.Common.{◌≡◌, ◌∙◌, List, [], ◌∷◌, ◌++◌, ap, sym, subst, append_assoc, Option}
 use Rattle.ini_text.specs.Grammar.Elements.{Given, Pair}
 use Rattle.ini_text.specs.Grammar.Texts.{Derives}
-use Rattle.ini_text.specs.Escaping.EscapedTexts.{escaped}
 use Rattle.ini_text.specs.Laws.Plain.{IsPlainValue}
 use Rattle.ini_text.specs.declared.option.ParseOption.{ParseOption}
 use Rattle.ini_text.specs.declared.write.policy.EscapePolicy.{EscapePolicy}
@@ -13,12 +12,14 @@ use Rattle.ini.specs.SectionItems.{pair_items}
 use Rattle.ini.specs.Edits.{set_in}
 use Rattle.ini.proofs.KeepingLemmas.{name_refl, text_refl}
 use Rattle.ini_edit.specs.Places.{text_with}
+use Rattle.ini_edit.specs.Quotes.{written_in}
 use Rattle.ini_edit.specs.Targets.{IsTarget}
 use Rattle.ini_edit.specs.EditedTexts.{KeepsValue, LaterOut, SetsValue}
 use Rattle.ini_edit.proofs.CutLemmas.{cut_derives}
 use Rattle.ini_edit.proofs.ReplacedLemmas.{replaced}
 use Rattle.ini_edit.proofs.DocumentLemmas.{edited_document, pair_items-append}
 use Rattle.ini_edit.proofs.PairListLemmas.{inserted_at, lacks-removed, removed_more}
+use Rattle.ini_edit.proofs.QuoteLemmas.{source_in}
 use Rattle.ini_edit.proofs.StandsLemmas.{derives_one, stands_derives}
 
 -- a section's pairs as items
@@ -71,10 +72,10 @@ module _ {name : Option Text} {key : Text} {before after : List Given} (t : IsTa
 -- the text with the written value in its place, and without the later pairs
 pub sets_value : (o : ParseOption) (policy : EscapePolicy) (T value : Text) → IsPlainValue o policy value
     → SetsValue o policy T value
-sets_value o policy T value plain p name key old before after s target U later d document =
-    let new = text_with p (escaped policy value) in
+sets_value o policy T value plain p name key old before after s target quote may U later d document =
+    let new = text_with p (written_in policy quote value) in
     let replaced_text : Derives o new ((before ++ Pair key value ∷ []) ++ (pair_items target.later ++ target.rest)) =
-    subst (Derives o new) (pair_and_after target value) (replaced s plain) in
+    subst (Derives o new) (pair_and_after target value) (replaced s (source_in plain may)) in
     let same : document.items ≡ before ++ (Pair key old ∷ after) =
     derives_one document.derives (stands_derives s) in
     record {
@@ -88,11 +89,11 @@ sets_value o policy T value plain p name key old before after s target U later d
 -- a value written anew
 pub keeps_value : (o : ParseOption) (policy : EscapePolicy) (T value : Text) → IsPlainValue o policy value
     → KeepsValue o policy T value
-keeps_value o policy T value plain p key before after s d document =
+keeps_value o policy T value plain p key before after s quote may d document =
     let same : document.items ≡ before ++ (Pair key value ∷ after) =
     derives_one document.derives (stands_derives s) in
     record {
       items = before ++ Pair key value ∷ after;
-      derives = replaced s plain;
+      derives = replaced s (source_in plain may);
       document = document.document ∙ ap document_of same;
     }

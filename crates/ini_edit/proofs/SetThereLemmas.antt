@@ -1,8 +1,7 @@
 -- A key's value set where the key is there: the walk as a whole.
-use Rattle.std.proofs.Common.{◌≡◌, ◌∙◌, List, [], ◌++◌, ap, sym, subst, append_assoc, chars, Option, Some}
+use Rattle.std.proofs.Common.{◌≡◌, ◌∙◌, [], ◌++◌, ap, sym, subst, append_assoc, Option, Some}
 use Rattle.std.proofs.Common.{MatchOption}
 use Rattle.std.proofs.lemmas.List.{append_cancel_left}
-use Rattle.ini_text.specs.Escaping.EscapedTexts.{escaped}
 use Rattle.ini_text.specs.Grammar.Texts.{Reads}
 use Rattle.ini_text.specs.Laws.Plain.{IsPlainValue}
 use Rattle.ini_text.specs.Parsing.Parser.{Place}
@@ -13,8 +12,10 @@ use Rattle.ini.specs.Texts.{Text}
 use Rattle.ini_edit.specs.Edited.{IsSetThere}
 use Rattle.ini_edit.specs.FirstPairs.{stretches_of}
 use Rattle.ini_edit.specs.Places.{Stretches, pair_of, pair_with}
+use Rattle.ini_edit.specs.Quotes.{KeepsQuote, written_in}
 use Rattle.ini_edit.specs.Inside.Later.{IsAlikeBehind, TakesLater, TakesLaterOut}
-use Rattle.ini_edit.specs.Inside.Walks.{IsReading, OpensFirst, ReachesEnd, ReachesPair, ReadsOn}
+use Rattle.ini_edit.specs.Inside.Quotes.{IsOwnSource}
+use Rattle.ini_edit.specs.Inside.Walks.{OpensFirst, ReachesEnd, ReachesPair, ReadsOn}
 use Rattle.ini_edit.specs.Inside.Walks.{StandsWithin}
 use Rattle.ini_edit.specs.declared.find.FoundPair.{FoundPair}
 use Rattle.ini_edit.proofs.FindLemmas.{end_reads, goes_on_within}
@@ -38,6 +39,9 @@ module _ {o : ParseOption} {T : Text} {p : Place} {name : Option Text} (key : Te
       reaches.whole ∙ sym (append_assoc pair.front (pair_of pair) pair.rest)
       ∙ ap (λ z. z ++ pair.rest) (sym reaches.front)
 
+  pub own_source : IsOwnSource o pair.own
+  own_source = record { pad = pair.pad; rest = pair.tail ++ pair.rest; lines = reaches.placed.own }
+
   -- what follows the pair is read behind another value as behind its own
   pub pair_alike : (value f : Text) → f ≡ pair.front ++ pair_with pair value → IsAlikeBehind q f
   pair_alike value f written = record {
@@ -59,15 +63,16 @@ module _ {o : ParseOption} {T : Text} {p : Place} {name : Option Text} (key : Te
         (reads-append (reads-append reads here.out.takes.passes) (end_reads here.out.ends).1)
 
     -- the text that was read to its end
-    pub is_set : {policy : EscapePolicy} {value : Text} (left new : Text) → IsPlainValue o policy value
-        → f ≡ pair.front ++ pair_with pair (escaped policy value) → ReadsOn r.option r.text r.front
+    pub is_set : {policy : EscapePolicy} {value quote : Text} (left new : Text) → IsPlainValue o policy value
+        → KeepsQuote o pair.own value quote → f ≡ pair.front ++ pair_with pair (written_in policy quote value)
+        → ReadsOn r.option r.text r.front
         → r.front ++ left ≡ r.text → new ≡ g ++ left → IsSetThere o policy T name key value new
-    is_set {policy} {value} left new plain written on rest is_new =
+    is_set {policy} {value} {quote} left new plain keeps written on rest is_new =
         let behind : here.behind ≡ pair.rest =
         append_cancel_left q.front here.behind pair.rest (sym here.whole ∙ text_behind) in
-        let out : TakesLaterOut o T key q.front (pair.front ++ pair_with pair (escaped policy value)) pair.rest r g =
+        let out : TakesLaterOut o T key q.front (pair.front ++ pair_with pair (written_in policy quote value)) pair.rest r g =
         subst (λ z. TakesLaterOut o T key q.front z pair.rest r g) written
         (subst (λ z. TakesLaterOut o T key q.front f z r g) behind here.out) in
         subst (IsSetThere o policy T name key value) (sym is_new)
-        (set_there left opens reaches plain out (told (λ o T. ReadsOn o T r.front) here.out.is_reading on)
+        (set_there left opens reaches plain keeps out (told (λ o T. ReadsOn o T r.front) here.out.is_reading on)
         (sym here.out.is_reading.text ∙ sym rest))

@@ -1,4 +1,4 @@
--- A plain value as it is written in an old one's place, between the white space around that, and before what
+-- A value's source in an old one's place, between the white space around that, and before what
 -- is kept behind it: its last line end, and lines that add nothing.
 use Rattle.std.proofs.Common.{◌≡◌, ℕ, Bool, true, false, not, ◌||◌, eqb, List, [], ◌∷◌, ◌++◌, refl, sym, ap}
 use Rattle.std.proofs.Common.{◌∙◌, subst}
@@ -10,7 +10,7 @@ use Rattle.ini_text.specs.declared.option.ParseOption.{ParseOption}
 use Rattle.ini_text.specs.declared.write.policy.EscapePolicy.{EscapePolicy}
 use Rattle.ini_text.specs.Grammar.CharacterKinds.{backslash, is_inline_white, is_line_end, is_mark}
 use Rattle.ini_text.specs.Grammar.CharacterKinds.{BeginsWithNo}
-use Rattle.ini_text.specs.Grammar.WhiteSpace.{Lead, without_outer_line_feeds}
+use Rattle.ini_text.specs.Grammar.WhiteSpace.{Lead, trimmed, without_outer_line_feeds}
 use Rattle.ini_text.specs.Grammar.Strings.{Closes, Row, Str, plain_ends, is_endpoint}
 use Rattle.ini_text.specs.Grammar.Lines.{Line, Quoted, BeginsPlain}
 use Rattle.ini_text.specs.Grammar.Values.{LineEnd, Value}
@@ -46,12 +46,18 @@ closes_no_inline [] h = tt
 closes_no_inline (c ∷ r) h = and_right (is_whitespace c) _ (ap not (closes_line_end c h))
 
 -- a source before r in two parts: white space, and a first line
-record WrittenLine (o : ParseOption) (s r value : List ℕ) : Type 0 where
+pub record WrittenLine (o : ParseOption) (s r value : List ℕ) : Type 0 where
   pub lead : List ℕ
   pub line : List ℕ
   pub whole : s ≡ lead ++ line
   pub is_lead : Lead lead (line ++ r)
   pub is_line : Line o true line r value
+
+-- between white space, at a line's end, the source is read as the value, which is trimmed
+pub record IsSourceOf (o : ParseOption) (source value : List ℕ) : Type 0 where
+  pub line : (w pad r : List ℕ) → list_all is_inline_white w ≡ true → list_all is_inline_white pad ≡ true
+      → Closes plain_ends r → WrittenLine o (w ++ (source ++ pad)) r value
+  pub is_trimmed : trimmed value ≡ value
 
 module _ {o : ParseOption} {policy : EscapePolicy} (w pad : List ℕ) (white : list_all is_inline_white w ≡ true)
     (white_pad : list_all is_inline_white pad ≡ true) where
@@ -93,33 +99,42 @@ module _ {o : ParseOption} {policy : EscapePolicy} (w pad : List ℕ) (white : l
       unquoted : BeginsPlain o ((escaped policy (c ∷ cs) ++ pad) ++ r)
       unquoted = λ on. begins_no is_mark refl (plain.no_mark on)
 
-  -- the value as it is written, with what is kept behind it
-  pub value_written : {value t r : List ℕ} → IsPlainValue o policy value → Tail o t r
-      → Value o (w ++ (escaped policy value ++ (pad ++ t))) r value
-  value_written {value} {r = r} plain (Tail.line off h) =
-      let x = written_line value r plain h in
-      let whole : x.lead ++ x.line ≡ w ++ (escaped policy value ++ (pad ++ [])) =
-      sym x.whole ∙ ap (λ z. w ++ (escaped policy value ++ z)) (sym (append-nil pad)) in
+-- a plain value as it is written, bare
+pub bare_source : {o : ParseOption} {policy : EscapePolicy} {value : List ℕ} → IsPlainValue o policy value
+    → IsSourceOf o (escaped policy value) value
+bare_source {value = value} plain = record {
+  line = λ w pad r white white_pad h. written_line w pad white white_pad value r plain h;
+  is_trimmed = plain.is_trimmed;
+}
+
+module _ {o : ParseOption} (w pad : List ℕ) (white : list_all is_inline_white w ≡ true)
+    (white_pad : list_all is_inline_white pad ≡ true) where
+  -- a value's source, with what is kept behind it
+  pub value_written : {source value t r : List ℕ} → IsSourceOf o source value → Tail o t r
+      → Value o (w ++ (source ++ (pad ++ t))) r value
+  value_written {source} {value} {r = r} is (Tail.line off h) =
+      let x = is.line w pad r white white_pad h in
+      let whole : x.lead ++ x.line ≡ w ++ (source ++ (pad ++ [])) =
+      sym x.whole ∙ ap (λ z. w ++ (source ++ z)) (sym (append-nil pad)) in
       subst (λ s. Value o s r value) whole (Value.one_line off x.is_lead x.is_line)
-  value_written {value} plain (Tail.end on) =
-      let x = written_line value [] plain refl in
-      let whole : x.lead ++ x.line ≡ w ++ (escaped policy value ++ (pad ++ [])) =
-      sym x.whole ∙ ap (λ z. w ++ (escaped policy value ++ z)) (sym (append-nil pad)) in
+  value_written {source} {value} is (Tail.end on) =
+      let x = is.line w pad [] white white_pad refl in
+      let whole : x.lead ++ x.line ≡ w ++ (source ++ (pad ++ [])) =
+      sym x.whole ∙ ap (λ z. w ++ (source ++ z)) (sym (append-nil pad)) in
       let lead : Lead x.lead x.line = subst (Lead x.lead) (append-nil x.line) x.is_lead in
       let same : without_outer_line_feeds value ≡ value =
       ap without_outer_line_feeds (sym (append-nil value))
-      ∙ without_line_feeds-trimmed value [] plain.is_trimmed refl in
+      ∙ without_line_feeds-trimmed value [] is.is_trimmed refl in
       subst (λ s. Value o s [] value) whole (subst (Value o (x.lead ++ x.line) []) same (Value.to_end on lead x.is_line))
-  value_written {value} {r = r} plain (Tail.lines {e} {t} {u = u} on le more all) =
+  value_written {source} {value} {r = r} is (Tail.lines {e} {t} {u = u} on le more all) =
       let h = tail_closes (Tail.lines on le more all) in
       let closes : Closes plain_ends (e ++ (t ++ r)) = subst (Closes plain_ends) (append_assoc e t r) h in
-      let x = written_line value (e ++ (t ++ r)) plain closes in
-      let ev = escaped policy value in
-      let whole : x.lead ++ (x.line ++ (e ++ t)) ≡ w ++ (ev ++ (pad ++ (e ++ t))) =
+      let x = is.line w pad (e ++ (t ++ r)) white white_pad closes in
+      let whole : x.lead ++ (x.line ++ (e ++ t)) ≡ w ++ (source ++ (pad ++ (e ++ t))) =
       sym (append_assoc x.lead x.line (e ++ t)) ∙ ap (λ z. z ++ (e ++ t)) (sym x.whole)
-      ∙ append_assoc w (ev ++ pad) (e ++ t) ∙ ap (λ z. w ++ z) (append_assoc ev pad (e ++ t)) in
+      ∙ append_assoc w (source ++ pad) (e ++ t) ∙ ap (λ z. w ++ z) (append_assoc source pad (e ++ t)) in
       subst (λ s. Value o s r value) whole
-      (subst (Value o (x.lead ++ (x.line ++ (e ++ t))) r) (without_line_feeds-trimmed value u plain.is_trimmed all)
+      (subst (Value o (x.lead ++ (x.line ++ (e ++ t))) r) (without_line_feeds-trimmed value u is.is_trimmed all)
       (Value.lines on x.is_lead x.is_line le more))
 
 pub line_closes : {o : ParseOption} {first : Bool} {l r v : List ℕ} → Line o first l r v → Closes plain_ends r

@@ -2,7 +2,6 @@
 use Rattle.std.specs.Prelude.{◌≡◌, List, [], ◌∷◌, ◌++◌, Option, Some, None}
 use Rattle.ini_text.specs.Grammar.Elements.{Given, Pair}
 use Rattle.ini_text.specs.Grammar.Texts.{Reads}
-use Rattle.ini_text.specs.Escaping.EscapedTexts.{escaped}
 use Rattle.ini_text.specs.declared.option.ParseOption.{ParseOption}
 use Rattle.ini_text.specs.declared.write.option.WriteOption.{WriteOption}
 use Rattle.ini_text.specs.declared.write.policy.EscapePolicy.{EscapePolicy}
@@ -14,6 +13,7 @@ use Rattle.ini.specs.Loading.{IsDocumentOf}
 use Rattle.ini.specs.SectionItems.{pair_items}
 use Rattle.ini.specs.Written.{written_name, written_pair}
 use Rattle.ini_edit.specs.Places.{Cut, Follows, IsLineStart, Stretches, StandsAt, text_with}
+use Rattle.ini_edit.specs.Quotes.{IsQuoteFor, written_in}
 use Rattle.ini_edit.specs.Targets.{IsSectionEnd, IsTarget, Lacks}
 
 -- Behind the items `upto` the section goes on, in the text T, with the pairs `later`, and behind those
@@ -26,20 +26,23 @@ pub data LaterOut (o : ParseOption) (key : Text) (upto rest : List Given) : Text
       → Cut o p kept r → LaterOut o key upto rest (p.front ++ (kept ++ r)) (between ++ later) U
       → LaterOut o key upto rest T (between ++ (key, old) ∷ later) U
 
--- The value of the first pair of its key is another one, and the later pairs of the key in the section are
--- taken out. No other byte changes.
+-- The value of the first pair of its key is another one, in a quote that it may be written in or bare, and
+-- the later pairs of the key in the section are taken out. No other byte changes.
 abbrev pub SetsValue : ParseOption → EscapePolicy → Text → Text → Type 0
 SetsValue o policy T value =
     (p : Stretches) (name : Option Text) (key old : Text) (before after : List Given)
-    → StandsAt o T p key old before after → (target : IsTarget name key before after) → (U : Text)
-    → LaterOut o key (before ++ Pair key value ∷ []) target.rest (text_with p (escaped policy value)) target.later U
+    → StandsAt o T p key old before after → (target : IsTarget name key before after)
+    → (quote : Text) → IsQuoteFor o value quote → (U : Text)
+    → LaterOut o key (before ++ Pair key value ∷ []) target.rest (text_with p (written_in policy quote value))
+    target.later U
     → (d : Document) → IsDocumentOf o T d → IsDocumentOf o U (set_in name key value d)
 
--- A pair's own value, written anew in its place: the document stays.
+-- A pair's own value, written anew in its place, in a quote or bare: the document stays.
 abbrev pub KeepsValue : ParseOption → EscapePolicy → Text → Text → Type 0
 KeepsValue o policy T value =
     (p : Stretches) (key : Text) (before after : List Given) → StandsAt o T p key value before after
-    → (d : Document) → IsDocumentOf o T d → IsDocumentOf o (text_with p (escaped policy value)) d
+    → (quote : Text) → IsQuoteFor o value quote
+    → (d : Document) → IsDocumentOf o T d → IsDocumentOf o (text_with p (written_in policy quote value)) d
 
 -- The first pair of its key taken out: the text without one stretch loads as the document without the pair.
 abbrev pub Deletes : ParseOption → Text → Type 0

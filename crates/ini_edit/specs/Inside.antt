@@ -4,5 +4,6 @@ pub mod Later
 pub mod Lines
 pub mod NoPlaceWalks
 pub mod PlaceWalks
+pub mod Quotes
 pub mod SectionWalks
 pub mod Walks

@@ -14,6 +14,7 @@ pub mod NewLines
 pub mod NewSections
 pub mod NoPlaces
 pub mod Places
+pub mod Quotes
 pub mod Renamed
 pub mod Sections
 pub mod Settings

@@ -19,6 +19,7 @@ mod line;
 mod line_end;
 mod new_section;
 mod place;
+mod quote;
 mod rename;
 mod section;
 mod section_deletion;

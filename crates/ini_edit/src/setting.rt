@@ -1,9 +1,8 @@
 //! A key's value set in a text. This file knows elements, and of characters nothing.
-ghost use Rattle.std.specs.Prelude.{◌≡◌, ◌++◌, ◌↔◌, Err, IfErr, IfOk, IsOkUnless, MatchOption, OnOk};
+ghost use Rattle.std.specs.Prelude.{◌≡◌, ◌↔◌, Err, IfErr, IfOk, IsOkUnless, MatchOption, OnOk};
 ghost use Rattle.std.specs.Prelude.{alloc_error, chars};
 ghost use Rattle.ini.specs.Texts.{str_name};
 ghost use Rattle.ini.specs.Loading.{IfParse, IsParseOrMemory, IsStopOf};
-ghost use Rattle.ini_text.specs.Escaping.EscapedTexts.{escaped};
 ghost use Rattle.ini_text.specs.Laws.Plain.{IsPlainValue};
 ghost use Rattle.ini_text.specs.Parsing.Items.{string_text};
 ghost use Rattle.ini_text.specs.declared.error.Error.TheVariants.{Memory};
@@ -15,15 +14,16 @@ ghost use Rattle.ini_edit.specs.Edited.{IfEditParse, IsSetThere, IsValueOrRefusa
 ghost use Rattle.ini_edit.specs.declared.error.EditError.TheVariants as EditErrors;
 ghost use Rattle.ini_edit.specs.FirstPairs.{LacksPair, stretches_of};
 ghost use Rattle.ini_edit.specs.Inside.Later.{IsAlikeBehind, TakesLater};
+ghost use Rattle.ini_edit.specs.Inside.Quotes.{IsOwnSource, PutsValue};
 ghost use Rattle.ini_edit.specs.Inside.Walks.{StandsWithin};
-ghost use Rattle.ini_edit.specs.Places.{pair_with};
 
 use crate::addition::add;
 use crate::append::{push, push_text};
 use crate::cut::cut;
 use crate::error::EditError;
-use crate::escape::push_escaped;
+use crate::escape::push_in_quote;
 use crate::find::{FoundPair, open_section, reach_pair};
+use crate::quote::kept_quote;
 use crate::walk::{is_same_text, read_on, step};
 use ini_text::{Content, Error, EscapePolicy, ParseOption, Parser, WriteOption, is_plain_value};
 use std::alloc::Global;
@@ -32,6 +32,9 @@ use std::alloc::Global;
 /// place of that of the first pair of the key in the first section of the name, written as the policy says;
 /// the later pairs of the key in that section are taken out, as `delete` takes one out. No name is the
 /// general section's.
+///
+/// Where quotes are read, and the old value stands in one pair of quotes, the new one stands in the same; but
+/// it stands bare where it has the quote's mark.
 ///
 /// White space around the old value stays, and so does every other byte. The new text loads as the document
 /// in which the key is set.
@@ -128,7 +131,7 @@ fn set_plain(
         return Ok(None);
     };
     let mut edited = String::with_capacity(alloc, text.len())?;
-    push_with(alloc, &mut edited, &pair, value, policy)?;
+    push_with(alloc, &mut edited, &pair, value, policy, read)?;
     take_later_out(alloc, &mut parser, &mut edited, text, key, read)?;
     let rest = parser.rest();
     read_on(&mut parser)?;
@@ -136,23 +139,26 @@ fn set_plain(
     Ok(Some(edited))
 }
 
-// Appends a pair, and what stands before it, with another value in its own's place.
+// Appends a pair, and what stands before it, with another value in its own's place, and in its quotes.
 fn push_with(
     alloc: Global,
     out: &mut String,
     pair: &FoundPair,
     value: &str,
     policy: EscapePolicy,
+    read: ParseOption,
 ) -> Result<(), Error>
+    requires own { IsOwnSource read (chars pair.now.places.own.now) }
     ensures only { IsOkUnless result (Memory alloc_error) }
-    ensures written { OnOk result (string_text out.new ≡ string_text out.old
-        ++ (chars pair.now.front.now ++ pair_with (stretches_of pair.now) (escaped policy (chars value.now)))) }
+    ensures written { OnOk result (PutsValue read policy (stretches_of pair.now) (chars value.now)
+        (string_text out.old) (string_text out.new)) }
 {
+    let quote = kept_quote(pair.places.own, value, read);
     push_text(out, pair.front)?;
     push_text(out, pair.places.key)?;
     push(out, pair.places.separator)?;
     push_text(out, pair.places.lead)?;
-    push_escaped(alloc, out, value, policy)?;
+    push_in_quote(alloc, out, quote, value, policy)?;
     push_text(out, pair.places.pad)?;
     push_text(out, pair.places.tail)?;
     Ok(())

@@ -13,6 +13,7 @@ mod find;
 mod new_section;
 mod page;
 mod places;
+mod quotes;
 mod random;
 mod random_sections;
 mod rename;

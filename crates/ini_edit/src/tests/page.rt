@@ -17,7 +17,7 @@ fn a_port(rt: HostRuntime) -> Result<(), Fail> {
             "[server]\n  port\t= 80   \n# of the proxy\n",
             "[server]\n  port\t= 443   \n# of the proxy\n",
         ),
-        ("[server]\nport='80'\n", "[server]\nport=443\n"),
+        ("[server]\nport='80'\n", "[server]\nport='443'\n"),
         (
             "[server]\nport=80\n# old\nport=81\nhost=h\n",
             "[server]\nport=443\n# old\nhost=h\n",

@@ -63,9 +63,33 @@ impl Random {
         text.push_str(self.piece(&["", "k=v\n", "[a]k=v", "[a]\nk=v\n"]))?;
         for _ in 0..10 {
             text.push_str(self.piece(&[
-                "k=v", "k=", "j=w", "k", "=", ":", " ", "\t", "\n", "\n", "\r", "\r\n", "\n ",
-                "[a]", "[a]\n", "[", "#c", "\n#c\n", ";", "\\", "\\\n", "\"", "'v'", "\u{a0}",
+                "k=v",
+                "k=",
+                "j=w",
+                "k",
+                "=",
+                ":",
+                " ",
+                "\t",
+                "\n",
+                "\n",
+                "\r",
+                "\r\n",
+                "\n ",
+                "[a]",
+                "[a]\n",
+                "[",
+                "#c",
+                "\n#c\n",
+                ";",
+                "\\",
+                "\\\n",
+                "\"",
+                "'v'",
+                "\u{a0}",
                 "\"\"\n",
+                "k='v' \n",
+                "k=\"a\\\"b\"",
             ]))?;
         }
         Ok(text)
@@ -199,7 +223,7 @@ fn edits_of_random_texts(rt: HostRuntime) -> Result<(), Fail> {
         } else {
             LineSeparator::SystemDefault
         };
-        let value = random.piece(&["new", "", "x y", "#", "a\\"]);
+        let value = random.piece(&["new", "", "x y", "#", "a\\", "it's", "a\"b"]);
         let change = match random.next() & 3 {
             0 => Change::Delete(name, "k"),
             1 => Change::Add(name, "k", value),

@@ -7,7 +7,7 @@ use std::process::Abort;
 use std::test::Fail;
 
 /// The options' letters, a text, a name, a key, a value, and the new text; or why there is none.
-type Row = (
+pub(super) type Row = (
     &'static str,
     &'static str,
     Option<&'static str>,
@@ -27,7 +27,7 @@ fn answer(alloc: Global, row: &Row) -> Result<String, Error> {
 }
 
 /// Asks for each new text.
-fn expect_answers(rt: &(impl Abort + AllocGlobal), rows: &[Row]) -> Result<(), Fail> {
+pub(super) fn expect_answers(rt: &(impl Abort + AllocGlobal), rows: &[Row]) -> Result<(), Fail> {
     for row in rows {
         let new = answer(rt.alloc(), row)?;
         assert!(rt;
@@ -41,7 +41,7 @@ fn expect_answers(rt: &(impl Abort + AllocGlobal), rows: &[Row]) -> Result<(), F
 }
 
 /// Asks for each new text, and that it loads as the document in which the key is set.
-fn expect_texts(rt: &(impl Abort + AllocGlobal), rows: &[Row]) -> Result<(), Fail> {
+pub(super) fn expect_texts(rt: &(impl Abort + AllocGlobal), rows: &[Row]) -> Result<(), Fail> {
     expect_answers(rt, rows)?;
     for (letters, text, name, key, value, new) in rows {
         let want = edited(rt.alloc(), letters, text, Change::Set(*name, *key, *value))?;

@@ -1,0 +1,281 @@
+-- A plain value written in a quote, and the quote in which an old one stands.
+use Rattle.std.proofs.Common.{◌≡◌, ◌≢◌, ◌∙◌, inl, inr, ℕ, Bool, true, false, not, ◌&&◌, ◌||◌, eqb, [], ◌∷◌}
+use Rattle.std.proofs.Common.{◌++◌, refl, sym, ap, subst, append_assoc, append-nil, eq-eqb, eqb-true, ne_eqb}
+use Rattle.std.proofs.Common.{Some, None}
+use Rattle.std.proofs.lemmas.Bool.{and_from, and_parts, and_right, both_ways, cases_Bool, cond-false}
+use Rattle.std.proofs.lemmas.Bool.{cond-true, false_from_ne_true, or_cases, or_from, or_left, or_parts}
+use Rattle.std.proofs.lemmas.List.{append_cancel_right}
+use Rattle.std.proofs.lemmas.Option.{cond_some}
+use Rattle.std.specs.Char.{is_digit}
+use Rattle.std.specs.List.{list_all}
+use Rattle.ini_text.specs.declared.option.ParseOption.{ParseOption}
+use Rattle.ini_text.specs.declared.write.policy.EscapePolicy.{EscapePolicy}
+use Rattle.ini_text.specs.Grammar.CharacterKinds.{backslash, is_inline_white, is_mark, plus}
+use Rattle.ini_text.specs.Grammar.CharacterKinds.{BeginsWithNo}
+use Rattle.ini_text.specs.Grammar.EscapeSequences.{EscapeSequence, spelled}
+use Rattle.ini_text.specs.Grammar.Lines.{BeginsPlain, Line, Quoted, plain_value}
+use Rattle.ini_text.specs.Grammar.Places.{OwnLines}
+use Rattle.ini_text.specs.Grammar.Strings.{Closes, Row, Str, is_endpoint, plain_ends, quote_ends}
+use Rattle.ini_text.specs.Escaping.EscapedTexts.{escaped}
+use Rattle.ini_text.specs.Escaping.Policies.{is_escaped}
+use Rattle.ini_text.specs.Laws.Plain.{IsPlainValue}
+use Rattle.ini_text.proofs.PlainLemmas.EscapedTextLemmas.{NoRawEnd, all_read}
+use Rattle.ini_text.proofs.PlainLemmas.PlainLineLemmas.{row_of}
+use Rattle.ini.specs.Texts.{Text}
+use Rattle.ini_edit.specs.Inside.Quotes.{IsOwnSource, IsBetweenMarks, behind_mark}
+use Rattle.ini_edit.specs.Quotes.{IsQuoteFor, KeepsQuote, StandsInQuotes, has_mark, written_in}
+use Rattle.ini_edit.proofs.PadLemmas.{drop_white, white_row}
+use Rattle.ini_edit.proofs.ValueLemmas.{IsSourceOf, bare_source, closes_no_mark}
+
+-- there are two marks
+of_mark : (P : ℕ → Type 0) → P 0x22 → P 0x27 → (m : ℕ) → is_mark m ≡ true → P m
+of_mark P double single m h = elim (or_cases (eqb m 0x22) (eqb m 0x27) h) [
+  | inl q ↦ subst P (sym (eqb-true m 0x22 q)) double
+  | inr q ↦ subst P (sym (eqb-true m 0x27 q)) single
+]
+
+pub other_mark : (m : ℕ) → is_mark m ≡ true → m ≢ 0x22 → m ≡ 0x27
+other_mark = of_mark (λ m. m ≢ 0x22 → m ≡ 0x27) (λ n. absurd (n refl)) (λ n. refl)
+
+mark_no_white : (m : ℕ) → is_mark m ≡ true → is_inline_white m ≡ false
+mark_no_white = of_mark (λ m. is_inline_white m ≡ false) refl refl
+
+mark_no_backslash : (m : ℕ) → is_mark m ≡ true → eqb backslash m ≡ false
+mark_no_backslash = of_mark (λ m. eqb backslash m ≡ false) refl refl
+
+white_no_mark : (c : ℕ) → is_inline_white c ≡ true → is_mark c ≡ false
+white_no_mark c h = false_from_ne_true (is_mark c) (λ q. both_ways (is_inline_white c) (mark_no_white c q) h)
+
+-- a value without the mark, as it is written, up to that
+no_raw_mark : (policy : EscapePolicy) (value : Text) (m : ℕ) → has_mark value m ≡ false
+    → NoRawEnd policy (quote_ends m) value
+no_raw_mark policy [] m h = refl
+no_raw_mark policy (c ∷ cs) m h =
+    let parts = or_parts (eqb c m) (has_mark cs m) h in
+    and_from (not (is_endpoint (quote_ends m) c) || is_escaped policy c) _
+    (or_left _ _ (ap not (or_from (eqb c m) false parts.0 refl))) (no_raw_mark policy cs m parts.1)
+
+module _ {o : ParseOption} {policy : EscapePolicy} {value : Text} (plain : IsPlainValue o policy value) where
+  -- a plain value in a mark that it doesn't have
+  quoted_source : (m : ℕ) → o.enabled_quote ≡ true → is_mark m ≡ true → has_mark value m ≡ false
+      → IsSourceOf o (written_in policy (m ∷ []) value) value
+  quoted_source m on mark none = record {
+    line = λ w pad r white white_pad h. record {
+      lead = w;
+      line = written_in policy (m ∷ []) value ++ pad;
+      whole = refl;
+      is_lead = record { white = white; ends = mark_no_white m mark };
+      is_line =
+          subst (Line o true (written_in policy (m ∷ []) value ++ pad) r) (given pad white_pad)
+          (Line.line part (unmarked pad r white_pad h) (Str.closed (white_row pad white_pad) h));
+    };
+    is_trimmed = plain.is_trimmed;
+  }
+    where
+      string : Str o.enabled_escape (quote_ends m) (escaped policy value) (m ∷ []) value
+      string = Str.closed
+          (row_of value (all_read {o = o} policy value plain.read_back) (no_raw_mark policy value m none))
+          (or_left (eqb m m) false (eq-eqb m m refl))
+
+      part : Quoted o (written_in policy (m ∷ []) value) (value ++ []) true
+      part = Quoted.part on mark string Quoted.none
+
+      given : (pad : Text) → list_all is_inline_white pad ≡ true
+          → (value ++ []) ++ plain_value true true pad ≡ value
+      given pad white =
+          ap (λ z. (value ++ []) ++ z) (drop_white pad white) ∙ append-nil (value ++ []) ∙ append-nil value
+
+      unmarked : (pad r : Text) → list_all is_inline_white pad ≡ true → Closes plain_ends r
+          → BeginsPlain o (pad ++ r)
+      unmarked [] r white h = λ _. closes_no_mark r h
+      unmarked (c ∷ pad) r white h =
+          λ _. white_no_mark c (and_parts (is_inline_white c) (list_all is_inline_white pad) white).0
+
+  pub source_in : {quote : Text} → IsQuoteFor o value quote
+      → IsSourceOf o (written_in policy quote value) value
+  source_in IsQuoteFor.empty =
+      subst (λ z. IsSourceOf o z value) (sym (append-nil (escaped policy value))) (bare_source plain)
+  source_in (IsQuoteFor.mark {m} on mark none) = quoted_source m on mark none
+
+pub quote_for : {o : ParseOption} {own value quote : Text} → KeepsQuote o own value quote
+    → IsQuoteFor o value quote
+quote_for (KeepsQuote.kept stands none) = IsQuoteFor.mark stands.on stands.mark none
+quote_for (KeepsQuote.none all) = IsQuoteFor.empty
+
+-- what follows the mark that ends a row of pieces
+module _ (m : ℕ) (mark : is_mark m ≡ true) where
+  past : (c : ℕ) (t : Text) → eqb c m ≡ false → eqb c backslash ≡ false
+      → behind_mark m false (c ∷ t) ≡ behind_mark m false t
+  past c t no_mark no_backslash = rw (no_mark, no_backslash) refl
+
+  -- a backslash takes a character
+  past_two : (c : ℕ) (t : Text) → behind_mark m false (backslash ∷ c ∷ t) ≡ behind_mark m false t
+  past_two c t =
+      rw (mark_no_backslash m mark, and_right (eqb c m) false refl, and_right (eqb c backslash) false refl)
+      refl
+
+  past_digit : (c : ℕ) (t : Text) → is_digit c 16 ≡ true
+      → behind_mark m false (c ∷ t) ≡ behind_mark m false t
+  past_digit c t h = past c t
+      (ne_eqb c m (λ q. no_digit (subst (λ x. is_digit x 16 ≡ true) q h)))
+      (ne_eqb c backslash (λ q. let z = subst (λ x. is_digit x 16 ≡ true) q h in cc))
+    where
+      no_digit : is_digit m 16 ≡ true → ⊥
+      no_digit = of_mark (λ m. is_digit m 16 ≡ true → ⊥) (λ h. cc) (λ h. cc) m mark
+
+  past_first_digit : (c : ℕ) (t : Text) → (is_digit c 16 || eqb c plus) ≡ true
+      → behind_mark m false (c ∷ t) ≡ behind_mark m false t
+  past_first_digit c t h = elim (or_cases (is_digit c 16) (eqb c plus) h) [
+    | inl q ↦ past_digit c t q
+    | inr q ↦ subst (λ x. behind_mark m false (x ∷ t) ≡ behind_mark m false t) (sym (eqb-true c plus q))
+        (past plus t no_plus refl)
+  ]
+    where
+      no_plus : eqb plus m ≡ false
+      no_plus = of_mark (λ m. eqb plus m ≡ false) refl refl m mark
+
+  past_escape : {escapes : Bool} {p w : Text} → EscapeSequence escapes p w → (t : Text)
+      → behind_mark m false (p ++ t) ≡ behind_mark m false t
+  unfolding spelled
+  past_escape EscapeSequence.folded t = past_two _ t
+  past_escape (EscapeSequence.named on named) t = past_two _ t
+  past_escape (EscapeSequence.coded {a} {b} {c} {d} {v} on h) t =
+      let all_d = and_parts _ _ (and_parts _ _ (cond_some _ _ v h).0).0 in
+      let all_c = and_parts _ _ all_d.0 in
+      let all_b = and_parts _ _ all_c.0 in
+      past_two _ (a ∷ b ∷ c ∷ d ∷ t) ∙ past_first_digit a (b ∷ c ∷ d ∷ t) all_b.0
+      ∙ past_digit b (c ∷ d ∷ t) all_b.1 ∙ past_digit c (d ∷ t) all_c.1 ∙ past_digit d t all_d.1
+  past_escape (EscapeSequence.itself on feed x none) t = past_two _ t
+  past_escape (EscapeSequence.kept off feed) t = past_two _ t
+
+  at_mark : (t : Text) → behind_mark m false (m ∷ t) ≡ Some t
+  at_mark t = cond-true (eqb m m && true) _ _ (and_from (eqb m m) true (eq-eqb m m refl) refl)
+
+  pub behind_row : {escapes : Bool} {s v : Text} → Row escapes (quote_ends m) s v → (t : Text)
+      → behind_mark m false (s ++ m ∷ t) ≡ Some t
+  behind_row Row.none t = at_mark t
+  behind_row (Row.raw {c} {s} n ends row) t =
+      past c (s ++ m ∷ t) (or_parts (eqb c m) false ends).0 (ne_eqb c backslash n) ∙ behind_row row t
+  behind_row (Row.escape {p} {s = s} piece row) t =
+      ap (behind_mark m false) (append_assoc p s (m ∷ t)) ∙ past_escape piece (s ++ m ∷ t) ∙ behind_row row t
+
+-- what follows goes on
+behind_more : (m : ℕ) (taken : Bool) (t x pad : Text) → behind_mark m taken t ≡ Some x
+    → behind_mark m taken (t ++ pad) ≡ Some (x ++ pad)
+behind_more m taken [] x pad h = absurd (let z : None ≡ Some x = h in cc)
+behind_more m taken (c ∷ t) x pad h = elim (cases_Bool (eqb c m && not taken)) [
+  | inl here ↦
+      let same : Some t ≡ Some x = sym (cond-true (eqb c m && not taken) _ _ here) ∙ h in
+      cond-true (eqb c m && not taken) _ _ here ∙ ap (λ z. Some (z ++ pad)) (let e : t ≡ x = cc in e)
+  | inr on ↦
+      cond-false (eqb c m && not taken) _ _ on
+      ∙ behind_more m (eqb c backslash && not taken) t x pad
+      (sym (cond-false (eqb c m && not taken) _ _ on) ∙ h)
+]
+
+-- a value's source that begins with a mark: a row of pieces, up to that mark
+record BeginsPart (o : ParseOption) (m : ℕ) (x : Text) : Type 0 where
+  pub content : Text
+  pub given : Text
+  pub behind : Text
+  pub row : Row o.enabled_escape (quote_ends m) content given
+  pub whole : x ≡ content ++ m ∷ behind
+
+line_part : {o : ParseOption} {first : Bool} {l r v : Text} → o.enabled_quote ≡ true → Line o first l r v
+    → (m : ℕ) (x z after : Text) → is_mark m ≡ true → l ++ z ≡ m ∷ x → r ≡ z ++ after → BeginsPart o m x
+line_part on (Line.line {p = p} {r = r} Quoted.none plain string) m x z after mark is next =
+    let begins : p ++ r ≡ m ∷ (x ++ after) =
+    ap (λ y. p ++ y) next ∙ sym (append_assoc p z after) ∙ ap (λ y. y ++ after) is in
+    let no : is_mark m ≡ false = subst (BeginsWithNo is_mark) begins (plain on) in
+    absurd (both_ways (is_mark m) no mark)
+line_part {o} on (Line.line {p = p} (Quoted.part {m = n} {s} {v} {q} _ _ (Str.closed row _) _) _ _)
+    m x z after mark is next =
+    let whole : n ∷ ((s ++ n ∷ q) ++ (p ++ z)) ≡ m ∷ x =
+    ap (λ y. n ∷ y) (sym (append_assoc (s ++ n ∷ q) p z)) ∙ is in
+    let same : n ≡ m = cc in
+    let tails : (s ++ n ∷ q) ++ (p ++ z) ≡ x = cc in
+    record {
+      content = s;
+      given = v;
+      behind = q ++ (p ++ z);
+      row = subst (λ y. Row o.enabled_escape (quote_ends y) s v) same row;
+      whole = sym tails ∙ append_assoc s (n ∷ q) (p ++ z) ∙ ap (λ y. s ++ y ∷ (q ++ (p ++ z))) same;
+    }
+
+own_part : {o : ParseOption} {own r : Text} → o.enabled_quote ≡ true → OwnLines o own r → (m : ℕ) (x : Text)
+    → is_mark m ≡ true → own ≡ m ∷ x → BeginsPart o m x
+own_part on (OwnLines.first {l} {r} one) m x mark is =
+    line_part on one m x [] r mark (append-nil l ∙ is) refl
+own_part on (OwnLines.more {l} {e} {t} {r} one ends more) m x mark is =
+    line_part on one m x (e ++ t) r mark is (sym (append_assoc e t r))
+
+-- a source that stands between two marks is one quoted part, and each such part stands so
+pub part_between : {o : ParseOption} {own : Text} {m : ℕ} → o.enabled_quote ≡ true → IsOwnSource o own
+    → IsBetweenMarks own m → StandsInQuotes o own m
+part_between {o} {own} {m} on source between =
+    let part = own_part on source.lines m (between.behind ++ source.pad) between.mark
+    (ap (λ z. z ++ source.pad) between.whole) in
+    let one = behind_more m false between.behind [] source.pad between.ends in
+    let other : behind_mark m false (between.behind ++ source.pad) ≡ Some part.behind =
+    ap (behind_mark m false) part.whole ∙ behind_row m between.mark part.row part.behind in
+    let both : Some source.pad ≡ Some part.behind = sym one ∙ other in
+    let same : source.pad ≡ part.behind = cc in
+    let whole : between.behind ++ source.pad ≡ (part.content ++ m ∷ []) ++ source.pad =
+    part.whole ∙ ap (λ z. part.content ++ m ∷ z) (sym same)
+    ∙ sym (append_assoc part.content (m ∷ []) source.pad) in
+    record {
+      on = on;
+      mark = between.mark;
+      content = part.content;
+      given = part.given;
+      string = Str.closed part.row (or_left (eqb m m) false (eq-eqb m m refl));
+      whole =
+          between.whole
+          ∙ ap (λ z. m ∷ z) (append_cancel_right between.behind (part.content ++ m ∷ []) source.pad whole);
+    }
+
+ends_string : {escapes : Bool} {m : ℕ} {s r v : Text} → is_mark m ≡ true
+    → Str escapes (quote_ends m) s (m ∷ r) v → behind_mark m false (s ++ m ∷ []) ≡ Some []
+ends_string {m = m} mark (Str.closed row closes) = behind_row m mark row []
+
+pub between_part : {o : ParseOption} {own : Text} {m : ℕ} → StandsInQuotes o own m → IsBetweenMarks own m
+between_part {m = m} part = record {
+  mark = part.mark;
+  behind = part.content ++ m ∷ [];
+  whole = part.whole;
+  ends = ends_string part.mark part.string;
+}
+
+pub same_mark : {own : Text} {m n : ℕ} → IsBetweenMarks own m → IsBetweenMarks own n → m ≡ n
+same_mark {m = m} {n = n} one other =
+    let both : m ∷ one.behind ≡ n ∷ other.behind = sym one.whole ∙ other.whole in
+    cc
+
+-- the quote in which a value is written in the place of one whose source stands in no quotes, or in its mark
+module _ {o : ParseOption} {own value : Text} where
+  pub off_none : o.enabled_quote ≡ false → KeepsQuote o own value []
+  off_none off = KeepsQuote.none (λ m part. absurd (both_ways o.enabled_quote off part.on))
+
+  pub bare_none : ((m : ℕ) → ¬ IsBetweenMarks own m) → KeepsQuote o own value []
+  bare_none none = KeepsQuote.none (λ m part. absurd (none m (between_part part)))
+
+  pub mark_none : {m : ℕ} → IsBetweenMarks own m → has_mark value m ≡ true → KeepsQuote o own value []
+  mark_none between has =
+      KeepsQuote.none
+      (λ n part. subst (λ x. has_mark value x ≡ true) (same_mark between (between_part part)) has)
+
+  pub mark_kept : {m : ℕ} {quote : Text} → o.enabled_quote ≡ true → IsOwnSource o own → IsBetweenMarks own m
+      → has_mark value m ≡ false → quote ≡ m ∷ [] → KeepsQuote o own value quote
+  mark_kept on source between none is =
+      subst (KeepsQuote o own value) (sym is) (KeepsQuote.kept (part_between on source between) none)
+
+-- a text that goes on with the stretches of a pair, one behind the other
+pub put_together : (old f k l w p t : Text) (s : ℕ) {a b c d e g new : Text} → a ≡ old ++ f
+    → b ≡ a ++ k → c ≡ b ++ s ∷ [] → d ≡ c ++ l → e ≡ d ++ w → g ≡ e ++ p → new ≡ g ++ t
+    → new ≡ old ++ (f ++ (k ++ s ∷ (l ++ (w ++ (p ++ t)))))
+put_together old f k l w p t s at_f at_k at_s at_l at_w at_p at_t =
+    let joined : ((((((old ++ f) ++ k) ++ s ∷ []) ++ l) ++ w) ++ p) ++ t
+    ≡ old ++ (f ++ (k ++ s ∷ (l ++ (w ++ (p ++ t))))) = simp append_assoc in
+    at_t ∙ ap (λ z. z ++ t) (at_p ∙ ap (λ z. z ++ p) (at_w ∙ ap (λ z. z ++ w) (at_l ∙ ap (λ z. z ++ l)
+    (at_s ∙ ap (λ z. z ++ s ∷ []) (at_k ∙ ap (λ z. z ++ k) at_f)))))
+    ∙ joined
