@@ -1,5 +1,7 @@
 """The stored edits: those that the documents show, what is refused, and some texts under every set of options."""
 import itertools
+import pathlib
+import re
 
 from model import POLICIES, Option, Question, Writing
 
@@ -143,6 +145,49 @@ def plain_and_unplain():
         yield Question(call, DEFAULT, BASICS, name, "k", "v", "k=1\n[]\nk=2\n[b]\nj=3")
 
 
+# The texts of the case files that are loaded, refused, written, or told element by element.
+DATA = pathlib.Path(__file__).resolve().parent.parent.parent / "crates" / "ini_cases" / "data"
+ASKING = re.compile(r"load|refuse|write|read|places")
+ROW = re.compile(r'    "((?:[^"\\]|\\.)*)"')
+ESCAPE = re.compile(r"\\(?:u\{([0-9a-f]+)\}|(.))", re.DOTALL)
+LETTERS = {"n": "\n", "r": "\r", "t": "\t", "0": "\0"}
+
+
+def unescaped(source):
+    """The text that stands in quotes as Rust spells it, or nothing where it holds bytes."""
+
+    def character(found):
+        digits, letter = found.groups()
+        return chr(int(digits, 16)) if digits else LETTERS.get(letter, letter)
+
+    return None if "\\x" in source else ESCAPE.sub(character, source)
+
+
+def carried_texts():
+    """Each text once, in the order of the files."""
+    texts = {}
+    for file in sorted(DATA.glob("*.cases")):
+        asks = False
+        for line in file.read_text().splitlines():
+            if line[:1].isalpha():
+                asks = ASKING.match(line) is not None
+            elif asks and (row := ROW.match(line)) and (text := unescaped(row[1])) is not None:
+                texts[text] = None
+    return list(texts)
+
+
+def carried(options):
+    """Each call on each of these texts: of its first key, and of one that it lacks."""
+    for text, option in itertools.product(carried_texts(), options):
+        name = next(iter(re.findall(r"\[([^\]\n]*)\]", text.split("=")[0])), None)
+        found = re.search(r"([^=:\s\[\]#;]+)[ \t]*[=:]", text)
+        key = found[1] if found else "k"
+        yield Question("set_existing", option, BASICS, name, key, "new value", text)
+        yield Question("delete", option, BASICS, name, key, "", text)
+        yield Question("set", option, CRLF, name, "new_key", "v", text)
+        yield Question("add", option, BASICS, name and name + "2", key, "v", text)
+
+
 def questions():
     """Every stored edit."""
     yield from document_examples()
@@ -155,3 +200,4 @@ def questions():
         name = "a]" if option.brackets and "]]" in text else "a"
         for call, key in (("set_existing", "k"), ("set_existing", "\tk"), ("delete", "k"), ("set", "j"), ("add", "k")):
             yield Question(call, option, next(ways), name, key, "new", text)
+    yield from carried((DEFAULT,))

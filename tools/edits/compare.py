@@ -2,15 +2,19 @@
 """Compares the bytes of edits: `ini_edits`, over the library's calls, and the model in model.py.
 
     compare.py random PROGRAM N [SEED]
+    compare.py carried PROGRAM
     compare.py stored FOLDER
 
 `random` asks N random edits of both, and prints every difference with the smallest text that was found to show it; the
 status is 1 if there is one. PROGRAM may be a command of several words.
 
+`carried` asks the same of the texts of the case files, each call under every set of options.
+
 `stored` writes the stored run of `ini_edits`, the files `stdin` and `stdout`, into FOLDER: the edits of cases.py. What
 stands in `stdout` is what the model answers, never the program.
 """
 import collections
+import itertools
 import pathlib
 import random
 import shlex
@@ -127,6 +131,17 @@ def compare(program, number, seed):
     return differences == 0
 
 
+def carried(program):
+    """Whether the two answer alike of the texts of the case files."""
+    options = [Option(*flags) for flags in itertools.product((True, False), repeat=5)]
+    questions = list(cases.carried(options))
+    differences = list(differing(program, questions))
+    for question, theirs, ours in differences[:40]:
+        print(question, f"\n    the program: {shown(theirs)}\n    the model:   {shown(ours)}", flush=True)
+    print(f"{len(cases.carried_texts())} texts, {len(questions):,} edits, {len(differences):,} differences")
+    return not differences
+
+
 def stored(folder):
     """Writes the stored run."""
     questions = list(cases.questions())
@@ -139,6 +154,8 @@ def main():
     match sys.argv[1:]:
         case ["random", program, number, *seed] if len(seed) < 2:
             sys.exit(not compare(program, int(number), seed[0] if seed else "1"))
+        case ["carried", program]:
+            sys.exit(not carried(program))
         case ["stored", folder]:
             stored(pathlib.Path(folder))
         case _:

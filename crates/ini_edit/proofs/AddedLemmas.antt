@@ -1,5 +1,5 @@
 -- A text to which a pair's line was added at a place where its section ends.
-use Rattle.std.proofs.Common.{◌≡◌, ◌∙◌, List, [], ◌++◌, ap, sym, subst, refl, append_assoc, chars, Option}
+use Rattle.std.proofs.Common.{◌≡◌, ◌∙◌, [], ◌++◌, ap, sym, subst, refl, append_assoc, chars, Option}
 use Rattle.ini_text.specs.Grammar.Texts.{Reads}
 use Rattle.ini_text.specs.declared.option.ParseOption.{ParseOption}
 use Rattle.ini_text.specs.declared.write.option.WriteOption.{WriteOption}
@@ -19,8 +19,10 @@ use Rattle.ini_edit.proofs.GlueTextLemmas.{boundary_place}
 use Rattle.ini_edit.proofs.PlacedLemmas.{adds_at_place, inserts_at_place, place_items}
 
 -- the parts of the text, one put behind another
-pub with_line_parts : {o : ParseOption} {e : Ending} (w : WriteOption) (W r key value n0 n1 n2 n3 n4 : Text) → n0 ≡ []
-    → n1 ≡ n0 ++ W → PushesGlue o w.line_separator e n1 n2 → n3 ≡ n2 ++ written_pair w (key, value) → n4 ≡ n3 ++ r
+pub with_line_parts : {o : ParseOption} {e : Ending} (w : WriteOption) (W r key value n0 n1 n2 n3 n4 : Text)
+    → n0 ≡ []
+    → n1 ≡ n0 ++ W → PushesGlue o w.line_separator e n1 n2 → n3 ≡ n2 ++ written_pair w (key, value)
+    → n4 ≡ n3 ++ r
     → IsWithLine o w e W r key value n4
 with_line_parts w W r key value n0 n1 n2 n3 n4 none first glue pair rest =
     let g = glue.glue in
@@ -33,7 +35,8 @@ with_line_parts w W r key value n0 n1 n2 n3 n4 none first glue pair rest =
           ∙ append_assoc (W ++ g) l r ∙ append_assoc W g (l ++ r);
     }
 
-pub added_at : {o : ParseOption} {w : WriteOption} {T : Text} {name : Option Text} {key value U : Text} {place : TextPlace}
+pub added_at : {o : ParseOption} {w : WriteOption} {T : Text} {name : Option Text} {key value U : Text}
+    {place : TextPlace}
     → IsFirstSectionEnd o T name place
     → IsWithLine o w (front_ending place.is_behind_comment (chars place.front.now)) (chars place.front.now)
     (chars place.rest.now) key value U → IsWritable o w key value
@@ -43,7 +46,8 @@ added_at {o} {w} {T} {name} {key} {value} {U} {place} end line writable =
     let r = chars place.rest.now in
     let d = document_of (end.before ++ end.after) in
     let at = boundary_place end.boundary end.whole end.free line.is_glue in
-    let then : Reads o (W ++ r) W end.after (W ++ r) = subst (λ x. Reads o x W end.after x) end.whole end.then in
+    let then : Reads o (W ++ r) W end.after (W ++ r) =
+    subst (λ x. Reads o x W end.after x) end.whole end.then in
     let ends : EndsAtPlace o w.line_separator W r line.glue name d = record {
       before = end.before;
       after = end.after;

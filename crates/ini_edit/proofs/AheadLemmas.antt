@@ -52,7 +52,8 @@ no_line_feed (c ∷ x) h = at (eqb c 0x0A) (eqb c 0x0D) h
     at true q h = h
     at false q h = refl
 
-pub LineEnd-before : {e : List ℕ} (t x y : List ℕ) → BeginsWithNo is_line_end x → LineEnd e (t ++ y) → LineEnd e (t ++ x)
+pub LineEnd-before : {e : List ℕ} (t x y : List ℕ) → BeginsWithNo is_line_end x → LineEnd e (t ++ y)
+    → LineEnd e (t ++ x)
 LineEnd-before t x y h LineEnd.lf = LineEnd.lf
 LineEnd-before t x y h LineEnd.cr_lf = LineEnd.cr_lf
 LineEnd-before [] x y h (LineEnd.cr n) = LineEnd.cr (no_line_feed x h)
@@ -71,16 +72,20 @@ module _ {o : ParseOption} {x : List ℕ} (follows : Follows o x) where
     MoreLines-before some (MoreLines.empty_lf m) = MoreLines.empty_lf (MoreLines-before some m)
     MoreLines-before some (MoreLines.empty_cr_lf m) = MoreLines.empty_cr_lf (MoreLines-before some m)
     MoreLines-before some (MoreLines.continued {t = t} b lead ln le m) =
-        let n = EndedLine-before (LineEnd-before t x _ (follows.no_line_end on) le) (record { lead = lead; line = ln; end = le }) in
+        let n = EndedLine-before (LineEnd-before t x _ (follows.no_line_end on) le)
+        (record { lead = lead; line = ln; end = le }) in
         MoreLines.continued b n.lead n.line n.end (MoreLines-before some m)
     MoreLines-before some (MoreLines.last b lead ln) = absurd (some refl)
 
   -- a multiline value that something follows
-  pub Value-before : {s y v : List ℕ} → o.enabled_indented_mutiline_value ≡ true → y ≢ [] → Value o s y v → Value o s x v
-  Value-before on some (Value.one_line off lead ln) = absurd (both_ways o.enabled_indented_mutiline_value off on)
+  pub Value-before : {s y v : List ℕ} → o.enabled_indented_mutiline_value ≡ true → y ≢ [] → Value o s y v
+      → Value o s x v
+  Value-before on some (Value.one_line off lead ln) =
+      absurd (both_ways o.enabled_indented_mutiline_value off on)
   Value-before on some (Value.to_end _ lead ln) = absurd (some refl)
   Value-before on some (Value.lines {t = t} _ lead ln le m) =
-      let n = EndedLine-before (LineEnd-before t x _ (follows.no_line_end on) le) (record { lead = lead; line = ln; end = le }) in
+      let n = EndedLine-before (LineEnd-before t x _ (follows.no_line_end on) le)
+      (record { lead = lead; line = ln; end = le }) in
       Value.lines on n.lead n.line n.end (MoreLines-before on some m)
 
   pub y_some : {c y : List ℕ} → FollowsFront c y → y ≢ []
@@ -95,7 +100,8 @@ module _ {o : ParseOption} {x : List ℕ} (follows : Follows o x) where
       → Str e bracketed_name_ends s y v → X
   no_bracketed {y = y} f (Str.closed row h) = at y f.some h
     where
-      at : {X : Type 0} (y : List ℕ) → BeginsWith (λ c. not (is_line_end c)) y → Closes bracketed_name_ends y → X
+      at : {X : Type 0} (y : List ℕ) → BeginsWith (λ c. not (is_line_end c)) y
+          → Closes bracketed_name_ends y → X
       at [] begins h = absurd (false≢true h)
       at (c ∷ y) begins h = closes_no_line (c ∷ y) begins h
   no_bracketed f (Str.lone row h) = absurd (false≢true h)
@@ -121,7 +127,8 @@ module _ {o : ParseOption} {x : List ℕ} (follows : Follows o x) where
   Element-before f (Element.dropped_key i begins_key stops) = absurd (y_some f refl)
 
   -- elements up to the front c, before x in place of y, and then further elements
-  pub Reads-before_line : {T b c d : List ℕ} {items others : List Given} (y : List ℕ) → FollowsFront c y → T ≡ c ++ y
+  pub Reads-before_line : {T b c d : List ℕ} {items others : List Given} (y : List ℕ) → FollowsFront c y
+      → T ≡ c ++ y
       → Reads o T b items c → Reads o (c ++ x) c others d → Reads o (c ++ x) b (items ++ others) d
   Reads-before_line y f h (Reads.stay z q) rest = rest
   Reads-before_line {b = b} {c} {d} {others = others} y f h
@@ -164,7 +171,8 @@ key_follows {b = b} r (KeyFront.indented {w = w} {s = s} i begins str) = at w i.
     at : (w : List ℕ) → BeginsWith is_blank w → FollowsFront b ((w ++ s) ++ r)
     at [] h = absurd (false≢true (sym h))
     at (c ∷ w) h = record {
-      some = ap not (false_from_ne_true (is_line_end c) (λ q. both_ways (is_blank c) (line_end_no_blank c q) h));
+      some = ap not (false_from_ne_true (is_line_end c)
+          (λ q. both_ways (is_blank c) (line_end_no_blank c q) h));
       bracket =
           inl (false_from_ne_true (eqb c open_bracket)
           (λ q. false≢true (subst (λ z. is_blank z ≡ true) (eqb-true c open_bracket q) h)));
@@ -178,8 +186,10 @@ more_follows (MoreLines.empty_cr_lf m) = more_follows m
 more_follows (MoreLines.continued b lead ln le m) = more_follows m
 more_follows (MoreLines.last b lead ln) = record { no_blank = λ _. tt; no_line_end = λ _. tt }
 
-pub value_follows : {o : ParseOption} {s r v : List ℕ} → o.enabled_indented_mutiline_value ≡ true → Value o s r v → Follows o r
-value_follows {o} on (Value.one_line off lead ln) = absurd (both_ways o.enabled_indented_mutiline_value off on)
+pub value_follows : {o : ParseOption} {s r v : List ℕ} → o.enabled_indented_mutiline_value ≡ true
+    → Value o s r v → Follows o r
+value_follows {o} on (Value.one_line off lead ln) =
+    absurd (both_ways o.enabled_indented_mutiline_value off on)
 value_follows on (Value.to_end _ lead ln) = record { no_blank = λ _. tt; no_line_end = λ _. tt }
 value_follows on (Value.lines _ lead ln le m) = more_follows m
 
@@ -191,7 +201,9 @@ any_follows {o} x off = record {
 }
 
 -- a value that isn't multiline is closed
-pub value_closes : {o : ParseOption} {s r v : List ℕ} → o.enabled_indented_mutiline_value ≡ false → Value o s r v → Closes plain_ends r
+pub value_closes : {o : ParseOption} {s r v : List ℕ} → o.enabled_indented_mutiline_value ≡ false
+    → Value o s r v → Closes plain_ends r
 value_closes off (Value.one_line _ lead ln) = line_closes ln
 value_closes {o} off (Value.to_end on lead ln) = absurd (both_ways o.enabled_indented_mutiline_value off on)
-value_closes {o} off (Value.lines on lead ln le m) = absurd (both_ways o.enabled_indented_mutiline_value off on)
+value_closes {o} off (Value.lines on lead ln le m) =
+    absurd (both_ways o.enabled_indented_mutiline_value off on)

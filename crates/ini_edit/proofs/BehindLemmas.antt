@@ -39,7 +39,12 @@ EndsLike-behind {b} {c} (x ∷ s) like = EndsLike-one b c x s
 
 module _ {b c : List ℕ} (like : EndsLike b c) where
   Indentation-like : {w : List ℕ} → Indentation b w → Indentation c w
-  Indentation-like i = record { at_line_start = sym like.line ∙ i.at_line_start; some = i.some; blank = i.blank }
+  Indentation-like i = record {
+    at_line_start = sym like.line
+        ∙ i.at_line_start;
+    some = i.some;
+    blank = i.blank;
+  }
 
   Gap-like : {s r : List ℕ} → Gap b s r → Gap c s r
   Gap-like (Gap.blank_line x i e) = Gap.blank_line x (Indentation-like i) e
@@ -66,7 +71,8 @@ module _ (o : ParseOption) {W V : List ℕ} (like : EndsLike W V) (Y : List ℕ)
   abbrev ReadsTo : List ℕ → List Given → List ℕ → Type 0
   ReadsTo x items d = (y : List ℕ) × (d ≡ W ++ y) × Reads o (V ++ Y) (V ++ x) items (V ++ y)
 
-  reads_to : {T b d : List ℕ} {items : List Given} (x : List ℕ) → Reads o T b items d → T ≡ W ++ Y → b ≡ W ++ x
+  reads_to : {T b d : List ℕ} {items : List Given} (x : List ℕ) → Reads o T b items d → T ≡ W ++ Y
+      → b ≡ W ++ x
       → ReadsTo x items d
   reads_to {T} x (Reads.stay {b = b} r h) whole at =
       let rest : Y ≡ x ++ r =
@@ -86,7 +92,8 @@ module _ (o : ParseOption) {W V : List ℕ} (like : EndsLike W V) (Y : List ℕ)
       )
 
   -- the rest of a text behind another front
-  pub Reads-like : {items : List Given} → Reads o (W ++ Y) W items (W ++ Y) → Reads o (V ++ Y) V items (V ++ Y)
+  pub Reads-like : {items : List Given} → Reads o (W ++ Y) W items (W ++ Y)
+      → Reads o (V ++ Y) V items (V ++ Y)
   Reads-like {items} reads =
       let at = reads_to [] reads refl (sym (append-nil W)) in
       let all : at.0 ≡ Y = append_cancel_left W at.0 Y (sym at.1) in
@@ -94,14 +101,16 @@ module _ (o : ParseOption) {W V : List ℕ} (like : EndsLike W V) (Y : List ℕ)
       (subst (λ z. Reads o (V ++ Y) z items (V ++ at.0)) (append-nil V) at.2)
 
 -- where the text ends nothing is left
-pub nothing_left : {o : ParseOption} {T W d : List ℕ} {items : List Given} → Reads o T W items d → T ≡ W → items ≡ []
+pub nothing_left : {o : ParseOption} {T W d : List ℕ} {items : List Given} → Reads o T W items d → T ≡ W
+    → items ≡ []
 nothing_left (Reads.stay r h) e = refl
 nothing_left (Reads.step {b = b} {s = s} {r = r} h x reads) e =
     let none : length (b ++ (s ++ r)) ≡ length b = ap length (sym h ∙ e) in
     absurd (omega (arith, element-some x, length-append b (s ++ r), length-append s r, none))
 
 -- a line end is a gap alone
-pub line_end_element : {o : ParseOption} {b s r Y : List ℕ} {gives : List Given} (c : ℕ) → is_line_end c ≡ true
+pub line_end_element : {o : ParseOption} {b s r Y : List ℕ} {gives : List Given} (c : ℕ)
+    → is_line_end c ≡ true
     → Element o b s r gives → s ++ r ≡ c ∷ Y → (gives ≡ []) × (s ≡ c ∷ [])
 line_end_element {o = o} {b = b} {s} {r} {Y} c ends e h = at e h
   where
@@ -113,11 +122,13 @@ line_end_element {o = o} {b = b} {s} {r} {Y} c ends e h = at e h
     white = line_end_is_white c ends
 
     no_blank : {X : Type 0} {w : List ℕ} (x : List ℕ) → Indentation b w → w ++ x ≡ c ∷ Y → X
-    no_blank {w = w} x i e = absurd (both_ways (is_blank c) (line_end_no_blank c ends) (first is_blank w x i.some e))
+    no_blank {w = w} x i e =
+        absurd (both_ways (is_blank c) (line_end_no_blank c ends) (first is_blank w x i.some e))
 
     no_mark : {X : Type 0} (m : ℕ) (x : List ℕ) → is_comment_mark m ≡ true → m ∷ x ≡ c ∷ Y → X
     no_mark m x h e =
-        absurd (both_ways (is_whitespace c) (comment_mark-apart c (first is_comment_mark (m ∷ []) x h e)).1 white)
+        absurd (both_ways (is_whitespace c)
+        (comment_mark-apart c (first is_comment_mark (m ∷ []) x h e)).1 white)
 
     no_bracket : {X : Type 0} (x : List ℕ) → open_bracket ∷ x ≡ c ∷ Y → X
     no_bracket x e =
@@ -133,8 +144,10 @@ line_end_element {o = o} {b = b} {s} {r} {Y} c ends e h = at e h
     no_key (KeyFront.indented {w = w} {s = k} {r = y} i begins str) e =
         no_blank (k ++ y) i (sym (append_assoc w k y) ∙ e)
 
-    at : {s r : List ℕ} {gives : List Given} → Element o b s r gives → s ++ r ≡ c ∷ Y → (gives ≡ []) × (s ≡ c ∷ [])
-    at {r = r} (Element.gap (Gap.blank_line {w = w} d i q)) h = no_blank (d ∷ r) i (sym (append_assoc w (d ∷ []) r) ∙ h)
+    at : {s r : List ℕ} {gives : List Given} → Element o b s r gives → s ++ r ≡ c ∷ Y
+        → (gives ≡ []) × (s ≡ c ∷ [])
+    at {r = r} (Element.gap (Gap.blank_line {w = w} d i q)) h =
+        no_blank (d ∷ r) i (sym (append_assoc w (d ∷ []) r) ∙ h)
     at {r = r} (Element.gap (Gap.before_header i)) h = no_blank r i h
     at (Element.gap (Gap.white {c = d} q n)) h = let same : d ≡ c = cc in (refl, ap (λ z. z ∷ []) same)
     at {r = r} (Element.comment {m = m} s one mark all) h = no_mark m ((s ++ line_feed ∷ []) ++ r) mark h
@@ -148,7 +161,8 @@ line_end_element {o = o} {b = b} {s} {r} {Y} c ends e h = at e h
         no_blank (s ++ r) i (sym (append_assoc w s r) ∙ h)
 
 -- behind any front a rest is read as before that begins with a line end
-pub Reads-line_end : {o : ParseOption} {items : List Given} (W V : List ℕ) (c : ℕ) (Y : List ℕ) → is_line_end c ≡ true
+pub Reads-line_end : {o : ParseOption} {items : List Given} (W V : List ℕ) (c : ℕ) (Y : List ℕ)
+    → is_line_end c ≡ true
     → Reads o (W ++ c ∷ Y) W items (W ++ c ∷ Y) → Reads o (V ++ c ∷ Y) V items (V ++ c ∷ Y)
 Reads-line_end {o} {items} W V c Y ends reads = at reads refl refl refl
   where
@@ -157,15 +171,18 @@ Reads-line_end {o} {items} W V c Y ends reads = at reads refl refl refl
     at (Reads.stay {b = b} r h) whole first last =
         let same : length (W ++ c ∷ Y) ≡ length W = ap length (sym last ∙ first) in
         absurd (omega (arith, length-append W (c ∷ Y), same))
-    at {T} {d = d} (Reads.step {b = b} {s = s} {r = r} {gives = gives} {items = items} h e reads) whole first last =
+    at {T} {d = d} (Reads.step {b = b} {s = s} {r = r} {gives = gives} {items = items} h e reads) whole first
+        last =
         let rest : s ++ r ≡ c ∷ Y =
         append_cancel_left W (s ++ r) (c ∷ Y) (ap (λ z. z ++ (s ++ r)) (sym first) ∙ sym h ∙ whole) in
         let one = line_end_element c ends e rest in
         let text : T ≡ (W ++ c ∷ []) ++ Y = whole ∙ sym (append_assoc W (c ∷ []) Y) in
         let front : b ++ s ≡ W ++ c ∷ [] = ap (λ z. z ++ s) first ∙ ap (λ z. W ++ z) one.1 in
         let moved : Reads o ((W ++ c ∷ []) ++ Y) (W ++ c ∷ []) items ((W ++ c ∷ []) ++ Y) =
-        subst (λ z. Reads o ((W ++ c ∷ []) ++ Y) (W ++ c ∷ []) items z) (last ∙ sym (append_assoc W (c ∷ []) Y))
-        (subst (λ z. Reads o ((W ++ c ∷ []) ++ Y) z items d) front (subst (λ z. Reads o z (b ++ s) items d) text reads)) in
+        subst (λ z. Reads o ((W ++ c ∷ []) ++ Y) (W ++ c ∷ []) items z) (last
+        ∙ sym (append_assoc W (c ∷ []) Y))
+        (subst (λ z. Reads o ((W ++ c ∷ []) ++ Y) z items d) front
+        (subst (λ z. Reads o z (b ++ s) items d) text reads)) in
         let new = Reads-like o (EndsLike-one W V c []) Y moved in
         let all : (V ++ c ∷ []) ++ Y ≡ V ++ c ∷ Y = append_assoc V (c ∷ []) Y in
         subst (λ g. Reads o (V ++ c ∷ Y) V (g ++ items) (V ++ c ∷ Y)) (sym one.0)
@@ -173,7 +190,8 @@ Reads-line_end {o} {items} W V c Y ends reads = at reads refl refl refl
         (subst (λ z. Reads o z (V ++ c ∷ []) items z) all new))
 
 -- past line ends, which are gaps
-pub past_line_ends : {o : ParseOption} {T W : List ℕ} {items : List Given} (e r : List ℕ) → list_all is_line_end e ≡ true
+pub past_line_ends : {o : ParseOption} {T W : List ℕ} {items : List Given} (e r : List ℕ)
+    → list_all is_line_end e ≡ true
     → T ≡ W ++ (e ++ r) → Reads o T W items T → Reads o T (W ++ e) items T
 past_line_ends {o} {T} {W} {items = items} [] r all whole reads =
     subst (λ z. Reads o T z items T) (sym (append-nil W)) reads
@@ -183,12 +201,14 @@ past_line_ends {o} {T} {W} {items} (c ∷ e) r all whole reads =
     subst (λ z. Reads o T z items T) (append_assoc W (c ∷ []) e)
     (past_line_ends e r parts.1 text (at reads parts.0 whole refl refl))
   where
-    at : {b d : List ℕ} {items : List Given} → Reads o T b items d → is_line_end c ≡ true → T ≡ W ++ (c ∷ (e ++ r)) → b ≡ W
+    at : {b d : List ℕ} {items : List Given} → Reads o T b items d → is_line_end c ≡ true
+        → T ≡ W ++ (c ∷ (e ++ r)) → b ≡ W
         → d ≡ T → Reads o T (W ++ c ∷ []) items T
     at (Reads.stay {b = b} x h) ends whole first last =
         let same : length (W ++ (c ∷ (e ++ r))) ≡ length W = ap length (sym whole ∙ sym last ∙ first) in
         absurd (omega (arith, length-append W (c ∷ (e ++ r)), same))
-    at {d = d} (Reads.step {b = b} {s = s} {r = x} {gives = gives} {items = items} h q reads) ends whole first last =
+    at {d = d} (Reads.step {b = b} {s = s} {r = x} {gives = gives} {items = items} h q reads) ends whole
+        first last =
         let rest : s ++ x ≡ c ∷ (e ++ r) =
         append_cancel_left W (s ++ x) (c ∷ (e ++ r)) (ap (λ z. z ++ (s ++ x)) (sym first) ∙ sym h ∙ whole) in
         let one = line_end_element c ends q rest in

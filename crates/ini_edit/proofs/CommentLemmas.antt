@@ -1,10 +1,10 @@
 -- Comments among the elements: an element that begins as a comment does is one, and gives nothing.
-use Rattle.std.proofs.Common.{◌≡◌, ℕ, Bool, true, false, not, ◌||◌, List, [], ◌∷◌, ◌++◌, refl, sym, ap, ◌∙◌}
+use Rattle.std.proofs.Common.{◌≡◌, ℕ, Bool, true, false, not, ◌||◌, List, [], ◌∷◌, ◌++◌, refl, sym, ap}
 use Rattle.std.proofs.Common.{subst, append_assoc, append-nil}
 use Rattle.std.proofs.lemmas.Bool.{both_ways, false≢true, false_from_ne_true, or_left, or_right}
 use Rattle.std.specs.Char.{is_whitespace}
 use Rattle.std.specs.List.{list_all}
-use Rattle.ini_text.specs.Grammar.CharacterKinds.{line_feed, open_bracket, is_blank, is_comment_mark}
+use Rattle.ini_text.specs.Grammar.CharacterKinds.{line_feed, is_blank, is_comment_mark}
 use Rattle.ini_text.specs.Grammar.CharacterKinds.{is_line_feed, BeginsWith}
 use Rattle.ini_text.specs.Grammar.Elements.{Given, Gap, Element}
 use Rattle.ini_text.specs.Grammar.Keys.{Indentation, KeyFront, begins_key}
@@ -29,10 +29,12 @@ no_indent {w = w} x i m = let two = first_two is_blank w x i.some m in no_mark_b
 no_key : {X : Type 0} {o : ParseOption} {b k y key : Text} → KeyFront o b k y key
     → BeginsWith is_comment_mark (k ++ y) → X
 no_key (KeyFront.unindented {s = k} {r = y} begins str) m =
-    let two = first_two begins_key (k ++ y) [] begins (subst (BeginsWith is_comment_mark) (sym (append-nil (k ++ y))) m) in
+    let two = first_two begins_key (k ++ y) [] begins
+    (subst (BeginsWith is_comment_mark) (sym (append-nil (k ++ y))) m) in
     let c = two.0 in
     absurd (both_ways (begins_key c)
-    (ap not (or_left (is_whitespace c || is_comment_mark c) _ (or_right (is_whitespace c) _ two.1.1))) two.1.0)
+    (ap not (or_left (is_whitespace c || is_comment_mark c) _ (or_right (is_whitespace c) _ two.1.1)))
+    two.1.0)
 no_key (KeyFront.indented {w = w} {s = k} {r = y} i begins str) m =
     no_indent (k ++ y) i (subst (BeginsWith is_comment_mark) (append_assoc w k y) m)
 
@@ -69,11 +71,13 @@ module _ {o : ParseOption} {b : Text} where
   is_comment {r = r} m (Element.dropped_key {w = w} {s = s} i begins stops) =
       no_indent (s ++ r) i (subst (BeginsWith is_comment_mark) (append_assoc w s r) m)
 
-  pub marked_comment : {s r : Text} {gives : List Given} → BeginsWith is_comment_mark s → Element o b s r gives
+  pub marked_comment : {s r : Text} {gives : List Given} → BeginsWith is_comment_mark s
+      → Element o b s r gives
       → IsComment b s r gives
   marked_comment {s} {r} m element = is_comment (begins_front is_comment_mark s r m) element
 
-  pub comment_column : {s r : Text} {gives : List Given} → BeginsWith is_comment_mark (s ++ r) → Element o b s r gives
+  pub comment_column : {s r : Text} {gives : List Given} → BeginsWith is_comment_mark (s ++ r)
+      → Element o b s r gives
       → is_column_one b ≡ true
   comment_column m element = at (is_comment m element)
     where
@@ -82,7 +86,8 @@ module _ {o : ParseOption} {b : Text} where
       at (IsComment.last one mark all) = one
 
   -- an element that gives an item is none
-  pub item_no_comment : {s r : Text} {item : Given} → Element o b s r (item ∷ []) → begins is_comment_mark s ≡ false
+  pub item_no_comment : {s r : Text} {item : Given} → Element o b s r (item ∷ [])
+      → begins is_comment_mark s ≡ false
   item_no_comment {s} {r} {item} element =
       false_from_ne_true (begins is_comment_mark s) (λ h.
       let no : item ∷ [] ≡ [] = at (marked_comment (begins_with is_comment_mark s h) element) in cc)

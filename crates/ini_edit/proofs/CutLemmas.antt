@@ -1,6 +1,6 @@
 -- A stretch that was taken out of a text.
 use Rattle.std.proofs.Common.{◌≡◌, ◌∙◌, List, [], ◌∷◌, ◌++◌, ℕ, ap, sym, subst, append_assoc, append-nil}
-use Rattle.std.proofs.Common.{true, false, refl}
+use Rattle.std.proofs.Common.{true, refl}
 use Rattle.std.proofs.lemmas.Bool.{both_ways, or_left}
 use Rattle.std.specs.List.{list_all}
 use Rattle.ini_text.specs.Grammar.CharacterKinds.{line_feed, carriage_return, is_line_end, is_line_feed}
@@ -10,7 +10,6 @@ use Rattle.ini_text.proofs.GrammarLemmas.ItemLemmas.{reads-append}
 use Rattle.ini_text.proofs.LawLemmas.MovedLemmas.{last_or-behind}
 use Rattle.ini_text.specs.declared.option.ParseOption.{ParseOption}
 use Rattle.ini_text.specs.Grammar.Elements.{Given}
-use Rattle.ini_text.specs.Grammar.Strings.{Closes, plain_ends}
 use Rattle.ini_text.specs.Grammar.Texts.{Reads, Derives}
 use Rattle.ini.specs.Texts.{Text}
 use Rattle.ini_edit.specs.Inside.Later.{ReadAlike}
@@ -73,7 +72,8 @@ cut_left {p = p} given (Cut.before_last_line_end V e on ends is_end inside) =
     (subst (λ z. EndsLike z (p.front ++ e)) (sym ends) (line_end_like V p.front is_end)))
 cut_left {p = p} given (Cut.before_last_line_feed on one line other) =
     left_whole (ReadAlike.like (record {
-      line = or_left (is_column_one (up_to_end p)) _ one ∙ ap is_line_end (sym (last_or-behind line_feed line_feed p.front []));
+      line = or_left (is_column_one (up_to_end p)) _ one
+          ∙ ap is_line_end (sym (last_or-behind line_feed line_feed p.front []));
       column = λ _. ap is_line_feed (last_or-behind line_feed line_feed p.front []);
     }))
 
@@ -130,7 +130,8 @@ module _ {o : ParseOption} {T : Text} {p : Stretches} {key value : Text} {before
       (λ X z v is given. value_takes follows on (y_some follows begins) given)
 
   -- and so does what stood behind it
-  pub cut_then : {k r : Text} → Cut o p k r → Reads o ((p.front ++ k) ++ r) (p.front ++ k) after ((p.front ++ k) ++ r)
+  pub cut_then : {k r : Text} → Cut o p k r
+      → Reads o ((p.front ++ k) ++ r) (p.front ++ k) after ((p.front ++ k) ++ r)
   cut_then {k} {r} cut =
       let left = cut_left s.gives cut in
       let whole : T ≡ (W ++ left.line_end) ++ r =

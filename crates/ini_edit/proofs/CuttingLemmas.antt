@@ -4,26 +4,29 @@ use Rattle.std.proofs.Common.{refl, sym, ap, subst, append_assoc}
 use Rattle.std.proofs.lemmas.Bool.{both_ways, false≢true, or_left}
 use Rattle.ini_text.specs.declared.option.ParseOption.{ParseOption}
 use Rattle.ini_text.specs.Grammar.CharacterKinds.{line_feed, carriage_return, is_line_end, is_line_feed}
-use Rattle.ini_text.specs.Grammar.Positions.{is_column_one, last_or, starts_line}
+use Rattle.ini_text.specs.Grammar.Positions.{is_column_one, starts_line}
 use Rattle.ini_text.specs.Grammar.Places.{Tail}
 use Rattle.ini_text.specs.Grammar.Values.{LineEnd}
 use Rattle.ini_text.proofs.LawLemmas.MovedLemmas.{last_or-behind}
-use Rattle.ini_edit.specs.Places.{Cut, EndsLike, Follows, Stretches, up_to_end}
+use Rattle.ini_edit.specs.Places.{Cut, Follows, Stretches, up_to_end}
 use Rattle.ini_edit.specs.Inside.Cuts.{EndsLine, HasLastLineEnd, StaysBehind}
 use Rattle.ini_edit.proofs.AheadLemmas.{LineEnd-before, more_follows}
 use Rattle.ini_edit.proofs.KeptLemmas.{EndsLine-behind, ends_line-starts, tail_ends_line}
 
-pub goes_lf : {front rest : List ℕ} (c : ℕ) (after : List ℕ) → rest ≡ c ∷ after → c ≡ 10 → is_column_one front ≡ true
+pub goes_lf : {front rest : List ℕ} (c : ℕ) (after : List ℕ) → rest ≡ c ∷ after → c ≡ 10
+    → is_column_one front ≡ true
     → StaysBehind front rest after
 goes_lf {front} c after h is one =
     StaysBehind.without_line_end (line_feed ∷ []) after (h ∙ ap (λ z. z ∷ after) is) refl
     (λ W. record {
       line =
-          ap is_line_end (last_or-behind line_feed line_feed W []) ∙ sym (or_left (is_column_one front) _ one);
+          ap is_line_end (last_or-behind line_feed line_feed W [])
+          ∙ sym (or_left (is_column_one front) _ one);
       column = λ _. one;
     })
 
-pub goes_cr_lf : {front rest : List ℕ} (c d : ℕ) (middle after : List ℕ) → rest ≡ c ∷ middle → c ≡ 13 → middle ≡ d ∷ after
+pub goes_cr_lf : {front rest : List ℕ} (c d : ℕ) (middle after : List ℕ) → rest ≡ c ∷ middle → c ≡ 13
+    → middle ≡ d ∷ after
     → d ≡ 10 → is_column_one front ≡ true → StaysBehind front rest after
 goes_cr_lf {front} c d middle after h is k js one =
     StaysBehind.without_line_end (carriage_return ∷ (line_feed ∷ [])) after
@@ -35,7 +38,8 @@ goes_cr_lf {front} c d middle after h is k js one =
       column = λ _. one;
     })
 
-pub goes_cr : {front rest : List ℕ} (c : ℕ) (after : List ℕ) → rest ≡ c ∷ after → c ≡ 13 → starts_line front ≡ true
+pub goes_cr : {front rest : List ℕ} (c : ℕ) (after : List ℕ) → rest ≡ c ∷ after → c ≡ 13
+    → starts_line front ≡ true
     → StaysBehind front rest after
 goes_cr {front} c after h is starts =
     StaysBehind.without_line_end (carriage_return ∷ []) after (h ∙ ap (λ z. z ∷ after) is) refl
@@ -47,11 +51,13 @@ goes_cr {front} c after h is starts =
     })
 
 -- the last character of a text that ends a line
-pub last_ends : {text : List ℕ} (V : List ℕ) (c : ℕ) → EndsLine text → text ≡ V ++ c ∷ [] → is_line_end c ≡ true
+pub last_ends : {text : List ℕ} (V : List ℕ) (c : ℕ) → EndsLine text → text ≡ V ++ c ∷ []
+    → is_line_end c ≡ true
 last_ends V c n h =
     ap is_line_end (sym (last_or-behind line_feed c V [])) ∙ ap starts_line (sym h) ∙ ends_line-starts n
 
-tail_follows : {o : ParseOption} {t r : List ℕ} → o.enabled_indented_mutiline_value ≡ true → Tail o t r → Follows o r
+tail_follows : {o : ParseOption} {t r : List ℕ} → o.enabled_indented_mutiline_value ≡ true → Tail o t r
+    → Follows o r
 tail_follows {o} on (Tail.line off h) = absurd (both_ways o.enabled_indented_mutiline_value off on)
 tail_follows on (Tail.end _) = record { no_blank = λ _. tt; no_line_end = λ _. tt }
 tail_follows on (Tail.lines _ le more all) = more_follows more
@@ -60,12 +66,14 @@ module _ {o : ParseOption} (p : Stretches) where
   pub cut_end : p.rest ≡ [] → Cut o p [] p.rest
   cut_end none = subst (Cut o p []) (sym none) (Cut.at_text_end none)
 
-  pub cut_one_line : {r : List ℕ} → o.enabled_indented_mutiline_value ≡ false → StaysBehind p.front p.rest r → Cut o p [] r
+  pub cut_one_line : {r : List ℕ} → o.enabled_indented_mutiline_value ≡ false → StaysBehind p.front p.rest r
+      → Cut o p [] r
   cut_one_line off StaysBehind.whole = Cut.before_line_end off
   cut_one_line off (StaysBehind.without_line_end e r whole all like) =
       Cut.with_line_end e r off whole all (like (up_to_end p))
 
-  module _ (on : o.enabled_indented_mutiline_value ≡ true) (some : p.rest ≢ []) (tail : Tail o p.tail p.rest) where
+  module _ (on : o.enabled_indented_mutiline_value ≡ true) (some : p.rest ≢ [])
+      (tail : Tail o p.tail p.rest) where
     abbrev B : List ℕ
     B = p.front ++ (p.key ++ p.separator ∷ (p.lead ++ (p.own ++ p.pad)))
 
@@ -77,7 +85,8 @@ module _ {o : ParseOption} (p : Stretches) where
 
     column_behind : {t : List ℕ} (X : List ℕ) → EndsLine t → is_column_one (X ++ t) ≡ is_column_one t
     column_behind X n =
-        ap (λ z. is_column_one (X ++ z)) n.whole ∙ ap is_column_one (sym (append_assoc X n.before (n.last ∷ [])))
+        ap (λ z. is_column_one (X ++ z)) n.whole
+        ∙ ap is_column_one (sym (append_assoc X n.before (n.last ∷ [])))
         ∙ ap is_line_feed (last_or-behind line_feed n.last (X ++ n.before) [])
         ∙ ap is_line_feed (sym (last_or-behind line_feed n.last n.before [])) ∙ ap is_column_one (sym n.whole)
 
@@ -105,7 +114,8 @@ pub some_of : {l : List ℕ} (c : ℕ) (cs : List ℕ) → l ≡ c ∷ cs → l 
 some_of c cs h q = let no : [] ≡ c ∷ cs = sym q ∙ h in cc
 
 -- the last line end of a text
-pub ends_cr : {text : List ℕ} (V : List ℕ) (c : ℕ) → text ≡ V ++ c ∷ [] → c ≡ 13 → HasLastLineEnd text (13 ∷ [])
+pub ends_cr : {text : List ℕ} (V : List ℕ) (c : ℕ) → text ≡ V ++ c ∷ [] → c ≡ 13
+    → HasLastLineEnd text (13 ∷ [])
 ends_cr V c h is = record { before = V; whole = h ∙ ap (λ z. V ++ z ∷ []) is; is_line_end = LineEnd.cr tt }
 
 lf_of : (c : ℕ) → is_line_end c ≡ true → c ≢ 13 → c ≡ 10

@@ -21,7 +21,8 @@ use Rattle.ini_edit.proofs.SetLemmas.{items_at, pair_and_after, section_items}
 use Rattle.ini_edit.proofs.StandsLemmas.{derives_one, stands_derives}
 
 -- without the pair the document's section is without it
-module _ {name : Option Text} {key : Text} {before after : List Given} (t : IsTarget name key before after) where
+module _ {name : Option Text} {key : Text} {before after : List Given}
+    (t : IsTarget name key before after) where
   items_without : before ++ after ≡ t.opening ++ (pair_items (t.earlier ++ t.later) ++ t.rest)
   items_without =
       ap (λ l. l ++ after) t.before_is ∙ ap (λ l. (t.opening ++ pair_items t.earlier) ++ l) t.after_is
@@ -50,12 +51,14 @@ deletes o T p name key old before after s target kept r cut d document =
     }
 
 -- the text without the pair that was found
-pub is_deleted : {o : ParseOption} {T : Text} {name : Option Text} {key value kept behind : Text} {p : Stretches}
+pub is_deleted : {o : ParseOption} {T : Text} {name : Option Text} {key value kept behind : Text}
+    {p : Stretches}
     (U : Text) → IsFirstPair o T name key p value → Cut o p kept behind → U ≡ p.front ++ (kept ++ behind)
     → IsDeleted o T name key U
 is_deleted {o} {T} {name} {key} {value} {kept} {behind} {p} U first cut text =
     let d = document_of (first.before ++ (Pair key value ∷ first.after)) in
-    let document : IsDocumentOf o T d = record { items = _; derives = stands_derives first.stands; document = refl } in
+    let document : IsDocumentOf o T d =
+    record { items = _; derives = stands_derives first.stands; document = refl } in
     record {
       pair = p;
       value = value;
@@ -68,5 +71,6 @@ is_deleted {o} {T} {name} {key} {value} {kept} {behind} {p} U first cut text =
       was = document;
       is =
           subst (λ z. IsDocumentOf o z (delete_in name key d)) (sym text)
-          (deletes o T p name key value first.before first.after first.stands first.target kept behind cut d document);
+          (deletes o T p name key value first.before first.after first.stands first.target kept behind cut d
+          document);
     }

@@ -26,7 +26,8 @@ sections_behind (Pair key value ∷ items) = []
 pub rest_make : (name : Option Text) (ps : Pairs) (rest : List Given) → BeginsWithHeader rest
     → fold with_item ((name, ps) ∷ []) rest ≡ (name, ps) ∷ sections_behind rest
 rest_make name ps [] h = refl
-rest_make name ps (Header other ∷ rest) h = items-behind ((name, ps) ∷ []) ((Some other, []) ∷ []) rest (omega arith)
+rest_make name ps (Header other ∷ rest) h =
+    items-behind ((name, ps) ∷ []) ((Some other, []) ∷ []) rest (omega arith)
 rest_make name ps (Pair key value ∷ rest) h = absurd h
 
 -- the document of those items, the section's pairs, and those that follow
@@ -50,14 +51,17 @@ section_edited name f last (s ∷ d) ps e same none =
     at (is_name name s.0) refl none (section_edited name f last d ps e same)
   where
     at : (b : Bool) → is_name name s.0 ≡ b → cond b (Some s.1) (first_section name d) ≡ None
-        → (first_section name d ≡ None → edit_section name f last (d ++ (name, ps) ∷ e) ≡ d ++ (name, f ps) ∷ e)
+        → (first_section name d ≡ None
+        → edit_section name f last (d ++ (name, ps) ∷ e) ≡ d ++ (name, f ps) ∷ e)
         → edit_section name f last ((s ∷ d) ++ (name, ps) ∷ e) ≡ (s ∷ d) ++ (name, f ps) ∷ e
     at true is none more = absurd (let no : Some s.1 ≡ None = none in cc)
     at false is none more = cond-false (is_name name s.0) _ _ is ∙ ap (λ x. s ∷ x) (more none)
 
 -- an edit of the document, where the text derives the section's pairs, and then those edited
-pub edited_document : {name : Option Text} {before : List Given} {d : Document} (f : Pairs → Pairs) (last : Document)
-    (ps : Pairs) (rest : List Given) → is_name name name ≡ true → OpensSection name before d → BeginsWithHeader rest
+pub edited_document : {name : Option Text} {before : List Given} {d : Document} (f : Pairs → Pairs)
+    (last : Document)
+    (ps : Pairs) (rest : List Given) → is_name name name ≡ true → OpensSection name before d
+    → BeginsWithHeader rest
     → edit_section name f last (document_of (before ++ (pair_items ps ++ rest)))
     ≡ document_of (before ++ (pair_items (f ps) ++ rest))
 edited_document {name} {before} {d} f last ps rest same opens h =

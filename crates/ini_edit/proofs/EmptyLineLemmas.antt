@@ -45,7 +45,8 @@ all_behind (c ∷ a) b all = all_behind a b (and_parts (blank_or_end c) _ all).1
 
 blank_source_no_key : (s : Text) → list_all blank_or_end s ≡ true → ¬ IsIndentedKey s
 blank_source_no_key s all key =
-    blanks_no_key key.key (all_behind key.blanks key.key (ap (list_all blank_or_end) (sym key.whole) ∙ all)) key.begins
+    blanks_no_key key.key (all_behind key.blanks key.key (ap (list_all blank_or_end) (sym key.whole) ∙ all))
+    key.begins
 
 -- one character is no indented key
 one_no_key : {c : ℕ} (blanks rest : Text) → BeginsWith is_blank blanks → BeginsWith begins_indented_key rest
@@ -59,9 +60,12 @@ one_no_key (b ∷ d ∷ blanks) (k ∷ rest) some begins is = cc
 nothing_no_key : {o : ParseOption} {b s r : Text} {gives : List Given} → Element o b s r gives → r ≢ []
     → gives ≡ [] → ¬ IsIndentedKey s
 nothing_no_key (Element.gap (Gap.blank_line {w} c i end)) some none key =
-    blank_source_no_key (w ++ c ∷ []) (blanks_all w (c ∷ []) i.blank (and_from (blank_or_end c) true (or_right (is_blank c) (is_line_end c) end) refl)) key
+    blank_source_no_key (w ++ c ∷ [])
+    (blanks_all w (c ∷ []) i.blank
+    (and_from (blank_or_end c) true (or_right (is_blank c) (is_line_end c) end) refl)) key
 nothing_no_key (Element.gap (Gap.before_header {w} i)) some none key =
-    blank_source_no_key w (subst (λ z. list_all blank_or_end z ≡ true) (append-nil w) (blanks_all w [] i.blank refl)) key
+    blank_source_no_key w (subst (λ z. list_all blank_or_end z ≡ true) (append-nil w)
+    (blanks_all w [] i.blank refl)) key
 nothing_no_key (Element.gap (Gap.white {c} white n)) some none key =
     one_no_key key.blanks key.key key.some key.begins key.whole
 nothing_no_key (Element.comment {m} s one mark all) some none key =
@@ -83,7 +87,8 @@ element_end {o} {T} {a} {s} {r} {x = x} {before} {gives} some last reads whole e
     subst (λ z. IsElementEnd o T z (before ++ (gives ++ []))) (sym at)
     (subst (λ l. IsElementEnd o T (a ++ s) (before ++ l)) (sym (append-nil gives))
     (IsElementEnd.behind reads whole e (nothing_no_key e (λ none. some (sym rest ∙ none)))))
-element_end {o} {T} {a} {s} {r} {c = c} {x} {before} {gives} some last reads whole e at (Reads.step {b = b} {gives = next} {items} h f behind) =
+element_end {o} {T} {a} {s} {r} {c = c} {x} {before} {gives} some last reads whole e at
+    (Reads.step {b = b} {gives = next} {items} h f behind) =
     let one : Reads o T [] (before ++ gives) (a ++ s) =
     subst (λ l. Reads o T [] (before ++ l) (a ++ s)) (append-nil gives)
     (reads-append reads (Reads.step whole e (Reads.stay r (whole ∙ sym (append_assoc a s r))))) in
@@ -91,14 +96,16 @@ element_end {o} {T} {a} {s} {r} {c = c} {x} {before} {gives} some last reads who
     (element_end some last (subst (Reads o T [] (before ++ gives)) (sym at) one) h f refl behind)
 
 -- so it does behind any row of elements but none
-some_element_end : {o : ParseOption} {T b c x : Text} {items : List Given} → x ≢ [] → T ≡ c ++ x → b ≡ [] → c ≢ []
+some_element_end : {o : ParseOption} {T b c x : Text} {items : List Given} → x ≢ [] → T ≡ c ++ x → b ≡ []
+    → c ≢ []
     → Reads o T b items c → IsElementEnd o T c items
 some_element_end some last first apart (Reads.stay z h) = absurd (apart first)
 some_element_end {o} {T} some last first apart (Reads.step {b = b} {s} {r} {c} {gives} {items} h e behind) =
     element_end some last (subst (λ z. Reads o T [] [] z) (sym first) (Reads.stay T refl)) h e refl behind
 
 -- behind an LF no backslash is alone
-no_lone : (e : Ending) (c : ℕ) (V : Text) → is_line_feed (last_or c V) ≡ true → ending_from e (c ∷ V) ≢ Ending.escape
+no_lone : (e : Ending) (c : ℕ) (V : Text) → is_line_feed (last_or c V) ≡ true
+    → ending_from e (c ∷ V) ≢ Ending.escape
 no_lone e c [] feed = no_escape e [] c (no_backslash is_line_feed c refl feed)
 no_lone e c (d ∷ V) feed = no_lone (next_ending e c) d V feed
 

@@ -61,7 +61,8 @@ row_no_line b {s = s} (Str.closed row h) =
 row_no_line b (Str.lone row h) = absurd (false≢true h)
 
 -- behind a character the text ends so, whether a line starts before it or not
-pub from_line : (t : List ℕ) → ending_from Ending.inside t ≡ Ending.line → ending_from Ending.line t ≡ Ending.line
+pub from_line : (t : List ℕ) → ending_from Ending.inside t ≡ Ending.line
+    → ending_from Ending.line t ≡ Ending.line
 from_line [] h = cc
 from_line (c ∷ t) h = h
 
@@ -72,7 +73,8 @@ line_end-some-behind z y (LineEnd.cr n) h = cc
 
 module _ {o : ParseOption} {x : List ℕ} (follows : Follows o x) where
   -- a line end, and how what follows it ends
-  LineEnd-ended : {e : List ℕ} (t r : List ℕ) → LineEnd e (t ++ r) → ending_from Ending.inside (e ++ t) ≡ Ending.line
+  LineEnd-ended : {e : List ℕ} (t r : List ℕ) → LineEnd e (t ++ r)
+      → ending_from Ending.inside (e ++ t) ≡ Ending.line
       → LineEnd e (t ++ x) × (ending_from Ending.line t ≡ Ending.line)
   LineEnd-ended t r LineEnd.lf h = (LineEnd.lf, h)
   LineEnd-ended t r LineEnd.cr_lf h = (LineEnd.cr_lf, h)
@@ -108,14 +110,16 @@ module _ {o : ParseOption} {x : List ℕ} (follows : Follows o x) where
       Value.lines on n.lead n.line n.end (MoreLines-ended on m end.1)
 
   -- an element that ends so stands before another text
-  pub Element-ended : {b s r : List ℕ} {gives : List Given} → Element o b s r gives → (gives ≡ [] → ¬ IsIndentedKey s)
+  pub Element-ended : {b s r : List ℕ} {gives : List Given} → Element o b s r gives
+      → (gives ≡ [] → ¬ IsIndentedKey s)
       → ending (b ++ s) ≡ Ending.line → Element o b s x gives
   Element-ended (Element.gap (Gap.blank_line c i e)) whole h = Element.gap (Gap.blank_line c i e)
   Element-ended {b} (Element.gap (Gap.before_header {w = w} i)) whole h =
       let no : Ending.inside ≡ Ending.line = sym (ending-blanks b w i.some i.blank) ∙ h in cc
   Element-ended (Element.gap (Gap.white w n)) whole h = Element.gap (Gap.white w n)
   Element-ended (Element.comment s one mark all) whole h = Element.comment s one mark all
-  Element-ended {b} (Element.last_comment {m} {s} one mark all) whole h = absurd (comment_no_line b m s mark all h)
+  Element-ended {b} (Element.last_comment {m} {s} one mark all) whole h =
+      absurd (comment_no_line b m s mark all h)
   Element-ended (Element.header off str) whole h = Element.header off (Str-alike Alike.same str)
   Element-ended {b} (Element.bracketed_header on str i) whole h =
       let no : Ending.inside ≡ Ending.line = sym (row_no_line b str) ∙ h in cc
@@ -125,4 +129,5 @@ module _ {o : ParseOption} {x : List ℕ} (follows : Follows o x) where
   Element-ended {b} (Element.dropped_blanks {w} i) whole h =
       let no : Ending.inside ≡ Ending.line = sym (ending-blanks b w i.some i.blank) ∙ h in cc
   Element-ended (Element.dropped_key {w} {s} i begins stops) whole h =
-      absurd (whole refl (record { blanks = w; key = s; whole = refl; some = i.some; blank = i.blank; begins = begins }))
+      absurd (whole refl (record
+      { blanks = w; key = s; whole = refl; some = i.some; blank = i.blank; begins = begins }))

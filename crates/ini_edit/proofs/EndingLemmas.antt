@@ -30,7 +30,8 @@ pub ending-behind : (e : Ending) (X : List ℕ) (c : ℕ) (z : List ℕ) → IsI
 ending-behind e [] c z h = ap (λ x. ending_from x z) (next_inner e c h)
 ending-behind e (x ∷ X) c z h = ending-behind (next_ending e x) X c z h
 
-pub inner_by : (test : ℕ → Bool) (c : ℕ) → test backslash ≡ false → test line_feed ≡ false → test c ≡ true → IsInner c
+pub inner_by : (test : ℕ → Bool) (c : ℕ) → test backslash ≡ false → test line_feed ≡ false → test c ≡ true
+    → IsInner c
 inner_by test c no_slash no_feed h = record {
   no_backslash = false_from_ne_true (eqb c backslash)
       (λ q. false≢true (sym no_slash ∙ subst (λ x. test x ≡ true) (eqb-true c backslash q) h));
@@ -61,7 +62,8 @@ spelled_inner a b c d v h =
     let one = and_parts (is_digit a 16 || eqb a plus) (is_digit b 16) two.0 in
     (first_inner a one.0, digit_inner b one.1, digit_inner c two.1, digit_inner d three.1)
 
-ending-inner : (c : ℕ) (z : List ℕ) → IsInner c → ending_from Ending.inside (c ∷ z) ≡ ending_from Ending.inside z
+ending-inner : (c : ℕ) (z : List ℕ) → IsInner c
+    → ending_from Ending.inside (c ∷ z) ≡ ending_from Ending.inside z
 ending-inner c z h = ending-behind Ending.inside [] c z h
 
 -- behind a piece
@@ -71,19 +73,22 @@ ending-escape z EscapeSequence.folded = refl
 ending-escape z (EscapeSequence.named on is) = refl
 ending-escape z (EscapeSequence.coded {a} {b} {c} {d} {v} on is) =
     let (ia, ib, ic, id) = spelled_inner a b c d v is in
-    ending-inner a (b ∷ (c ∷ (d ∷ z))) ia ∙ ending-inner b (c ∷ (d ∷ z)) ib ∙ ending-inner c (d ∷ z) ic ∙ ending-inner d z id
+    ending-inner a (b ∷ (c ∷ (d ∷ z))) ia ∙ ending-inner b (c ∷ (d ∷ z)) ib ∙ ending-inner c (d ∷ z) ic
+    ∙ ending-inner d z id
 ending-escape z (EscapeSequence.itself on n m k) = refl
 ending-escape z (EscapeSequence.kept off n) = refl
 
 -- behind a row that LF ends
-pub ending-row : {escapes : Bool} {ends : Ends} {s v : List ℕ} (z : List ℕ) → is_endpoint ends line_feed ≡ true
+pub ending-row : {escapes : Bool} {ends : Ends} {s v : List ℕ} (z : List ℕ)
+    → is_endpoint ends line_feed ≡ true
     → Row escapes ends s v → ending_from Ending.inside (s ++ z) ≡ ending_from Ending.inside z
 ending-row z feed Row.none = refl
 ending-row {ends = ends} z feed (Row.raw {c} {s = s} n inside rest) =
     ending-inner c (s ++ z) (record {
       no_backslash = ne_eqb c backslash n;
       no_line_feed = false_from_ne_true (eqb c line_feed)
-          (λ q. false≢true (sym inside ∙ subst (λ x. is_endpoint ends x ≡ true) (sym (eqb-true c line_feed q)) feed));
+          (λ q. false≢true (sym inside
+          ∙ subst (λ x. is_endpoint ends x ≡ true) (sym (eqb-true c line_feed q)) feed));
     }) ∙ ending-row z feed rest
 ending-row z feed (Row.escape {p = p} {s = s} k rest) =
     ap (ending_from Ending.inside) (append_assoc p s z) ∙ ending-escape (s ++ z) k ∙ ending-row z feed rest
@@ -106,7 +111,8 @@ ending-quoted z (Quoted.part {m = m} {s = s} {q = q} on mark str rest) =
 pub ending-line : {o : ParseOption} {first : Bool} {l r v : List ℕ} (z : List ℕ) → r ≢ [] → Line o first l r v
     → ending_from Ending.inside (l ++ z) ≡ ending_from Ending.inside z
 ending-line z some (Line.line {q = q} {p = p} quoted plain (Str.closed row h)) =
-    ap (ending_from Ending.inside) (append_assoc q p z) ∙ ending-quoted (p ++ z) quoted ∙ ending-row z refl row
+    ap (ending_from Ending.inside) (append_assoc q p z) ∙ ending-quoted (p ++ z) quoted
+    ∙ ending-row z refl row
 ending-line z some (Line.line quoted plain (Str.lone row h)) = absurd (some refl)
 
 -- behind the lead of a line that goes on with a value

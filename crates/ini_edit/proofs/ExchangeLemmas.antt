@@ -47,11 +47,19 @@ module _ (key other : Text) (apart : is_text key other ≡ false) where
       → removed key (inserted other value ps) ≡ inserted other value (removed key ps)
   removed_inserted value [] = grind (arith, apart)
   removed_inserted value (p ∷ ps) =
-      grind (arith, removed_inserted value ps, removed_out ps, texts_equal key p.0, texts_equal other p.0, apart)
+      grind (
+        arith,
+        removed_inserted value ps,
+        removed_out ps,
+        texts_equal key p.0,
+        texts_equal other p.0,
+        apart,
+      )
 
   removed_removed : (ps : Pairs) → removed key (removed other ps) ≡ removed other (removed key ps)
   removed_removed [] = refl
-  removed_removed (p ∷ ps) = grind (arith, removed_removed ps, texts_equal key p.0, texts_equal other p.0, apart)
+  removed_removed (p ∷ ps) =
+      grind (arith, removed_removed ps, texts_equal key p.0, texts_equal other p.0, apart)
 
 inserted_inserted : (key other value other_value : Text) → is_text key other ≡ false → (ps : Pairs)
     → IsSome (first_value key ps)
@@ -79,7 +87,8 @@ edit_of name key None d = delete_in name key d
 
 pairs_change : (key other : Text) (value other_value : Option Text) → is_text key other ≡ false → (ps : Pairs)
     → IsSome (first_value key ps)
-    → pairs_with key value (pairs_with other other_value ps) ≡ pairs_with other other_value (pairs_with key value ps)
+    → pairs_with key value (pairs_with other other_value ps) ≡ pairs_with other other_value
+    (pairs_with key value ps)
 pairs_change key other (Some v) (Some w) apart ps there = inserted_inserted key other v w apart ps there
 pairs_change key other (Some v) None apart ps there =
     sym (removed_inserted other key (keys_apart key other apart) v ps)
@@ -113,7 +122,8 @@ section_there name key d there = at (first_section name d) there
     at (Some pairs) there = refl
 
 edit_is : (name : Option Text) (key : Text) (value : Option Text) (last : Document) (d : Document)
-    → IsSome (first_section name d) → edit_of name key value d ≡ edit_section name (pairs_with key value) last d
+    → IsSome (first_section name d)
+    → edit_of name key value d ≡ edit_section name (pairs_with key value) last d
 edit_is name key (Some value) last [] there = absurd (false≢true there)
 edit_is name key None last [] there = absurd (false≢true there)
 edit_is name key (Some value) last (s ∷ d) there = grind (arith, edit_is name key (Some value) last d)
@@ -152,7 +162,8 @@ module _ (name other : Option Text) (key other_key : Text) (value other_value : 
           within (Some pairs) some =
               subst (λ n. one (edit_section n (pairs_with other_key other_value) [] d)
               ≡ edit_section n (pairs_with other_key other_value) [] (one d)) (names_equal name other is)
-              (section_changes (pairs_with key value) (pairs_with other_key other_value) [] [] name d pairs some
+              (section_changes (pairs_with key value)
+              (pairs_with other_key other_value) [] [] name d pairs some
               (pairs_change key other_key value other_value apart pairs
               (subst (λ x. IsSome (option_and_then (first_value key) x)) some there)))
 
@@ -201,7 +212,8 @@ module _ {o : ParseOption} {T : Text} {name : Option Text} {key : Text} {p : Str
       ∙ section_made pairs target.rest target.opens target.header in
       ap (value_in name key) made
       ∙ ap (option_and_then (first_value key))
-      (first_section-behind name target.sections ((name, pairs) ∷ sections_behind target.rest) target.opens.first
+      (first_section-behind name target.sections
+      ((name, pairs) ∷ sections_behind target.rest) target.opens.first
       ∙ cond-true (is_name name name) (Some pairs) _ (name_refl name))
       ∙ first_behind key value target.earlier target.later target.lacks
 
@@ -209,7 +221,8 @@ module _ {o : ParseOption} {T : Text} {name : Option Text} {key : Text} {p : Str
 one_document : {o : ParseOption} {T : Text} {d e : Document} → IsDocumentOf o T d → IsDocumentOf o T e → d ≡ e
 one_document is also = is.document ∙ ap document_of (derives_one is.derives also.derives) ∙ sym also.document
 
-module _ {o : ParseOption} (policy : EscapePolicy) {T : Text} (name : Option Text) (key : Text) (U : Text) where
+module _ {o : ParseOption} (policy : EscapePolicy) {T : Text} (name : Option Text) (key : Text)
+    (U : Text) where
   edited_there : (value : Option Text) → IsPairEdited o policy T name key value U → (d : Document)
       → IsDocumentOf o T d → IsSome (value_in name key d)
   edited_there (Some value) edited d is = rw (value_there edited.is_first d is) refl

@@ -69,7 +69,8 @@ first_section-pair name key value (s ∷ t ∷ d) none =
     at true is none more = absurd (let no : Some s.1 ≡ None = none in cc)
     at false is none more = cond-false (is_name name s.0) _ _ is ∙ more none
 
-pub document_of-append : (items more : List Given) → document_of (items ++ more) ≡ fold with_item (document_of items) more
+pub document_of-append : (items more : List Given)
+    → document_of (items ++ more) ≡ fold with_item (document_of items) more
 document_of-append items more = fold-append with_item ((None, []) ∷ []) items more
 
 -- the parser went over sections without one of the name
@@ -81,7 +82,8 @@ pub record PassesSections (o : ParseOption) (T : Text) (p : Place) (name : Optio
 
 opens_none : {name : Option Text} {more : List Given} (items : List Given) → OpensNone name more
     → first_section name (document_of items) ≡ None → first_section name (document_of (items ++ more)) ≡ None
-opens_none {name} items OpensNone.nothing none = ap (λ l. first_section name (document_of l)) (append-nil items) ∙ none
+opens_none {name} items OpensNone.nothing none =
+    ap (λ l. first_section name (document_of l)) (append-nil items) ∙ none
 opens_none {name} items (OpensNone.pair {key} {value}) none =
     ap (first_section name) (document_of-append items (Pair key value ∷ []))
     ∙ first_section-pair name key value (document_of items) none
@@ -122,7 +124,11 @@ module _ {o : ParseOption} {T : Text} {p : Place} where
       → LacksSection o T name
   sections_end s h = record {
     document = document_of s.items;
-    is_document = record { items = s.items; derives = subst (Reads o T [] s.items) h.was_end s.reads; document = refl };
+    is_document = record {
+      items = s.items;
+      derives = subst (Reads o T [] s.items) h.was_end s.reads;
+      document = refl;
+    };
     none = s.none;
   }
 
@@ -187,7 +193,8 @@ module _ {o : ParseOption} {T b : Text} {p : Place} {key : Text} (s : Searches o
     pairs = s.passes.pairs;
     lacks = s.passes.lacks;
     reads =
-        subst (λ l. Reads o T b l c) (append-nil (pair_items s.passes.pairs)) (reads-append s.passes.reads reads);
+        subst (λ l. Reads o T b l c) (append-nil (pair_items s.passes.pairs))
+        (reads-append s.passes.reads reads);
   }
   passes_more {c} (PairsWithout.pair {k} {value} apart) reads = record {
     pairs = s.passes.pairs ++ (k, value) ∷ [];
@@ -197,7 +204,8 @@ module _ {o : ParseOption} {T b : Text} {p : Place} {key : Text} (s : Searches o
         (reads-append s.passes.reads reads);
   }
 
-  pub search_step : {q : Place} {e : PlacedElement} → Steps o T p.front q e → PairsWithout key (gives e.content)
+  pub search_step : {q : Place} {e : PlacedElement} → Steps o T p.front q e
+      → PairsWithout key (gives e.content)
       → Searches o T b q key
   search_step t none = record {
     walked = walked_step s.walked t;
@@ -223,7 +231,8 @@ module _ {o : ParseOption} {T b : Text} {p : Place} {key : Text} (s : Searches o
   }
 
   -- the pair of the key
-  pub search_pair : {q : Place} {e : PlacedElement} {pair : PlacedPair} (found : FoundPair) → Steps o T p.front q e
+  pub search_pair : {q : Place} {e : PlacedElement} {pair : PlacedPair} (found : FoundPair)
+      → Steps o T p.front q e
       → e.content ≡ contents.Pair pair → string_text pair.key ≡ key → chars found.front.now ≡ p.front
       → found.value ≡ pair.value → found.places ≡ pair.places → q.front ++ chars found.rest.now ≡ q.text
       → ReachesPair o T b q key found
@@ -231,7 +240,8 @@ module _ {o : ParseOption} {T b : Text} {p : Place} {key : Text} (s : Searches o
       let stands = t.stands in
       let has : HasPlaces o p.front (chars e.source.now) stands.rest (contents.Pair pair) =
       subst (HasPlaces o p.front (chars e.source.now) stands.rest) is stands.places in
-      let source : chars e.source.now ≡ pair_of (stretches_of found) = has.0 ∙ ap (λ x. pair_source (parsing.stretches_of x)) (sym places) in
+      let source : chars e.source.now ≡ pair_of (stretches_of found) = has.0
+      ∙ ap (λ x. pair_source (parsing.stretches_of x)) (sym places) in
       let behind : stands.rest ≡ chars found.rest.now =
       append_cancel_left q.front stands.rest (chars found.rest.now)
       (ap (λ x. x ++ stands.rest) stands.reaches ∙ append_assoc p.front (chars e.source.now) stands.rest
@@ -260,13 +270,16 @@ pub white_pad : {own pad : Text} → Padded own pad → list_all is_inline_white
 white_pad (Padded.bare bare white) = white
 white_pad (Padded.escaped front white all) = refl
 
-pub end_reads : {o : ParseOption} {T c d : Text} → EndsSection o T c d → (items : List Given) × Reads o T c items d
+pub end_reads : {o : ParseOption} {T c d : Text} → EndsSection o T c d
+    → (items : List Given) × Reads o T c items d
 end_reads (EndsSection.end is) = ([], Reads.stay [] (sym is ∙ sym (append-nil _)))
 end_reads (EndsSection.header t reads) = (Header t ∷ [], reads)
 
-module _ {o : ParseOption} {T : Text} {p : Place} {name : Option Text} (key : Text) (opens : OpensFirst o T p name) where
+module _ {o : ParseOption} {T : Text} {p : Place} {name : Option Text} (key : Text)
+    (opens : OpensFirst o T p name) where
   -- the pair that was found, where the later pairs of its section stand behind it, and then a header first
-  unfoldable pub found_before : {q : Place} {found : FoundPair} {after : List Given} (later : Pairs) (rest : List Given)
+  unfoldable pub found_before : {q : Place} {found : FoundPair} {after : List Given} (later : Pairs)
+      (rest : List Given)
       → ReachesPair o T p.front q key found → after ≡ pair_items later ++ rest → BeginsWithHeader rest
       → Reads o T q.front after T → IsFirstPair o T name key (stretches_of found) (string_text found.value)
   found_before {after = after} later rest reaches is header then = record {
@@ -330,9 +343,11 @@ module _ {o : ParseOption} {T : Text} {p : Place} {name : Option Text} (key : Te
   pub lacks_first : {q : Place} → ReachesEnd o T p.front q key → ReadsOn o T q.front → LacksPair o T name key
   lacks_first reaches on = at reaches.ends on.reads
     where
-      at : {d : Text} {items : List Given} → EndsSection o T reaches.front d → Reads o T d items T → LacksPair o T name key
+      at : {d : Text} {items : List Given} → EndsSection o T reaches.front d → Reads o T d items T
+          → LacksPair o T name key
       at (EndsSection.end is) reads =
-          lacks_pair [] tt reaches.passes (subst (λ c. Reads o T c [] T) (sym is) (Reads.stay [] (sym (append-nil T))))
+          lacks_pair [] tt reaches.passes
+          (subst (λ c. Reads o T c [] T) (sym is) (Reads.stay [] (sym (append-nil T))))
       at {items = items} (EndsSection.header t first) reads =
           lacks_pair (Header t ∷ items) tt reaches.passes (reads-append first reads)
 
@@ -360,13 +375,15 @@ module _ {o : ParseOption} {T : Text} {p : Place} {name : Option Text} (key : Te
 
   found_answers : (q : Place) (found : Option FoundPair)
       → MatchOption found (ReachesEnd o T p.front q key) (ReachesPair o T p.front q key) → ReadsOn o T q.front
-      → MatchOption found (LacksPair o T name key) (λ pair. IsFirstPair o T name key (stretches_of pair) (string_text pair.value))
+      → MatchOption found (LacksPair o T name key)
+      (λ pair. IsFirstPair o T name key (stretches_of pair) (string_text pair.value))
   found_answers q None h on = lacks_first h on
   found_answers q (Some x) h on = found_first h on
 
   -- the same as the calls tell it
   module _ (q : Place) (found : Option FoundPair)
-      (h : MatchOption found (ReachesEnd p.option p.text p.front q key) (ReachesPair p.option p.text p.front q key)) where
+      (h : MatchOption found (ReachesEnd p.option p.text p.front q key)
+      (ReachesPair p.option p.text p.front q key)) where
     here : MatchOption found (ReachesEnd o T p.front q key) (ReachesPair o T p.front q key)
     here = told (λ o T. MatchOption found (ReachesEnd o T p.front q key) (ReachesPair o T p.front q key))
         opens.is_reading h
@@ -376,7 +393,8 @@ module _ {o : ParseOption} {T : Text} {p : Place} {name : Option Text} (key : Te
 
     pub finds : ReadsOn q.option q.text q.front → MatchOption found (LacksPair o T name key)
         (λ pair. IsFirstPair o T name key (stretches_of pair) (string_text pair.value))
-    finds on = found_answers q found here (told (λ o T. ReadsOn o T q.front) (reached_reading q found here) on)
+    finds on = found_answers q found here
+        (told (λ o T. ReadsOn o T q.front) (reached_reading q found here) on)
 
 pub lacks_section : {o : ParseOption} {T : Text} {name : Option Text} (key : Text) → LacksSection o T name
     → LacksPair o T name key

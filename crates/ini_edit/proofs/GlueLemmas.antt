@@ -25,7 +25,8 @@ use Rattle.ini_edit.proofs.GluedLemmas.{closing_inside, line_value_glued, lines_
 use Rattle.ini_edit.proofs.InsertedLemmas.{line_end-all, line_end-closes}
 
 -- only a backslash takes what follows it
-pub no_escape : (e : Ending) (X : List ℕ) (c : ℕ) → eqb c backslash ≡ false → ending_from e (X ++ c ∷ []) ≢ Ending.escape
+pub no_escape : (e : Ending) (X : List ℕ) (c : ℕ) → eqb c backslash ≡ false
+    → ending_from e (X ++ c ∷ []) ≢ Ending.escape
 no_escape e (x ∷ X) c h = no_escape (next_ending e x) X c h
 no_escape e [] c h = at e h
   where
@@ -40,7 +41,8 @@ no_escape e [] c h = at e h
     at Ending.inside h is = by (eqb c backslash) (eqb c line_feed) h is
     at Ending.line h is = by (eqb c backslash) (eqb c line_feed) h is
 
-pub no_backslash : (test : ℕ → Bool) (c : ℕ) → test backslash ≡ false → test c ≡ true → eqb c backslash ≡ false
+pub no_backslash : (test : ℕ → Bool) (c : ℕ) → test backslash ≡ false → test c ≡ true
+    → eqb c backslash ≡ false
 no_backslash test c apart h =
     false_from_ne_true (eqb c backslash)
     (λ q. false≢true (sym apart ∙ subst (λ x. test x ≡ true) (eqb-true c backslash q) h))
@@ -102,13 +104,16 @@ module _ {o : ParseOption} (sep : LineSeparator) {x : List ℕ} (follows : Follo
       (subst (λ z. Reads o N b (given ++ []) z) ends (Reads.step whole element gaps))
 
   -- the whole glue are gaps
-  by_gaps : {s c : List ℕ} {given : List Given} → c ≡ [] → Element o b s (line_end sep ++ x) given → ReadsGlued s (c ++ line_end sep) given
+  by_gaps : {s c : List ℕ} {given : List Given} → c ≡ [] → Element o b s (line_end sep ++ x) given
+      → ReadsGlued s (c ++ line_end sep) given
   by_gaps {s} {given = given} none element =
       subst (λ z. ReadsGlued s (z ++ line_end sep) given) (sym none)
-      (by_parts s [] (line_end sep) (line_end-all sep) (subst (λ z. Element o b z (line_end sep ++ x) given) (sym (append-nil s)) element))
+      (by_parts s [] (line_end sep) (line_end-all sep)
+      (subst (λ z. Element o b z (line_end sep ++ x) given) (sym (append-nil s)) element))
 
   -- blanks where a line starts
-  blanks_glued : {w c : List ℕ} → Indentation b w → Closing o (ending (b ++ w)) c → ReadsGlued w (c ++ line_end sep) []
+  blanks_glued : {w c : List ℕ} → Indentation b w → Closing o (ending (b ++ w)) c
+      → ReadsGlued w (c ++ line_end sep) []
   blanks_glued {w} {c} i k =
       let none = closing_inside (subst (λ z. Closing o z c) (ending-blanks b w i.some i.blank) k) in
       subst (λ z. ReadsGlued w (z ++ line_end sep) []) (sym none) (at sep)
@@ -117,7 +122,8 @@ module _ {o : ParseOption} (sep : LineSeparator) {x : List ℕ} (follows : Follo
       at SystemDefault = by_parts w (line_feed ∷ []) [] refl (Element.gap (Gap.blank_line line_feed i refl))
       at CR = by_parts w (line_feed ∷ []) [] refl (Element.gap (Gap.blank_line line_feed i refl))
       at CRLF =
-          by_parts w (carriage_return ∷ []) (line_feed ∷ []) refl (Element.gap (Gap.blank_line carriage_return i refl))
+          by_parts w (carriage_return ∷ []) (line_feed ∷ []) refl
+          (Element.gap (Gap.blank_line carriage_return i refl))
 
   -- nothing goes before the line end behind such a character
   none_behind : {c : List ℕ} (s X : List ℕ) (d : ℕ) → eqb d backslash ≡ false → b ++ s ≡ X ++ d ∷ []
@@ -126,7 +132,8 @@ module _ {o : ParseOption} (sep : LineSeparator) {x : List ℕ} (follows : Follo
       closing_none (λ q. no_escape Ending.line X d h (ap ending (sym is) ∙ q)) k
 
   -- a comment that has no LF goes on through that of the line end
-  last_comment_glued : (m : ℕ) (s : List ℕ) {c : List ℕ} {e : Ending} → is_column_one b ≡ true → is_comment_mark m ≡ true
+  last_comment_glued : (m : ℕ) (s : List ℕ) {c : List ℕ} {e : Ending} → is_column_one b ≡ true
+      → is_comment_mark m ≡ true
       → list_all no_feed s ≡ true → Closing o e c → ReadsGlued (m ∷ s) (c ++ line_end sep) []
   last_comment_glued m s {c} one mark all k =
       let (p, is, none) = glue_feed sep k in
@@ -136,12 +143,15 @@ module _ {o : ParseOption} (sep : LineSeparator) {x : List ℕ} (follows : Follo
       (Element.comment (s ++ p) one mark (all_both no_feed s p all none)) in
       subst (λ z. ReadsGlued (m ∷ s) z []) (append-nil g) (by_parts (m ∷ s) g [] refl element)
 
-  pub comment_glued : {s r : List ℕ} {given : List Given} → IsComment b s r given → ReadsGlued s (line_end sep) given
+  pub comment_glued : {s r : List ℕ} {given : List Given} → IsComment b s r given
+      → ReadsGlued s (line_end sep) given
   comment_glued (IsComment.whole s one mark all) = by_gaps refl (Element.comment s one mark all)
-  comment_glued (IsComment.last {m = m} {s = s} one mark all) = last_comment_glued m s one mark all Closing.within
+  comment_glued (IsComment.last {m = m} {s = s} one mark all) =
+      last_comment_glued m s one mark all Closing.within
 
   -- behind its LF nothing goes
-  pub comment_ended : {s r : List ℕ} {given : List Given} → IsComment b s r given → is_column_one (b ++ s) ≡ true
+  pub comment_ended : {s r : List ℕ} {given : List Given} → IsComment b s r given
+      → is_column_one (b ++ s) ≡ true
       → ReadsGlued s [] given
   comment_ended (IsComment.whole {m = m} s one mark all) column =
       let source = m ∷ (s ++ line_feed ∷ []) in
@@ -150,21 +160,27 @@ module _ {o : ParseOption} (sep : LineSeparator) {x : List ℕ} (follows : Follo
   comment_ended (IsComment.last {m = m} {s = s} one mark all) column =
       absurd (both_ways (is_column_one (b ++ m ∷ s)) (comment_no_column b m s mark all) column)
 
-  pub element_glued : {s r c : List ℕ} {given : List Given} → Element o b s r given → (given ≡ [] → ¬ IsIndentedKey s)
+  pub element_glued : {s r c : List ℕ} {given : List Given} → Element o b s r given
+      → (given ≡ [] → ¬ IsIndentedKey s)
       → Closing o (ending (b ++ s)) c → ReadsGlued s (c ++ line_end sep) given
   element_glued (Element.gap (Gap.blank_line {w = w} d i h)) whole k =
-      by_gaps (none_behind (w ++ d ∷ []) (b ++ w) d (no_backslash is_line_end d refl h) (sym (append_assoc b w (d ∷ []))) k)
+      by_gaps (none_behind (w ++ d ∷ []) (b ++ w) d (no_backslash is_line_end d refl h)
+      (sym (append_assoc b w (d ∷ []))) k)
       (Element.gap (Gap.blank_line d i h))
   element_glued (Element.gap (Gap.before_header i)) whole k = blanks_glued i k
   element_glued (Element.gap (Gap.white {c = d} h n)) whole k =
-      by_gaps (none_behind (d ∷ []) b d (no_backslash is_whitespace d refl h) refl k) (Element.gap (Gap.white h n))
+      by_gaps (none_behind (d ∷ []) b d (no_backslash is_whitespace d refl h) refl k)
+      (Element.gap (Gap.white h n))
   element_glued (Element.comment {m = m} s one mark all) whole k =
-      by_gaps (none_behind (m ∷ (s ++ line_feed ∷ [])) (b ++ m ∷ s) line_feed refl (sym (append_assoc b (m ∷ s) (line_feed ∷ []))) k)
+      by_gaps (none_behind (m ∷ (s ++ line_feed ∷ [])) (b ++ m ∷ s) line_feed refl
+      (sym (append_assoc b (m ∷ s) (line_feed ∷ []))) k)
       (Element.comment s one mark all)
   element_glued (Element.last_comment {m = m} {s = s} one mark all) whole k =
       last_comment_glued m s one mark all k
   element_glued (Element.header {s = s} off str) whole k =
-      by_gaps (none_behind (open_bracket ∷ (s ++ close_bracket ∷ [])) (b ++ open_bracket ∷ s) close_bracket refl (sym (append_assoc b (open_bracket ∷ s) (close_bracket ∷ []))) k)
+      by_gaps (none_behind (open_bracket ∷ (s ++ close_bracket ∷ []))
+      (b ++ open_bracket ∷ s) close_bracket refl
+      (sym (append_assoc b (open_bracket ∷ s) (close_bracket ∷ []))) k)
       (Element.header off (Str-alike Alike.same str))
   element_glued {c = c} (Element.bracketed_header {s = s} on str i) whole k =
       by_gaps (closing_inside (subst (λ z. Closing o z c) (row_no_line b str) k))
@@ -174,17 +190,20 @@ module _ {o : ParseOption} (sep : LineSeparator) {x : List ℕ} (follows : Follo
           → Str o.enabled_escape bracketed_name_ends s (line_end sep ++ x) v
       closed (Str.closed row h) = Str.closed row (name_closes sep x)
       closed (Str.lone row h) = absurd (false≢true h)
-  element_glued {c = c} (Element.pair {k = key} {s = s} {key = name} {v = value} {m = m} front some separates given) whole k =
+  element_glued {c = c} (Element.pair {k = key} {s = s} {key = name} {v = value}
+      {m = m} front some separates given) whole k =
       let g = c ++ line_end sep in
       let behind : Closing o (ending_from Ending.inside s) c =
       subst (λ z. Closing o z c) (ending-separator b key m s separates) k in
-      let seam : (z : List ℕ) → key ++ m ∷ (s ++ z) ≡ (key ++ m ∷ s) ++ z = λ z. sym (append_assoc key (m ∷ s) z) in
+      let seam : (z : List ℕ) → key ++ m ∷ (s ++ z) ≡ (key ++ m ∷ s) ++ z =
+      λ z. sym (append_assoc key (m ∷ s) z) in
       elim (cases_Bool o.enabled_indented_mutiline_value) [
         | inl on ↦
             subst (λ z. ReadsGlued (key ++ m ∷ s) z (Pair name value ∷ [])) (append-nil g)
             (by_parts (key ++ m ∷ s) g [] refl
             (subst (λ z. Element o b z x (Pair name value ∷ [])) (seam g)
-            (Element.pair (KeyFront-alike Alike.same front) some separates (lines_glued sep follows on c given behind))))
+            (Element.pair (KeyFront-alike Alike.same front) some separates
+            (lines_glued sep follows on c given behind))))
         | inr off ↦
             by_parts (key ++ m ∷ s) c (line_end sep) (line_end-all sep)
             (subst (λ z. Element o b z (line_end sep ++ x) (Pair name value ∷ [])) (seam c)
@@ -193,4 +212,5 @@ module _ {o : ParseOption} (sep : LineSeparator) {x : List ℕ} (follows : Follo
       ]
   element_glued (Element.dropped_blanks i) whole k = blanks_glued i k
   element_glued (Element.dropped_key {w = w} {s = s} i begins stops) whole k =
-      absurd (whole refl (record { blanks = w; key = s; whole = refl; some = i.some; blank = i.blank; begins = begins }))
+      absurd (whole refl (record
+      { blanks = w; key = s; whole = refl; some = i.some; blank = i.blank; begins = begins }))

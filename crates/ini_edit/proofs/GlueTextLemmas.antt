@@ -1,13 +1,12 @@
 -- What goes before a new line, as it is written: its characters.
-use Rattle.std.proofs.Common.{◌≡◌, ◌≢◌, ◌∙◌, true, false, List, [], ◌∷◌, ◌++◌, ap, sym, subst, refl}
-use Rattle.std.proofs.Common.{append_assoc, append-nil, length, ◌<◌, arith, Bool, inl, inr, if◌then◌else◌}
+use Rattle.std.proofs.Common.{◌≡◌, ◌≢◌, ◌∙◌, true, List, [], ◌∷◌, ◌++◌, ap, sym, subst, refl}
+use Rattle.std.proofs.Common.{append_assoc, append-nil, Bool, inl, inr, if◌then◌else◌}
 use Rattle.std.proofs.lemmas.Bool.{cases_Bool}
 use Rattle.std.specs.Str.{chars}
 use Rattle.ini_text.specs.Grammar.CharacterKinds.{backslash, space, is_comment_mark}
 use Rattle.ini_text.specs.Grammar.Positions.{is_column_one}
 use Rattle.ini_text.specs.Inside.PlainTests.{begins}
 use Rattle.ini_text.specs.Grammar.Elements.{Given}
-use Rattle.ini_text.specs.Grammar.Texts.{Reads}
 use Rattle.ini_text.specs.Options.WriteOptions.{line_end}
 use Rattle.ini_text.specs.declared.option.ParseOption.{ParseOption}
 use Rattle.ini_text.specs.declared.write.option.LineSeparator.{LineSeparator}
@@ -36,7 +35,8 @@ unfolding chars
 chars-space = refl
 
 -- behind an LF nothing goes, and within a line a line end
-glue_of_line : {o : ParseOption} {end : LineSeparator} {e : Ending} {glue : Text} → e ≡ Ending.line → Glue o end e glue
+glue_of_line : {o : ParseOption} {end : LineSeparator} {e : Ending} {glue : Text} → e ≡ Ending.line
+    → Glue o end e glue
     → glue ≡ []
 glue_of_line at (Glue.none is) = refl
 glue_of_line at (Glue.line not closing) = absurd (not at)
@@ -53,7 +53,8 @@ comment_ending one = if one then Ending.line else Ending.inside
 
 -- a place behind an element, or behind a comment
 element_place : {o : ParseOption} {end : LineSeparator} {W r glue : Text} {items : List Given}
-    → IsElementEnd o (W ++ r) W items → IsFree o W r → Glue o end (ending W) glue → IsPlace o end W r glue items
+    → IsElementEnd o (W ++ r) W items → IsFree o W r → Glue o end (ending W) glue
+    → IsPlace o end W r glue items
 element_place ends free (Glue.none line) = IsPlace.line_start (IsLineStart.behind_line line ends)
 element_place ends free (Glue.line not closing) = IsPlace.behind_element ends closing free.unblank
 
@@ -71,12 +72,14 @@ comment_place {o} {end} {W} {r} {glue} {items} ends free g =
     ]
 
 -- at a boundary that is free a line may be put in behind the glue
-pub boundary_place : {o : ParseOption} {end : LineSeparator} {T W r glue : Text} {items : List Given} {comment : Bool}
+pub boundary_place : {o : ParseOption} {end : LineSeparator} {T W r glue : Text} {items : List Given}
+    {comment : Bool}
     → Boundary o T [] comment W items → T ≡ W ++ r → IsFree o W r → Glue o end (front_ending comment W) glue
     → IsPlace o end W r glue items
 boundary_place Boundary.start whole free (Glue.none is) = IsPlace.line_start IsLineStart.at_front
 boundary_place Boundary.start whole free (Glue.line not closing) = absurd (not refl)
-boundary_place {o} {end} {T} {r = r} {glue} (Boundary.behind {a} {s} {items = items} {gives = gives} reads is element key) whole free g =
+boundary_place {o} {end} {T} {r = r} {glue}
+    (Boundary.behind {a} {s} {items = items} {gives = gives} reads is element key) whole free g =
     elim (cases_Bool (begins is_comment_mark s)) [
       | inl mark ↦
           comment_place
@@ -85,7 +88,8 @@ boundary_place {o} {end} {T} {r = r} {glue} (Boundary.behind {a} {s} {items = it
           (subst (λ x. Glue o end (front_ending x (a ++ s)) glue) mark g)
       | inr other ↦
           element_place
-          (subst (λ x. IsElementEnd o x (a ++ s) (items ++ gives)) whole (IsElementEnd.behind reads is element key)) free
+          (subst (λ x. IsElementEnd o x (a ++ s) (items ++ gives)) whole
+          (IsElementEnd.behind reads is element key)) free
           (subst (λ x. Glue o end (front_ending x (a ++ s)) glue) other g)
     ]
 
@@ -95,7 +99,8 @@ not_line ends.Escape apart is = absurd (let no : Ending.escape ≡ Ending.line =
 not_line ends.Line apart is = apart refl
 
 -- nothing was put behind a text; or a line end, with what goes before it
-pub glue_none : {o : ParseOption} (end : LineSeparator) {f : Ending} (old : Text) (e : TextEnd) → ending_of e ≡ f
+pub glue_none : {o : ParseOption} (end : LineSeparator) {f : Ending} (old : Text) (e : TextEnd)
+    → ending_of e ≡ f
     → e ≡ ends.Line → PushesGlue o end f old old
 glue_none end old e at line =
     record { glue = []; is_glue = Glue.none (sym at ∙ ap ending_of line); is_new = sym (append-nil old) }
@@ -106,5 +111,6 @@ pub glue_line : {o : ParseOption} (end : LineSeparator) {f : Ending} (old mid ne
 glue_line {o} end {f} old mid new c l e at apart closing first line last = record {
   glue = c ++ line_end end;
   is_glue = Glue.line (λ is. not_line e apart (at ∙ is)) (subst (λ x. Closing o x c) at closing);
-  is_new = last ∙ ap (λ x. mid ++ x) line ∙ ap (λ x. x ++ line_end end) first ∙ append_assoc old c (line_end end);
+  is_new = last ∙ ap (λ x. mid ++ x) line ∙ ap (λ x. x ++ line_end end) first
+      ∙ append_assoc old c (line_end end);
 }

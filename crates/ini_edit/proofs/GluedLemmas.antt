@@ -30,12 +30,14 @@ use Rattle.ini_edit.proofs.InsertedLemmas.{line_end-closes}
 use Rattle.ini_edit.proofs.PadLemmas.{end_trimmed-white}
 use Rattle.ini_edit.proofs.ValueLemmas.{closes_no_inline, closes_no_mark}
 
-row-append : {e : Bool} {ends : Ends} {s v t w : List ℕ} → Row e ends s v → Row e ends t w → Row e ends (s ++ t) (v ++ w)
+row-append : {e : Bool} {ends : Ends} {s v t w : List ℕ} → Row e ends s v → Row e ends t w
+    → Row e ends (s ++ t) (v ++ w)
 row-append Row.none other = other
 row-append (Row.raw n inside rest) other = Row.raw n inside (row-append rest other)
 row-append {e} {ends} {t = t} {w = w} (Row.escape {p = p} {w = q} {s = s} {v = v} k rest) other =
     subst (λ y. Row e ends y ((q ++ v) ++ w)) (sym (append_assoc p s t))
-    (subst (λ y. Row e ends (p ++ (s ++ t)) y) (sym (append_assoc q v w)) (Row.escape k (row-append rest other)))
+    (subst (λ y. Row e ends (p ++ (s ++ t)) y) (sym (append_assoc q v w))
+    (Row.escape k (row-append rest other)))
 
 module _ {o : ParseOption} where
   pub closing_inside : {c : List ℕ} → Closing o Ending.inside c → c ≡ []
@@ -56,7 +58,8 @@ module _ {o : ParseOption} where
   closing_behind (x ∷ t) k = k
 
 -- a space behind a backslash is taken off with the white space at a line's end
-end_with_space : (v : List ℕ) → end_trimmed (v ++ backslash ∷ (space ∷ [])) ≡ end_trimmed (v ++ backslash ∷ [])
+end_with_space : (v : List ℕ)
+    → end_trimmed (v ++ backslash ∷ (space ∷ [])) ≡ end_trimmed (v ++ backslash ∷ [])
 end_with_space v =
     ap end_trimmed (sym (append_assoc v (backslash ∷ []) (space ∷ [])))
     ∙ end_trimmed-white (v ++ backslash ∷ []) (space ∷ []) refl
@@ -73,7 +76,8 @@ both_with_space (c ∷ v) = elim (cases_Bool (is_whitespace c)) [
 ]
 
 value_with_space : (first quoted : Bool) (v : List ℕ)
-    → plain_value first quoted (v ++ backslash ∷ (space ∷ [])) ≡ plain_value first quoted (v ++ backslash ∷ [])
+    → plain_value first quoted (v ++ backslash ∷ (space ∷ [])) ≡ plain_value first quoted
+    (v ++ backslash ∷ [])
 value_with_space true true v = end_with_space v
 value_with_space true false v = both_with_space v
 value_with_space false quoted v = end_with_space v
@@ -86,7 +90,8 @@ drop_feeds (c ∷ w) h =
     cond-true (is_line_feed c && eqb (length (drop_line_feeds w)) 0) _ _
     (and_from (is_line_feed c) _ parts.0 (ap (λ l. eqb (length l) 0) (drop_feeds w parts.1)))
 
-drop_feeds-behind : (cs w : List ℕ) → list_all is_line_feed w ≡ true → drop_line_feeds (cs ++ w) ≡ drop_line_feeds cs
+drop_feeds-behind : (cs w : List ℕ) → list_all is_line_feed w ≡ true
+    → drop_line_feeds (cs ++ w) ≡ drop_line_feeds cs
 drop_feeds-behind [] w h = drop_feeds w h
 drop_feeds-behind (c ∷ cs) w h =
     ap (λ l. cond (is_line_feed c && eqb (length l) 0) [] (c ∷ l)) (drop_feeds-behind cs w h)
@@ -107,7 +112,8 @@ feeds_behind (c ∷ cs) w h = elim (cases_Bool (is_line_feed c)) [
 ]
 
 -- a line that is closed, before another text that closes lines
-no_mark_before : (p r y : List ℕ) → BeginsWithNo is_mark (p ++ r) → Closes plain_ends y → BeginsWithNo is_mark (p ++ y)
+no_mark_before : (p r y : List ℕ) → BeginsWithNo is_mark (p ++ r) → Closes plain_ends y
+    → BeginsWithNo is_mark (p ++ y)
 no_mark_before [] r y h closes = closes_no_mark y closes
 no_mark_before (c ∷ p) r y h closes = h
 
@@ -117,7 +123,8 @@ no_mark_behind [] y z h = refl
 no_mark_behind (c ∷ s) y z h = h
 
 module _ {o : ParseOption} {c : List ℕ} (y : List ℕ) (closes : Closes plain_ends y) where
-  line_glued : {first : Bool} {l r v : List ℕ} → Line o first l r v → Closing o (ending_from Ending.inside l) c
+  line_glued : {first : Bool} {l r v : List ℕ} → Line o first l r v
+      → Closing o (ending_from Ending.inside l) c
       → Line o first (l ++ c) y v
   line_glued {first} {v = u} (Line.line {q = q} {p = p} {r = r} quoted plain (Str.closed row h)) k =
       let is : ending_from Ending.inside (q ++ p) ≡ Ending.inside =
@@ -125,7 +132,8 @@ module _ {o : ParseOption} {c : List ℕ} (y : List ℕ) (closes : Closes plain_
       let none : c ≡ [] = closing_inside (subst (λ e. Closing o e c) is k) in
       subst (λ z. Line o first z y u) (sym (append-nil (q ++ p)) ∙ ap (λ z. (q ++ p) ++ z) (sym none))
       (Line.line quoted (λ on. no_mark_before p r y (plain on) closes) (Str.closed row closes))
-  line_glued {first} (Line.line {q = q} {w = w} {quoted = some} quoted plain (Str.lone {s = s} {v = v} row h)) k =
+  line_glued {first} (Line.line {q = q} {w = w} {quoted = some} quoted plain
+      (Str.lone {s = s} {v = v} row h)) k =
       let p = s ++ backslash ∷ [] in
       let is : ending_from Ending.inside (q ++ p) ≡ Ending.escape =
       ending-quoted p quoted ∙ ending-row (backslash ∷ []) refl row in
@@ -134,17 +142,22 @@ module _ {o : ParseOption} {c : List ℕ} (y : List ℕ) (closes : Closes plain_
       elim (closing_escape (subst (λ e. Closing o e c) is k)) [
         | inl (on, same) ↦
             let slash : EscapeSequence o.enabled_escape (backslash ∷ (backslash ∷ [])) (backslash ∷ []) =
-            EscapeSequence.itself on (eqb-false backslash line_feed refl) (eqb-false backslash letter_x refl) refl in
-            subst (λ z. Line o first ((q ++ p) ++ z) y (w ++ plain_value first some (v ++ backslash ∷ []))) (sym same)
-            (subst (λ z. Line o first z y (w ++ plain_value first some (v ++ backslash ∷ []))) (source backslash)
+            EscapeSequence.itself on (eqb-false backslash line_feed refl)
+            (eqb-false backslash letter_x refl) refl in
+            subst (λ z. Line o first ((q ++ p) ++ z) y (w ++ plain_value first some (v ++ backslash ∷ [])))
+            (sym same)
+            (subst (λ z. Line o first z y (w ++ plain_value first some (v ++ backslash ∷ [])))
+            (source backslash)
             (Line.line quoted (λ q. no_mark_behind s (backslash ∷ []) y (plain q))
             (Str.closed (row-append row (Row.escape slash Row.none)) closes)))
         | inr (off, same) ↦
             let kept : EscapeSequence o.enabled_escape (backslash ∷ (space ∷ [])) (backslash ∷ (space ∷ [])) =
             EscapeSequence.kept off (eqb-false space line_feed refl) in
-            subst (λ z. Line o first ((q ++ p) ++ z) y (w ++ plain_value first some (v ++ backslash ∷ []))) (sym same)
+            subst (λ z. Line o first ((q ++ p) ++ z) y (w ++ plain_value first some (v ++ backslash ∷ [])))
+            (sym same)
             (subst (λ z. Line o first z y (w ++ plain_value first some (v ++ backslash ∷ []))) (source space)
-            (subst (λ z. Line o first (q ++ (s ++ backslash ∷ (space ∷ []))) y (w ++ z)) (value_with_space first some v)
+            (subst (λ z. Line o first (q ++ (s ++ backslash ∷ (space ∷ []))) y (w ++ z))
+            (value_with_space first some v)
             (Line.line quoted (λ q. no_mark_behind s (space ∷ []) y (plain q))
             (Str.closed (row-append row (Row.escape kept Row.none)) closes))))
       ]
@@ -153,7 +166,8 @@ module _ {o : ParseOption} {c : List ℕ} (y : List ℕ) (closes : Closes plain_
       → Lead w ((l ++ c) ++ y)
   lead_glued [] r lead k = record {
     white = lead.white;
-    ends = subst (λ z. BeginsWithNo is_inline_white (z ++ y)) (sym (closing_inside k)) (closes_no_inline y closes);
+    ends = subst (λ z. BeginsWithNo is_inline_white (z ++ y)) (sym (closing_inside k))
+        (closes_no_inline y closes);
   }
   lead_glued (x ∷ l) r lead k = record { white = lead.white; ends = lead.ends }
 
@@ -204,9 +218,27 @@ module _ {o : ParseOption} (sep : LineSeparator) {x : List ℕ} (follows : Follo
   done_glued = at sep
     where
       at : (s : LineSeparator) → MoreGlued o [] (line_end s) x []
-      at SystemDefault = record { value = line_feed ∷ []; feeds = line_feed ∷ []; more = MoreLines.empty_lf done; is = refl; all = refl }
-      at CR = record { value = line_feed ∷ []; feeds = line_feed ∷ []; more = MoreLines.empty_lf done; is = refl; all = refl }
-      at CRLF = record { value = line_feed ∷ []; feeds = line_feed ∷ []; more = MoreLines.empty_cr_lf done; is = refl; all = refl }
+      at SystemDefault = record {
+        value = line_feed ∷ [];
+        feeds = line_feed ∷ [];
+        more = MoreLines.empty_lf done;
+        is = refl;
+        all = refl;
+      }
+      at CR = record {
+        value = line_feed ∷ [];
+        feeds = line_feed ∷ [];
+        more = MoreLines.empty_lf done;
+        is = refl;
+        all = refl;
+      }
+      at CRLF = record {
+        value = line_feed ∷ [];
+        feeds = line_feed ∷ [];
+        more = MoreLines.empty_cr_lf done;
+        is = refl;
+        all = refl;
+      }
 
   module _ (c : List ℕ) where
     -- the glue
@@ -300,7 +332,8 @@ module _ {o : ParseOption} (sep : LineSeparator) {x : List ℕ} (follows : Follo
     }
 
     -- how the lines behind a line end end
-    closing_lines : {e : List ℕ} (t y : List ℕ) → LineEnd e y → Closing o (ending_from Ending.inside (e ++ t)) c
+    closing_lines : {e : List ℕ} (t y : List ℕ) → LineEnd e y
+        → Closing o (ending_from Ending.inside (e ++ t)) c
         → Closing o (ending_from Ending.line t) c
     closing_lines t y LineEnd.lf k = k
     closing_lines t y LineEnd.cr_lf k = k
@@ -312,22 +345,37 @@ module _ {o : ParseOption} (sep : LineSeparator) {x : List ℕ} (follows : Follo
 
     seam : (w l : List ℕ) → w ++ ((l ++ c) ++ (line_end sep ++ [])) ≡ (w ++ l) ++ g
     seam w l =
-        ap (λ z. w ++ ((l ++ c) ++ z)) (append-nil (line_end sep)) ∙ ap (λ z. w ++ z) (append_assoc l c (line_end sep))
+        ap (λ z. w ++ ((l ++ c) ++ z)) (append-nil (line_end sep))
+        ∙ ap (λ z. w ++ z) (append_assoc l c (line_end sep))
         ∙ sym (append_assoc w l g)
 
     seam_lines : (w l y z : List ℕ) → y ≡ z ++ g → w ++ (l ++ y) ≡ (w ++ (l ++ z)) ++ g
     seam_lines w l y z h =
-        ap (λ y. w ++ (l ++ y)) h ∙ ap (λ y. w ++ y) (sym (append_assoc l z g)) ∙ sym (append_assoc w (l ++ z) g)
+        ap (λ y. w ++ (l ++ y)) h ∙ ap (λ y. w ++ y) (sym (append_assoc l z g))
+        ∙ sym (append_assoc w (l ++ z) g)
 
-    more_glued : {t r v : List ℕ} → MoreLines o t r v → Closing o (ending_from Ending.line t) c → MoreGlued o t g x v
+    more_glued : {t r v : List ℕ} → MoreLines o t r v → Closing o (ending_from Ending.line t) c
+        → MoreGlued o t g x v
     more_glued (MoreLines.done n m) k =
         subst (λ z. MoreGlued o [] z x []) (nothing_before (closing_line k)) done_glued
     more_glued (MoreLines.empty_lf m) k =
         let n = more_glued m k in
-        record { value = line_feed ∷ n.value; feeds = n.feeds; more = MoreLines.empty_lf n.more; is = ap (λ z. line_feed ∷ z) n.is; all = n.all }
+        record {
+          value = line_feed ∷ n.value;
+          feeds = n.feeds;
+          more = MoreLines.empty_lf n.more;
+          is = ap (λ z. line_feed ∷ z) n.is;
+          all = n.all;
+        }
     more_glued (MoreLines.empty_cr_lf m) k =
         let n = more_glued m k in
-        record { value = line_feed ∷ n.value; feeds = n.feeds; more = MoreLines.empty_cr_lf n.more; is = ap (λ z. line_feed ∷ z) n.is; all = n.all }
+        record {
+          value = line_feed ∷ n.value;
+          feeds = n.feeds;
+          more = MoreLines.empty_cr_lf n.more;
+          is = ap (λ z. line_feed ∷ z) n.is;
+          all = n.all;
+        }
     more_glued (MoreLines.continued {w} {l} {e} {t} {r} {u} {v} b lead ln le m) k =
         let behind : Closing o (ending_from Ending.inside (e ++ t)) c =
         subst (λ z. Closing o z c)
@@ -338,35 +386,43 @@ module _ {o : ParseOption} (sep : LineSeparator) {x : List ℕ} (follows : Follo
           value = line_feed ∷ (u ++ n.value);
           feeds = n.feeds;
           more =
-              subst (λ z. MoreLines o z x (line_feed ∷ (u ++ n.value))) (seam_lines w l (n.end ++ n.lines) (e ++ t) n.whole)
-              (MoreLines.continued b (Lead-alike (Alike-behind l n.alike) lead) (Line-alike n.alike ln) n.is_end n.more);
+              subst (λ z. MoreLines o z x (line_feed ∷ (u ++ n.value)))
+              (seam_lines w l (n.end ++ n.lines) (e ++ t) n.whole)
+              (MoreLines.continued b (Lead-alike (Alike-behind l n.alike) lead)
+              (Line-alike n.alike ln) n.is_end n.more);
           is = ap (λ z. line_feed ∷ (u ++ z)) n.is ∙ ap (λ z. line_feed ∷ z) (sym (append_assoc u v n.feeds));
           all = n.all;
         }
     more_glued (MoreLines.last {w} {l} {u} b lead ln) k =
         let behind : Closing o (ending_from Ending.inside l) c =
         subst (λ z. Closing o z c) (ending-lead Ending.line w l b lead.white) k in
-        let new_lead = lead_glued (line_end sep ++ ([] ++ x)) closes l [] (subst (Lead w) (sym (append-nil l)) lead) behind in
+        let new_lead = lead_glued (line_end sep ++ ([] ++ x)) closes l []
+        (subst (Lead w) (sym (append-nil l)) lead) behind in
         record {
           value = line_feed ∷ (u ++ []);
           feeds = [];
           more =
               subst (λ z. MoreLines o z x (line_feed ∷ (u ++ []))) (seam w l)
-              (MoreLines.continued b new_lead (line_glued (line_end sep ++ ([] ++ x)) closes ln behind) (line_end-is sep x) done);
+              (MoreLines.continued b new_lead (line_glued (line_end sep ++ ([] ++ x)) closes ln behind)
+              (line_end-is sep x) done);
           is = refl;
           all = refl;
         }
 
     -- a multiline value
-    pub lines_glued : {s r v : List ℕ} → Value o s r v → Closing o (ending_from Ending.inside s) c → Value o (s ++ g) x v
+    pub lines_glued : {s r v : List ℕ} → Value o s r v → Closing o (ending_from Ending.inside s) c
+        → Value o (s ++ g) x v
     lines_glued (Value.one_line off lead ln) k = absurd (both_ways o.enabled_indented_mutiline_value off on)
     lines_glued (Value.to_end {w} {l} {v} _ lead ln) k =
         let behind : Closing o (ending_from Ending.inside l) c =
         subst (λ z. Closing o z c) (ending-white w l lead.white) k in
-        let new_lead = lead_glued (line_end sep ++ ([] ++ x)) closes l [] (subst (Lead w) (sym (append-nil l)) lead) behind in
+        let new_lead = lead_glued (line_end sep ++ ([] ++ x)) closes l []
+        (subst (Lead w) (sym (append-nil l)) lead) behind in
         subst (λ z. Value o z x (without_outer_line_feeds v)) (seam w l)
-        (subst (λ z. Value o (w ++ ((l ++ c) ++ (line_end sep ++ []))) x (without_outer_line_feeds z)) (append-nil v)
-        (Value.lines on new_lead (line_glued (line_end sep ++ ([] ++ x)) closes ln behind) (line_end-is sep x) done))
+        (subst (λ z. Value o (w ++ ((l ++ c) ++ (line_end sep ++ []))) x (without_outer_line_feeds z))
+        (append-nil v)
+        (Value.lines on new_lead (line_glued (line_end sep ++ ([] ++ x)) closes ln behind)
+        (line_end-is sep x) done))
     lines_glued (Value.lines {w} {l} {e} {t} {r} {u} {v} _ lead ln le m) k =
         let behind : Closing o (ending_from Ending.inside (e ++ t)) c =
         subst (λ z. Closing o z c)
@@ -374,9 +430,11 @@ module _ {o : ParseOption} (sep : LineSeparator) {x : List ℕ} (follows : Follo
         ∙ ending-line (e ++ t) (line_end-some-behind (t ++ r) (t ++ r) le) ln) k in
         let n = ended_glued t r v le m behind (more_glued m (closing_lines t (t ++ r) le behind)) in
         let same : without_outer_line_feeds (u ++ n.value) ≡ without_outer_line_feeds (u ++ v) =
-        ap (λ z. without_outer_line_feeds (u ++ z)) n.is ∙ ap without_outer_line_feeds (sym (append_assoc u v n.feeds))
+        ap (λ z. without_outer_line_feeds (u ++ z)) n.is
+        ∙ ap without_outer_line_feeds (sym (append_assoc u v n.feeds))
         ∙ feeds_behind (u ++ v) n.feeds n.all in
-        subst (λ z. Value o z x (without_outer_line_feeds (u ++ v))) (seam_lines w l (n.end ++ n.lines) (e ++ t) n.whole)
+        subst (λ z. Value o z x (without_outer_line_feeds (u ++ v)))
+        (seam_lines w l (n.end ++ n.lines) (e ++ t) n.whole)
         (subst (Value o (w ++ (l ++ (n.end ++ n.lines))) x) same
         (Value.lines on (Lead-alike (Alike-behind l n.alike) lead) (Line-alike n.alike ln) n.is_end n.more))
 
@@ -389,5 +447,7 @@ line_value_glued {o} {c = c} y h off (Value.one_line {w} {l} {r} {v} _ lead ln) 
     subst (λ z. Closing o z c) (ending-white w l lead.white) k in
     subst (λ z. Value o z y v) (sym (append_assoc w l c))
     (Value.one_line off (lead_glued y h l r lead behind) (line_glued y h ln behind))
-line_value_glued {o} y h off (Value.to_end on lead ln) k = absurd (both_ways o.enabled_indented_mutiline_value off on)
-line_value_glued {o} y h off (Value.lines on lead ln le m) k = absurd (both_ways o.enabled_indented_mutiline_value off on)
+line_value_glued {o} y h off (Value.to_end on lead ln) k =
+    absurd (both_ways o.enabled_indented_mutiline_value off on)
+line_value_glued {o} y h off (Value.lines on lead ln le m) k =
+    absurd (both_ways o.enabled_indented_mutiline_value off on)

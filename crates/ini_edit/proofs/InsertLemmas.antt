@@ -44,8 +44,10 @@ module _ {name : Option Text} {before after : List Given} (t : IsSectionEnd name
       ap (λ l. l ++ (Pair key value ∷ after)) t.before_is
       ∙ section_items t.opening after t.pairs ((key, value) ∷ [])
 
-  pub new_at : (f : Pairs → Pairs) (last : Document) (key value : Text) → f t.pairs ≡ t.pairs ++ (key, value) ∷ []
-      → edit_section name f last (document_of (before ++ after)) ≡ document_of (before ++ (Pair key value ∷ after))
+  pub new_at : (f : Pairs → Pairs) (last : Document) (key value : Text)
+      → f t.pairs ≡ t.pairs ++ (key, value) ∷ []
+      → edit_section name f last (document_of (before ++ after)) ≡ document_of
+      (before ++ (Pair key value ∷ after))
   new_at f last key value is =
       ap (λ l. edit_section name f last (document_of l)) items_end
       ∙ edited_document f last t.pairs after (name_refl name) t.opens t.header
@@ -54,10 +56,12 @@ module _ {name : Option Text} {before after : List Given} (t : IsSectionEnd name
 
 -- a written pair, in three parts
 pub pair_is : (w : WriteOption) (key value : Text) → written_pair w (key, value)
-    ≡ escaped w.escape_policy key ++ (chars w.kv_separator.now ++ (escaped w.escape_policy value ++ line_end w.line_separator))
+    ≡ escaped w.escape_policy key
+    ++ (chars w.kv_separator.now ++ (escaped w.escape_policy value ++ line_end w.line_separator))
 pair_is w key value = simp append_assoc
 
-module _ (o : ParseOption) (w : WriteOption) (key value : Text) (sep : IsPlainSeparator (chars w.kv_separator.now))
+module _ (o : ParseOption) (w : WriteOption) (key value : Text)
+    (sep : IsPlainSeparator (chars w.kv_separator.now))
     (plain : IsPlainPair o w.escape_policy key value) where
   -- the text with the line
   abbrev new_text : Text → Text → Text
@@ -66,7 +70,8 @@ module _ (o : ParseOption) (w : WriteOption) (key value : Text) (sep : IsPlainSe
   new_derives : {W r : Text} {name : Option Text} {d : Document} (at : EndsAt o W r name d)
       → Derives o (new_text W r) (at.before ++ (Pair key value ∷ at.after))
   new_derives {W} {r} at =
-      subst (λ l. Derives o (W ++ (l ++ r)) (at.before ++ (Pair key value ∷ at.after))) (sym (pair_is w key value))
+      subst (λ l. Derives o (W ++ (l ++ r)) (at.before ++ (Pair key value ∷ at.after)))
+      (sym (pair_is w key value))
       (line_inserted sep plain w.line_separator W r at.starts at.follows at.then)
 
   old_document : {W r : Text} {name : Option Text} {d : Document} (at : EndsAt o W r name d)
@@ -99,16 +104,20 @@ pub with_section_last : (d : Document) (name key value : Text)
     → fold with_item d (Header name ∷ Pair key value ∷ []) ≡ d ++ (Some name, (key, value) ∷ []) ∷ []
 with_section_last d name key value = at d
   where
-    at : (d : Document) → with_pair key value (d ++ (Some name, []) ∷ []) ≡ d ++ (Some name, (key, value) ∷ []) ∷ []
+    at : (d : Document) → with_pair key value
+        (d ++ (Some name, []) ∷ []) ≡ d ++ (Some name, (key, value) ∷ []) ∷ []
     at [] = refl
     at (s ∷ []) = refl
     at (s ∷ t ∷ d) = ap (λ x. s ∷ x) (at (t ∷ d))
 
-pub appends : (o : ParseOption) (w : WriteOption) (name key value : Text) → IsPlainSeparator (chars w.kv_separator.now)
-    → IsPlainName o w.escape_policy name → IsPlainPair o w.escape_policy key value → Appends o w name key value
+pub appends : (o : ParseOption) (w : WriteOption) (name key value : Text)
+    → IsPlainSeparator (chars w.kv_separator.now)
+    → IsPlainName o w.escape_policy name → IsPlainPair o w.escape_policy key value
+    → Appends o w name key value
 appends o w name key value sep plain_name plain T items start d document none =
     let hs = header_source w name ++ line_ends w false in
-    let ps = escaped w.escape_policy key ++ (chars w.kv_separator.now ++ (escaped w.escape_policy value ++ line_end w.line_separator)) in
+    let ps = escaped w.escape_policy key
+    ++ (chars w.kv_separator.now ++ (escaped w.escape_policy value ++ line_end w.line_separator)) in
     let one = column_at start in
     let nothing : Follows o [] = record { no_blank = λ _. tt; no_line_end = λ _. tt } in
     let begins : Follows o (hs ++ (ps ++ [])) = record { no_blank = λ _. refl; no_line_end = λ _. refl } in
@@ -120,24 +129,28 @@ appends o w name key value sep plain_name plain T items start d document none =
     subst (λ z. Reads o z (T ++ hs) (Pair key value ∷ []) ((T ++ hs) ++ ps)) whole line in
     let all = reads-append front (reads-append header.0 pair) in
     let header_is : hs ≡ written_name w (Some name) =
-    ap (λ z. open_bracket ∷ z) (append_assoc (escaped w.escape_policy name) (close_bracket ∷ []) (line_end w.line_separator ++ [])
+    ap (λ z. open_bracket ∷ z)
+    (append_assoc (escaped w.escape_policy name) (close_bracket ∷ []) (line_end w.line_separator ++ [])
     ∙ ap (λ z. escaped w.escape_policy name ++ close_bracket ∷ z) (append-nil (line_end w.line_separator))) in
     let written : T ++ (written_name w (Some name) ++ written_pair w (key, value)) ≡ T ++ (hs ++ (ps ++ [])) =
     ap (λ z. T ++ (z ++ written_pair w (key, value))) (sym header_is)
     ∙ ap (λ z. T ++ (hs ++ z)) (pair_is w key value ∙ sym (append-nil ps)) in
-    let ends : (T ++ hs) ++ ps ≡ T ++ (hs ++ (ps ++ [])) = append_assoc T hs ps ∙ ap (λ z. T ++ (hs ++ z)) (sym (append-nil ps)) in
+    let ends : (T ++ hs) ++ ps ≡ T ++ (hs ++ (ps ++ [])) = append_assoc T hs ps
+    ∙ ap (λ z. T ++ (hs ++ z)) (sym (append-nil ps)) in
     let more = Header name ∷ Pair key value ∷ [] in
     let last = (Some name, (key, value) ∷ []) ∷ [] in
     let derives : Derives o (T ++ (hs ++ (ps ++ []))) (items ++ more) =
     subst (λ z. Reads o (T ++ (hs ++ (ps ++ []))) [] (items ++ more) z) ends all in
-    let at_end : Derives o T items = subst (λ z. Reads o z [] items T) (append-nil T) (reached start [] nothing) in
+    let at_end : Derives o T items =
+    subst (λ z. Reads o z [] items T) (append-nil T) (reached start [] nothing) in
     let same : document.items ≡ items = derives_one document.derives at_end in
     let made : d ≡ document_of items = document.document ∙ ap document_of same in
     record {
       items = items ++ more;
       derives = subst (λ z. Derives o z (items ++ more)) (sym written) derives;
       document =
-          edit_section-last (Some name) (inserted key value) last d none ∙ ap (λ x. x ++ (Some name, (key, value) ∷ []) ∷ []) made
+          edit_section-last (Some name) (inserted key value) last d none
+          ∙ ap (λ x. x ++ (Some name, (key, value) ∷ []) ∷ []) made
           ∙ sym (with_section_last (document_of items) name key value)
           ∙ sym (fold-append with_item ((None, []) ∷ []) items more);
     }

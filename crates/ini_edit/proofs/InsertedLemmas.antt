@@ -51,7 +51,8 @@ line_end-column CRLF x = ap is_line_feed (last_or-behind line_feed carriage_retu
 pub EndsLike-column : (b c : List ℕ) → is_column_one b ≡ true → is_column_one c ≡ true → EndsLike b c
 EndsLike-column b c one two = record { line = line_starts b one ∙ sym (line_starts c two); column = λ _. two }
 
-module _ {o : ParseOption} {policy : EscapePolicy} {key value separator : List ℕ} (sep : IsPlainSeparator separator)
+module _ {o : ParseOption} {policy : EscapePolicy} {key value separator : List ℕ}
+    (sep : IsPlainSeparator separator)
     (plain : IsPlainPair o policy key value) where
   -- a pair as it is written, with a tail
   pub pair_written : {b t r : List ℕ} → is_column_one b ≡ true → Tail o t r
@@ -64,7 +65,8 @@ module _ {o : ParseOption} {policy : EscapePolicy} {key value separator : List �
       sep.blank_before sep.separates in
       subst (λ x. Element o b x r (Pair key value ∷ [])) (source-parts ek v sep)
       (Element.pair front (key_some plain.plain_key) sep.separates
-      (value_written sep.after [] (inline_blanks sep.after sep.blank_after) refl (bare_source plain.plain_value) tail))
+      (value_written sep.after [] (inline_blanks sep.after sep.blank_after) refl
+      (bare_source plain.plain_value) tail))
 
   -- the pair's line
   abbrev pub line_of_pair : LineSeparator → List ℕ
@@ -78,7 +80,8 @@ module _ {o : ParseOption} {policy : EscapePolicy} {key value separator : List �
         let more = MoreLines.done (follows.no_blank on) (follows.no_line_end on) in
         let tail : Tail o (line_end s ++ []) r = Tail.lines on (line_end-is s r) more refl in
         let element : Element o b (line_of_pair s) r (Pair key value ∷ []) =
-        subst (λ z. Element o b (escaped policy key ++ (separator ++ (escaped policy value ++ z))) r (Pair key value ∷ []))
+        subst (λ z. Element o b (escaped policy key ++ (separator ++ (escaped policy value ++ z))) r
+        (Pair key value ∷ []))
         (append-nil (line_end s)) (pair_written one tail) in
         Reads.step refl element (Reads.stay r (sym (append_assoc b (line_of_pair s) r)))
     | inr off ↦
@@ -116,10 +119,12 @@ module _ {o : ParseOption} {policy : EscapePolicy} {key value separator : List �
         no_line_end = λ on. bare_begins (BeginsWithNo is_line_end) (λ y. refl) policy x bare
             (λ c y white mark bracket. no_white_no_line_end c white);
       }
-      by x (IsPlainKey.behind_spaces {key = k} spaces kept off all bare) = any_follows (escaped policy (spaces ++ k) ++ x) off
+      by x (IsPlainKey.behind_spaces {key = k} spaces kept off all bare) =
+          any_follows (escaped policy (spaces ++ k) ++ x) off
 
   -- the line put in
-  pub line_inserted : {before after : List Given} (s : LineSeparator) (W r : List ℕ) → IsLineStart o W r before
+  pub line_inserted : {before after : List Given} (s : LineSeparator) (W r : List ℕ)
+      → IsLineStart o W r before
       → Follows o r → Reads o (W ++ r) W after (W ++ r)
       → Derives o (W ++ (line_of_pair s ++ r)) (before ++ (Pair key value ∷ after))
   line_inserted {before} {after} s W r start follows last =

@@ -100,7 +100,8 @@ takes_start {o} {f = f} {behind} whole alike = record {
 }
 
 -- items of which none is a pair of the key, nor a header
-module _ {o : ParseOption} {T key b f behind c g rest : Text} (takes : TakesOut o T key b f behind c g rest) where
+module _ {o : ParseOption} {T key b f behind c g rest : Text}
+    (takes : TakesOut o T key b f behind c g rest) where
   -- an element that stays
   module _ {s r : List ℕ} {gives : List Given} (is : rest ≡ s ++ r) (e : Element o c s r gives) where
     some : s ≢ []
@@ -109,14 +110,16 @@ module _ {o : ParseOption} {T key b f behind c g rest : Text} (takes : TakesOut 
     longer : (x : List ℕ) → x ++ rest ≡ (x ++ s) ++ r
     longer x = ap (λ z. x ++ z) is ∙ sym (append_assoc x s r)
 
-    element_reads : {items : List Given} {d : List ℕ} → Reads o T (c ++ s) items d → Reads o T c (gives ++ items) d
+    element_reads : {items : List Given} {d : List ℕ} → Reads o T (c ++ s) items d
+        → Reads o T c (gives ++ items) d
     element_reads reads = Reads.step (takes.whole ∙ ap (λ z. c ++ z) is) e reads
 
     here : Element o g s r gives
     here = alike_element (subst (ReadAlike c g) is takes.alike) e
 
     written_reads : (upto : List Given) → Reads o (f ++ behind) [] upto f → (after : List Given)
-        → Reads o T (c ++ s) after T → Reads o ((g ++ s) ++ r) [] ((upto ++ pair_items takes.kept) ++ gives) (g ++ s)
+        → Reads o T (c ++ s) after T
+        → Reads o ((g ++ s) ++ r) [] ((upto ++ pair_items takes.kept) ++ gives) (g ++ s)
     written_reads upto reads after then =
         subst (λ z. Reads o z [] ((upto ++ pair_items takes.kept) ++ gives) (g ++ s)) (longer g)
         (reads-append (takes.reads upto reads (gives ++ after) (element_reads then))
@@ -130,7 +133,8 @@ module _ {o : ParseOption} {T key b f behind c g rest : Text} (takes : TakesOut 
       kept = takes.kept;
       whole = takes.whole ∙ longer c;
       passes =
-          subst (λ l. Reads o T b l (c ++ s)) (ap (λ l. pair_items takes.later ++ l) none ∙ append-nil (pair_items takes.later))
+          subst (λ l. Reads o T b l (c ++ s)) (ap (λ l. pair_items takes.later ++ l) none
+          ∙ append-nil (pair_items takes.later))
           (reads-append takes.passes passed);
       lacks = takes.lacks;
       alike = ReadAlike.like (source_like c g s some);
@@ -155,7 +159,8 @@ module _ {o : ParseOption} {T key b f behind c g rest : Text} (takes : TakesOut 
       later = takes.later ++ (k, value) ∷ [];
       kept = takes.kept ++ (k, value) ∷ [];
       whole = takes.whole ∙ longer c;
-      passes = subst (λ l. Reads o T b l (c ++ s)) (items_more takes.later) (reads-append takes.passes passed);
+      passes = subst (λ l. Reads o T b l (c ++ s)) (items_more takes.later)
+          (reads-append takes.passes passed);
       lacks = lacks_more key k value takes.kept takes.lacks apart;
       alike = ReadAlike.like (source_like c g s some);
       reads = λ upto reads after then.
@@ -163,11 +168,14 @@ module _ {o : ParseOption} {T key b f behind c g rest : Text} (takes : TakesOut 
           (append_assoc upto (pair_items takes.kept) gives ∙ ap (λ l. upto ++ l) (items_more takes.kept))
           (written_reads upto reads after then);
       goes = λ upto reads more items then U out.
-          subst (λ l. LaterOut o key upto items (f ++ behind) l U) (sym (append_assoc takes.later ((k, value) ∷ []) more))
+          subst (λ l. LaterOut o key upto items (f ++ behind) l U)
+          (sym (append_assoc takes.later ((k, value) ∷ []) more))
           (takes.goes upto reads ((k, value) ∷ more) items
           (subst (λ l. Reads o T c (l ++ (pair_items more ++ items)) T) one (element_reads then)) U
-          (subst (λ l. LaterOut o key upto items (g ++ rest) l U) (append_assoc takes.kept ((k, value) ∷ []) more)
-          (subst (λ z. LaterOut o key upto items z ((takes.kept ++ (k, value) ∷ []) ++ more) U) (sym (longer g)) out)));
+          (subst (λ l. LaterOut o key upto items (g ++ rest) l U)
+          (append_assoc takes.kept ((k, value) ∷ []) more)
+          (subst (λ z. LaterOut o key upto items z ((takes.kept ++ (k, value) ∷ []) ++ more) U)
+          (sym (longer g)) out)));
     }
       where
         items_more : (ps : Pairs) → pair_items ps ++ gives ≡ pair_items (ps ++ (k, value) ∷ [])
@@ -195,7 +203,8 @@ gaps b e r ends whole = line_ends_first e r ends whole (Reads.stay r (whole ∙ 
 -- a pair of the key that goes
 module _ {o : ParseOption} {T key b f behind c g rest : Text} (takes : TakesOut o T key b f behind c g rest)
     (x : grammar.Stretches) {r old : Text} (is : rest ≡ grammar.pair_source x ++ r)
-    (placed : grammar.ArePlaced o c x r key old) {stays left : Text} (cut : Cut o (placed_between g x r) stays left) where
+    (placed : grammar.ArePlaced o c x r key old) {stays left : Text}
+    (cut : Cut o (placed_between g x r) stays left) where
   abbrev source : Text
   source = grammar.pair_source x
 
@@ -215,10 +224,13 @@ module _ {o : ParseOption} {T key b f behind c g rest : Text} (takes : TakesOut 
   old_text = takes.whole ∙ longer takes is e c
 
   -- what follows the pair, behind the line end that goes with it
-  past : {items : List Given} → Reads o T ((c ++ source) ++ left_is.line_end) items T → Reads o T (c ++ source) items T
-  past = line_ends_first left_is.line_end left left_is.ends (old_text ∙ ap (λ z. (c ++ source) ++ z) left_is.followed)
+  past : {items : List Given} → Reads o T ((c ++ source) ++ left_is.line_end) items T
+      → Reads o T (c ++ source) items T
+  past = line_ends_first left_is.line_end left left_is.ends (old_text
+      ∙ ap (λ z. (c ++ source) ++ z) left_is.followed)
 
-  stands : (upto : List Given) → Reads o (f ++ behind) [] upto f → (after : List Given) → Reads o T (c ++ source) after T
+  stands : (upto : List Given) → Reads o (f ++ behind) [] upto f → (after : List Given)
+      → Reads o T (c ++ source) after T
       → StandsAt o (g ++ rest) p key old (upto ++ pair_items takes.kept) after
   stands upto reads after then = record {
     text = text;
@@ -240,24 +252,31 @@ module _ {o : ParseOption} {T key b f behind c g rest : Text} (takes : TakesOut 
   takes_cut = record {
     later = takes.later ++ (key, old) ∷ [];
     kept = takes.kept;
-    whole = old_text ∙ ap (λ z. (c ++ source) ++ z) left_is.followed ∙ sym (append_assoc (c ++ source) left_is.line_end left);
+    whole = old_text ∙ ap (λ z. (c ++ source) ++ z) left_is.followed
+        ∙ sym (append_assoc (c ++ source) left_is.line_end left);
     passes =
-        subst (λ l. Reads o T b l ((c ++ source) ++ left_is.line_end)) (sym (pair_items-append takes.later ((key, old) ∷ [])))
-        (reads-append takes.passes (element_reads takes is e (gaps (c ++ source) left_is.line_end left left_is.ends
+        subst (λ l. Reads o T b l ((c ++ source) ++ left_is.line_end))
+        (sym (pair_items-append takes.later ((key, old) ∷ [])))
+        (reads-append takes.passes
+        (element_reads takes is e (gaps (c ++ source) left_is.line_end left left_is.ends
         (old_text ∙ ap (λ z. (c ++ source) ++ z) left_is.followed))));
     lacks = takes.lacks;
-    alike = alike_from (EndsLike-behind left_is.line_end (source_like c g source (some takes is e))) left_is.alike;
+    alike = alike_from (EndsLike-behind left_is.line_end (source_like c g source (some takes is e)))
+        left_is.alike;
     reads = λ upto reads after then.
-        subst (λ z. Reads o z [] (upto ++ pair_items takes.kept) (g ++ stays)) (sym (append_assoc g stays left))
+        subst (λ z. Reads o z [] (upto ++ pair_items takes.kept) (g ++ stays))
+        (sym (append_assoc g stays left))
         (cut_reads (stands upto reads after (past then)) cut);
     goes = λ upto reads more items then U out.
-        subst (λ l. LaterOut o key upto items (f ++ behind) l U) (sym (append_assoc takes.later ((key, old) ∷ []) more))
+        subst (λ l. LaterOut o key upto items (f ++ behind) l U)
+        (sym (append_assoc takes.later ((key, old) ∷ []) more))
         (takes.goes upto reads ((key, old) ∷ more) items (element_reads takes is e (past then)) U
         (subst (λ z. LaterOut o key upto items z (takes.kept ++ (key, old) ∷ more) U) (sym text)
         (LaterOut.out p stays left old takes.kept more
         (subst (λ z. StandsAt o z p key old (upto ++ pair_items takes.kept) (pair_items more ++ items)) text
         (stands upto reads (pair_items more ++ items) (past then)))
-        cut (subst (λ z. LaterOut o key upto items z (takes.kept ++ more) U) (append_assoc g stays left) out))));
+        cut (subst (λ z. LaterOut o key upto items z (takes.kept ++ more) U)
+        (append_assoc g stays left) out))));
   }
 
 -- a tail stands before the same rest, whatever stands before it
@@ -284,21 +303,27 @@ module _ (x : Stretches) where
       (tail_alike (up_to_tail x.own) (up_to_tail value) tail))
 
 -- what stands behind a section's pairs
-section_ends : {o : ParseOption} {T c d : Text} {items : List Given} → EndsSection o T c d → Reads o T d items T
+section_ends : {o : ParseOption} {T c d : Text} {items : List Given} → EndsSection o T c d
+    → Reads o T d items T
     → (rest : List Given) × (BeginsWithHeader rest × Reads o T c rest T)
 section_ends {o} {T} {items = items} (EndsSection.end is) reads =
     ([], (tt, subst (λ c. Reads o T c [] T) (sym is) (Reads.stay [] (sym (append-nil T)))))
-section_ends {items = items} (EndsSection.header t first) reads = (Header t ∷ items, (tt, reads-append first reads))
+section_ends {items = items} (EndsSection.header t first) reads =
+    (Header t ∷ items, (tt, reads-append first reads))
 
 -- the text that was read to its end, with its value set
-pub set_there : {o : ParseOption} {T : Text} {p q r : Place} {name : Option Text} {key : Text} {found : FoundPair}
-    {policy : EscapePolicy} {value quote g : Text} (left : Text) → OpensFirst o T p name → ReachesPair o T p.front q key found
+pub set_there : {o : ParseOption} {T : Text} {p q r : Place} {name : Option Text} {key : Text}
+    {found : FoundPair}
+    {policy : EscapePolicy} {value quote g : Text} (left : Text) → OpensFirst o T p name
+    → ReachesPair o T p.front q key found
     → (plain : IsPlainValue o policy value) → KeepsQuote o (stretches_of found).own value quote
     → TakesLaterOut o T key q.front
-    (chars found.front.now ++ pair_with (stretches_of found) (written_in policy quote value)) (chars found.rest.now) r g
+    (chars found.front.now ++ pair_with (stretches_of found) (written_in policy quote value))
+    (chars found.rest.now) r g
     → ReadsOn o T r.front → T ≡ r.front ++ left → IsSetThere o policy T name key value (g ++ left)
 unfolding found_before
-set_there {o} {T} {p} {q} {r} {name} {key} {found} {policy} {value} {quote} {g} left opens reaches plain keeps later on whole =
+set_there {o} {T} {p} {q} {r} {name} {key} {found} {policy} {value} {quote}
+    {g} left opens reaches plain keeps later on whole =
     let takes = later.takes in
     let end = section_ends later.ends on.reads in
     let x = stretches_of found in
@@ -310,7 +335,8 @@ set_there {o} {T} {p} {q} {r} {name} {key} {found} {policy} {value} {quote} {g} 
     let new = text_with x written in
     let behind : (x.front ++ pair_with x written) ++ x.rest ≡ new =
     append_assoc x.front (pair_with x written) x.rest in
-    let start : Reads o ((x.front ++ pair_with x written) ++ x.rest) [] upto (x.front ++ pair_with x written) =
+    let start : Reads o ((x.front ++ pair_with x written) ++ x.rest) [] upto
+    (x.front ++ pair_with x written) =
     subst (λ z. Reads o z [] upto (x.front ++ pair_with x written)) (sym behind)
     (replaced_front first.stands (source_in plain may)) in
     let out : LaterOut o key upto end.0 new takes.later (g ++ left) =
@@ -318,9 +344,11 @@ set_there {o} {T} {p} {q} {r} {name} {key} {found} {policy} {value} {quote} {g} 
     (subst (λ l. LaterOut o key upto end.0 ((x.front ++ pair_with x written) ++ x.rest) l (g ++ left))
     (append-nil takes.later)
     (takes.goes upto start [] end.0 end.1.1 (g ++ left)
-    (subst (λ z. LaterOut o key upto end.0 (later.written ++ later.rest) (takes.kept ++ []) z) (sym (later.same left whole))
+    (subst (λ z. LaterOut o key upto end.0 (later.written ++ later.rest) (takes.kept ++ []) z)
+    (sym (later.same left whole))
     (LaterOut.none (subst (Lacks key) (sym (append-nil takes.kept)) takes.lacks))))) in
-    let document : IsDocumentOf o T (document_of (first.before ++ (Pair key (string_text found.value) ∷ first.after))) =
+    let document : IsDocumentOf o T
+    (document_of (first.before ++ (Pair key (string_text found.value) ∷ first.after))) =
     record { items = _; derives = stands_derives first.stands; document = refl } in
     record {
       pair = x;
@@ -332,6 +360,7 @@ set_there {o} {T} {p} {q} {r} {name} {key} {found} {policy} {value} {quote} {g} 
       document = _;
       was = document;
       is =
-          sets_value o policy T value plain x name key (string_text found.value) first.before first.after first.stands
+          sets_value o policy T value plain x name key
+          (string_text found.value) first.before first.after first.stands
           first.target quote may (g ++ left) out _ document;
     }

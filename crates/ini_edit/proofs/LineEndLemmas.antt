@@ -22,7 +22,8 @@ some_last (d ∷ V) c is = cc
 
 -- what stands before the LF of an empty line
 before_feed : {T : Text} → EndsEmpty T → (line : Text) → T ≡ line ++ line_feed ∷ []
-    → (is_column_one line ≡ true) ⊎ ((V : Text) × ((line ≡ V ++ carriage_return ∷ []) × (is_column_one V ≡ true)))
+    → (is_column_one line ≡ true)
+    ⊎ ((V : Text) × ((line ≡ V ++ carriage_return ∷ []) × (is_column_one V ≡ true)))
 before_feed EndsEmpty.nothing line is = absurd (some_last line line_feed (sym is))
 before_feed (EndsEmpty.by_lf V one) line is =
     inl (ap is_column_one (sym (last_one V line line_feed line_feed is).0) ∙ one)
@@ -52,7 +53,8 @@ module _ {T line : Text} (is : T ≡ line ++ line_feed ∷ []) where
       ]
 
   -- or with LF
-  pub empty_by_lf : (found : Bool) → ((V : Text) → line ≢ V ++ carriage_return ∷ []) → found ≡ is_column_one line
+  pub empty_by_lf : (found : Bool) → ((V : Text) → line ≢ V ++ carriage_return ∷ [])
+      → found ≡ is_column_one line
       → (found ≡ true) ↔ EndsEmpty T
   empty_by_lf found no_cr same = (to, from)
     where
@@ -66,7 +68,8 @@ module _ {T line : Text} (is : T ≡ line ++ line_feed ∷ []) where
       ]
 
 -- no empty line stands last where no LF does
-pub empty_by_none : {T : Text} (found : Bool) → ((V : Text) → T ≢ V ++ line_feed ∷ []) → (found ≡ true) ↔ (T ≡ [])
+pub empty_by_none : {T : Text} (found : Bool) → ((V : Text) → T ≢ V ++ line_feed ∷ [])
+    → (found ≡ true) ↔ (T ≡ [])
     → (found ≡ true) ↔ EndsEmpty T
 empty_by_none {T} found no_lf is_none =
     (λ h. subst EndsEmpty (sym (is_none.0 h)) EndsEmpty.nothing, λ empty. is_none.1 (none empty no_lf))
@@ -75,4 +78,5 @@ empty_by_none {T} found no_lf is_none =
     none EndsEmpty.nothing no_lf = refl
     none (EndsEmpty.by_lf V one) no_lf = absurd (no_lf V refl)
     none (EndsEmpty.by_cr_lf V one) no_lf =
-        absurd (no_lf (V ++ carriage_return ∷ []) (sym (append_assoc V (carriage_return ∷ []) (line_feed ∷ []))))
+        absurd (no_lf (V ++ carriage_return ∷ [])
+        (sym (append_assoc V (carriage_return ∷ []) (line_feed ∷ []))))

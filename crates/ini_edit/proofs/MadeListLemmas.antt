@@ -9,7 +9,6 @@ use Rattle.ini_text.specs.declared.write.option.WriteOption.{WriteOption}
 use Rattle.ini.specs.Documents.{Document, document_of}
 use Rattle.ini.specs.Loading.{IsDocumentOf}
 use Rattle.ini.specs.Texts.{Text}
-use Rattle.ini_edit.specs.Added.{LoadsEdited}
 use Rattle.ini_edit.specs.Editings.{Editing, Add, Delete, DeleteSection, RenameKey, RenameSection}
 use Rattle.ini_edit.specs.Editings.{Set, SetExisting}
 use Rattle.ini_edit.specs.Editings.{editing_of}
@@ -69,7 +68,8 @@ module _ (o : ParseOption) (w : WriteOption) where
       → length edits ≡ length found
   same_length AreMade.none = refl
   same_length (AreMade.then {edits} {found} made {e} {is_found} plain makes) =
-      length-append edits (e ∷ []) ∙ (ap (λ n. n + 1) (same_length made) ∙ sym (length-append found (is_found ∷ [])))
+      length-append edits (e ∷ [])
+      ∙ (ap (λ n. n + 1) (same_length made) ∙ sym (length-append found (is_found ∷ [])))
 
   pub are_made_load : {T U : Text} {edits : List Editing} {found : List Bool} → AreMade o w T edits found U
       → (d : Document) → IsDocumentOf o T d → IsDocumentOf o U (all_made_in edits found d)
@@ -82,16 +82,20 @@ module _ (o : ParseOption) (w : WriteOption) where
       (are_made_load made d of)
 
   -- one edit more was made
-  pub one_more_made : {T U V : Text} {found more : List Bool} {is_found : Bool} (edits : List Edit) (i : ℕ) (d : Edit)
+  pub one_more_made : {T U V : Text} {found more : List Bool} {is_found : Bool} (edits : List Edit) (i : ℕ)
+      (d : Edit)
       → i < length edits → AreMade o w T (map editing_of (take i edits)) found U
       → ¬ HasUnplainWord o w.escape_policy (editing_of (get_or edits i d))
       → more ≡ found ++ is_found ∷ [] → Makes o w (editing_of (get_or edits i d)) U is_found V
       → AreMade o w T (map editing_of (take (i + 1) edits)) more V
   one_more_made {T} {U} {V} {found} {more} {is_found} edits i d within made plain is makes =
-      let taken : map editing_of (take (i + 1) edits) ≡ map editing_of (take i edits) ++ editing_of (get_or edits i d) ∷ [] =
-      rw (add-one, take-suc edits i d within) (map-append editing_of (take i edits) (get_or edits i d ∷ [])) in
+      let taken : map editing_of (take (i + 1) edits) ≡ map editing_of (take i edits) ++ editing_of
+      (get_or edits i d) ∷ [] =
+      rw (add-one, take-suc edits i d within)
+      (map-append editing_of (take i edits) (get_or edits i d ∷ [])) in
       subst (λ es. AreMade o w T es more V) (sym taken)
-      (subst (λ fs. AreMade o w T (map editing_of (take i edits) ++ editing_of (get_or edits i d) ∷ []) fs V) (sym is) (AreMade.then made plain makes))
+      (subst (λ fs. AreMade o w T (map editing_of (take i edits) ++ editing_of (get_or edits i d) ∷ []) fs V)
+      (sym is) (AreMade.then made plain makes))
 
   -- of the edits the one at the index is refused
   pub one_refused : {T U : Text} {found : List Bool} (edits : List Edit) (i : ℕ) (d : Edit) (e : EditError)
@@ -103,7 +107,8 @@ module _ (o : ParseOption) (w : WriteOption) where
     behind = map editing_of (drop i edits);
     found = found;
     text = U;
-    whole = ap (map editing_of) (sym (take-append-drop i edits)) ∙ map-append editing_of (take i edits) (drop i edits);
+    whole = ap (map editing_of) (sym (take-append-drop i edits))
+        ∙ map-append editing_of (take i edits) (drop i edits);
     index = simp (length-map, length-take) (omega arith);
     are_made = made;
     is_refused = rw (drop-cons edits i d within) refused;

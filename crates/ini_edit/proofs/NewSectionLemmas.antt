@@ -22,11 +22,14 @@ use Rattle.ini_edit.proofs.GlueTextLemmas.{boundary_place}
 use Rattle.ini_edit.proofs.PlacedLemmas.{appends_behind_empty_line}
 
 -- the parts of the text, one put behind another
-pub with_section_parts : {o : ParseOption} {e : Ending} (w : WriteOption) (W r name key value gap n0 n1 n2 n3 n4 n5 n6 : Text)
+pub with_section_parts : {o : ParseOption} {e : Ending} (w : WriteOption)
+    (W r name key value gap n0 n1 n2 n3 n4 n5 n6 : Text)
     → n0 ≡ [] → n1 ≡ n0 ++ W → PushesGlue o w.line_separator e n1 n2 → EmptyLine w.line_separator W gap
-    → n3 ≡ n2 ++ gap → n4 ≡ n3 ++ written_name w (Some name) → n5 ≡ n4 ++ written_pair w (key, value) → n6 ≡ n5 ++ r
+    → n3 ≡ n2 ++ gap → n4 ≡ n3 ++ written_name w (Some name) → n5 ≡ n4 ++ written_pair w (key, value)
+    → n6 ≡ n5 ++ r
     → IsWithSection o w e W r name key value n6
-with_section_parts w W r name key value gap n0 n1 n2 n3 n4 n5 n6 none first glue empty third fourth fifth last =
+with_section_parts w W r name key value gap n0 n1 n2 n3 n4 n5 n6 none first glue empty third fourth fifth
+    last =
     let g = glue.glue in
     let h = written_name w (Some name) in
     let l = written_pair w (key, value) in

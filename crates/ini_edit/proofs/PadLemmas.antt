@@ -42,7 +42,8 @@ drop_white (c ∷ w) h =
     cond-true (is_whitespace c && eqb (length (drop_trailing_whitespace w)) 0) _ _
     (and_from (is_whitespace c) _ kind.0 (ap (λ l. eqb (length l) 0) (drop_white w parts.1)))
 
-pub end_trimmed-white : (cs w : List ℕ) → list_all is_inline_white w ≡ true → end_trimmed (cs ++ w) ≡ end_trimmed cs
+pub end_trimmed-white : (cs w : List ℕ) → list_all is_inline_white w ≡ true
+    → end_trimmed (cs ++ w) ≡ end_trimmed cs
 end_trimmed-white [] w h = drop_white w h
 end_trimmed-white (c ∷ cs) w h =
     ap (λ l. cond (is_whitespace c && eqb (length l) 0) [] (c ∷ l)) (end_trimmed-white cs w h)

@@ -8,7 +8,8 @@ use Rattle.ini_edit.specs.Targets.{Lacks}
 pub inserted_at : (key v value : Text) (qs rs : Pairs) → is_text key key ≡ true → Lacks key qs
     → inserted key value (qs ++ (key, v) ∷ rs) ≡ qs ++ (key, value) ∷ all_removed key rs
 inserted_at key v value [] rs same lacks = cond-true (is_text key key) _ _ same
-inserted_at key v value (q ∷ qs) rs same lacks = at (is_text key q.0) refl lacks (inserted_at key v value qs rs same)
+inserted_at key v value (q ∷ qs) rs same lacks =
+    at (is_text key q.0) refl lacks (inserted_at key v value qs rs same)
   where
     at : (b : Bool) → is_text key q.0 ≡ b → cond b (Some q.1) (first_value key qs) ≡ None
         → (Lacks key qs → inserted key value (qs ++ (key, v) ∷ rs) ≡ qs ++ (key, value) ∷ all_removed key rs)
@@ -27,7 +28,8 @@ removed_at key v (q ∷ qs) rs same lacks = at (is_text key q.0) refl lacks (rem
     at true is none more = absurd (let no : Some q.1 ≡ None = none in cc)
     at false is none more = cond-false (is_text key q.0) _ _ is ∙ ap (λ x. q ∷ x) (more none)
 
-pub inserted_new : (key value : Text) (ps : Pairs) → Lacks key ps → inserted key value ps ≡ ps ++ (key, value) ∷ []
+pub inserted_new : (key value : Text) (ps : Pairs) → Lacks key ps
+    → inserted key value ps ≡ ps ++ (key, value) ∷ []
 inserted_new key value [] lacks = refl
 inserted_new key value (q ∷ qs) lacks = at (is_text key q.0) refl lacks (inserted_new key value qs)
   where

@@ -36,7 +36,8 @@ module _ {b V : List ℕ} (one : is_column_one V ≡ true) where
     KeyFront-anew (KeyFront.unindented h str) = KeyFront.unindented h str
     KeyFront-anew (KeyFront.indented i h str) = KeyFront.indented (Indentation-anew i) h str
 
-    Element-anew : {s r : List ℕ} {gives : List Given} → BeginsWithNo is_blank (s ++ r) → Element o b s r gives
+    Element-anew : {s r : List ℕ} {gives : List Given} → BeginsWithNo is_blank (s ++ r)
+        → Element o b s r gives
         → Element o V s r gives
     Element-anew h (Element.gap g) = Element.gap (Gap-anew h g)
     Element-anew h (Element.comment s at mark all) = Element.comment s one mark all
@@ -45,14 +46,16 @@ module _ {b V : List ℕ} (one : is_column_one V ≡ true) where
     Element-anew h (Element.bracketed_header on str i) = Element.bracketed_header on str i
     Element-anew h (Element.pair front some sep value) = Element.pair (KeyFront-anew front) some sep value
     Element-anew h (Element.dropped_blanks i) = Element.dropped_blanks (Indentation-anew i)
-    Element-anew h (Element.dropped_key i begins stops) = Element.dropped_key (Indentation-anew i) begins stops
+    Element-anew h (Element.dropped_key i begins stops) =
+        Element.dropped_key (Indentation-anew i) begins stops
 
 pub EndsLike-some : (W V s : List ℕ) → 1 ≤ length s → EndsLike (W ++ s) (V ++ s)
 EndsLike-some W V [] h = absurd (omega arith)
 EndsLike-some W V (c ∷ s) h = EndsLike-one W V c s
 
 -- a rest that no blank begins is read in column one as behind any front
-Reads-anew : {o : ParseOption} {items : List Given} (W V Y : List ℕ) → is_column_one V ≡ true → BeginsWithNo is_blank Y
+Reads-anew : {o : ParseOption} {items : List Given} (W V Y : List ℕ) → is_column_one V ≡ true
+    → BeginsWithNo is_blank Y
     → Reads o (W ++ Y) W items (W ++ Y) → Reads o (V ++ Y) V items (V ++ Y)
 Reads-anew {o} W V Y one begins reads = at reads refl refl refl
   where
@@ -62,7 +65,8 @@ Reads-anew {o} W V Y one begins reads = at reads refl refl refl
         let none : [] ≡ Y = append_cancel_left W [] Y (append-nil W ∙ sym first ∙ last) in
         subst (λ z. Reads o (V ++ z) V [] (V ++ z)) none
         (subst (λ z. Reads o z V [] z) (sym (append-nil V)) (Reads.stay [] (sym (append-nil V))))
-    at {T} {d = d} (Reads.step {b = b} {s = s} {r = r} {gives = gives} {items = items} h e reads) whole first last =
+    at {T} {d = d} (Reads.step {b = b} {s = s} {r = r} {gives = gives} {items = items} h e reads) whole first
+        last =
         let rest : s ++ r ≡ Y =
         append_cancel_left W (s ++ r) Y (ap (λ z. z ++ (s ++ r)) (sym first) ∙ sym h ∙ whole) in
         let element : Element o V s r gives =
@@ -78,7 +82,8 @@ Reads-anew {o} W V Y one begins reads = at reads refl refl refl
         Reads.step (ap (λ z. V ++ z) (sym rest)) element (subst (λ z. Reads o z (V ++ s) items z) all new)
 
 -- so is any rest, if a line starts before what a blank begins
-rest_anew : {o : ParseOption} {after : List Given} (W V r : List ℕ) → (starts_line W ≡ false → BeginsWithNo is_blank r)
+rest_anew : {o : ParseOption} {after : List Given} (W V r : List ℕ)
+    → (starts_line W ≡ false → BeginsWithNo is_blank r)
     → is_column_one V ≡ true → Reads o (W ++ r) W after (W ++ r) → Reads o (V ++ r) V after (V ++ r)
 rest_anew {o} W V r unblank one reads =
     elim (cases_Bool (starts_line W)) [
@@ -90,7 +95,8 @@ rest_anew {o} W V r unblank one reads =
 
 module _ {o : ParseOption} {end : LineSeparator} where
   -- the line that is put in is in column one
-  pub place_column : {W r g : List ℕ} {items : List Given} → IsPlace o end W r g items → is_column_one (W ++ g) ≡ true
+  pub place_column : {W r g : List ℕ} {items : List Given} → IsPlace o end W r g items
+      → is_column_one (W ++ g) ≡ true
   place_column {W} (IsPlace.line_start start) = ap is_column_one (append-nil W) ∙ column_at start
   place_column {W} (IsPlace.behind_element {c = c} ends closing unblank) =
       ap is_column_one (sym (append_assoc W c (line_end end))) ∙ line_end-column end (W ++ c)
@@ -98,7 +104,8 @@ module _ {o : ParseOption} {end : LineSeparator} where
   place_column {W} (IsPlace.behind_comment ends unblank) = line_end-column end W
 
   -- elements reach it
-  pub place_reached : {W r g : List ℕ} {items : List Given} → IsPlace o end W r g items → (x : List ℕ) → Follows o x
+  pub place_reached : {W r g : List ℕ} {items : List Given} → IsPlace o end W r g items → (x : List ℕ)
+      → Follows o x
       → Reads o (W ++ (g ++ x)) [] items (W ++ g)
   place_reached {W} {items = items} (IsPlace.line_start start) x follows =
       subst (λ z. Reads o (W ++ x) [] items z) (sym (append-nil W)) (reached start x follows)
@@ -109,14 +116,16 @@ module _ {o : ParseOption} {end : LineSeparator} where
       comment_end_reached [] x ends (λ b s r gives is comment.
       comment_ended end follows b comment (ap is_column_one (sym is) ∙ one))
   place_reached (IsPlace.behind_comment ends unblank) x follows =
-      comment_end_reached (line_end end) x ends (λ b s r gives is comment. comment_glued end follows b comment)
+      comment_end_reached (line_end end) x ends
+      (λ b s r gives is comment. comment_glued end follows b comment)
 
   -- the rest is read behind another front in column one
   pub place_rest : {W r g : List ℕ} {items after : List Given} → IsPlace o end W r g items → (V : List ℕ)
       → is_column_one V ≡ true → Reads o (W ++ r) W after (W ++ r) → Reads o (V ++ r) V after (V ++ r)
   place_rest {W} {r} (IsPlace.line_start start) V one reads =
       Reads-like o (EndsLike-column W V (column_at start) one) r reads
-  place_rest {W} {r} (IsPlace.behind_element ends closing unblank) V one reads = rest_anew W V r unblank one reads
+  place_rest {W} {r} (IsPlace.behind_element ends closing unblank) V one reads =
+      rest_anew W V r unblank one reads
   place_rest {W} {r} (IsPlace.behind_comment_line ends at) V one reads =
       Reads-like o (EndsLike-column W V at one) r reads
   place_rest {W} {r} (IsPlace.behind_comment ends unblank) V one reads = rest_anew W V r unblank one reads

@@ -43,7 +43,8 @@ begins_yes test [] y h = absurd (let no : true ≡ false = h in cc)
 begins_yes test (c ∷ x) y h = h
 
 -- blanks and line ends begin no indented key
-pub blanks_no_key : (key : Text) → list_all (λ c. is_blank c || is_line_end c) key ≡ true → ¬ BeginsWith begins_indented_key key
+pub blanks_no_key : (key : Text) → list_all (λ c. is_blank c || is_line_end c) key ≡ true
+    → ¬ BeginsWith begins_indented_key key
 blanks_no_key [] all h = absurd (let no : true ≡ false = h in cc)
 blanks_no_key (c ∷ key) all h =
     at (is_blank c) (is_line_end c) (and_parts (is_blank c || is_line_end c) _ all).0 h
@@ -53,7 +54,8 @@ blanks_no_key (c ∷ key) all h =
     at false true all h = absurd (let no : false ≡ true = h in cc)
     at false false all h = absurd (let no : false ≡ true = all in cc)
 
-pub items_none : {o : ParseOption} {T b c : Text} (items : List Given) → Reads o T b (items ++ []) c → Reads o T b items c
+pub items_none : {o : ParseOption} {T b c : Text} (items : List Given) → Reads o T b (items ++ []) c
+    → Reads o T b items c
 items_none {o} {T} {b} {c} items reads = subst (λ l. Reads o T b l c) (append-nil items) reads
 
 -- where the parser stands on its way, behind pairs, with the last place where a line may be put in
@@ -65,7 +67,8 @@ pub record Nears (o : ParseOption) (T b : Text) (p : Place) (place : Option Text
   pub none : place ≡ None → NoneYet o T b p.front
 
 -- it stays over elements that give nothing
-pub place_stays : {o : ParseOption} {T : Text} (b : Text) (items : List Given) {c d : Text} (place : Option TextPlace)
+pub place_stays : {o : ParseOption} {T : Text} (b : Text) (items : List Given) {c d : Text}
+    (place : Option TextPlace)
     → IfSome place (IsLastPlace o T b items c) → Reads o T c [] d
     → IfSome place (IsLastPlace o T b items d)
 place_stays b items None last reads = tt
@@ -79,7 +82,8 @@ place_stays b items (Some place) last reads = record {
 module _ {o : ParseOption} {T b : Text} where
   -- a free place at a boundary is the last one
   pub last_place : {items : List Given} {c : Text} (source r : Text) (place : Option TextPlace)
-      → IfSome place (IsFreeAt o T source r) → c ++ r ≡ T → Boundary o T b (begins is_comment_mark source) c items
+      → IfSome place (IsFreeAt o T source r) → c ++ r ≡ T
+      → Boundary o T b (begins is_comment_mark source) c items
       → IfSome place (IsLastPlace o T b items c)
   last_place source r None free whole boundary = tt
   last_place {items} {c} source r (Some place) free whole boundary =
@@ -92,7 +96,8 @@ module _ {o : ParseOption} {T b : Text} where
             subst (λ x. Boundary o T b x (chars place.front.now) items) (sym free.comment)
             (subst (λ x. Boundary o T b (begins is_comment_mark source) x items) (sym front) boundary);
         free = free.free;
-        nothing = subst (λ x. Reads o T (chars place.front.now) [] x) front (Reads.stay (chars place.rest.now) free.whole);
+        nothing = subst (λ x. Reads o T (chars place.front.now) [] x) front
+            (Reads.stay (chars place.rest.now) free.whole);
       }
 
   pub nears_within : {p : Place} {place : Option TextPlace} → Nears o T b p place → StandsWithin p
@@ -101,15 +106,19 @@ module _ {o : ParseOption} {T b : Text} where
   module _ {p q : Place} {place : Option TextPlace} {e : PlacedElement} (s : Nears o T b p place)
       (t : Steps o T p.front q e) where
     step_boundary : (gives e.content ≡ [] → ¬ IsIndentedKey (chars e.source.now))
-        → Boundary o T b (begins is_comment_mark (chars e.source.now)) q.front (pair_items s.pairs ++ gives e.content)
+        → Boundary o T b (begins is_comment_mark (chars e.source.now)) q.front
+        (pair_items s.pairs ++ gives e.content)
     step_boundary key =
-        subst (λ c. Boundary o T b (begins is_comment_mark (chars e.source.now)) c (pair_items s.pairs ++ gives e.content))
+        subst (λ c. Boundary o T b (begins is_comment_mark (chars e.source.now)) c
+        (pair_items s.pairs ++ gives e.content))
         (sym t.stands.reaches)
         (Boundary.behind s.reads t.stands.whole t.stands.is_element key)
 
     pub nears_nothing : (r : Text) (next new : Option TextPlace) → gives e.content ≡ []
-        → IfSome next (IsFreeAt o T (chars e.source.now) r) → (next ≡ None → IsTakenAt o T r) → q.front ++ r ≡ T
-        → Chooses (chars e.source.now) place next new → (new ≡ None → NoneChosen (chars e.source.now) place next)
+        → IfSome next (IsFreeAt o T (chars e.source.now) r) → (next ≡ None → IsTakenAt o T r)
+        → q.front ++ r ≡ T
+        → Chooses (chars e.source.now) place next new
+        → (new ≡ None → NoneChosen (chars e.source.now) place next)
         → Nears o T b q new
     nears_nothing r next new none free taken whole chooses whence = record {
       walked = walked_step s.walked t;
@@ -127,11 +136,13 @@ module _ {o : ParseOption} {T b : Text} where
         at Chooses.stays = place_stays b (pair_items s.pairs) place s.last nothing
         at (Chooses.moves key) =
             last_place (chars e.source.now) r next free whole
-            (subst (Boundary o T b (begins is_comment_mark (chars e.source.now)) q.front) (ap (λ l. pair_items s.pairs ++ l) none ∙ append-nil (pair_items s.pairs))
+            (subst (Boundary o T b (begins is_comment_mark (chars e.source.now)) q.front)
+            (ap (λ l. pair_items s.pairs ++ l) none ∙ append-nil (pair_items s.pairs))
             (step_boundary (λ _. key)))
 
     pub nears_pair : (r k v : Text) (next : Option TextPlace) → gives e.content ≡ Pair k v ∷ []
-        → IfSome next (IsFreeAt o T (chars e.source.now) r) → (next ≡ None → IsTakenAt o T r) → q.front ++ r ≡ T
+        → IfSome next (IsFreeAt o T (chars e.source.now) r) → (next ≡ None → IsTakenAt o T r)
+        → q.front ++ r ≡ T
         → Nears o T b q next
     nears_pair r k v next one free taken whole =
         let more = pair_items-append s.pairs ((k, v) ∷ []) in
@@ -143,7 +154,8 @@ module _ {o : ParseOption} {T b : Text} where
               (reads-append s.reads (subst (λ l. Reads o T p.front l q.front) one (step_reads t)));
           last =
               last_place (chars e.source.now) r next free whole
-              (subst (Boundary o T b (begins is_comment_mark (chars e.source.now)) q.front) (ap (λ l. pair_items s.pairs ++ l) one ∙ sym more)
+              (subst (Boundary o T b (begins is_comment_mark (chars e.source.now)) q.front)
+              (ap (λ l. pair_items s.pairs ++ l) one ∙ sym more)
               (step_boundary (λ none. absurd (let no : Pair k v ∷ [] ≡ [] = sym one ∙ none in cc))));
           none = λ is. absurd (none_pair r t one whole (taken is));
         }
@@ -178,12 +190,14 @@ pub start_boundary : {o : ParseOption} {T b source : Text} → source ≡ []
 start_boundary {o} {T} {b} none =
     subst (λ x. Boundary o T b x b []) (ap (begins is_comment_mark) (sym none)) Boundary.start
 
-pub nears_start : {o : ParseOption} {T source : Text} {p : Place} (r : Text) (place : Option TextPlace) → StandsWithin p
+pub nears_start : {o : ParseOption} {T source : Text} {p : Place} (r : Text) (place : Option TextPlace)
+    → StandsWithin p
     → p.option ≡ o → p.text ≡ T → source ≡ [] → IfSome place (IsFreeAt o T source r)
     → (place ≡ None → IsTakenAt o T r) → p.front ++ r ≡ T → Nears o T p.front p place
 nears_start {o} {T} {source} {p} r place s option text none free taken whole =
     let w : Walked o T p.front p =
-    subst (λ x. Walked x T p.front p) option (subst (λ x. Walked p.option x p.front p) text (walked_start s)) in
+    subst (λ x. Walked x T p.front p) option
+    (subst (λ x. Walked p.option x p.front p) text (walked_start s)) in
     record {
       walked = w;
       pairs = [];
@@ -193,11 +207,13 @@ nears_start {o} {T} {source} {p} r place s option text none free taken whole =
     }
 
 -- the items behind a section's end, from a header on
-pub rest_reads : {o : ParseOption} {T c d : Text} {items : List Given} → EndsSection o T c d → Reads o T d items T
+pub rest_reads : {o : ParseOption} {T c d : Text} {items : List Given} → EndsSection o T c d
+    → Reads o T d items T
     → (after : List Given) × (BeginsWithHeader after × Reads o T c after T)
 rest_reads {o} {T} (EndsSection.end is) reads =
     ([], (tt, subst (λ c. Reads o T c [] T) (sym is) (Reads.stay [] (sym (append-nil T)))))
-rest_reads {items = items} (EndsSection.header t first) reads = (Header t ∷ items, (tt, reads-append first reads))
+rest_reads {items = items} (EndsSection.header t first) reads =
+    (Header t ∷ items, (tt, reads-append first reads))
 
 -- a boundary behind another one
 boundary_behind : {o : ParseOption} {T b W : Text} {first items : List Given} {comment : Bool}
@@ -205,7 +221,8 @@ boundary_behind : {o : ParseOption} {T b W : Text} {first items : List Given} {c
     → Boundary o T [] comment W (first ++ items)
 boundary_behind {o} {T} {b} {first = first} from reads Boundary.start =
     subst (Boundary o T [] false b) (sym (append-nil first)) from
-boundary_behind {o} {T} {first = first} from reads (Boundary.behind {a} {s} {r} {items} {gives} more whole element key) =
+boundary_behind {o} {T} {first = first} from reads
+    (Boundary.behind {a} {s} {r} {items} {gives} more whole element key) =
     subst (Boundary o T [] (begins is_comment_mark s) (a ++ s)) (append_assoc first items gives)
     (Boundary.behind (reads-append reads more) whole element key)
 
@@ -214,7 +231,8 @@ module _ {o : ParseOption} {T : Text} {p : Place} {name : Option Text} (opens : 
   end_within h =
       stands_within h.is_reading (reads-append opens.reads (reads-append h.reads (end_reads h.ends).1))
 
-  first_end : {q : Place} {place : TextPlace} → ReachesSectionEnd o T p.front q (Some place) → ReadsOn o T q.front
+  first_end : {q : Place} {place : TextPlace} → ReachesSectionEnd o T p.front q (Some place)
+      → ReadsOn o T q.front
       → IsFirstSectionEnd o T name place
   first_end h on =
       let rest = rest_reads h.ends on.reads in
@@ -236,7 +254,8 @@ module _ {o : ParseOption} {T : Text} {p : Place} {name : Option Text} (opens : 
       }
 
   -- the same as the calls tell it
-  pub goes_on_behind : {q : Place} {found : Option TextPlace} → ReachesSectionEnd o T p.front q found → StandsWithin q
+  pub goes_on_behind : {q : Place} {found : Option TextPlace} → ReachesSectionEnd o T p.front q found
+      → StandsWithin q
   goes_on_behind h = end_within h
 
   pub finds_end : {q : Place} {place : TextPlace} → ReachesSectionEnd o T p.front q (Some place)

@@ -37,16 +37,19 @@ use Rattle.ini_edit.proofs.StandsLemmas.{derives_one}
 use Rattle.ini_edit.proofs.StartLemmas.{reached}
 
 -- the items up to a place, in the text as it was
-items_to_end : {o : ParseOption} {T b s r : Text} {items gives : List Given} → Reads o T [] items b → T ≡ b ++ (s ++ r)
+items_to_end : {o : ParseOption} {T b s r : Text} {items gives : List Given} → Reads o T [] items b
+    → T ≡ b ++ (s ++ r)
     → Element o b s r gives → Reads o T [] (items ++ gives) (b ++ s)
 items_to_end {o} {T} {b} {s} {r} {items} {gives} reads whole element =
     subst (λ g. Reads o T [] (items ++ g) (b ++ s)) (append-nil gives)
     (reads-append reads (Reads.step whole element (Reads.stay r (whole ∙ sym (append_assoc b s r)))))
 
-element_end-items : {o : ParseOption} {T W : Text} {items : List Given} → IsElementEnd o T W items → Reads o T [] items W
+element_end-items : {o : ParseOption} {T W : Text} {items : List Given} → IsElementEnd o T W items
+    → Reads o T [] items W
 element_end-items (IsElementEnd.behind reads whole element key) = items_to_end reads whole element
 
-comment_end-items : {o : ParseOption} {T W : Text} {items : List Given} → IsCommentEnd o T W items → Reads o T [] items W
+comment_end-items : {o : ParseOption} {T W : Text} {items : List Given} → IsCommentEnd o T W items
+    → Reads o T [] items W
 comment_end-items (IsCommentEnd.behind reads whole element mark) = items_to_end reads whole element
 
 -- an empty front has an empty line behind it
@@ -61,11 +64,13 @@ place_items (IsPlace.behind_element ends closing unblank) follows = element_end-
 place_items (IsPlace.behind_comment_line ends one) follows = comment_end-items ends
 place_items (IsPlace.behind_comment ends unblank) follows = comment_end-items ends
 
-module _ (o : ParseOption) (w : WriteOption) (key value : Text) (sep : IsPlainSeparator (chars w.kv_separator.now))
+module _ (o : ParseOption) (w : WriteOption) (key value : Text)
+    (sep : IsPlainSeparator (chars w.kv_separator.now))
     (plain : IsPlainPair o w.escape_policy key value) where
   -- the pair's line
   abbrev l : Text
-  l = escaped w.escape_policy key ++ (chars w.kv_separator.now ++ (escaped w.escape_policy value ++ line_end w.line_separator))
+  l = escaped w.escape_policy key
+      ++ (chars w.kv_separator.now ++ (escaped w.escape_policy value ++ line_end w.line_separator))
 
   -- in column one the pair's line and what follows it
   line_then : {B r : Text} {after : List Given} → is_column_one B ≡ true → Follows o r
@@ -85,16 +90,19 @@ module _ (o : ParseOption) (w : WriteOption) (key value : Text) (sep : IsPlainSe
     new_derives : Derives o new_text (at.before ++ (Pair key value ∷ at.after))
     new_derives =
         let first = place_reached at.place (l ++ r) (line_follows sep plain w.line_separator r) in
-        let rest = line_then (place_column at.place) at.follows (λ V one. place_rest at.place V one at.then) in
+        let rest = line_then (place_column at.place) at.follows
+        (λ V one. place_rest at.place V one at.then) in
         let whole : (W ++ glue) ++ (l ++ r) ≡ W ++ (glue ++ (l ++ r)) = append_assoc W glue (l ++ r) in
-        subst (λ z. Derives o (W ++ (glue ++ (z ++ r))) (at.before ++ (Pair key value ∷ at.after))) (sym (pair_is w key value))
+        subst (λ z. Derives o (W ++ (glue ++ (z ++ r))) (at.before ++ (Pair key value ∷ at.after)))
+        (sym (pair_is w key value))
         (reads-append first
         (subst (λ z. Reads o z (W ++ glue) (Pair key value ∷ at.after) z) whole rest))
 
     old_document : d ≡ document_of (at.before ++ at.after)
     old_document =
         at.document.document
-        ∙ ap document_of (derives_one at.document.derives (reads-append (place_items at.place at.follows) at.then))
+        ∙ ap document_of (derives_one at.document.derives
+        (reads-append (place_items at.place at.follows) at.then))
 
   pub adds_at_place : AddsAtPlace o w key value
   adds_at_place W r glue name d at = record {
@@ -125,7 +133,8 @@ module _ (o : ParseOption) (w : WriteOption) (key value : Text) (sep : IsPlainSe
     header_is =
         ap (λ z. open_bracket ∷ z)
         (append_assoc (escaped w.escape_policy name) (close_bracket ∷ []) (line_end w.line_separator ++ [])
-        ∙ ap (λ z. escaped w.escape_policy name ++ close_bracket ∷ z) (append-nil (line_end w.line_separator)))
+        ∙ ap (λ z. escaped w.escape_policy name ++ close_bracket ∷ z)
+        (append-nil (line_end w.line_separator)))
 
     -- a section in column one, where elements reach it, behind which the text gives nothing
     section_derives : {B r : Text} {items : List Given} → Follows o r
@@ -140,15 +149,18 @@ module _ (o : ParseOption) (w : WriteOption) (key value : Text) (sep : IsPlainSe
         (reads-append header.0 (subst (λ z. Reads o z (B ++ hs) (Pair key value ∷ []) z) whole pair))
 
     -- what is written of the section, and the rest
-    section_is : (r : Text) → hs ++ (l ++ r) ≡ written_name w (Some name) ++ (written_pair w (key, value) ++ r)
+    section_is : (r : Text) → hs ++ (l ++ r) ≡ written_name w
+        (Some name) ++ (written_pair w (key, value) ++ r)
     section_is r =
-        ap (λ z. z ++ (l ++ r)) header_is ∙ ap (λ z. written_name w (Some name) ++ (z ++ r)) (sym (pair_is w key value))
+        ap (λ z. z ++ (l ++ r)) header_is
+        ∙ ap (λ z. written_name w (Some name) ++ (z ++ r)) (sym (pair_is w key value))
 
     section_follows : (x : Text) → Follows o (hs ++ x)
     section_follows x = record { no_blank = λ _. refl; no_line_end = λ _. refl }
 
     -- the section comes last in the document
-    section_set : {W r glue : Text} {items : List Given} → IsPlace o w.line_separator W r glue items → Follows o r
+    section_set : {W r glue : Text} {items : List Given} → IsPlace o w.line_separator W r glue items
+        → Follows o r
         → Reads o (W ++ r) W [] (W ++ r) → (d : Document) → IsDocumentOf o (W ++ r) d
         → first_section (Some name) d ≡ None
         → set_in (Some name) key value d ≡ document_of (items ++ (Header name ∷ (Pair key value ∷ [])))
@@ -172,7 +184,8 @@ module _ (o : ParseOption) (w : WriteOption) (key value : Text) (sep : IsPlainSe
           derives =
               subst (λ z. Derives o z (items ++ (Header name ∷ (Pair key value ∷ [])))) text
               (section_derives follows (λ V one. place_rest place V one then)
-              (subst (λ z. Reads o z [] items (W ++ glue)) (sym (append_assoc W glue (hs ++ (l ++ r)))) first));
+              (subst (λ z. Reads o z [] items (W ++ glue))
+              (sym (append_assoc W glue (hs ++ (l ++ r)))) first));
           document = section_set place follows then d document none;
         }
 

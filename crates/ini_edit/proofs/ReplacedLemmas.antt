@@ -26,12 +26,16 @@ module _ (o : ParseOption) where
       (subst (λ z. Reads o z V [] z) (sym (append-nil V)) (Reads.stay [] (sym (append-nil V))))
   Reads-closes (c ∷ r) W V h reads = Reads-line_end W V c r (closes_line_end c h) reads
 
-  pub rest_behind : {t r : List ℕ} {items : List Given} (P Q : List ℕ) → Tail o t r → RestBehind t r items P → RestBehind t r items Q
+  pub rest_behind : {t r : List ℕ} {items : List Given} (P Q : List ℕ) → Tail o t r → RestBehind t r items P
+      → RestBehind t r items Q
   rest_behind {r = r} P Q (Tail.line off h) reads = Reads-closes r (P ++ []) (Q ++ []) h reads
   rest_behind P Q (Tail.end on) reads = Reads-closes [] (P ++ []) (Q ++ []) refl reads
-  rest_behind {r = r} P Q (Tail.lines {t = t} on LineEnd.lf more all) reads = Reads-like o (EndsLike-one P Q _ t) r reads
-  rest_behind {r = r} P Q (Tail.lines {t = t} on LineEnd.cr_lf more all) reads = Reads-like o (EndsLike-one P Q _ (_ ∷ t)) r reads
-  rest_behind {r = r} P Q (Tail.lines {t = t} on (LineEnd.cr n) more all) reads = Reads-like o (EndsLike-one P Q _ t) r reads
+  rest_behind {r = r} P Q (Tail.lines {t = t} on LineEnd.lf more all) reads =
+      Reads-like o (EndsLike-one P Q _ t) r reads
+  rest_behind {r = r} P Q (Tail.lines {t = t} on LineEnd.cr_lf more all) reads =
+      Reads-like o (EndsLike-one P Q _ (_ ∷ t)) r reads
+  rest_behind {r = r} P Q (Tail.lines {t = t} on (LineEnd.cr n) more all) reads =
+      Reads-like o (EndsLike-one P Q _ t) r reads
 
 -- two texts that begin with one key and its separator
 alike_key : (k : List ℕ) (m : ℕ) (x y r : List ℕ) → Alike ((k ++ m ∷ x) ++ r) ((k ++ m ∷ y) ++ r)
@@ -67,7 +71,8 @@ module _ {o : ParseOption} {T : List ℕ} {p : Stretches} {key old : List ℕ} {
       (subst (λ z. Reads o z (before_tail new ++ p.tail) after z) (sym (whole_text new)) then_new)
 
   -- the same up to the pair's end
-  pub replaced_front : Reads o (text_with p new) [] (before ++ Pair key value ∷ []) (p.front ++ pair_with p new)
+  pub replaced_front : Reads o (text_with p new) [] (before ++ Pair key value ∷ [])
+      (p.front ++ pair_with p new)
   replaced_front =
       let first : Reads o (text_with p p.own) [] before p.front =
       subst (λ z. Reads o z [] before p.front) s.text s.reads in

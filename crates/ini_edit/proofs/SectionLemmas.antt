@@ -1,13 +1,13 @@
 -- A text that begins with a header, or is empty: what stands before it is read as before another such text,
 -- and it is read as it is behind any front.
 use Rattle.std.proofs.Common.{◌≡◌, ◌∙◌, ◌==◌, ℕ, Bool, true, false, not, List, [], ◌∷◌, ◌++◌, ap, sym, subst}
-use Rattle.std.proofs.Common.{refl, append_assoc, append-nil, eqb-true, inl, inr}
-use Rattle.std.proofs.lemmas.Bool.{both_ways, false≢true, not-true}
+use Rattle.std.proofs.Common.{refl, append_assoc, append-nil, eqb-true, inr}
+use Rattle.std.proofs.lemmas.Bool.{false≢true}
 use Rattle.std.proofs.lemmas.List.{append_cancel_left}
 use Rattle.std.specs.Char.{is_whitespace}
 use Rattle.ini_text.specs.declared.option.ParseOption.{ParseOption}
-use Rattle.ini_text.specs.Grammar.CharacterKinds.{open_bracket, is_blank, is_comment_mark, is_line_end}
-use Rattle.ini_text.specs.Grammar.CharacterKinds.{BeginsWith, BeginsWithNo}
+use Rattle.ini_text.specs.Grammar.CharacterKinds.{open_bracket, is_blank, is_comment_mark}
+use Rattle.ini_text.specs.Grammar.CharacterKinds.{BeginsWith}
 use Rattle.ini_text.specs.Grammar.Keys.{Indentation, KeyFront, begins_key}
 use Rattle.ini_text.specs.Grammar.Elements.{Given, Header, Gap, Element}
 use Rattle.ini_text.specs.Grammar.Texts.{Reads}
@@ -58,7 +58,8 @@ module _ {o : ParseOption} {x : Text} (is : EmptyOrHeader x) where
   gap_before (Gap.white h n) = Element.gap (Gap.white h n)
 
   -- an element right before it
-  element_before : {b s y : Text} {gives : List Given} → FollowsFront [] y → Element o b s y gives → Element o b s x gives
+  element_before : {b s y : Text} {gives : List Given} → FollowsFront [] y → Element o b s y gives
+      → Element o b s x gives
   element_before f (Element.gap g) = gap_before g
   element_before f (Element.comment s one mark all) = Element.comment s one mark all
   element_before f (Element.last_comment one mark all) = absurd (y_some (header_follows {o = o} is) f refl)
@@ -89,7 +90,8 @@ module _ {o : ParseOption} {x : Text} (is : EmptyOrHeader x) where
       at (a ∷ m) e = Element-alike Alike.same e
 
 -- the first character of what begins a text
-pub begins_first : (test : ℕ → Bool) (w x : Text) (c : ℕ) (Y : Text) → BeginsWith test w → w ++ x ≡ c ∷ Y → test c ≡ true
+pub begins_first : (test : ℕ → Bool) (w x : Text) (c : ℕ) (Y : Text) → BeginsWith test w → w ++ x ≡ c ∷ Y
+    → test c ≡ true
 begins_first test [] x c Y h e = absurd (false≢true (sym h))
 begins_first test (d ∷ w) x c Y h e = let same : d ≡ c = cc in subst (λ z. test z ≡ true) same h
 
@@ -100,7 +102,8 @@ no_blank {w = w} {Y} x i e = absurd (false≢true (begins_first is_blank w x ope
 no_mark : {X : Type 0} {Y : Text} (m : ℕ) (x : Text) → is_comment_mark m ≡ true → m ∷ x ≡ open_bracket ∷ Y → X
 no_mark {Y = Y} m x h e = absurd (false≢true (begins_first is_comment_mark (m ∷ []) x open_bracket Y h e))
 
-no_key : {X : Type 0} {o : ParseOption} {b k y key Y : Text} → KeyFront o b k y key → k ++ y ≡ open_bracket ∷ Y → X
+no_key : {X : Type 0} {o : ParseOption} {b k y key Y : Text} → KeyFront o b k y key
+    → k ++ y ≡ open_bracket ∷ Y → X
 no_key {Y = Y} (KeyFront.unindented {s = k} {r = y} begins str) e =
     absurd (false≢true (begins_first begins_key (k ++ y) [] open_bracket Y begins (append-nil (k ++ y) ∙ e)))
 no_key (KeyFront.indented {w = w} {s = k} {r = y} i begins str) e =
@@ -136,10 +139,12 @@ Reads-any {o} W V Y anew reads = at reads refl refl refl
         let none : [] ≡ Y = append_cancel_left W [] Y (append-nil W ∙ sym first ∙ last) in
         subst (λ z. Reads o (V ++ z) V [] (V ++ z)) none
         (subst (λ z. Reads o z V [] z) (sym (append-nil V)) (Reads.stay [] (sym (append-nil V))))
-    at {T} {d = d} (Reads.step {b = b} {s = s} {r = r} {gives = gives} {items = items} h e reads) whole first last =
+    at {T} {d = d} (Reads.step {b = b} {s = s} {r = r} {gives = gives} {items = items} h e reads) whole first
+        last =
         let rest : s ++ r ≡ Y =
         append_cancel_left W (s ++ r) Y (ap (λ z. z ++ (s ++ r)) (sym first) ∙ sym h ∙ whole) in
-        let element : Element o V s r gives = anew s r gives rest (subst (λ z. Element o z s r gives) first e) in
+        let element : Element o V s r gives =
+        anew s r gives rest (subst (λ z. Element o z s r gives) first e) in
         let text : T ≡ (W ++ s) ++ r = whole ∙ ap (λ z. W ++ z) (sym rest) ∙ sym (append_assoc W s r) in
         let moved : Reads o ((W ++ s) ++ r) (W ++ s) items ((W ++ s) ++ r) =
         subst (λ z. Reads o ((W ++ s) ++ r) (W ++ s) items z)
@@ -160,10 +165,14 @@ Reads-header {o} W V (EmptyOrHeader.header r) reads =
 pub header_bracket : {o : ParseOption} {b s r name : Text} {gives : List Given} → gives ≡ Header name ∷ []
     → Element o b s r gives → BeginsWith (λ c. c == open_bracket) s
 header_bracket {name = name} is (Element.gap g) = absurd (let no : [] ≡ Header name ∷ [] = is in cc)
-header_bracket {name = name} is (Element.comment s one mark all) = absurd (let no : [] ≡ Header name ∷ [] = is in cc)
-header_bracket {name = name} is (Element.last_comment one mark all) = absurd (let no : [] ≡ Header name ∷ [] = is in cc)
+header_bracket {name = name} is (Element.comment s one mark all) =
+    absurd (let no : [] ≡ Header name ∷ [] = is in cc)
+header_bracket {name = name} is (Element.last_comment one mark all) =
+    absurd (let no : [] ≡ Header name ∷ [] = is in cc)
 header_bracket is (Element.header off str) = refl
 header_bracket is (Element.bracketed_header on str i) = refl
 header_bracket is (Element.pair front some sep given) = absurd (cc (is))
-header_bracket {name = name} is (Element.dropped_blanks i) = absurd (let no : [] ≡ Header name ∷ [] = is in cc)
-header_bracket {name = name} is (Element.dropped_key i begins stops) = absurd (let no : [] ≡ Header name ∷ [] = is in cc)
+header_bracket {name = name} is (Element.dropped_blanks i) =
+    absurd (let no : [] ≡ Header name ∷ [] = is in cc)
+header_bracket {name = name} is (Element.dropped_key i begins stops) =
+    absurd (let no : [] ≡ Header name ∷ [] = is in cc)

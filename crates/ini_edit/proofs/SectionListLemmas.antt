@@ -27,16 +27,19 @@ pub made_behind : (before items : List Given) → BeginsWithHeader items
 made_behind before items h = document_of-append before items ∙ headers_make (document_of before) items h
 
 -- a header, pairs, and items from a header on
-pub made_section : (before : List Given) (name : Text) (pairs : Pairs) (after : List Given) → BeginsWithHeader after
+pub made_section : (before : List Given) (name : Text) (pairs : Pairs) (after : List Given)
+    → BeginsWithHeader after
     → document_of (before ++ (Header name ∷ (pair_items pairs ++ after)))
     ≡ document_of before ++ (Some name, pairs) ∷ sections_behind after
 made_section before name pairs after h =
     made_behind before (Header name ∷ (pair_items pairs ++ after)) tt
     ∙ ap (λ x. document_of before ++ x)
     (fold-append with_item ((Some name, []) ∷ []) (pair_items pairs) after
-    ∙ ap (λ x. fold with_item x after) (pairs_make (Some name) [] pairs) ∙ rest_make (Some name) pairs after h)
+    ∙ ap (λ x. fold with_item x after) (pairs_make (Some name) [] pairs)
+    ∙ rest_make (Some name) pairs after h)
 
-removed_first : (name : Option Text) (d : Document) (pairs : Pairs) (e : Document) → first_section name d ≡ None
+removed_first : (name : Option Text) (d : Document) (pairs : Pairs) (e : Document)
+    → first_section name d ≡ None
     → section_removed name (d ++ (name, pairs) ∷ e) ≡ d ++ e
 removed_first name [] pairs e none = cond-true (is_name name name) e _ (name_refl name)
 removed_first name (s ∷ d) pairs e none = at (is_name name s.0) refl none (removed_first name d pairs e)
@@ -47,21 +50,25 @@ removed_first name (s ∷ d) pairs e none = at (is_name name s.0) refl none (rem
     at true is none more = absurd (let no : Some s.1 ≡ None = none in cc)
     at false is none more = cond-false (is_name name s.0) _ _ is ∙ ap (λ x. s ∷ x) (more none)
 
-renamed_first : (name other : Option Text) (d : Document) (pairs : Pairs) (e : Document) → first_section name d ≡ None
+renamed_first : (name other : Option Text) (d : Document) (pairs : Pairs) (e : Document)
+    → first_section name d ≡ None
     → section_renamed name other (d ++ (name, pairs) ∷ e) ≡ d ++ (other, pairs) ∷ e
-renamed_first name other [] pairs e none = cond-true (is_name name name) ((other, pairs) ∷ e) _ (name_refl name)
+renamed_first name other [] pairs e none =
+    cond-true (is_name name name) ((other, pairs) ∷ e) _ (name_refl name)
 renamed_first name other (s ∷ d) pairs e none =
     at (is_name name s.0) refl none (renamed_first name other d pairs e)
   where
     at : (b : Bool) → is_name name s.0 ≡ b → cond b (Some s.1) (first_section name d) ≡ None
-        → (first_section name d ≡ None → section_renamed name other (d ++ (name, pairs) ∷ e) ≡ d ++ (other, pairs) ∷ e)
+        → (first_section name d ≡ None
+        → section_renamed name other (d ++ (name, pairs) ∷ e) ≡ d ++ (other, pairs) ∷ e)
         → section_renamed name other ((s ∷ d) ++ (name, pairs) ∷ e) ≡ (s ∷ d) ++ (other, pairs) ∷ e
     at true is none more = absurd (let no : Some s.1 ≡ None = none in cc)
     at false is none more = cond-false (is_name name s.0) _ _ is ∙ ap (λ x. s ∷ x) (more none)
 
 module _ (before : List Given) (name : Text) (pairs : Pairs) (after : List Given) (h : BeginsWithHeader after)
     (first : first_section (Some name) (document_of before) ≡ None) where
-  pub document_without : section_removed (Some name) (document_of (before ++ (Header name ∷ (pair_items pairs ++ after))))
+  pub document_without : section_removed (Some name)
+      (document_of (before ++ (Header name ∷ (pair_items pairs ++ after))))
       ≡ document_of (before ++ after)
   document_without =
       ap (section_removed (Some name)) (made_section before name pairs after h)
@@ -69,7 +76,8 @@ module _ (before : List Given) (name : Text) (pairs : Pairs) (after : List Given
       ∙ sym (made_behind before after h)
 
   pub document_renamed : (other : Text)
-      → section_renamed (Some name) (Some other) (document_of (before ++ (Header name ∷ (pair_items pairs ++ after))))
+      → section_renamed (Some name) (Some other)
+      (document_of (before ++ (Header name ∷ (pair_items pairs ++ after))))
       ≡ document_of (before ++ (Header other ∷ (pair_items pairs ++ after)))
   document_renamed other =
       ap (section_renamed (Some name) (Some other)) (made_section before name pairs after h)

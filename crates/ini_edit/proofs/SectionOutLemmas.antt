@@ -1,16 +1,14 @@
 -- The document of a text from which a section was taken.
-use Rattle.std.proofs.Common.{◌≡◌, ◌∙◌, ◌==◌, true, List, [], ◌∷◌, ◌++◌, ap, sym, subst, refl, append_assoc, eqb-true}
-use Rattle.std.proofs.Common.{arith, inr, Some}
+use Rattle.std.proofs.Common.{◌≡◌, ◌∙◌, ◌==◌, [], ◌∷◌, ◌++◌, ap, sym, subst, refl, append_assoc, eqb-true}
+use Rattle.std.proofs.Common.{arith, inr}
 use Rattle.std.proofs.lemmas.Bool.{false≢true}
 use Rattle.ini_text.specs.declared.option.ParseOption.{ParseOption}
 use Rattle.ini_text.specs.Grammar.CharacterKinds.{open_bracket, is_comment_mark, BeginsWith}
-use Rattle.ini_text.specs.Grammar.Elements.{Given, Header}
-use Rattle.ini_text.specs.Grammar.Positions.{is_column_one}
+use Rattle.ini_text.specs.Grammar.Elements.{Header}
 use Rattle.ini_text.specs.Grammar.Texts.{Reads, Derives}
 use Rattle.ini_text.proofs.GrammarLemmas.ItemLemmas.{reads-append}
 use Rattle.ini.specs.Texts.{Text}
-use Rattle.ini.specs.Documents.{document_of, section_removed}
-use Rattle.ini.specs.Loading.{IsDocumentOf}
+use Rattle.ini.specs.Documents.{document_of}
 use Rattle.ini.specs.SectionItems.{pair_items}
 use Rattle.ini_edit.specs.Places.{Follows}
 use Rattle.ini_edit.specs.Sections.{IsSectionAt, IsSectionOut, StaysBehindSection}
@@ -51,7 +49,8 @@ module _ {o : ParseOption} {T name front rest : Text} (s : IsSectionAt o T name 
       at (StaysBehindSection.comment column one mark) =
           let f : FollowsFront front (open_bracket ∷ y) = record { some = refl; bracket = inr column } in
           items_none s.before
-          (Reads-before_line (comment_follows rest mark) (open_bracket ∷ y) f whole s.to_front (Reads.stay rest refl))
+          (Reads-before_line (comment_follows rest mark) (open_bracket ∷ y) f whole s.to_front
+          (Reads.stay rest refl))
 
   rest_read : Reads o (front ++ rest) front s.after (front ++ rest)
   rest_read = at s.stays
@@ -64,7 +63,8 @@ module _ {o : ParseOption} {T name front rest : Text} (s : IsSectionAt o T name 
   begins : (y : Text) × (T ≡ front ++ (open_bracket ∷ y))
   begins = at s.items s.bracket s.whole
     where
-      at : (items : Text) → BeginsWith (λ c. c == open_bracket) items → T ≡ front ++ (items ++ (s.gaps ++ rest))
+      at : (items : Text) → BeginsWith (λ c. c == open_bracket) items
+          → T ≡ front ++ (items ++ (s.gaps ++ rest))
           → (y : Text) × (T ≡ front ++ (open_bracket ∷ y))
       at [] h whole = absurd (false≢true (sym h))
       at (c ∷ items) h whole =
@@ -76,7 +76,8 @@ module _ {o : ParseOption} {T name front rest : Text} (s : IsSectionAt o T name 
 
   derives_whole : Derives o T (s.before ++ (Header name ∷ (pair_items s.pairs ++ s.after)))
   derives_whole =
-      let is : T ≡ (front ++ s.items) ++ (s.gaps ++ rest) = s.whole ∙ sym (append_assoc front s.items (s.gaps ++ rest)) in
+      let is : T ≡ (front ++ s.items) ++ (s.gaps ++ rest) = s.whole
+      ∙ sym (append_assoc front s.items (s.gaps ++ rest)) in
       reads-append s.to_front
       (reads-append (last_item_reads s.is_section (s.gaps ++ rest) is) (reads-append s.nothing s.then))
 

@@ -1,7 +1,7 @@
 -- A text with another name in a header.
 use Rattle.std.proofs.Common.{◌≡◌, ◌∙◌, ◌==◌, Bool, true, List, [], ◌∷◌, ◌++◌, ap, sym, subst, refl, append_assoc}
-use Rattle.std.proofs.Common.{arith, chars, eqb-true, inl, inr, Some}
-use Rattle.std.proofs.lemmas.Bool.{both_ways, cases_Bool, false≢true}
+use Rattle.std.proofs.Common.{arith, chars, eqb-true}
+use Rattle.std.proofs.lemmas.Bool.{false≢true}
 use Rattle.ini_text.specs.declared.option.ParseOption.{ParseOption}
 use Rattle.ini_text.specs.declared.write.policy.EscapePolicy.{EscapePolicy}
 use Rattle.ini_text.specs.Escaping.EscapedTexts.{escaped}
@@ -16,8 +16,7 @@ use Rattle.ini_text.proofs.PlainLemmas.EscapedTextLemmas.{all_read, row_escaped}
 use Rattle.ini_text.proofs.PlainLemmas.PlainLineLemmas.{header_element}
 use Rattle.ini_text.proofs.PlainLemmas.PlainPairLemmas.{value_no_end}
 use Rattle.ini.specs.Texts.{Text}
-use Rattle.ini.specs.Documents.{document_of, section_removed}
-use Rattle.ini.specs.Loading.{IsDocumentOf}
+use Rattle.ini.specs.Documents.{document_of}
 use Rattle.ini.specs.SectionItems.{pair_items}
 use Rattle.ini_edit.specs.Places.{EndsLike}
 use Rattle.ini_edit.specs.Sections.{IsHeaderAt, IsSectionRenamed, header_of}
@@ -45,36 +44,46 @@ module _ {o : ParseOption} (policy : EscapePolicy) (new : Text) (p : IsPlainName
       → Element o b (header_of policy new) r (Header new ∷ [])
   bracketed {b} {r} on closes =
       let all = all_read {o = o} policy new p.read_back in
-      let row : Row o.enabled_escape bracketed_name_ends (escaped policy new ++ close_bracket ∷ []) (new ++ close_bracket ∷ []) =
+      let row : Row o.enabled_escape bracketed_name_ends (escaped policy new ++ close_bracket ∷ [])
+      (new ++ close_bracket ∷ []) =
       row_escaped new all (value_no_end all) (Row.raw (λ e. absurd (omega arith)) refl Row.none) in
       subst (λ n. Element o b (header_of policy new) r (Header n ∷ [])) p.is_trimmed
-      (Element.bracketed_header on (Str.closed row closes) (record { blanks = []; blank = refl; whole = refl }))
+      (Element.bracketed_header on (Str.closed row closes)
+      (record { blanks = []; blank = refl; whole = refl }))
 
   header_anew : {b s r old : Text} {gives : List Given} → gives ≡ Header old ∷ [] → Element o b s r gives
       → Element o b (header_of policy new) r (Header new ∷ [])
   header_anew {old = old} is (Element.gap g) = absurd (let no : [] ≡ Header old ∷ [] = is in cc)
-  header_anew {old = old} is (Element.comment s one mark all) = absurd (let no : [] ≡ Header old ∷ [] = is in cc)
-  header_anew {old = old} is (Element.last_comment one mark all) = absurd (let no : [] ≡ Header old ∷ [] = is in cc)
+  header_anew {old = old} is (Element.comment s one mark all) =
+      absurd (let no : [] ≡ Header old ∷ [] = is in cc)
+  header_anew {old = old} is (Element.last_comment one mark all) =
+      absurd (let no : [] ≡ Header old ∷ [] = is in cc)
   header_anew is (Element.header off str) = header_element policy new off p
   header_anew is (Element.bracketed_header on str i) = bracketed on (str_closes str)
   header_anew is (Element.pair front some sep given) = absurd (cc (is))
   header_anew {old = old} is (Element.dropped_blanks i) = absurd (let no : [] ≡ Header old ∷ [] = is in cc)
-  header_anew {old = old} is (Element.dropped_key i begins stops) = absurd (let no : [] ≡ Header old ∷ [] = is in cc)
+  header_anew {old = old} is (Element.dropped_key i begins stops) =
+      absurd (let no : [] ≡ Header old ∷ [] = is in cc)
 
 -- behind another header the rest is read as behind the old one
-rest_anew : {o : ParseOption} {b s r old : Text} {gives items : List Given} (t : Text) → gives ≡ Header old ∷ []
+rest_anew : {o : ParseOption} {b s r old : Text} {gives items : List Given} (t : Text)
+    → gives ≡ Header old ∷ []
     → Element o b s r gives → Reads o ((b ++ s) ++ r) (b ++ s) items ((b ++ s) ++ r)
-    → Reads o ((b ++ (open_bracket ∷ (t ++ close_bracket ∷ []))) ++ r) (b ++ (open_bracket ∷ (t ++ close_bracket ∷ [])))
+    → Reads o ((b ++ (open_bracket ∷ (t ++ close_bracket ∷ []))) ++ r)
+    (b ++ (open_bracket ∷ (t ++ close_bracket ∷ [])))
     items ((b ++ (open_bracket ∷ (t ++ close_bracket ∷ []))) ++ r)
 rest_anew {old = old} t is (Element.gap g) reads = absurd (let no : [] ≡ Header old ∷ [] = is in cc)
-rest_anew {old = old} t is (Element.comment s one mark all) reads = absurd (let no : [] ≡ Header old ∷ [] = is in cc)
-rest_anew {old = old} t is (Element.last_comment one mark all) reads = absurd (let no : [] ≡ Header old ∷ [] = is in cc)
+rest_anew {old = old} t is (Element.comment s one mark all) reads =
+    absurd (let no : [] ≡ Header old ∷ [] = is in cc)
+rest_anew {old = old} t is (Element.last_comment one mark all) reads =
+    absurd (let no : [] ≡ Header old ∷ [] = is in cc)
 rest_anew {o} {b} {r = r} t is (Element.header {s = s} off str) reads = Reads-like o like r reads
   where
     close : Text
     close = close_bracket ∷ []
 
-    like : EndsLike (b ++ (open_bracket ∷ (s ++ close_bracket ∷ []))) (b ++ (open_bracket ∷ (t ++ close_bracket ∷ [])))
+    like : EndsLike (b ++ (open_bracket ∷ (s ++ close_bracket ∷ [])))
+        (b ++ (open_bracket ∷ (t ++ close_bracket ∷ [])))
     like =
         subst (λ z. EndsLike z (b ++ (open_bracket ∷ (t ++ close_bracket ∷ []))))
         (append_assoc b (open_bracket ∷ s) (close_bracket ∷ []))
@@ -82,11 +91,14 @@ rest_anew {o} {b} {r = r} t is (Element.header {s = s} off str) reads = Reads-li
         (append_assoc b (open_bracket ∷ t) (close_bracket ∷ []))
         (EndsLike-one (b ++ (open_bracket ∷ s)) (b ++ (open_bracket ∷ t)) close_bracket []))
 rest_anew {o} {b} {r = r} t is (Element.bracketed_header {s = s} on str i) reads =
-    Reads-closes o r (b ++ (open_bracket ∷ s)) (b ++ (open_bracket ∷ (t ++ close_bracket ∷ []))) (plain_closes r (str_closes str))
+    Reads-closes o r (b ++ (open_bracket ∷ s)) (b ++ (open_bracket ∷ (t ++ close_bracket ∷ [])))
+    (plain_closes r (str_closes str))
     reads
 rest_anew t is (Element.pair front some sep given) reads = absurd (cc (is))
-rest_anew {old = old} t is (Element.dropped_blanks i) reads = absurd (let no : [] ≡ Header old ∷ [] = is in cc)
-rest_anew {old = old} t is (Element.dropped_key i begins stops) reads = absurd (let no : [] ≡ Header old ∷ [] = is in cc)
+rest_anew {old = old} t is (Element.dropped_blanks i) reads =
+    absurd (let no : [] ≡ Header old ∷ [] = is in cc)
+rest_anew {old = old} t is (Element.dropped_key i begins stops) reads =
+    absurd (let no : [] ≡ Header old ∷ [] = is in cc)
 
 module _ {o : ParseOption} {T old front source rest : Text} (h : IsHeaderAt o T old front source rest)
     (policy : EscapePolicy) (new : Text) (p : IsPlainName o policy new) where
@@ -103,13 +115,15 @@ module _ {o : ParseOption} {T old front source rest : Text} (h : IsHeaderAt o T 
   derives_new =
       let y = (escaped policy new ++ close_bracket ∷ []) ++ rest in
       let text : T ≡ (front ++ source) ++ rest = h.whole ∙ sym (append_assoc front source rest) in
-      let old_rest : Reads o ((front ++ source) ++ rest) (front ++ source) h.after ((front ++ source) ++ rest) =
+      let old_rest : Reads o ((front ++ source) ++ rest) (front ++ source) h.after
+      ((front ++ source) ++ rest) =
       subst (λ z. Reads o z (front ++ source) h.after z) text h.then in
       let new_rest = rest_anew (escaped policy new) refl h.is_header old_rest in
       let U = front ++ (header_of policy new ++ rest) in
       reads-append (Reads-before_header (EmptyOrHeader.header y) begins.0 begins.1 h.to_front)
       (Reads.step {s = header_of policy new} refl (header_anew policy new p refl h.is_header)
-      (subst (λ z. Reads o z (front ++ header_of policy new) h.after z) (append_assoc front (header_of policy new) rest) new_rest))
+      (subst (λ z. Reads o z (front ++ header_of policy new) h.after z)
+      (append_assoc front (header_of policy new) rest) new_rest))
 
   pub section_renamed_at : (U : Text) → U ≡ front ++ (header_of policy new ++ rest)
       → IsSectionRenamed o policy T old new U

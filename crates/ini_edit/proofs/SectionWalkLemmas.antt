@@ -1,31 +1,26 @@
 -- The walk to a section's header, and to what stays behind the section.
-use Rattle.std.specs.Prelude.{◌⊎◌}
-use Rattle.std.proofs.Common.{◌≡◌, ◌∙◌, ◌&&◌, ◌||◌, ◌==◌, not, ℕ, Bool, true, false, List, [], ◌∷◌, ◌++◌, ap, sym}
-use Rattle.std.proofs.Common.{refl, subst, inl, inr, append_assoc, append-nil, chars, Option, None, Some}
-use Rattle.std.proofs.lemmas.Bool.{both_ways, false≢true, not-true, or_left, or_right, and_from, and_parts}
-use Rattle.std.proofs.lemmas.List.{append_cancel_left, append_cancel_right}
-use Rattle.std.specs.Char.{is_whitespace}
-use Rattle.ini_text.specs.Grammar.CharacterKinds.{open_bracket, is_blank, is_comment_mark}
+use Rattle.std.proofs.Common.{◌≡◌, ◌∙◌, ◌&&◌, ◌==◌, not, ℕ, Bool, true, false, List, [], ◌∷◌, ◌++◌, ap, sym}
+use Rattle.std.proofs.Common.{refl, subst, inl, inr, append_assoc, append-nil, chars, Some}
+use Rattle.std.proofs.lemmas.Bool.{both_ways, false≢true, and_from, and_parts}
+use Rattle.std.proofs.lemmas.List.{append_cancel_left}
+use Rattle.ini_text.specs.Grammar.CharacterKinds.{open_bracket, is_comment_mark}
 use Rattle.ini_text.specs.Grammar.CharacterKinds.{BeginsWith, BeginsWithNo}
-use Rattle.ini_text.specs.Grammar.Keys.{Indentation, KeyFront, begins_key}
-use Rattle.ini_text.specs.Grammar.Elements.{Given, Header, Pair, Gap, Element}
+use Rattle.ini_text.specs.Grammar.Elements.{Given, Header, Pair}
 use Rattle.ini_text.specs.Grammar.Positions.{is_column_one}
 use Rattle.ini_text.specs.Grammar.Texts.{Reads}
-use Rattle.ini_text.specs.Laws.PlainLaws.{BeginsWithHeader, IsEmptyOrHeader}
+use Rattle.ini_text.specs.Laws.PlainLaws.{IsEmptyOrHeader}
 use Rattle.ini_text.specs.Inside.PlainTests.{begins}
 use Rattle.ini_text.specs.Parsing.Parser.{Place}
 use Rattle.ini_text.specs.Parsing.Places.{gives}
 use Rattle.ini_text.specs.declared.option.ParseOption.{ParseOption}
 use Rattle.ini_text.specs.declared.parser.placed.PlacedElement.{PlacedElement}
 use Rattle.ini_text.proofs.GrammarLemmas.ItemLemmas.{reads-append}
-use Rattle.ini_text.proofs.GrammarLemmas.KindLemmas.{comment_mark-apart}
 use Rattle.ini_text.proofs.LawLemmas.OneAheadLemmas.{Reads-front}
 use Rattle.ini.specs.Texts.{Text}
-use Rattle.ini.specs.Properties.{Pairs}
 use Rattle.ini.specs.SectionItems.{pair_items}
 use Rattle.ini_edit.specs.Sections.{IsSectionAt, LastItem, StaysBehindSection, Uncommented}
 use Rattle.ini_edit.specs.Inside.SectionWalks.{KeepsRest, OpensAt, ReachesRest}
-use Rattle.ini_edit.specs.Inside.Walks.{EndsSection, IsPastLast, IsReading, ReadsOn, StandsWithin, Steps}
+use Rattle.ini_edit.specs.Inside.Walks.{EndsSection, IsPastLast, ReadsOn, StandsWithin, Steps}
 use Rattle.ini_edit.specs.declared.section.FoundHeader.{FoundHeader}
 use Rattle.ini_edit.proofs.CommentLemmas.{begins_with, comment_column}
 use Rattle.ini_edit.proofs.DocumentLemmas.{pair_items-append}
@@ -60,7 +55,8 @@ opened_at {o} {T} {name} {p} {q} {e} found s t is front source rest =
           ∙ ap (λ x. chars found.front.now ++ x) (sym word);
     }
 
-pub opened_within : {o : ParseOption} {T name : Text} {q : Place} {found : FoundHeader} → OpensAt o T q name found
+pub opened_within : {o : ParseOption} {T name : Text} {q : Place} {found : FoundHeader}
+    → OpensAt o T q name found
     → Reads o T (chars found.front.now) (Header name ∷ []) q.front × StandsWithin q
 opened_within {o} {T} {name} {q} {found} h =
     let front = chars found.front.now in
@@ -85,11 +81,13 @@ pub last_item_behind : {o : ParseOption} {T a b c : Text} {first items : List Gi
     → Reads o T a first b → LastItem o T b c items → LastItem o T a c (first ++ items)
 last_item_behind {o} {T} {a} {b} {first = first} from reads LastItem.start =
     subst (LastItem o T a b) (sym (append-nil first)) from
-last_item_behind {o} {T} {a} {first = first} from reads (LastItem.item {c = c} {s = s} {items = items} given more is e) =
+last_item_behind {o} {T} {a} {first = first} from reads
+    (LastItem.item {c = c} {s = s} {items = items} given more is e) =
     subst (LastItem o T a (c ++ s)) (append_assoc first items (given ∷ []))
     (LastItem.item given (reads-append reads more) is e)
 
-reads_start : {o : ParseOption} {T b c : Text} {items : List Given} → Reads o T b items c → (r : Text) × (T ≡ b ++ r)
+reads_start : {o : ParseOption} {T b c : Text} {items : List Given} → Reads o T b items c
+    → (r : Text) × (T ≡ b ++ r)
 reads_start (Reads.stay r whole) = (r, whole)
 reads_start (Reads.step {s = s} {r = r} whole element reads) = (s ++ r, whole)
 
@@ -97,7 +95,8 @@ keeps_reads : {o : ParseOption} {T b c rest : Text} {column : Bool} (k : KeepsRe
     → Reads o T b (pair_items k.pairs) k.last
 keeps_reads k = let start = reads_start k.gaps in last_item_reads k.items start.0 start.1
 
-bracket_more : (s r : Text) → BeginsWith (λ c. c == open_bracket) s → BeginsWith (λ c. c == open_bracket) (s ++ r)
+bracket_more : (s r : Text) → BeginsWith (λ c. c == open_bracket) s
+    → BeginsWith (λ c. c == open_bracket) (s ++ r)
 bracket_more [] r h = absurd (false≢true (sym h))
 bracket_more (c ∷ s) r h = h
 
@@ -121,7 +120,8 @@ pub kept_off : (column : Bool) (rest : Text) → column ≡ false → is_kept co
 kept_off false rest h = refl
 kept_off true rest h = absurd (false≢true (sym h))
 
-pub kept_plain : (column : Bool) (rest : Text) → begins is_comment_mark rest ≡ false → is_kept column rest ≡ false
+pub kept_plain : (column : Bool) (rest : Text) → begins is_comment_mark rest ≡ false
+    → is_kept column rest ≡ false
 kept_plain true rest h = h
 kept_plain false rest h = refl
 
@@ -162,7 +162,8 @@ module _ {o : ParseOption} {T b : Text} {column : Bool} where
             upto = q.front;
             whole = whole;
             items = subst (LastItem o T b q.front) (sym (pair_items-append s.keeps.pairs ((k, v) ∷ [])))
-                (subst (λ c. LastItem o T b c (pair_items s.keeps.pairs ++ Pair k v ∷ [])) (sym t.stands.reaches)
+                (subst (λ c. LastItem o T b c (pair_items s.keeps.pairs ++ Pair k v ∷ []))
+                (sym t.stands.reaches)
                 (LastItem.item (Pair k v) before t.stands.whole (rw (sym one) t.stands.is_element)));
             gaps = Reads.stay x whole;
             uncommented = λ _. Uncommented.none;
@@ -172,7 +173,8 @@ module _ {o : ParseOption} {T b : Text} {column : Bool} where
         }
       where
         before : Reads o T b (pair_items s.keeps.pairs) p.front
-        before = items_none _ (reads-append (items_none _ (reads-append (keeps_reads s.keeps) s.keeps.gaps)) s.keeps.nothing)
+        before = items_none _ (reads-append
+            (items_none _ (reads-append (keeps_reads s.keeps) s.keeps.gaps)) s.keeps.nothing)
 
     nothing_more : gives e.content ≡ [] → Reads o T p.front [] q.front
     nothing_more none = subst (λ l. Reads o T p.front l q.front) none (step_reads t)
@@ -214,7 +216,8 @@ module _ {o : ParseOption} {T b : Text} {column : Bool} where
             )
 
     -- or it begins behind that
-    pub keeps_nothing : (x : Text) → gives e.content ≡ [] → is_kept column rest ≡ false → q.front ++ x ≡ q.text
+    pub keeps_nothing : (x : Text) → gives e.content ≡ [] → is_kept column rest ≡ false
+        → q.front ++ x ≡ q.text
         → Keeps o T b column q x
     keeps_nothing x none apart left =
         let whole = stands_at x left in
@@ -226,9 +229,11 @@ module _ {o : ParseOption} {T b : Text} {column : Bool} where
             upto = q.front;
             whole = whole;
             items = s.keeps.items;
-            gaps = reads-append s.keeps.gaps (subst (λ z. Reads o T z [] q.front) (sym here) (nothing_more none));
+            gaps = reads-append s.keeps.gaps
+                (subst (λ z. Reads o T z [] q.front) (sym here) (nothing_more none));
             uncommented = λ on. subst (Uncommented o T s.keeps.last) (sym t.stands.reaches)
-                (Uncommented.more (subst (Uncommented o T s.keeps.last) here (s.keeps.uncommented on)) t.stands.whole
+                (Uncommented.more (subst (Uncommented o T s.keeps.last) here (s.keeps.uncommented on))
+                t.stands.whole
                 (rw (sym none) t.stands.is_element) (plain on));
             nothing = Reads.stay x whole;
             kept = inl refl;
@@ -249,7 +254,8 @@ module _ {o : ParseOption} {T b : Text} {column : Bool} where
             (subst (BeginsWithNo is_comment_mark) same
             (begins_no is_comment_mark rest (at column on apart)))
           where
-            at : (column : Bool) → column ≡ true → is_kept column rest ≡ false → begins is_comment_mark rest ≡ false
+            at : (column : Bool) → column ≡ true → is_kept column rest ≡ false
+                → begins is_comment_mark rest ≡ false
             at true on apart = apart
             at false on apart = absurd (false≢true on)
 
@@ -298,8 +304,10 @@ keeps_start {p} {rest} column s left = record {
 }
 
 -- the section that was found
-module _ {o : ParseOption} {T name : Text} {p : Place} {found : FoundHeader} (opens : OpensAt o T p name found) where
-  pub rest_within : {column : Bool} {q : Place} {rest : Text} → ReachesRest o T p.front column q rest → StandsWithin q
+module _ {o : ParseOption} {T name : Text} {p : Place} {found : FoundHeader}
+    (opens : OpensAt o T p name found) where
+  pub rest_within : {column : Bool} {q : Place} {rest : Text} → ReachesRest o T p.front column q rest
+      → StandsWithin q
   rest_within h =
       let k = h.keeps in
       let one = opened_within opens in
@@ -307,7 +315,8 @@ module _ {o : ParseOption} {T name : Text} {p : Place} {found : FoundHeader} (op
       (reads-append (reads-append opens.reads one.0) (reads-append (reads-append (keeps_reads k) k.gaps)
       (reads-append k.nothing (end_reads h.ends).1)))
 
-  pub section_at : {q : Place} {rest : Text} → ReachesRest o T p.front (is_column_one (chars found.front.now)) q rest
+  pub section_at : {q : Place} {rest : Text}
+      → ReachesRest o T p.front (is_column_one (chars found.front.now)) q rest
       → ReadsOn o T q.front → IsSectionAt o T name (chars found.front.now) rest
   section_at {q} {rest} h on =
       let k = h.keeps in
@@ -329,7 +338,8 @@ module _ {o : ParseOption} {T name : Text} {p : Place} {found : FoundHeader} (op
         before = opens.items;
         pairs = k.pairs;
         after = behind.0;
-        whole = k.whole ∙ ap (λ z. z ++ rest) (sym to_upto) ∙ append_assoc front ((source ++ pairs.0) ++ gaps.0) rest
+        whole = k.whole ∙ ap (λ z. z ++ rest) (sym to_upto)
+            ∙ append_assoc front ((source ++ pairs.0) ++ gaps.0) rest
             ∙ ap (λ z. front ++ z) (append_assoc (source ++ pairs.0) gaps.0 rest);
         bracket = bracket_more source pairs.0 (header_bracket refl opens.element);
         to_front = opens.reads;
@@ -348,12 +358,14 @@ module _ {o : ParseOption} {T name : Text} {p : Place} {found : FoundHeader} (op
       }
 
   -- the same as the calls tell it
-  pub rest_goes_on : {column : Bool} {q : Place} {rest : Text} → ReachesRest p.option p.text p.front column q rest
+  pub rest_goes_on : {column : Bool} {q : Place} {rest : Text}
+      → ReachesRest p.option p.text p.front column q rest
       → StandsWithin q
   rest_goes_on {column} {q} {rest} h =
       rest_within (told (λ o T. ReachesRest o T p.front column q rest) opens.is_reading h)
 
-  pub found_section : {q : Place} {rest : Text} (column : Bool) → column ≡ is_column_one (chars found.front.now)
+  pub found_section : {q : Place} {rest : Text} (column : Bool)
+      → column ≡ is_column_one (chars found.front.now)
       → ReachesRest p.option p.text p.front column q rest → ReadsOn q.option q.text q.front
       → IsSectionAt o T name (chars found.front.now) rest
   found_section {q} {rest} column is h on =

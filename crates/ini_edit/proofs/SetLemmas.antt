@@ -36,15 +36,19 @@ module _ {o : ParseOption} {key : Text} {upto rest : List Given} where
       → Derives o T (upto ++ (pair_items later ++ rest))
       → Derives o U (upto ++ (pair_items (all_removed key later) ++ rest))
   later_out {T} {later = later} (LaterOut.none lacks) derives =
-      subst (λ ps. Derives o T (upto ++ (pair_items ps ++ rest))) (sym (lacks-removed key later lacks)) derives
+      subst (λ ps. Derives o T (upto ++ (pair_items ps ++ rest)))
+      (sym (lacks-removed key later lacks)) derives
   later_out {U = U} (LaterOut.out p kept r old between later s cut more) derives =
       let left : Derives o (p.front ++ (kept ++ r)) (upto ++ (pair_items (between ++ later) ++ rest)) =
-      subst (Derives o (p.front ++ (kept ++ r))) (section_items upto rest between later) (cut_derives s cut) in
+      subst (Derives o (p.front ++ (kept ++ r))) (section_items upto rest between later)
+      (cut_derives s cut) in
       subst (λ ps. Derives o U (upto ++ (pair_items ps ++ rest)))
       (sym (removed_more key old between later (text_refl key))) (later_out more left)
 
-module _ {name : Option Text} {key : Text} {before after : List Given} (t : IsTarget name key before after) where
-  pub items_at : (value : Text) (later : Pairs) → (before ++ Pair key value ∷ []) ++ (pair_items later ++ t.rest)
+module _ {name : Option Text} {key : Text} {before after : List Given}
+    (t : IsTarget name key before after) where
+  pub items_at : (value : Text) (later : Pairs)
+      → (before ++ Pair key value ∷ []) ++ (pair_items later ++ t.rest)
       ≡ t.opening ++ (pair_items (t.earlier ++ (key, value) ∷ later) ++ t.rest)
   items_at value later =
       append_assoc before (Pair key value ∷ []) (pair_items later ++ t.rest)
@@ -74,7 +78,8 @@ pub sets_value : (o : ParseOption) (policy : EscapePolicy) (T value : Text) → 
     → SetsValue o policy T value
 sets_value o policy T value plain p name key old before after s target quote may U later d document =
     let new = text_with p (written_in policy quote value) in
-    let replaced_text : Derives o new ((before ++ Pair key value ∷ []) ++ (pair_items target.later ++ target.rest)) =
+    let replaced_text : Derives o new
+    ((before ++ Pair key value ∷ []) ++ (pair_items target.later ++ target.rest)) =
     subst (Derives o new) (pair_and_after target value) (replaced s (source_in plain may)) in
     let same : document.items ≡ before ++ (Pair key old ∷ after) =
     derives_one document.derives (stands_derives s) in

@@ -22,9 +22,11 @@ use Rattle.ini_edit.proofs.FindLemmas.{end_reads, goes_on_within}
 use Rattle.ini_edit.proofs.LaterLemmas.{set_there, value_alike}
 use Rattle.ini_edit.proofs.WalkLemmas.{stands_within, told}
 
-module _ {o : ParseOption} {T : Text} {p : Place} {name : Option Text} (key : Text) (opens : OpensFirst o T p name)
+module _ {o : ParseOption} {T : Text} {p : Place} {name : Option Text} (key : Text)
+    (opens : OpensFirst o T p name)
     (q : Place) (found : Option FoundPair)
-    (h : MatchOption found (ReachesEnd p.option p.text p.front q key) (ReachesPair p.option p.text p.front q key))
+    (h : MatchOption found (ReachesEnd p.option p.text p.front q key)
+    (ReachesPair p.option p.text p.front q key))
     (x : FoundPair) (is : found ≡ Some x) where
   reaches : ReachesPair o T p.front q key x
   reaches = told (λ o T. ReachesPair o T p.front q key x) opens.is_reading
@@ -70,9 +72,11 @@ module _ {o : ParseOption} {T : Text} {p : Place} {name : Option Text} (key : Te
     is_set {policy} {value} {quote} left new plain keeps written on rest is_new =
         let behind : here.behind ≡ pair.rest =
         append_cancel_left q.front here.behind pair.rest (sym here.whole ∙ text_behind) in
-        let out : TakesLaterOut o T key q.front (pair.front ++ pair_with pair (written_in policy quote value)) pair.rest r g =
+        let out : TakesLaterOut o T key q.front
+        (pair.front ++ pair_with pair (written_in policy quote value)) pair.rest r g =
         subst (λ z. TakesLaterOut o T key q.front z pair.rest r g) written
         (subst (λ z. TakesLaterOut o T key q.front f z r g) behind here.out) in
         subst (IsSetThere o policy T name key value) (sym is_new)
-        (set_there left opens reaches plain keeps out (told (λ o T. ReadsOn o T r.front) here.out.is_reading on)
+        (set_there left opens reaches plain keeps out
+        (told (λ o T. ReadsOn o T r.front) here.out.is_reading on)
         (sym here.out.is_reading.text ∙ sym rest))

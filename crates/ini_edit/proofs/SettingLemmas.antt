@@ -42,7 +42,8 @@ module _ {o : ParseOption} {w : WriteOption} {T key value U : Text} where
       lacks.is_document.document ∙ ap document_of (derives_one lacks.is_document.derives derives) in
       let made : document_of (before ++ after) ≡ e.sections ++ (name, e.pairs) ∷ sections_behind after =
       ap document_of (items_end e) ∙ section_made e.pairs after e.opens e.header in
-      let value : value_in name key (e.sections ++ (name, e.pairs) ∷ sections_behind after) ≡ first_value key e.pairs =
+      let value : value_in name key
+      (e.sections ++ (name, e.pairs) ∷ sections_behind after) ≡ first_value key e.pairs =
       ap (option_and_then (first_value key))
       (first_section-behind name e.sections ((name, e.pairs) ∷ sections_behind after) e.opens.first
       ∙ cond-true (is_name name name) (Some e.pairs) _ (name_refl name)) in
@@ -60,9 +61,11 @@ module _ {o : ParseOption} {w : WriteOption} {T key value U : Text} where
   pub added_loads : {name : Option Text} → IsAdded o w T key value U name
       → LoadsEdited o T U (add_in name key value)
   added_loads (IsAdded.in_section at) = record { document = at.document; was = was_at at; is = at.is_added }
-  added_loads (IsAdded.in_new_section new) = record { document = new.document; was = new.was; is = new.is_added }
+  added_loads (IsAdded.in_new_section new) =
+      record { document = new.document; was = new.was; is = new.is_added }
 
-  pub set_loads : {name : Option Text} → IsSet o w T key value U name → LoadsEdited o T U (set_in name key value)
+  pub set_loads : {name : Option Text} → IsSet o w T key value U name
+      → LoadsEdited o T U (set_in name key value)
   set_loads (IsSet.there set) = record { document = set.document; was = set.was; is = set.is }
   set_loads (IsSet.in_section writable at lacks) =
       record { document = at.document; was = was_at at; is = at.is_set lacks }
@@ -71,7 +74,8 @@ module _ {o : ParseOption} {w : WriteOption} {T key value U : Text} where
 
 -- what adding a pair is refused with, where it isn't there
 pub refuses_to_set : {o : ParseOption} {w : WriteOption} {T : Text} {name : Option Text} {key value : Text}
-    (e : EditError) → IsPlainValue o w.escape_policy value → LacksPair o T name key → RefusesToAdd o w T name key value e
+    (e : EditError) → IsPlainValue o w.escape_policy value → LacksPair o T name key
+    → RefusesToAdd o w T name key value e
     → RefusesToSet o w T name key value e
 refuses_to_set (refusals.Text (Parse e)) plain lacks (RefusesToAdd.pair none) = absurd none
 refuses_to_set (refusals.Text (Parse e)) plain lacks (RefusesToAdd.line writable stop) = (plain, stop)
@@ -91,7 +95,8 @@ refuses_to_set refusals.NoPlace plain lacks refused = (plain, (lacks, refused))
 
 -- the answer where the pair isn't there
 pub sets_by_adding : {Z : Type 0} {o : ParseOption} (w : WriteOption) {T key : Text} (value : Text)
-    {name : Option Text} (answer : Result (String Z) EditError) → LacksPair o T name key → OnOk answer (IsWritable o w key value)
+    {name : Option Text} (answer : Result (String Z) EditError) → LacksPair o T name key
+    → OnOk answer (IsWritable o w key value)
     → IfOk answer (λ new. IsAdded o (like_lines_of T w) T key value (text_of new) name)
     → IfOk answer (λ new. IsSet o (like_lines_of T w) T key value (text_of new) name)
 sets_by_adding w value (Ok new) lacks writable added =

@@ -10,7 +10,8 @@ use Rattle.ini.specs.Texts.{Text}
 use Rattle.ini_edit.specs.Places.{Stretches, StandsAt}
 
 -- a text derives one list of items
-pub derives_one : {o : ParseOption} {T : Text} {xs ys : List Given} → Derives o T xs → Derives o T ys → xs ≡ ys
+pub derives_one : {o : ParseOption} {T : Text} {xs ys : List Given} → Derives o T xs → Derives o T ys
+    → xs ≡ ys
 derives_one {o} {T} {xs} {ys} dx dy = at (text_laws.one_outcome o T)
   where
     at : HasOneReading o T → xs ≡ ys
@@ -18,6 +19,8 @@ derives_one {o} {T} {xs} {ys} dx dy = at (text_laws.one_outcome o T)
     at (inr (kind, front, just)) = absurd (just.derives_nothing xs dx)
 
 -- the items of a text at one of its pairs
-pub stands_derives : {o : ParseOption} {T : Text} {p : Stretches} {key value : Text} {before after : List Given}
+pub stands_derives : {o : ParseOption} {T : Text} {p : Stretches} {key value : Text}
+    {before after : List Given}
     → StandsAt o T p key value before after → Derives o T (before ++ (Pair key value ∷ after))
-stands_derives s = reads-append s.reads (Reads.step s.text (Element.pair s.key_front s.some s.separates s.gives) s.then)
+stands_derives s = reads-append s.reads
+    (Reads.step s.text (Element.pair s.key_front s.some s.separates s.gives) s.then)

@@ -27,7 +27,8 @@ reaches_behind {o} {V} {items} c e x r all first =
     let gaps : Reads o T V [] (V ++ c ∷ e) = gaps_read (gaps_of (c ∷ e) all) refl in
     subst (λ g. Reads o T [] g (V ++ c ∷ e)) (append-nil items) (Reads-alike Alike.same refl first gaps)
 
-end_reached : {o : ParseOption} {T b s r : List ℕ} {items gives : List Given} (g x : List ℕ) → Reads o T [] items b
+end_reached : {o : ParseOption} {T b s r : List ℕ} {items gives : List Given} (g x : List ℕ)
+    → Reads o T [] items b
     → T ≡ b ++ (s ++ r) → Element o b s r gives → Reads o (b ++ (s ++ (g ++ x))) b gives (b ++ (s ++ g))
     → Reads o ((b ++ s) ++ (g ++ x)) [] (items ++ gives) ((b ++ s) ++ g)
 end_reached {o} {b = b} {s} {r} {items} {gives} g x reads whole element last =
@@ -37,15 +38,18 @@ end_reached {o} {b = b} {s} {r} {items} {gives} g x reads whole element last =
     (subst (λ z. Reads o (b ++ (s ++ (g ++ x))) [] (items ++ gives) z) (sym (append_assoc b s g)) all)
 
 -- what reaches the end of an element reaches what is put in behind it, where the element is read before that
-pub element_end_reached : {o : ParseOption} {T W : List ℕ} {items : List Given} (g x : List ℕ) → IsElementEnd o T W items
-    → ((b s r : List ℕ) (gives : List Given) → W ≡ b ++ s → Element o b s r gives → (gives ≡ [] → ¬ IsIndentedKey s)
+pub element_end_reached : {o : ParseOption} {T W : List ℕ} {items : List Given} (g x : List ℕ)
+    → IsElementEnd o T W items
+    → ((b s r : List ℕ) (gives : List Given) → W ≡ b ++ s → Element o b s r gives
+    → (gives ≡ [] → ¬ IsIndentedKey s)
     → Reads o (b ++ (s ++ (g ++ x))) b gives (b ++ (s ++ g)))
     → Reads o (W ++ (g ++ x)) [] items (W ++ g)
 element_end_reached g x (IsElementEnd.behind {b} {s} {r} {gives = gives} reads whole element key) last =
     end_reached g x reads whole element (last b s r gives refl element key)
 
 -- the same of a comment's end
-pub comment_end_reached : {o : ParseOption} {T W : List ℕ} {items : List Given} (g x : List ℕ) → IsCommentEnd o T W items
+pub comment_end_reached : {o : ParseOption} {T W : List ℕ} {items : List Given} (g x : List ℕ)
+    → IsCommentEnd o T W items
     → ((b s r : List ℕ) (gives : List Given) → W ≡ b ++ s → IsComment b s r gives
     → Reads o (b ++ (s ++ (g ++ x))) b gives (b ++ (s ++ g)))
     → Reads o (W ++ (g ++ x)) [] items (W ++ g)
@@ -70,7 +74,8 @@ module _ {o : ParseOption} where
       subst (λ z. Reads o z [] items (V ++ c ∷ e)) (sym (append_assoc V (c ∷ e) x))
       (reaches_behind c e x r all reads)
   reached (IsLineStart.behind_line {W} {items = items} line ends) x follows =
-      subst (λ z. Reads o (W ++ x) [] items z) (append-nil W) (element_end_reached [] x ends (λ b s r gives is element key.
+      subst (λ z. Reads o (W ++ x) [] items z) (append-nil W)
+      (element_end_reached [] x ends (λ b s r gives is element key.
       let same : Element o b s x gives = Element-ended follows element key (ap ending (sym is) ∙ line) in
       subst (λ z. Reads o (b ++ (s ++ x)) b z (b ++ (s ++ []))) (append-nil gives)
       (Reads.step refl same (subst (λ z. Reads o (b ++ (s ++ x)) (b ++ s) [] (b ++ z)) (sym (append-nil s))

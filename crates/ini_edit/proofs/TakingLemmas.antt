@@ -1,6 +1,5 @@
 -- The walk that takes the later pairs of a key out of a text.
 use Rattle.std.proofs.Common.{◌≡◌, ◌∙◌, ◌<◌, ◌-◌, List, [], ◌∷◌, ◌++◌, ap, sym, subst, refl, append_assoc}
-use Rattle.std.proofs.Common.{append-nil}
 use Rattle.std.proofs.Common.{arith, chars, false, length, length-append}
 use Rattle.std.proofs.lemmas.List.{append_cancel_left}
 use Rattle.ini_text.specs.Grammar.Elements.{Given, Header, Pair}
@@ -79,7 +78,8 @@ module _ {o : ParseOption} {T key b f g : Text} {p : Place} (t : Taking o T key 
     is : t.rest ≡ source ++ r
     is = append_cancel_left p.front t.rest (source ++ r) (sym t.takes.whole ∙ s.stands.whole)
 
-    goes_on : TakesOut o T key b f t.behind (p.front ++ source) (g ++ source) r → Taking o T key b f q (g ++ source)
+    goes_on : TakesOut o T key b f t.behind (p.front ++ source) (g ++ source) r
+        → Taking o T key b f q (g ++ source)
     goes_on takes = record {
       is_reading = s.is_reading;
       items = t.items ++ gives e.content;
@@ -97,7 +97,8 @@ module _ {o : ParseOption} {T key b f g : Text} {p : Place} (t : Taking o T key 
         → Taking o T key b f q (g ++ source)
     taking_pair k value apart one = goes_on (takes_pair t.takes is s.stands.is_element k value apart one)
 
-    pub taking_header : (name : Text) → gives e.content ≡ Header name ∷ [] → TakesLater o T key b f q (g ++ source)
+    pub taking_header : (name : Text) → gives e.content ≡ Header name ∷ []
+        → TakesLater o T key b f q (g ++ source)
     taking_header name one = record {
       behind = t.behind;
       whole = t.began;
@@ -136,7 +137,8 @@ module _ {o : ParseOption} {T key b f g : Text} {p : Place} (t : Taking o T key 
       pub pair_tail : grammar.Tail o x.tail rest
       pair_tail = subst (grammar.Tail o x.tail) behind_is placed.1.tail
 
-      module _ (same : string_text pair.key ≡ key) {stays left : Text} (cut : Cut o (placed_between g x rest) stays left) where
+      module _ (same : string_text pair.key ≡ key) {stays left : Text}
+          (cut : Cut o (placed_between g x rest) stays left) where
         here : Cut o (placed_between g x r) stays left
         here = subst (λ z. Cut o (placed_between g x z) stays left) (sym behind_is) cut
 
@@ -165,22 +167,26 @@ module _ {o : ParseOption} {T key b f g : Text} {p : Place} (t : Taking o T key 
         past = takes.whole ∙ append_assoc (p.front ++ grammar.pair_source x) left_is.line_end left
             ∙ ap (λ z. z ++ (left_is.line_end ++ left)) source_reaches
 
-        pub taking_cut : (n : Place) → IsReading o T n → n.front ≡ front_of T left → Taking o T key b f n (g ++ stays)
+        pub taking_cut : (n : Place) → IsReading o T n → n.front ≡ front_of T left
+            → Taking o T key b f n (g ++ stays)
         taking_cut n reading front = record {
           is_reading = reading;
           items = (t.items ++ gives e.content) ++ [];
           to_front =
               subst (Reads o T [] ((t.items ++ gives e.content) ++ []))
               (ap (λ z. z ++ left_is.line_end) (sym source_reaches) ∙ sym front_left ∙ sym front)
-              (reads-append (reads-append t.to_front (step_reads s)) (gaps q.front left_is.line_end left left_is.ends past));
+              (reads-append (reads-append t.to_front (step_reads s))
+              (gaps q.front left_is.line_end left left_is.ends past));
           behind = t.behind;
           began = t.began;
           rest = left;
-          takes = subst (λ c. TakesOut o T key b f t.behind c (g ++ stays) left) (sym front_left ∙ sym front) takes;
+          takes = subst (λ c. TakesOut o T key b f t.behind c (g ++ stays) left) (sym front_left
+              ∙ sym front) takes;
         }
 
         -- the walk comes nearer to the text's end
-        pub cut_nearer : (n : Place) → n.front ≡ front_of T left → length T - length n.front < length T - length p.front
+        pub cut_nearer : (n : Place) → n.front ≡ front_of T left
+            → length T - length n.front < length T - length p.front
         cut_nearer n front = omega (
           arith,
           s.stands.longer,

@@ -23,7 +23,7 @@ use Rattle.ini_edit.specs.Inside.PlaceWalks.{NoneKept}
 use Rattle.ini_edit.specs.Inside.Walks.{Boundary, IsPastLast, IsReading, StandsWithin, Steps}
 use Rattle.ini_edit.specs.declared.place.TextPlace.{TextPlace}
 use Rattle.ini_edit.proofs.NoPlaceLemmas.{none_end, none_pair, none_start, none_step}
-use Rattle.ini_edit.proofs.PlaceWalkLemmas.{items_none, last_place, place_stays, start_boundary}
+use Rattle.ini_edit.proofs.PlaceWalkLemmas.{last_place, place_stays, start_boundary}
 use Rattle.ini_edit.proofs.WalkLemmas.{stands_within, step_reads}
 
 -- where the parser stands on its way, with the last place where a line may be put in
@@ -44,7 +44,8 @@ nears_text_start {o} {T} {source} r place is front nothing free taken whole =
       reads = subst (Reads o T [] []) (sym front) (Reads.stay T refl);
       last =
           last_place source r place free whole
-          (subst (λ c. Boundary o T [] (begins is_comment_mark source) c []) (sym front) (start_boundary nothing));
+          (subst (λ c. Boundary o T [] (begins is_comment_mark source) c []) (sym front)
+          (start_boundary nothing));
       none = λ lost. record {
         name = None;
         sections = [];
@@ -54,7 +55,8 @@ nears_text_start {o} {T} {source} r place is front nothing free taken whole =
       };
     }
 
-module _ {o : ParseOption} {T : Text} {p : Place} {place : Option TextPlace} (s : NearsTextEnd o T p place) where
+module _ {o : ParseOption} {T : Text} {p : Place} {place : Option TextPlace}
+    (s : NearsTextEnd o T p place) where
   pub nears_text_within : StandsWithin p
   nears_text_within = stands_within s.is_reading s.reads
 
@@ -62,7 +64,8 @@ module _ {o : ParseOption} {T : Text} {p : Place} {place : Option TextPlace} (s 
     boundary : (gives e.content ≡ [] → ¬ IsIndentedKey (chars e.source.now))
         → Boundary o T [] (begins is_comment_mark (chars e.source.now)) q.front (s.items ++ gives e.content)
     boundary key =
-        subst (λ c. Boundary o T [] (begins is_comment_mark (chars e.source.now)) c (s.items ++ gives e.content))
+        subst (λ c. Boundary o T [] (begins is_comment_mark (chars e.source.now)) c
+        (s.items ++ gives e.content))
         (sym t.stands.reaches)
         (Boundary.behind s.reads t.stands.whole t.stands.is_element key)
 
@@ -104,7 +107,8 @@ module _ {o : ParseOption} {T : Text} {p : Place} {place : Option TextPlace} (s 
         }
         at (contents.Pair pair) is = absurd (none_pair r t (ap gives is) whole (taken will))
 
-    pub nears_text_step : (r : Text) (next new : Option TextPlace) → IfSome next (IsFreeAt o T (chars e.source.now) r)
+    pub nears_text_step : (r : Text) (next new : Option TextPlace)
+        → IfSome next (IsFreeAt o T (chars e.source.now) r)
         → (next ≡ None → IsTakenAt o T r) → q.front ++ r ≡ T
         → Keeps (chars e.source.now) (gives e.content) place next new
         → (new ≡ None → NoneKept (chars e.source.now) (gives e.content) place next) → NearsTextEnd o T q new
@@ -121,11 +125,14 @@ module _ {o : ParseOption} {T : Text} {p : Place} {place : Option TextPlace} (s 
 
         at : {new : Option TextPlace} → Keeps (chars e.source.now) (gives e.content) place next new
             → IfSome new (IsLastPlace o T [] (s.items ++ gives e.content) q.front)
-        at (Keeps.behind_item some) = last_place (chars e.source.now) r next free whole (boundary (λ none. absurd (some none)))
-        at (Keeps.behind_nothing none (Chooses.moves key)) = last_place (chars e.source.now) r next free whole (boundary (λ _. key))
+        at (Keeps.behind_item some) =
+            last_place (chars e.source.now) r next free whole (boundary (λ none. absurd (some none)))
+        at (Keeps.behind_nothing none (Chooses.moves key)) =
+            last_place (chars e.source.now) r next free whole (boundary (λ _. key))
         at (Keeps.behind_nothing none Chooses.stays) =
             subst (λ l. IfSome place (IsLastPlace o T [] l q.front)) (sym (nothing none))
-            (place_stays [] s.items place s.last (subst (λ l. Reads o T p.front l q.front) none (step_reads t)))
+            (place_stays [] s.items place s.last
+            (subst (λ l. Reads o T p.front l q.front) none (step_reads t)))
 
   pub nears_text_end : {q : Place} → IsPastLast o T p.front q → AnswersTextEnd o T place
   nears_text_end h = at place s.last s.none

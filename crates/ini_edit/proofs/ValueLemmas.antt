@@ -59,7 +59,8 @@ pub record IsSourceOf (o : ParseOption) (source value : List ℕ) : Type 0 where
       → Closes plain_ends r → WrittenLine o (w ++ (source ++ pad)) r value
   pub is_trimmed : trimmed value ≡ value
 
-module _ {o : ParseOption} {policy : EscapePolicy} (w pad : List ℕ) (white : list_all is_inline_white w ≡ true)
+module _ {o : ParseOption} {policy : EscapePolicy} (w pad : List ℕ)
+    (white : list_all is_inline_white w ≡ true)
     (white_pad : list_all is_inline_white pad ≡ true) where
   -- a plain value as it is written, between white space; all of that is a lead where the value is empty
   written_line : (value r : List ℕ) → IsPlainValue o policy value → Closes plain_ends r
@@ -94,7 +95,8 @@ module _ {o : ParseOption} {policy : EscapePolicy} (w pad : List ℕ) (white : l
 
       no_inline : BeginsWithNo is_inline_white ((escaped policy (c ∷ cs) ++ pad) ++ r)
       no_inline =
-          begins_no is_inline_white refl (and_left (is_whitespace c) _ (trimmed_begins (c ∷ cs) plain.is_trimmed))
+          begins_no is_inline_white refl
+          (and_left (is_whitespace c) _ (trimmed_begins (c ∷ cs) plain.is_trimmed))
 
       unquoted : BeginsPlain o ((escaped policy (c ∷ cs) ++ pad) ++ r)
       unquoted = λ on. begins_no is_mark refl (plain.no_mark on)
@@ -125,7 +127,8 @@ module _ {o : ParseOption} (w pad : List ℕ) (white : list_all is_inline_white 
       let same : without_outer_line_feeds value ≡ value =
       ap without_outer_line_feeds (sym (append-nil value))
       ∙ without_line_feeds-trimmed value [] is.is_trimmed refl in
-      subst (λ s. Value o s [] value) whole (subst (Value o (x.lead ++ x.line) []) same (Value.to_end on lead x.is_line))
+      subst (λ s. Value o s [] value) whole
+      (subst (Value o (x.lead ++ x.line) []) same (Value.to_end on lead x.is_line))
   value_written {source} {value} {r = r} is (Tail.lines {e} {t} {u = u} on le more all) =
       let h = tail_closes (Tail.lines on le more all) in
       let closes : Closes plain_ends (e ++ (t ++ r)) = subst (Closes plain_ends) (append_assoc e t r) h in
@@ -134,7 +137,8 @@ module _ {o : ParseOption} (w pad : List ℕ) (white : list_all is_inline_white 
       sym (append_assoc x.lead x.line (e ++ t)) ∙ ap (λ z. z ++ (e ++ t)) (sym x.whole)
       ∙ append_assoc w (source ++ pad) (e ++ t) ∙ ap (λ z. w ++ z) (append_assoc source pad (e ++ t)) in
       subst (λ s. Value o s r value) whole
-      (subst (Value o (x.lead ++ (x.line ++ (e ++ t))) r) (without_line_feeds-trimmed value u is.is_trimmed all)
+      (subst (Value o (x.lead ++ (x.line ++ (e ++ t))) r)
+      (without_line_feeds-trimmed value u is.is_trimmed all)
       (Value.lines on x.is_lead x.is_line le more))
 
 pub line_closes : {o : ParseOption} {first : Bool} {l r v : List ℕ} → Line o first l r v → Closes plain_ends r

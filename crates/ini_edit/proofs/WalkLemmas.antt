@@ -6,8 +6,6 @@ use Rattle.std.proofs.Common.{MatchOption, false}
 use Rattle.std.specs.Cow.{cow_str_bytes}
 use Rattle.ini_text.specs.Errors.Messages.{HasMessage}
 use Rattle.ini_text.specs.Grammar.Elements.{Given, Element}
-use Rattle.ini_text.specs.Grammar.CharacterKinds.{is_comment_mark}
-use Rattle.ini_text.specs.Inside.PlainTests.{begins}
 use Rattle.ini_text.specs.Grammar.Texts.{Reads, Stops}
 use Rattle.ini_text.specs.Parsing.Parser.{Place}
 use Rattle.ini_text.specs.Parsing.Places.{AnswersElement, StopsAfter, gives}
@@ -45,7 +43,8 @@ module _ {o : ParseOption} {T : Text} where
   pub told : {p : Place} (F : ParseOption → Text → Type 0) → IsReading o T p → F p.option p.text → F o T
   told {p} F is h = subst (λ x. F x T) is.option (subst (F p.option) is.text h)
 
-  pub stands_within : {p : Place} {items : List Given} → IsReading o T p → Reads o T [] items p.front → StandsWithin p
+  pub stands_within : {p : Place} {items : List Given} → IsReading o T p → Reads o T [] items p.front
+      → StandsWithin p
   stands_within {p} {items} is reads = record {
     refusal = is.refusal;
     items = items;
@@ -59,11 +58,13 @@ module _ {o : ParseOption} {T : Text} where
       (h : MatchOption found (IsPastLast p.option p.text p.front q) (Steps p.option p.text p.front q)) where
     pub step_some : {e : PlacedElement} → found ≡ Some e → Steps o T p.front q e
     step_some {e} same = told (λ o T. Steps o T p.front q e) is
-        (subst (λ x. MatchOption x (IsPastLast p.option p.text p.front q) (Steps p.option p.text p.front q)) same h)
+        (subst (λ x. MatchOption x (IsPastLast p.option p.text p.front q) (Steps p.option p.text p.front q))
+        same h)
 
     pub step_none : found ≡ None → IsPastLast o T p.front q
     step_none same = told (λ o T. IsPastLast o T p.front q) is
-        (subst (λ x. MatchOption x (IsPastLast p.option p.text p.front q) (Steps p.option p.text p.front q)) same h)
+        (subst (λ x. MatchOption x (IsPastLast p.option p.text p.front q) (Steps p.option p.text p.front q))
+        same h)
 
   module _ {b : Text} {q : Place} {e : PlacedElement} (s : Steps o T b q e) where
     pub step_reads : Reads o T b (gives e.content) q.front
@@ -115,7 +116,8 @@ module _ {o : ParseOption} {T b : Text} {p : Place} where
   walked_end w h = record { items = w.items; reads = subst (Reads o T b w.items) h.was_end w.reads }
 
 -- what stands behind elements
-pub reads_rest : {o : ParseOption} {T b c : Text} {items : List Given} → Reads o T b items c → (r : Text) × (T ≡ c ++ r)
+pub reads_rest : {o : ParseOption} {T b c : Text} {items : List Given} → Reads o T b items c
+    → (r : Text) × (T ≡ c ++ r)
 reads_rest (Reads.stay r whole) = (r, whole)
 reads_rest (Reads.step whole element reads) = reads_rest reads
 
@@ -133,16 +135,19 @@ walked_start {p} s = record {
 }
 
 -- what was found, or that nothing was
-pub found_none : {X : Type 0} {found : Option X} (none : Type 0) (some : X → Type 0) → MatchOption found none some
+pub found_none : {X : Type 0} {found : Option X} (none : Type 0) (some : X → Type 0)
+    → MatchOption found none some
     → found ≡ None → none
 found_none none some h is = subst (λ x. MatchOption x none some) is h
 
-pub found_some : {X : Type 0} {found : Option X} {x : X} (none : Type 0) (some : X → Type 0) → MatchOption found none some
+pub found_some : {X : Type 0} {found : Option X} {x : X} (none : Type 0) (some : X → Type 0)
+    → MatchOption found none some
     → found ≡ Some x → some x
 found_some none some h is = subst (λ x. MatchOption x none some) is h
 
 -- an element that gives an item ends at a boundary
-pub item_boundary : {o : ParseOption} {T b : Text} {c : Text} {q : Place} {e : PlacedElement} {items : List Given} {item : Given}
+pub item_boundary : {o : ParseOption} {T b : Text} {c : Text} {q : Place} {e : PlacedElement}
+    {items : List Given} {item : Given}
     → Reads o T b items c → Steps o T c q e → gives e.content ≡ item ∷ []
     → Boundary o T b false q.front (items ++ item ∷ [])
 item_boundary {o} {T} {b} {c} {q} {e} {items} {item} reads t is =

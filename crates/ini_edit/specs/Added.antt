@@ -71,7 +71,8 @@ module _ (o : ParseOption) (w : WriteOption) where
   -- what a pair that isn't is refused with: the separator's fault first, then the value's, then the key's
   abbrev pub RefusesPair : Text → Text → EditError → Type 0
   RefusesPair key value Separator = ¬ IsPlainSeparator (chars w.kv_separator.now)
-  RefusesPair key value Value = IsPlainSeparator (chars w.kv_separator.now) × (¬ IsPlainValue o w.escape_policy value)
+  RefusesPair key value Value =
+      IsPlainSeparator (chars w.kv_separator.now) × (¬ IsPlainValue o w.escape_policy value)
   RefusesPair key value Key = IsPlainSeparator (chars w.kv_separator.now)
       × (IsPlainValue o w.escape_policy value × (¬ IsPlainPair o w.escape_policy key value))
   RefusesPair key value _ = ⊥

@@ -34,7 +34,8 @@ pub record IsDeleted (o : ParseOption) (T : Text) (name : Option Text) (key : Te
 -- the name, as the policy writes it, in the quotes that the old one stands in where it can be; and without
 -- the later pairs of the key in that section; and no other byte than those that go with these is another
 -- one: it loads as the document in which the key is set.
-pub record IsSetThere (o : ParseOption) (policy : EscapePolicy) (T : Text) (name : Option Text) (key value : Text)
+pub record IsSetThere (o : ParseOption) (policy : EscapePolicy) (T : Text) (name : Option Text)
+    (key value : Text)
     (U : Text) : Type 0 where
   pub pair : Stretches
   pub old : Text

@@ -58,7 +58,8 @@ AddsAtPlace o w key value =
 -- The same is to set it, where the section has no pair of the key.
 abbrev pub InsertsAtPlace : ParseOption → WriteOption → Text → Text → Type 0
 InsertsAtPlace o w key value =
-    (W r glue : Text) (name : Option Text) (d : Document) → (at : EndsAtPlace o w.line_separator W r glue name d)
+    (W r glue : Text) (name : Option Text) (d : Document)
+    → (at : EndsAtPlace o w.line_separator W r glue name d)
     → Lacks key at.ends.pairs
     → IsDocumentOf o (W ++ (glue ++ (written_pair w (key, value) ++ r))) (set_in name key value d)
 

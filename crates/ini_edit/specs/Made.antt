@@ -1,6 +1,6 @@
 -- What an edit makes of a text, where it finds nothing there, and what it is refused with, in the words of
 -- the calls.
-use Rattle.std.specs.Prelude.{Option, Some}
+use Rattle.std.specs.Prelude.{Some}
 use Rattle.ini_text.specs.Laws.Plain.{IsPlainName, IsPlainValue}
 use Rattle.ini_text.specs.declared.error.Error.TheVariants.{Memory, Parse}
 use Rattle.ini_text.specs.declared.option.ParseOption.{ParseOption}
@@ -54,7 +54,8 @@ HasNothing o (RenameKey name old new) T = LacksPair o T name old
 HasNothing o (DeleteSection name) T = LacksSection o T (Some name)
 HasNothing o (RenameSection old new) T = LacksSection o T (Some old)
 
--- The edit puts a word in the place of one that is there, and the new word can't be written. (What setting and
+-- The edit puts a word in the place of one that is there, and the new word can't be written. (What setting
+-- and
 -- adding are refused with for their words may depend on the text.)
 abbrev pub HasUnplainWord : ParseOption → EscapePolicy → Editing → Type 0
 HasUnplainWord o policy (SetExisting name key value) = ¬ IsPlainValue o policy value

@@ -24,7 +24,8 @@ module _ (o : ParseOption) (w : WriteOption) where
     made : {U : Text} → IsMade o w e T U → Makes e T true U
     nothing : HasNothing o e T → Makes e T false T
 
-  -- The edits make U of the text T, each of the text that those before it made. Beside each edit stands whether
+  -- The edits make U of the text T, each of the text that those before it made. Beside each edit stands
+  -- whether
   -- it found what it is about.
   pub data AreMade (T : Text) : List Editing → List Bool → Text → Type 0 where
     none : AreMade T [] [] T

@@ -38,7 +38,8 @@ AppendsBehindEmptyLine o w name key value =
     (W r glue gap : Text) (items : List Given) → IsPlace o w.line_separator W r glue items
     → EmptyLine w.line_separator W gap → Follows o r → Reads o (W ++ r) W [] (W ++ r)
     → (d : Document) → IsDocumentOf o (W ++ r) d → first_section (Some name) d ≡ None
-    → IsDocumentOf o (W ++ (glue ++ (gap ++ (written_name w (Some name) ++ (written_pair w (key, value) ++ r)))))
+    → IsDocumentOf o (W ++ (glue
+    ++ (gap ++ (written_name w (Some name) ++ (written_pair w (key, value) ++ r)))))
     (set_in (Some name) key value d)
 
 -- The text U is T, which has no section of the name, with a section of that name put in, and no byte

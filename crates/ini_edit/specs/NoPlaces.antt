@@ -22,7 +22,8 @@ pub data SectionOpens (o : ParseOption) (T : Text) : Option Text → Document �
 abbrev pub is_blank_or_line_end : ℕ → Bool
 is_blank_or_line_end c = is_blank c || is_line_end c
 
--- Behind the front b stand blanks and line ends alone, and then an indented key that the text's end cuts short.
+-- Behind the front b stand blanks and line ends alone, and then an indented key that the text's end cuts
+-- short.
 pub record CutKeyFollows (o : ParseOption) (T b : Text) : Type 0 where
   pub gap : Text
   pub blanks : Text

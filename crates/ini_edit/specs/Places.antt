@@ -44,7 +44,8 @@ pub record StandsAt (o : ParseOption) (T : List ℕ) (p : Stretches) (key value 
     (before after : List Given) : Type 0 where
   pub text : T ≡ text_with p p.own
   pub reads : Reads o T [] before p.front
-  pub key_front : KeyFront o p.front p.key (p.separator ∷ ((p.lead ++ (p.own ++ (p.pad ++ p.tail))) ++ p.rest)) key
+  pub key_front : KeyFront o p.front p.key
+      (p.separator ∷ ((p.lead ++ (p.own ++ (p.pad ++ p.tail))) ++ p.rest)) key
   pub some : key ≢ []
   pub separates : is_separator p.separator ≡ true
   pub gives : Value o (p.lead ++ (p.own ++ (p.pad ++ p.tail))) p.rest value

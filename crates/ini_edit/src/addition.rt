@@ -31,10 +31,12 @@ use std::alloc::Global;
 ///
 /// `Separator`, `Value` or `Key`, in this order, where that can't be written; then `Text` where reading the
 /// text stops, with line and column, or memory is refused; then, where a section is new, `Name` where the
-/// name can't be written; and `NoPlace`, which comes only where an indented key that the text's end cuts short
+/// name can't be written; and `NoPlace`, which comes only where an indented key that the text's end cuts
+/// short
 /// leaves no place.
 ///
-/// The clauses say that the place is free and that nothing stands between it and the section's end which gives
+/// The clauses say that the place is free and that nothing stands between it and the section's end which
+/// gives
 /// an item; which of such places it is they don't.
 pub fn add(
     alloc: Global,
@@ -45,7 +47,8 @@ pub fn add(
     key: &str,
     value: &str,
 ) -> Result<String, EditError>
-    ensures added { IfOk result (λ new. IsAdded read (like_lines_of (chars text.now) write.now) (chars text.now)
+    ensures added { IfOk result
+        (λ new. IsAdded read (like_lines_of (chars text.now) write.now) (chars text.now)
         (chars key.now) (chars value.now) (text_of new) (str_name name.entry)) }
     ensures loads { IfOk result (λ new. LoadsEdited read (chars text.now) (text_of new)
         (add_in (str_name name.entry) (chars key.now) (chars value.now))) }

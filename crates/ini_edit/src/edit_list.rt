@@ -38,7 +38,8 @@ pub struct RefusedEdit {
 
 /// The text with the edits made in it, one after another, each in the text that those before it made. An edit
 /// that finds nothing (a key to be deleted that isn't there) changes nothing, the others go on, and `found`
-/// tells. The new text loads as the document with the edits made in it. With no edit the text is answered as it
+/// tells. The new text loads as the document with the edits made in it. With no edit the text is answered as
+/// it
 /// is, and isn't read.
 ///
 /// Each edit costs what its call does: the text is read once or more for each, and copied.
@@ -57,7 +58,8 @@ pub fn make_edits(
     ensures made { IfOk result (λ new. AreMade read write.now (chars text.now) (map editing_of edits.now)
         new.found.items (string_text new.text)) }
     ensures loads { IfOk result (λ new. (d : Document) → IsDocumentOf read (chars text.now) d
-        → IsDocumentOf read (string_text new.text) (all_made_in (map editing_of edits.now) new.found.items d)) }
+        → IsDocumentOf read (string_text new.text)
+        (all_made_in (map editing_of edits.now) new.found.items d)) }
     ensures refused { IfErr result (RefusesOneOf read write.now (map editing_of edits.now) (chars text.now)) }
 {
     let (mut new, mut found) = match copied(alloc, text) {

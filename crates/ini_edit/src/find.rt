@@ -66,7 +66,8 @@ pub(crate) fn open_section(parser: &mut Parser, name: Option<&str>) -> Result<bo
     requires front { parser.old.front ≡ [] }
     ensures opened { result ≡ Ok true →
         OpensFirst parser.old.option parser.old.text parser.new (str_name name.entry) }
-    ensures absent { result ≡ Ok false → LacksSection parser.old.option parser.old.text (str_name name.entry) }
+    ensures absent { result ≡ Ok false
+        → LacksSection parser.old.option parser.old.text (str_name name.entry) }
     ensures fault { IfParse result (IsStopOf parser.old.option parser.old.text) }
     ensures only { IfErr result IsParseOrMemory }
 {

@@ -54,7 +54,8 @@ pub fn set_existing(
 ) -> Result<Option<String>, EditError>
     ensures edited { IfOk result (λ edited. MatchOption edited
         (LacksPair read (chars text.now) (str_name name.entry) (chars key.now))
-        (λ new. IsSetThere read policy (chars text.now) (str_name name.entry) (chars key.now) (chars value.now)
+        (λ new. IsSetThere read policy (chars text.now) (str_name name.entry) (chars key.now)
+        (chars value.now)
         (string_text new))) }
     ensures value { (result ≡ Err EditErrors.Value) ↔ ¬ IsPlainValue read policy (chars value.now) }
     ensures fault { IfEditParse result (IsStopOf read (chars text.now)) }
@@ -87,7 +88,8 @@ pub fn set(
     key: &str,
     value: &str,
 ) -> Result<String, EditError>
-    ensures edited { IfOk result (λ new. IsSet read (like_lines_of (chars text.now) write.now) (chars text.now)
+    ensures edited { IfOk result
+        (λ new. IsSet read (like_lines_of (chars text.now) write.now) (chars text.now)
         (chars key.now) (chars value.now) (string_text new) (str_name name.entry)) }
     ensures loads { IfOk result (λ new. LoadsEdited read (chars text.now) (string_text new)
         (set_in (str_name name.entry) (chars key.now) (chars value.now))) }
@@ -117,7 +119,8 @@ fn set_plain(
     requires plain { IsPlainValue read policy (chars value.now) }
     ensures edited { IfOk result (λ edited. MatchOption edited
         (LacksPair read (chars text.now) (str_name name.entry) (chars key.now))
-        (λ new. IsSetThere read policy (chars text.now) (str_name name.entry) (chars key.now) (chars value.now)
+        (λ new. IsSetThere read policy (chars text.now) (str_name name.entry) (chars key.now)
+        (chars value.now)
         (string_text new))) }
     ensures fault { IfParse result (IsStopOf read (chars text.now)) }
     ensures only { IfErr result IsParseOrMemory }

@@ -1,5 +1,5 @@
 -- Ends of texts, and what stays behind a pair in one line.
-use Rattle.std.specs.Prelude.{◌≡◌, ℕ, true, List, [], ◌∷◌, ◌++◌}
+use Rattle.std.specs.Prelude.{◌≡◌, ℕ, true, [], ◌∷◌, ◌++◌}
 use Rattle.std.specs.List.{list_all}
 use Rattle.ini_text.specs.Grammar.CharacterKinds.{is_line_end}
 use Rattle.ini_text.specs.Grammar.Values.{LineEnd}

@@ -43,7 +43,8 @@ pub record TakesOut (o : ParseOption) (T key b f behind c g rest : Text) : Type 
   pub passes : Reads o T b (pair_items later) c
   pub lacks : Lacks key kept
   pub alike : ReadAlike c g rest
-  pub reads : (upto : List Given) → Reads o (f ++ behind) [] upto f → (after : List Given) → Reads o T c after T
+  pub reads : (upto : List Given) → Reads o (f ++ behind) [] upto f → (after : List Given)
+      → Reads o T c after T
       → Reads o (g ++ rest) [] (upto ++ pair_items kept) g
   pub goes : (upto : List Given) → Reads o (f ++ behind) [] upto f → (more : Pairs) (items : List Given)
       → Reads o T c (pair_items more ++ items) T → (U : Text)

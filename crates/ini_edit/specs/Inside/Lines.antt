@@ -37,4 +37,5 @@ pub record IsWithSection (o : ParseOption) (w : WriteOption) (e : Ending) (W r n
   pub gap : Text
   pub is_glue : Glue o w.line_separator e glue
   pub empty_line : EmptyLine w.line_separator W gap
-  pub is_new : new ≡ W ++ (glue ++ (gap ++ (written_name w (Some name) ++ (written_pair w (key, value) ++ r))))
+  pub is_new : new ≡ W ++ (glue
+      ++ (gap ++ (written_name w (Some name) ++ (written_pair w (key, value) ++ r))))

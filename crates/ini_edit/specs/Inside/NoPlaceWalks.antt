@@ -12,7 +12,8 @@ use Rattle.ini_edit.specs.Endings.{IsIndentedKey}
 use Rattle.ini_edit.specs.NoPlaces.{CutKeyFollows, SectionOpens, is_blank_or_line_end}
 use Rattle.ini_edit.specs.declared.place.TextPlace.{TextPlace}
 
--- what follows the front W lets no line in: a multiline value would take it, or a blank gets to a line's start
+-- what follows the front W lets no line in: a multiline value would take it, or a blank gets to a line's
+-- start
 pub data IsTaken (o : ParseOption) (W r : Text) : Type 0 where
   by_value : o.enabled_indented_mutiline_value ≡ true → (begins is_blank r || begins is_line_end r) ≡ true
       → IsTaken o W r

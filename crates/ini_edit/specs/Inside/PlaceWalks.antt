@@ -41,7 +41,8 @@ pub data Chooses (source : Text) (old next : Option TextPlace) : Option TextPlac
 
 -- of two places one is taken, where an element that gives items stands between them: the later one behind
 -- items, and else as above
-pub data Keeps (source : Text) (given : List Given) (old next : Option TextPlace) : Option TextPlace → Type 0 where
+pub data Keeps (source : Text) (given : List Given) (old next : Option TextPlace) : Option TextPlace
+    → Type 0 where
   behind_item : given ≢ [] → Keeps source given old next next
   behind_nothing : {new : Option TextPlace} → given ≡ [] → Chooses source old next new
       → Keeps source given old next new
@@ -70,7 +71,8 @@ module _ (o : ParseOption) (T b : Text) where
     pub none : found ≡ None → EndsInKey o T b
 
 -- behind the items `before` the first section of the name ends, and a line may be put in there
-pub record IsFirstSectionEnd (o : ParseOption) (T : Text) (name : Option Text) (place : TextPlace) : Type 0 where
+pub record IsFirstSectionEnd (o : ParseOption) (T : Text) (name : Option Text)
+    (place : TextPlace) : Type 0 where
   pub before : List Given
   pub after : List Given
   pub whole : T ≡ chars place.front.now ++ chars place.rest.now

@@ -23,7 +23,8 @@ module _ (o : ParseOption) (T : Text) where
     pub none : first_section (Some name) (document_of items) ≡ None
     pub reads : Reads o T [] items (chars found.front.now)
     pub whole : T ≡ chars found.front.now ++ (chars found.source.now ++ chars found.rest.now)
-    pub element : Element o (chars found.front.now) (chars found.source.now) (chars found.rest.now) (Header name ∷ [])
+    pub element : Element o (chars found.front.now) (chars found.source.now) (chars found.rest.now)
+        (Header name ∷ [])
     pub reaches : q.front ≡ chars found.front.now ++ chars found.source.now
 
   -- Behind the section's pairs, which reach the front `last`, what stays of the text begins at the front
@@ -37,7 +38,8 @@ module _ (o : ParseOption) (T : Text) where
     pub gaps : Reads o T last [] upto
     pub uncommented : column ≡ true → Uncommented o T last upto
     pub nothing : Reads o T upto [] c
-    pub kept : (upto ≡ c) ⊎ ((column ≡ true) × ((is_column_one upto ≡ true) × BeginsWith is_comment_mark rest))
+    pub kept : (upto ≡ c) ⊎ ((column ≡ true)
+        × ((is_column_one upto ≡ true) × BeginsWith is_comment_mark rest))
 
   -- behind pairs the section ended, and now the parser stands behind what ended it
   pub record ReachesRest (b : Text) (column : Bool) (q : Place) (rest : Text) : Type 0 where

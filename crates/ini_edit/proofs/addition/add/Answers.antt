@@ -7,11 +7,14 @@ use Rattle.ini_edit.proofs.addition.add.Goals as goal
 
 pub returns-clause-added : goal.returns-clause-added
 returns-clause-added c =
-    subst (λ w. IfOk c.with_pair.result (λ new. IsAdded c.args.read w (chars c.args.text.now) (chars c.args.key.now)
-    (chars c.args.value.now) (text_of new) (str_name c.args.name))) c.like_lines_of.ensures c.with_pair.ensures.added
+    subst (λ w. IfOk c.with_pair.result
+    (λ new. IsAdded c.args.read w (chars c.args.text.now) (chars c.args.key.now)
+    (chars c.args.value.now) (text_of new) (str_name c.args.name))) c.like_lines_of.ensures
+    c.with_pair.ensures.added
 
 pub returns-clause-loads : goal.returns-clause-loads
-returns-clause-loads c = IfOk-weaker c.with_pair.result _ _ (λ new added. added_loads added) c.with_pair.ensures.added
+returns-clause-loads c =
+    IfOk-weaker c.with_pair.result _ _ (λ new added. added_loads added) c.with_pair.ensures.added
 
 pub returns-clause-refused : goal.returns-clause-refused
 returns-clause-refused c =

@@ -6,8 +6,11 @@ use Rattle.ini_edit.proofs.addition.with_line.Goals as goal
 
 pub returns-clause-new : goal.returns-clause-new
 returns-clause-new c =
-    with_line_parts c.args.write.now (chars c.args.place.front.now) (chars c.args.place.rest.now) (chars c.args.key.now)
-    (chars c.args.value.now) (text_of c.new-new.result) (text_of c.push_text.new.out) (text_of c.push_glue.new.text)
-    (text_of c.push_pair.new.text) (text_of c.push_text-2.new.out) (ap chars c.new-new.ensures.bytes ∙ chars-nil)
+    with_line_parts c.args.write.now (chars c.args.place.front.now) (chars c.args.place.rest.now)
+    (chars c.args.key.now)
+    (chars c.args.value.now) (text_of c.new-new.result) (text_of c.push_text.new.out)
+    (text_of c.push_glue.new.text)
+    (text_of c.push_pair.new.text) (text_of c.push_text-2.new.out) (ap chars c.new-new.ensures.bytes
+    ∙ chars-nil)
     c.in_ok-push_text.ensures.pushed c.in_ok-push_glue.ensures.pushed c.in_ok-push_pair.ensures.pushed
     c.in_ok-push_text-2.ensures.pushed

@@ -14,7 +14,8 @@ returns-in_ok-with_line-in-At-clause-added c =
 
 pub returns-in-Some-clause-added : goal.returns-in-Some-clause-added
 returns-in-Some-clause-added c =
-    subst (λ n. IfOk c.with_new_section.result (λ new. IsAdded c.args.read c.args.write.now (chars c.args.text.now)
+    subst (λ n. IfOk c.with_new_section.result
+    (λ new. IsAdded c.args.read c.args.write.now (chars c.args.text.now)
     (chars c.args.key.now) (chars c.args.value.now) (text_of new) (str_name n))) (sym c.in-Some.is)
     (IfOk-weaker c.with_new_section.result _ _ (λ new section. IsAdded.in_new_section section)
     c.with_new_section.ensures.new)

@@ -1,4 +1,4 @@
-use Rattle.std.proofs.Common.{◌≡◌, ◌∙◌, ◌++◌, ap, append_assoc, chars, length, string_bytes}
+use Rattle.std.proofs.Common.{◌∙◌, ◌++◌, ap, append_assoc, chars, length, string_bytes}
 use Rattle.ini_text.specs.Parsing.Items.{string_text}
 use Rattle.ini_text.proofs.StringLemmas.PushLemmas.{no_characters}
 use Rattle.ini_edit.proofs.DeleteLemmas.{is_deleted}
@@ -15,5 +15,6 @@ returns-clause-edited c =
     (c.in_ok-push_text-3.ensures.pushed
     ∙ ap (λ z. z ++ rest) (c.in_ok-push_text-2.ensures.pushed
     ∙ ap (λ z. z ++ kept) (c.in_ok-push_text.ensures.pushed
-    ∙ ap (λ z. z ++ front) (no_characters (string_bytes c.in_ok-edited.edited) (ap length c.in_ok-edited.ensures.bytes))))
+    ∙ ap (λ z. z ++ front) (no_characters (string_bytes c.in_ok-edited.edited)
+    (ap length c.in_ok-edited.ensures.bytes))))
     ∙ append_assoc front kept rest)

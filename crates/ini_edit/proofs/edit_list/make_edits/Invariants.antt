@@ -6,4 +6,5 @@ use Rattle.ini_edit.proofs.edit_list.make_edits.Given as goal
 
 abbrev pub invariant-loop-index : goal.invariant-loop-index
 invariant-loop-index l =
-    AreMade l.read l.write (chars l.text) (map editing_of (take l.index l.edits)) l.found.items (string_text l.new)
+    AreMade l.read l.write (chars l.text) (map editing_of (take l.index l.edits)) l.found.items
+    (string_text l.new)

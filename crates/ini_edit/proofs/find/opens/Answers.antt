@@ -10,7 +10,8 @@ pub returns-in-Header-clause-no : goal.returns-in-Header-clause-no
 returns-in-Header-clause-no c is =
     subst (λ x. OpensNone (Some (chars c.args.name.now)) (gives x)) (sym c.in-Header.is)
     (OpensNone.other (ap (is_text (chars c.args.name.now))
-    (sym (ap chars c.as_str.ensures.value ∙ ap string_text c.in-Header.header-is)) ∙ sym c.is_same_text.ensures ∙ is))
+    (sym (ap chars c.as_str.ensures.value ∙ ap string_text c.in-Header.header-is))
+    ∙ sym c.is_same_text.ensures ∙ is))
 
 pub returns : goal.returns
 returns c = record {

@@ -29,14 +29,17 @@ elements-preserved-in-Nothing c =
 pub returns-in-Header-clause-found : goal.returns-in-Header-clause-found
 returns-in-Header-clause-found c =
     let s = c.elements.invariant in
-    search_header s (step_some s.walked.is_reading c.in_ok-element.ensures.element c.in-Some.is) (ap gives c.in-Header.is)
+    search_header s (step_some s.walked.is_reading c.in_ok-element.ensures.element c.in-Some.is)
+    (ap gives c.in-Header.is)
 
 pub returns-then-is_same_text-clause-found : goal.returns-then-is_same_text-clause-found
 returns-then-is_same_text-clause-found c =
     let s = c.elements.invariant in
     search_pair s _ (step_some s.walked.is_reading c.in_ok-element.ensures.element c.in-Some.is) c.in-Pair.is
     (sym (texts_equal (chars c.args.key.now) (string_text c.in-Pair.pair.key)
-    (ap (is_text (chars c.args.key.now)) (sym (ap chars c.as_str.ensures.value ∙ ap (λ p. string_text p.key) c.in-Pair.pair-is)) ∙ sym c.is_same_text.ensures ∙ c.if-is_same_text.true)))
+    (ap (is_text (chars c.args.key.now))
+    (sym (ap chars c.as_str.ensures.value ∙ ap (λ p. string_text p.key) c.in-Pair.pair-is))
+    ∙ sym c.is_same_text.ensures ∙ c.if-is_same_text.true)))
     (c.front_before.ensures
     ∙ front_is c.elements.parser.front (chars c.rest-start.result.now) (chars c.args.text.now)
     (c.rest-start.ensures ∙ s.walked.is_reading.text ∙ c.requires.text))
@@ -48,5 +51,6 @@ elements-preserved c =
     search_step s (step_some s.walked.is_reading c.in_ok-element.ensures.element c.in-Some.is)
     (subst (λ x. PairsWithout (chars c.args.key.now) (gives x)) (sym c.in-Pair.is)
     (PairsWithout.pair
-    (ap (is_text (chars c.args.key.now)) (sym (ap chars c.as_str.ensures.value ∙ ap (λ p. string_text p.key) c.in-Pair.pair-is))
+    (ap (is_text (chars c.args.key.now))
+    (sym (ap chars c.as_str.ensures.value ∙ ap (λ p. string_text p.key) c.in-Pair.pair-is))
     ∙ sym c.is_same_text.ensures ∙ c.if-is_same_text.false)))

@@ -6,8 +6,10 @@ use Rattle.ini_edit.proofs.glue.closing.Goals as goal
 
 pub returns-in-Inside : goal.returns-in-Inside
 returns-in-Inside c = elim c.in-Inside.is [
-  | inl x ↦ subst (λ e. Closing c.args.read (ending_of e) (chars [])) (sym x) (subst (Closing c.args.read _) (sym chars-none) Closing.within)
-  | inr x ↦ subst (λ e. Closing c.args.read (ending_of e) (chars [])) (sym x) (subst (Closing c.args.read _) (sym chars-none) Closing.behind_line)
+  | inl x ↦ subst (λ e. Closing c.args.read (ending_of e) (chars [])) (sym x)
+      (subst (Closing c.args.read _) (sym chars-none) Closing.within)
+  | inr x ↦ subst (λ e. Closing c.args.read (ending_of e) (chars [])) (sym x)
+      (subst (Closing c.args.read _) (sym chars-none) Closing.behind_line)
 ]
 
 pub returns-then-read : goal.returns-then-read

@@ -23,7 +23,9 @@ returns-clause-pushed c =
     c.in_ok-push_text-2.ensures.pushed ∙ ap (λ x. text_of c.push_escaped.new.text ++ x) chars-close_bracket
     ∙ ap (λ x. x ++ b) second in
     on_ok_weaker c.push_text-3.result (λ last. last
-    ∙ ap (λ x. text_of c.push_text-2.new.out ++ x) (ap chars c.as_str.ensures ∙ chars-line_end w.line_separator)
+    ∙ ap (λ x. text_of c.push_text-2.new.out ++ x) (ap chars c.as_str.ensures
+    ∙ chars-line_end w.line_separator)
     ∙ ap (λ x. x ++ e) third
-    ∙ append_assoc ((old ++ a) ++ n) b e ∙ append_assoc (old ++ a) n (b ++ e) ∙ append_assoc old a (n ++ (b ++ e)))
+    ∙ append_assoc ((old ++ a) ++ n) b e ∙ append_assoc (old ++ a) n (b ++ e)
+    ∙ append_assoc old a (n ++ (b ++ e)))
     c.push_text-3.ensures.pushed

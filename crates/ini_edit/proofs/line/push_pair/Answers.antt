@@ -1,4 +1,4 @@
-use Rattle.std.proofs.Common.{◌≡◌, ◌∙◌, ◌++◌, ap, append_assoc, chars, sym}
+use Rattle.std.proofs.Common.{◌∙◌, ◌++◌, ap, append_assoc, chars, sym}
 use Rattle.std.proofs.lemmas.Result.{on_ok_weaker}
 use Rattle.ini.specs.Texts.{text_of}
 use Rattle.ini.proofs.WritingLemmas.{chars-line_end}
@@ -16,7 +16,12 @@ returns-clause-pushed c =
     let v = escaped w.escape_policy (chars c.args.value.now) in
     let e = line_end w.line_separator in
     on_ok_weaker c.push_text-2.result (λ last. last
-    ∙ ap (λ x. text_of c.push_escaped-2.new.text ++ x) (ap chars c.as_str.ensures ∙ chars-line_end w.line_separator)
-    ∙ ap (λ x. x ++ e) (c.in_ok-push_escaped-2.ensures.pushed ∙ ap (λ x. x ++ v) (c.in_ok-push_text.ensures.pushed ∙ ap (λ x. x ++ s) c.in_ok-push_escaped.ensures.pushed))
-    ∙ append_assoc ((old ++ k) ++ s) v e ∙ append_assoc (old ++ k) s (v ++ e) ∙ append_assoc old k (s ++ (v ++ e))
-    ∙ ap (λ x. old ++ x) (sym (pair_is w (chars c.args.key.now) (chars c.args.value.now)))) c.push_text-2.ensures.pushed
+    ∙ ap (λ x. text_of c.push_escaped-2.new.text ++ x) (ap chars c.as_str.ensures
+    ∙ chars-line_end w.line_separator)
+    ∙ ap (λ x. x ++ e) (c.in_ok-push_escaped-2.ensures.pushed
+    ∙ ap (λ x. x ++ v) (c.in_ok-push_text.ensures.pushed
+    ∙ ap (λ x. x ++ s) c.in_ok-push_escaped.ensures.pushed))
+    ∙ append_assoc ((old ++ k) ++ s) v e ∙ append_assoc (old ++ k) s (v ++ e)
+    ∙ append_assoc old k (s ++ (v ++ e))
+    ∙ ap (λ x. old ++ x) (sym (pair_is w (chars c.args.key.now) (chars c.args.value.now))))
+    c.push_text-2.ensures.pushed

@@ -12,5 +12,7 @@ returns-then-ends_empty c =
 
 pub returns : goal.returns
 returns c =
-    subst (EmptyLine c.args.end (chars c.args.front.now)) (sym (ap chars c.as_str.ensures ∙ chars-line_end c.args.end))
-    (EmptyLine.new (λ empty. both_ways c.ends_empty.result c.if-ends_empty.false (c.ends_empty.ensures.1 empty)))
+    subst (EmptyLine c.args.end (chars c.args.front.now))
+    (sym (ap chars c.as_str.ensures ∙ chars-line_end c.args.end))
+    (EmptyLine.new (λ empty. both_ways c.ends_empty.result c.if-ends_empty.false
+    (c.ends_empty.ensures.1 empty)))

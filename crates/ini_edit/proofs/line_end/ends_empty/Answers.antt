@@ -12,4 +12,5 @@ returns-in-Some-without_last c =
 
 pub returns-in-None : goal.returns-in-None
 returns-in-None c =
-    empty_by_lf c.in-Some.ensures c.is_column_one-in-None.result c.in-None.ensures c.is_column_one-in-None.ensures
+    empty_by_lf c.in-Some.ensures c.is_column_one-in-None.result c.in-None.ensures
+    c.is_column_one-in-None.ensures

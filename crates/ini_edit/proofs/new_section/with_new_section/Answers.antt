@@ -7,4 +7,5 @@ pub returns-clause-new : goal.returns-clause-new
 returns-clause-new c =
     in_new_section c.requires.lacks
     (subst (AnswersTextEnd c.args.read (chars c.args.text.now)) c.in-Some.is c.in_ok-place.ensures.end)
-    (c.is_plain_name.ensures.0 c.if-not-is_plain_name.false) c.requires.writable c.in_ok-with_section.ensures.new
+    (c.is_plain_name.ensures.0 c.if-not-is_plain_name.false) c.requires.writable
+    c.in_ok-with_section.ensures.new

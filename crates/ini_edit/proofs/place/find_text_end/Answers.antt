@@ -12,7 +12,8 @@ elements-init c =
       text = c.new-parser.ensures.text;
       refusal = c.new-parser.ensures.refusal;
     })
-    c.new-parser.ensures.front chars-none c.free_place-place.ensures.free c.free_place-place.ensures.taken (c.rest.ensures ∙ c.new-parser.ensures.text)
+    c.new-parser.ensures.front chars-none c.free_place-place.ensures.free c.free_place-place.ensures.taken
+    (c.rest.ensures ∙ c.new-parser.ensures.text)
 
 pub step-requires : goal.step-requires
 step-requires c = nears_text_within c.elements.invariant
@@ -22,7 +23,8 @@ elements-preserved c =
     let s = c.elements.invariant in
     let t = step_some s.is_reading c.in_ok-element.ensures.element c.in-Some.is in
     nears_text_step s t (chars c.rest-in-Some.result.now) c.free_place-next.result c.last_place-place.result
-    c.free_place-next.ensures.free c.free_place-next.ensures.taken (c.rest-in-Some.ensures ∙ t.is_reading.text)
+    c.free_place-next.ensures.free c.free_place-next.ensures.taken (c.rest-in-Some.ensures
+    ∙ t.is_reading.text)
     c.last_place-place.ensures.place c.last_place-place.ensures.none
 
 pub returns-clause-end : goal.returns-clause-end

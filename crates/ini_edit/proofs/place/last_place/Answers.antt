@@ -59,6 +59,7 @@ pub returns : goal.returns
 returns c =
     let given = ap gives c.in-Nothing.is in
     record {
-      place = Keeps.behind_nothing given (Chooses.moves (c.is_indented_key.ensures.no c.if-is_indented_key.false));
+      place = Keeps.behind_nothing given
+          (Chooses.moves (c.is_indented_key.ensures.no c.if-is_indented_key.false));
       none = λ is. absurd (not_none c.args.next c.if-is_none.ensures is);
     }

@@ -22,13 +22,15 @@ returns-in_default-clause-rest c =
 pub returns-in-Header-clause-rest : goal.returns-in-Header-clause-rest
 returns-in-Header-clause-rest c =
     let s = c.elements.invariant.0 in
-    keeps_header s (step_some s.walked.is_reading c.in_ok-element.ensures.element c.in-Some.is) (ap gives c.in-Header.is)
+    keeps_header s (step_some s.walked.is_reading c.in_ok-element.ensures.element c.in-Some.is)
+    (ap gives c.in-Header.is)
 
 pub elements-preserved-in-Pair : goal.elements-preserved-in-Pair
 elements-preserved-in-Pair c =
     let s = c.elements.invariant.0 in
     let t = step_some s.walked.is_reading c.in_ok-element.ensures.element c.in-Some.is in (
-      keeps_pair s t (chars c.rest-rest-in-Pair.result.now) _ _ (ap gives c.in-Pair.is) c.rest-rest-in-Pair.ensures,
+      keeps_pair s t (chars c.rest-rest-in-Pair.result.now) _ _
+          (ap gives c.in-Pair.is) c.rest-rest-in-Pair.ensures,
       c.rest-rest-in-Pair.utf8,
     )
 
@@ -40,7 +42,8 @@ elements-preserved-in-Nothing c =
     let column = c.args.is_column_one in (
       keeps_nothing s t (chars c.rest-rest-then-not-is_column_one.result.now) (ap gives c.in-Nothing.is)
           (elim c.then-not-is_column_one.branch [
-            | then-not-is_column_one-via-then-not-is_column_one w ↦ kept_off column rest w.if-not-is_column_one.true
+            | then-not-is_column_one-via-then-not-is_column_one w ↦ kept_off column rest
+                w.if-not-is_column_one.true
             | then-not-is_column_one-via-else-not-is_column_one+then-not-begins_with_comment w ↦
                 kept_plain column rest (sym w.begins_with_comment.ensures ∙ w.if-not-begins_with_comment.true)
           ])

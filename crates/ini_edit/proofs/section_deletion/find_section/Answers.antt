@@ -1,6 +1,4 @@
-use Rattle.std.proofs.Common.{◌≡◌, ap, chars, subst}
-use Rattle.ini_text.specs.Grammar.Positions.{is_column_one}
-use Rattle.ini_edit.specs.Inside.SectionWalks.{OpensAt, ReachesRest}
+use Rattle.std.proofs.Common.{chars, subst}
 use Rattle.ini_edit.specs.Sections.{IsSectionAt}
 use Rattle.ini_edit.proofs.SectionWalkLemmas.{found_section, opened_within, rest_goes_on}
 use Rattle.ini_edit.proofs.WalkLemmas.{found_some}
@@ -16,9 +14,11 @@ read_on-requires c =
 
 pub returns-clause-found : goal.returns-clause-found
 returns-clause-found c =
-    subst (λ o. IsSectionAt o (chars c.args.text.now) (chars c.args.name.now) (chars c.in-Some.header.front.now)
+    subst (λ o. IsSectionAt o (chars c.args.text.now) (chars c.args.name.now)
+    (chars c.in-Some.header.front.now)
     (chars c.in_ok-rest.rest.now)) c.new-parser.ensures.option
-    (subst (λ T. IsSectionAt c.new-parser.result.option T (chars c.args.name.now) (chars c.in-Some.header.front.now)
+    (subst (λ T. IsSectionAt c.new-parser.result.option T (chars c.args.name.now)
+    (chars c.in-Some.header.front.now)
     (chars c.in_ok-rest.rest.now)) c.new-parser.ensures.text
     (found_section (found_some _ _ c.in_ok-header.ensures.found c.in-Some.is) c.is_column_one.result
     c.is_column_one.ensures c.in_ok-rest.ensures.rest c.in_ok-read_on.ensures.end))

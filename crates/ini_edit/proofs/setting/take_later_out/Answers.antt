@@ -1,4 +1,4 @@
-use Rattle.std.proofs.Common.{◌≡◌, ◌∙◌, ap, chars, subst, sym}
+use Rattle.std.proofs.Common.{◌∙◌, ap, chars, subst, sym}
 use Rattle.ini_text.specs.Parsing.Fronts.{IsRest, front_of}
 use Rattle.ini_text.specs.Parsing.Items.{string_text}
 use Rattle.ini_text.specs.Parsing.Places.{gives, stretches_of}
@@ -45,7 +45,8 @@ elements-preserved-then-not-is_same_text c =
     let s = step_some t.is_reading c.in_ok-element.ensures.element c.in-Some.is in
     subst (Taking _ _ _ _ _ _) (sym c.in_ok-push_text-in-Pair.ensures.pushed)
     (taking_pair t s _ _
-    (ap (is_text (chars c.args.key.now)) (sym (ap chars c.as_str.ensures.value ∙ ap (λ p. string_text p.key) c.in-Pair.pair-is))
+    (ap (is_text (chars c.args.key.now))
+    (sym (ap chars c.as_str.ensures.value ∙ ap (λ p. string_text p.key) c.in-Pair.pair-is))
     ∙ sym c.is_same_text.ensures ∙ c.if-not-is_same_text.true) (ap gives c.in-Pair.is))
 
 pub cut-cutting-requires : goal.cut-cutting-requires
@@ -61,12 +62,15 @@ behind-requires c =
     let t = c.elements.invariant in
     let s = step_some t.is_reading c.in_ok-element.ensures.element c.in-Some.is in
     let same = texts_equal (chars c.args.key.now) (string_text c.in-Pair.pair.key)
-    (ap (is_text (chars c.args.key.now)) (sym (ap chars c.as_str.ensures.value ∙ ap (λ p. string_text p.key) c.in-Pair.pair-is))
+    (ap (is_text (chars c.args.key.now))
+    (sym (ap chars c.as_str.ensures.value ∙ ap (λ p. string_text p.key) c.in-Pair.pair-is))
     ∙ sym c.is_same_text.ensures ∙ c.if-not-is_same_text.false) in
     let cut : Cut c.args.parser.now.option
-    (placed_between (string_text c.elements.out) (stretches_of c.in-Pair.pair.places) (chars c.rest.result.now))
+    (placed_between (string_text c.elements.out) (stretches_of c.in-Pair.pair.places)
+    (chars c.rest.result.now))
     (chars c.cut-cutting.result.kept.now) (chars c.cut-cutting.result.rest.now) =
-    rw (c.requires.option, sym (ap chars c.as_str-in-Pair.ensures.value), sym c.in-Pair.pair-is) c.cut-cutting.ensures in
+    rw (c.requires.option, sym (ap chars c.as_str-in-Pair.ensures.value), sym c.in-Pair.pair-is)
+    c.cut-cutting.ensures in
     subst (λ T. IsRest T (chars c.cut-cutting.result.rest.now)) c.requires.text
     (left_is_rest t s _ c.in-Pair.is (chars c.rest.result.now) c.rest.ensures (sym same) cut)
 
@@ -75,31 +79,40 @@ elements-smaller c =
     let t = c.elements.invariant in
     let s = step_some t.is_reading c.in_ok-element.ensures.element c.in-Some.is in
     let same = texts_equal (chars c.args.key.now) (string_text c.in-Pair.pair.key)
-    (ap (is_text (chars c.args.key.now)) (sym (ap chars c.as_str.ensures.value ∙ ap (λ p. string_text p.key) c.in-Pair.pair-is))
+    (ap (is_text (chars c.args.key.now))
+    (sym (ap chars c.as_str.ensures.value ∙ ap (λ p. string_text p.key) c.in-Pair.pair-is))
     ∙ sym c.is_same_text.ensures ∙ c.if-not-is_same_text.false) in
     let cut : Cut c.args.parser.now.option
-    (placed_between (string_text c.elements.out) (stretches_of c.in-Pair.pair.places) (chars c.rest.result.now))
+    (placed_between (string_text c.elements.out) (stretches_of c.in-Pair.pair.places)
+    (chars c.rest.result.now))
     (chars c.cut-cutting.result.kept.now) (chars c.cut-cutting.result.rest.now) =
-    rw (c.requires.option, sym (ap chars c.as_str-in-Pair.ensures.value), sym c.in-Pair.pair-is) c.cut-cutting.ensures in
+    rw (c.requires.option, sym (ap chars c.as_str-in-Pair.ensures.value), sym c.in-Pair.pair-is)
+    c.cut-cutting.ensures in
     cut_nearer t s _ c.in-Pair.is (chars c.rest.result.now) c.rest.ensures (sym same) cut c.behind.result
-    (c.behind.ensures.front ∙ ap (λ T. front_of T (chars c.cut-cutting.result.rest.now)) (sym c.requires.text))
+    (c.behind.ensures.front ∙ ap (λ T. front_of T (chars c.cut-cutting.result.rest.now))
+    (sym c.requires.text))
 
 pub elements-preserved : goal.elements-preserved
 elements-preserved c =
     let t = c.elements.invariant in
     let s = step_some t.is_reading c.in_ok-element.ensures.element c.in-Some.is in
     let same = texts_equal (chars c.args.key.now) (string_text c.in-Pair.pair.key)
-    (ap (is_text (chars c.args.key.now)) (sym (ap chars c.as_str.ensures.value ∙ ap (λ p. string_text p.key) c.in-Pair.pair-is))
+    (ap (is_text (chars c.args.key.now))
+    (sym (ap chars c.as_str.ensures.value ∙ ap (λ p. string_text p.key) c.in-Pair.pair-is))
     ∙ sym c.is_same_text.ensures ∙ c.if-not-is_same_text.false) in
     let cut : Cut c.args.parser.now.option
-    (placed_between (string_text c.elements.out) (stretches_of c.in-Pair.pair.places) (chars c.rest.result.now))
+    (placed_between (string_text c.elements.out) (stretches_of c.in-Pair.pair.places)
+    (chars c.rest.result.now))
     (chars c.cut-cutting.result.kept.now) (chars c.cut-cutting.result.rest.now) =
-    rw (c.requires.option, sym (ap chars c.as_str-in-Pair.ensures.value), sym c.in-Pair.pair-is) c.cut-cutting.ensures in
+    rw (c.requires.option, sym (ap chars c.as_str-in-Pair.ensures.value), sym c.in-Pair.pair-is)
+    c.cut-cutting.ensures in
     let reading : IsReading c.args.parser.now.option c.args.parser.now.text c.behind.result = record {
       option = c.behind.ensures.option ∙ sym c.requires.option;
       text = c.behind.ensures.text ∙ sym c.requires.text;
       refusal = c.behind.ensures.refusal;
     } in
     subst (Taking _ _ _ _ _ _) (sym c.in_ok-push_text-in-Pair-2.ensures.pushed)
-    (taking_cut t s _ c.in-Pair.is (chars c.rest.result.now) c.rest.ensures (sym same) cut c.behind.result reading
-    (c.behind.ensures.front ∙ ap (λ T. front_of T (chars c.cut-cutting.result.rest.now)) (sym c.requires.text)))
+    (taking_cut t s _ c.in-Pair.is (chars c.rest.result.now) c.rest.ensures
+    (sym same) cut c.behind.result reading
+    (c.behind.ensures.front ∙ ap (λ T. front_of T (chars c.cut-cutting.result.rest.now))
+    (sym c.requires.text)))

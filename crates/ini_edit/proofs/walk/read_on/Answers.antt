@@ -10,8 +10,10 @@ step-requires c = walked_within c.elements.invariant
 
 pub elements-preserved : goal.elements-preserved
 elements-preserved c =
-    let w = c.elements.invariant in walked_step w (step_some w.is_reading c.in_ok-element.ensures.element c.in-Some.is)
+    let w = c.elements.invariant in
+    walked_step w (step_some w.is_reading c.in_ok-element.ensures.element c.in-Some.is)
 
 pub returns-clause-end : goal.returns-clause-end
 returns-clause-end c =
-    let w = c.elements.invariant in walked_end w (step_none w.is_reading c.in_ok-element.ensures.element c.in_default.is)
+    let w = c.elements.invariant in
+    walked_end w (step_none w.is_reading c.in_ok-element.ensures.element c.in_default.is)
