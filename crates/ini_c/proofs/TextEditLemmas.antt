@@ -17,7 +17,8 @@ use Rattle.ini_text.specs.declared.write.option.WriteOption.{WriteOption}
 neither : {A P : Type 0} → (A → ⊥) → (P → ⊥) → A ↔ P
 neither not_a not_p = (λ a. absurd (not_a a), λ p. absurd (not_p p))
 
-module _ {X : Type 0} (o : ParseOption) (w : WriteOption) (T : Text) (name : Option Text) (key value : Text) where
+module _ {X : Type 0} (o : ParseOption) (w : WriteOption) (T : Text) (name : Option Text)
+    (key value : Text) where
   -- to add a pair is refused with a parse fault only where reading the text stops so
   pub stop_of_adding : (answer : Result X EditError) → IfErr answer (RefusesToAdd o w T name key value)
       → IfEditParse answer (IsStopOf o T)
@@ -40,8 +41,10 @@ module _ {X : Type 0} (o : ParseOption) (w : WriteOption) (T : Text) (name : Opt
       → (answer ≡ Err refusals.Value) ↔ ¬ IsPlainValue o w.escape_policy value
   value_of_setting (Ok new) plain refused = neither (λ e. cc) (λ against. against plain)
   value_of_setting (Err refusals.Value) plain refused = (λ e. refused, λ _. refl)
-  value_of_setting (Err (refusals.Text (Parse e))) plain refused = neither (λ e. cc) (λ against. against refused.0)
-  value_of_setting (Err (refusals.Text (Memory e))) plain refused = neither (λ e. cc) (λ against. against refused)
+  value_of_setting (Err (refusals.Text (Parse e))) plain refused =
+      neither (λ e. cc) (λ against. against refused.0)
+  value_of_setting (Err (refusals.Text (Memory e))) plain refused =
+      neither (λ e. cc) (λ against. against refused)
   value_of_setting (Err (refusals.Text (Io e))) plain refused = absurd refused
   value_of_setting (Err (refusals.Text NoProgress)) plain refused = absurd refused
   value_of_setting (Err (refusals.Text NotUtf8)) plain refused = absurd refused
@@ -68,12 +71,21 @@ module _ {X : Type 0} (o : ParseOption) (w : WriteOption) (T : Text) (name : Opt
       → RefusesPairFirst answer
   pair_of_adding (Ok new) separates writable refused = writable_first (Ok new) (λ e. cc) (λ e. cc) writable
   pair_of_adding (Err refusals.Value) separates plain (RefusesToAdd.pair parts) =
-      record { of_value = (λ e. parts.1, λ _. refl); of_key = neither (λ e. cc) (λ against. parts.1 against.0) }
+      record {
+        of_value =
+            (λ e. parts.1, λ _. refl);
+        of_key = neither (λ e. cc) (λ against. parts.1 against.0);
+      }
   pair_of_adding (Err refusals.Value) separates plain (RefusesToAdd.line writable none) = absurd none
   pair_of_adding (Err refusals.Key) separates plain (RefusesToAdd.pair parts) =
-      record { of_value = neither (λ e. cc) (λ against. against parts.1.0); of_key = (λ e. parts.1, λ _. refl) }
+      record {
+        of_value =
+            neither (λ e. cc) (λ against. against parts.1.0);
+        of_key = (λ e. parts.1, λ _. refl);
+      }
   pair_of_adding (Err refusals.Key) separates plain (RefusesToAdd.line writable none) = absurd none
-  pair_of_adding (Err refusals.Separator) separates plain (RefusesToAdd.pair against) = absurd (against separates)
+  pair_of_adding (Err refusals.Separator) separates plain (RefusesToAdd.pair against) =
+      absurd (against separates)
   pair_of_adding (Err refusals.Separator) separates plain (RefusesToAdd.line writable none) = absurd none
   pair_of_adding (Err refusals.Name) separates plain (RefusesToAdd.pair none) = absurd none
   pair_of_adding (Err refusals.Name) separates plain (RefusesToAdd.line writable why) =

@@ -58,8 +58,8 @@ fn with_set(
     key: &str,
     value: &str,
 ) -> Result<String, EditError>
-    ensures edited { IfOk result (λ new. IsSet read (like_lines_of (chars text.now) write.now) (chars text.now)
-        (chars key.now) (chars value.now) (text_of new) (str_name name.entry)) }
+    ensures edited { IfOk result (λ new. IsSet read (like_lines_of (chars text.now) write.now)
+        (chars text.now) (chars key.now) (chars value.now) (text_of new) (str_name name.entry)) }
     ensures loads { IfOk result (λ new. LoadsEdited read (chars text.now) (text_of new)
         (set_in (str_name name.entry) (chars key.now) (chars value.now))) }
     ensures refused { IfErr result (RefusesToSet read write.now (chars text.now) (str_name name.entry)
@@ -100,7 +100,8 @@ pub extern "C" fn bigrosk_ini_edit_set(
         (IsSetBy (parse_option read.now) write.now (chars text.now)
         (name_if named section.now) (chars key.now) (chars value.now)) count.new }
     ensures no_room { result ≡ no_room → length out.old ≤ count.new }
-    ensures unplain_value { result ≡ unplain_value ↔ ((AreEdit text.now section.now key.now × IsUtf8 value.now)
+    ensures unplain_value { result ≡ unplain_value
+        ↔ ((AreEdit text.now section.now key.now × IsUtf8 value.now)
         × ¬ IsPlainValue (parse_option read.now) (policy_of write.now.policy) (chars value.now)) }
     ensures unplain_key { result ≡ unplain_key → RefusesToSetBy (parse_option read.now) write.now
         (chars text.now) (name_if named section.now) (chars key.now) (chars value.now) Key }
@@ -146,8 +147,8 @@ fn added(
     value: &str,
 ) -> Result<String, EditError>
     requires { IsPlainSeparator (chars write.now.kv_separator.now) }
-    ensures added { IfOk result (λ new. IsAdded read (like_lines_of (chars text.now) write.now) (chars text.now)
-        (chars key.now) (chars value.now) (text_of new) (str_name name.entry)) }
+    ensures added { IfOk result (λ new. IsAdded read (like_lines_of (chars text.now) write.now)
+        (chars text.now) (chars key.now) (chars value.now) (text_of new) (str_name name.entry)) }
     ensures loads { IfOk result (λ new. LoadsEdited read (chars text.now) (text_of new)
         (add_in (str_name name.entry) (chars key.now) (chars value.now))) }
     ensures refused { IfErr result (RefusesToAdd read write.now (chars text.now) (str_name name.entry)
@@ -190,11 +191,13 @@ pub extern "C" fn bigrosk_ini_edit_add(
         (IsAddedBy (parse_option read.now) write.now (chars text.now)
         (name_if named section.now) (chars key.now) (chars value.now)) count.new }
     ensures no_room { result ≡ no_room → length out.old ≤ count.new }
-    ensures unplain_value { result ≡ unplain_value ↔ ((AreEdit text.now section.now key.now × IsUtf8 value.now)
+    ensures unplain_value { result ≡ unplain_value
+        ↔ ((AreEdit text.now section.now key.now × IsUtf8 value.now)
         × ¬ IsPlainValue (parse_option read.now) (policy_of write.now.policy) (chars value.now)) }
     ensures unplain_key { result ≡ unplain_key ↔ ((AreEdit text.now section.now key.now × IsUtf8 value.now)
         × (IsPlainValue (parse_option read.now) (policy_of write.now.policy) (chars value.now)
-        × ¬ IsPlainPair (parse_option read.now) (policy_of write.now.policy) (chars key.now) (chars value.now))) }
+        × ¬ IsPlainPair (parse_option read.now) (policy_of write.now.policy) (chars key.now)
+        (chars value.now))) }
     ensures unplain_name { result ≡ unplain_name → RefusesToAddBy (parse_option read.now) write.now
         (chars text.now) (name_if named section.now) (chars key.now) (chars value.now) Name }
     ensures no_place { result ≡ no_place → RefusesToAddBy (parse_option read.now) write.now
