@@ -1,17 +1,19 @@
 //! Edits of a text itself, which keep every byte that they aren't about. No document is kept between these
 //! calls: a text comes in as bytes, and the new one goes into the caller's buffer.
-ghost use Rattle.std.specs.Prelude.{◌≡◌, ◌∷◌, [], ◌≤◌, ◌↔◌, IfErr, IfOk, IsTrue, Some, length, slice_get};
-ghost use Rattle.std.specs.Prelude.{take};
+ghost use Rattle.std.specs.Prelude.{◌≡◌, ◌∷◌, [], ◌≤◌, ◌↔◌, Err, IfErr, IfOk, IsTrue, Some, length};
+ghost use Rattle.std.specs.Prelude.{slice_get, take};
 ghost use Rattle.std.specs.Str.{IsUtf8, chars};
-ghost use Rattle.ini.specs.Edits.{add_in};
+ghost use Rattle.ini.specs.Edits.{add_in, set_in};
 ghost use Rattle.ini.specs.Loading.{IsStopOf, IsTextWith};
 ghost use Rattle.ini.specs.Texts.{str_name, text_of};
+ghost use Rattle.ini_text.specs.Laws.Plain.{IsPlainPair, IsPlainSeparator, IsPlainValue};
 ghost use Rattle.ini_edit.specs.Added.{IsAdded, LoadsEdited, RefusesToAdd};
 ghost use Rattle.ini_edit.specs.Edited.{IfEditParse, IsDeleted};
 ghost use Rattle.ini_edit.specs.FirstPairs.{LacksPair};
 ghost use Rattle.ini_edit.specs.NewLines.{like_lines_of};
+ghost use Rattle.ini_edit.specs.Settings.{IsSet, RefusesToSet};
 ghost use Rattle.ini_edit.specs.declared.error.EditError.TheVariants.{Key, Name, NoPlace, Value};
-ghost use Rattle.ini_c.specs.Choices.{parse_option};
+ghost use Rattle.ini_c.specs.Choices.{parse_option, policy_of};
 ghost use Rattle.ini_c.specs.Faults.{IsStopAt};
 ghost use Rattle.ini_c.specs.LookUps.{name_if};
 ghost use Rattle.ini_c.specs.Statuses.{absent, broken, is_among, no_memory, no_place, no_room};
@@ -46,6 +48,27 @@ pub(crate) fn give(new: &str, out: &mut [u8], count: &mut usize) -> u32
     }
 }
 
+// The text with the key set.
+fn with_set(
+    alloc: Global,
+    text: &str,
+    read: ParseOption,
+    write: &WriteOption,
+    name: Option<&str>,
+    key: &str,
+    value: &str,
+) -> Result<String, EditError>
+    ensures edited { IfOk result (λ new. IsSet read (like_lines_of (chars text.now) write.now)
+        (chars text.now) (chars key.now) (chars value.now) (text_of new) (str_name name.entry)) }
+    ensures loads { IfOk result (λ new. LoadsEdited read (chars text.now) (text_of new)
+        (set_in (str_name name.entry) (chars key.now) (chars value.now))) }
+    ensures refused { IfErr result (RefusesToSet read write.now (chars text.now) (str_name name.entry)
+        (chars key.now) (chars value.now)) }
+    ensures value { (result ≡ Err Value) ↔ ¬ IsPlainValue read write.now.escape_policy (chars value.now) }
+{
+    set(alloc, text, read, write, name, key, value)
+}
+
 /// Copies the text out with the key's value set: in the place of that of its first pair in the first section
 /// of the name, where the later pairs of the key then go; where the section lacks the key, in a new line
 /// there; and where the text lacks the section, in a new one at its end. Every other byte stays.
@@ -77,8 +100,9 @@ pub extern "C" fn bigrosk_ini_edit_set(
         (IsSetBy (parse_option read.now) write.now (chars text.now)
         (name_if named section.now) (chars key.now) (chars value.now)) count.new }
     ensures no_room { result ≡ no_room → length out.old ≤ count.new }
-    ensures unplain_value { result ≡ unplain_value → RefusesToSetBy (parse_option read.now) write.now
-        (chars text.now) (name_if named section.now) (chars key.now) (chars value.now) Value }
+    ensures unplain_value { result ≡ unplain_value
+        ↔ ((AreEdit text.now section.now key.now × IsUtf8 value.now)
+        × ¬ IsPlainValue (parse_option read.now) (policy_of write.now.policy) (chars value.now)) }
     ensures unplain_key { result ≡ unplain_key → RefusesToSetBy (parse_option read.now) write.now
         (chars text.now) (name_if named section.now) (chars key.now) (chars value.now) Key }
     ensures unplain_name { result ≡ unplain_name → RefusesToSetBy (parse_option read.now) write.now
@@ -98,7 +122,7 @@ pub extern "C" fn bigrosk_ini_edit_set(
         return NOT_UTF8;
     };
     let option = write.to_option();
-    match set(alloc, text, read.to_option(), &option, name, key, value) {
+    match with_set(alloc, text, read.to_option(), &option, name, key, value) {
         Ok(new) => give(new.as_str(), out, count),
         Err(EditError::Value) => UNPLAIN_VALUE,
         Err(EditError::Key) => UNPLAIN_KEY,
@@ -112,7 +136,7 @@ pub extern "C" fn bigrosk_ini_edit_set(
     }
 }
 
-// The text with the pair added; of a text that is refused its fault alone.
+// The text with the pair added, by a separator that is plain.
 fn added(
     alloc: Global,
     text: &str,
@@ -122,12 +146,16 @@ fn added(
     key: &str,
     value: &str,
 ) -> Result<String, EditError>
-    ensures added { IfOk result (λ new. IsAdded read (like_lines_of (chars text.now) write.now) (chars text.now)
-        (chars key.now) (chars value.now) (text_of new) (str_name name.entry)) }
+    requires { IsPlainSeparator (chars write.now.kv_separator.now) }
+    ensures added { IfOk result (λ new. IsAdded read (like_lines_of (chars text.now) write.now)
+        (chars text.now) (chars key.now) (chars value.now) (text_of new) (str_name name.entry)) }
     ensures loads { IfOk result (λ new. LoadsEdited read (chars text.now) (text_of new)
         (add_in (str_name name.entry) (chars key.now) (chars value.now))) }
     ensures refused { IfErr result (RefusesToAdd read write.now (chars text.now) (str_name name.entry)
         (chars key.now) (chars value.now)) }
+    ensures value { (result ≡ Err Value) ↔ ¬ IsPlainValue read write.now.escape_policy (chars value.now) }
+    ensures key { (result ≡ Err Key) ↔ (IsPlainValue read write.now.escape_policy (chars value.now)
+        × ¬ IsPlainPair read write.now.escape_policy (chars key.now) (chars value.now)) }
     ensures fault { IfEditParse result (IsStopOf read (chars text.now)) }
 {
     add(alloc, text, read, write, name, key, value)
@@ -163,10 +191,13 @@ pub extern "C" fn bigrosk_ini_edit_add(
         (IsAddedBy (parse_option read.now) write.now (chars text.now)
         (name_if named section.now) (chars key.now) (chars value.now)) count.new }
     ensures no_room { result ≡ no_room → length out.old ≤ count.new }
-    ensures unplain_value { result ≡ unplain_value → RefusesToAddBy (parse_option read.now) write.now
-        (chars text.now) (name_if named section.now) (chars key.now) (chars value.now) Value }
-    ensures unplain_key { result ≡ unplain_key → RefusesToAddBy (parse_option read.now) write.now
-        (chars text.now) (name_if named section.now) (chars key.now) (chars value.now) Key }
+    ensures unplain_value { result ≡ unplain_value
+        ↔ ((AreEdit text.now section.now key.now × IsUtf8 value.now)
+        × ¬ IsPlainValue (parse_option read.now) (policy_of write.now.policy) (chars value.now)) }
+    ensures unplain_key { result ≡ unplain_key ↔ ((AreEdit text.now section.now key.now × IsUtf8 value.now)
+        × (IsPlainValue (parse_option read.now) (policy_of write.now.policy) (chars value.now)
+        × ¬ IsPlainPair (parse_option read.now) (policy_of write.now.policy) (chars key.now)
+        (chars value.now))) }
     ensures unplain_name { result ≡ unplain_name → RefusesToAddBy (parse_option read.now) write.now
         (chars text.now) (name_if named section.now) (chars key.now) (chars value.now) Name }
     ensures no_place { result ≡ no_place → RefusesToAddBy (parse_option read.now) write.now
