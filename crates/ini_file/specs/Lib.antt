@@ -1,8 +1,11 @@
 pub mod Bytes
 pub mod Choices
 pub mod Edits
+pub mod Merges
+pub mod MergeWords
 pub mod Requests
 pub mod Words
 pub mod Outputs
 pub mod Pages
 pub mod Runs
+pub mod Settings

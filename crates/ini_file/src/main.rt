@@ -10,9 +10,12 @@ mod choices;
 mod command;
 mod diagnosis;
 mod edit;
+mod merge;
+mod merge_words;
 mod page;
 mod run;
 mod save;
+mod settings;
 mod words;
 
 use diagnosis::point_at;
