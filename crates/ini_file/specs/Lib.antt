@@ -1,6 +1,7 @@
 pub mod Bytes
 pub mod Choices
 pub mod Edits
+pub mod Fields
 pub mod Requests
 pub mod Words
 pub mod Outputs

@@ -10,6 +10,7 @@ mod choices;
 mod command;
 mod diagnosis;
 mod edit;
+mod fields;
 mod page;
 mod run;
 mod save;
