@@ -23,7 +23,7 @@ passed=0
 failed=0
 skipped=0
 options='[--noescape] [--noquote] [--multiline] [--indent] [--brackets] [--crlf] [--policy NAME]'
-usage="usage: ini_file $options COMMAND [--existing] [--output FILE] [--] FILE [ARGUMENT].."
+usage="usage: ini_file $options COMMAND [CHOICE].. [--] FILE [ARGUMENT].."
 source='; a server\nname = one\n[server]\nport = 8080\nhost = a\\tb\nport = 9090\n[client]\n[server]\nlast = 1\n'
 written='name=one\n\n[server]\nport=8080\nhost=a\\tb\nport=9090\n[client]\n\n[server]\nlast=1\n'
 
@@ -361,6 +361,73 @@ placing() {
     case_of 'arguments may begin with --' 1 '' '' get settings.ini --existing
 }
 
+# choices of a command, which another doesn't take: nothing is read then
+choosing() {
+    fresh
+    refused 'set --existing, twice, without a value' 2 "$usage" set --existing --existing settings.ini name
+    for words in 'get --existing none.ini k' 'add --existing none.ini k v' 'list --existing none.ini' \
+        'delete --existing none.ini k' 'format --existing none.ini' 'rename-key --existing none.ini k j' \
+        'keys --all none.ini' 'list --all none.ini' 'set --all none.ini k v' \
+        'keys --default v none.ini' 'set --default v none.ini k v' 'delete --default v none.ini k' \
+        'format --null none.ini' 'set --null none.ini k v' 'delete --null none.ini k' 'rename-section --null none.ini a b'
+    do
+        # shellcheck disable=SC2086
+        case_of "$words: no choice of this command" 2 '' "$usage" $words
+    done
+    case_of 'get --default: the key is there' 0 'one\n' '' get --default other settings.ini name
+    case_of 'get --default: it is not' 0 'other\n' '' get --default other settings.ini port
+    case_of 'get --default: the section is not' 0 'a\tb\n' '' get --default "$(printf 'a\tb')" settings.ini port nowhere
+    case_of 'get --default: an empty one' 0 '\n' '' get --default '' settings.ini port
+    case_of 'get --default: the last of two' 0 '2\n' '' get --default 1 --default 2 settings.ini port
+    case_of 'get --default: it may begin with --' 0 '--null\n' '' get --default --null settings.ini port
+    case_of 'get --default: no text' 2 '' "$usage" get --default
+    case_of 'get --default in a file that is not there' 4 '' \
+        'ini_file: none.ini: No such file or directory (os error 2)' get --default x none.ini k
+    case_of 'get --all' 0 '8080\n9090\n' '' get --all settings.ini port server
+    case_of 'get --all of one value' 0 'a\tb\n' '' get --all settings.ini host server
+    case_of 'get --all: a later section of the name counts for nothing' 1 '' '' get --all settings.ini last server
+    case_of 'get --all in a section that is not there' 1 '' '' get --all settings.ini port nowhere
+    case_of 'get --all in a section without pairs' 1 '' '' get --all settings.ini port client
+    case_of 'get --all --default: the key is there' 0 '8080\n9090\n' '' get --all --default 1 settings.ini port server
+    case_of 'get --default --all: it is not' 0 '1\n' '' get --default 1 --all settings.ini last server
+    case_of 'get --all --default: the section is not' 0 '1\n' '' get --all --default 1 settings.ini port nowhere
+    printf 'a=1\n  =v\n' >refused.ini
+    case_of 'get --all --default of a refused text' 3 '' 'refused.ini:2:4: missing key
+  =v
+  ^' get --all --default x refused.ini b
+}
+
+# names, keys and values as they stand, each with NUL
+nulls() {
+    fresh
+    case_of 'get --null' 0 '8080\000' '' get --null settings.ini port server
+    case_of 'get --null --all' 0 '8080\0009090\000' '' get --null --all settings.ini port server
+    case_of 'get --null --default' 0 'x\000' '' get --null --default x settings.ini port
+    case_of 'get --null: not there' 1 '' '' get --null settings.ini port
+    case_of 'keys --null' 0 'port\000host\000port\000' '' keys --null settings.ini server
+    case_of 'keys --null of a section without pairs' 0 '' '' keys --null settings.ini client
+    case_of 'keys --null of a section that is not there' 1 '' '' keys --null settings.ini nowhere
+    case_of 'sections --null' 0 'server\000client\000' '' sections --null settings.ini
+    case_of 'list --null' 0 "$(printf '%s' '\000name\000one\000[server]\000port\0008080\000[server]\000host\000a\tb\000' \
+        '[server]\000port\0009090\000[server]\000last\0001\000')" '' list --null settings.ini
+    printf 'k =\na\\nb = x\\ny\\\\z\nk = "2\n\n"\n[s\\nt]\n= 1\n' | sed 's/^= 1$/e=/' >odd.ini
+    case_of 'get --null --all: empty values, and line feeds' 0 '\0002\n\n\000' '' get --null --all odd.ini k
+    case_of 'get --all: line feeds stand' 0 '\n2\n\n\n' '' get --all odd.ini k
+    case_of 'get --null: what was an escape' 0 'x\ny\\z\000' '' get --null odd.ini "$(printf 'a\nb')"
+    case_of 'keys --null: no escapes' 0 'k\000a\nb\000k\000' '' keys --null odd.ini
+    case_of 'sections --null: no escapes' 0 's\nt\000' '' sections --null odd.ini
+    case_of 'list --null: no escapes, empty values' 0 \
+        '\000k\000\000\000a\nb\000x\ny\\z\000\000k\0002\n\n\000[s\nt]\000e\000\000' '' list --null odd.ini
+    : >empty.ini
+    case_of 'list --null of no text' 0 '' '' list --null empty.ini
+    case_of 'sections --null of no text' 0 '' '' sections --null empty.ini
+    if command -v xargs >/dev/null; then
+        "$program" list --null odd.ini | xargs -0 -n 3 printf '<%s|%s|%s>' >"$room/have"
+        printf '<|k|><|a\nb|x\ny\\z><|k|2\n\n><[s\nt]|e|>' >"$room/want"
+        count 'list --null under xargs -0'
+    fi
+}
+
 # a folder in which nothing may be made, for a user who may not do all
 protected() {
     fresh
@@ -445,6 +512,8 @@ adding
 making
 renaming
 placing
+choosing
+nulls
 saving
 at_once
 protected

@@ -1,11 +1,12 @@
 pub mod Bytes
 pub mod Choices
 pub mod Edits
-pub mod Merges
+pub mod Fields
 pub mod MergeWords
-pub mod Requests
-pub mod Words
+pub mod Merges
 pub mod Outputs
 pub mod Pages
+pub mod Requests
 pub mod Runs
 pub mod Settings
+pub mod Words

@@ -4,7 +4,7 @@ use Rattle.std.specs.Prelude.{Option, None, Some, option_and_then, string_bytes}
 use Rattle.std.specs.Str.{bytes_eq}
 use Rattle.ini_options.specs.Words.{Word, default_options, given}
 use Rattle.ini_options.specs.declared.options.Options.{Options}
-use Rattle.ini_file.specs.Choices.{Chosen, chosen, chosen_of, no_choice}
+use Rattle.ini_file.specs.Choices.{Chosen, chosen, chosen_of, no_choice, takes}
 use Rattle.ini_file.specs.declared.merge_words.Merging.{Merging}
 
 -- the file in which is set what the others set, one at least
@@ -28,7 +28,7 @@ files_merged o c (file ∷ other ∷ others) =
 -- the same, but that the command takes the choices, and standard input is one file at most
 abbrev pub merged : Options → Chosen → List Word → Option Merged
 merged o c files =
-    if c.existing || reads_input_twice files then None else files_merged o c files
+    if not (takes (codes "merge") c) || reads_input_twice files then None else files_merged o c files
 
 -- the same behind the options, if `merge` stands there
 abbrev pub merged_behind : Options → List Word → Option Merged

@@ -1,5 +1,5 @@
 -- What the program may be asked to do with a file.
-use Rattle.std.specs.Prelude.{Option}
+use Rattle.std.specs.Prelude.{Bool, Option}
 use Rattle.ini.specs.Texts.{Text, str_name, str_text}
 use Rattle.ini_options.specs.Words.{Word}
 use Rattle.ini_options.specs.declared.options.Options.{Options}
@@ -12,13 +12,15 @@ use Rattle.ini_file.specs.declared.words.Edit.TheVariants as edit
 use Rattle.ini_file.specs.declared.words.Question.{Question}
 use Rattle.ini_file.specs.declared.words.Question.TheVariants as question
 
--- where no section is named it is the general one
+-- Where no section is named it is the general one. With `null` names, keys and values are written as they
+-- stand, with NUL behind each; with `all` each value of the key is got; with a default that where there is
+-- none.
 pub data Asking : Type 0 where
   Format : Asking
-  Listing : Asking
-  Sections : Asking
-  Keys : (section : Option Text) → Asking
-  Get : (key : Text) (section : Option Text) → Asking
+  Listing : (null : Bool) → Asking
+  Sections : (null : Bool) → Asking
+  Keys : (null : Bool) (section : Option Text) → Asking
+  Get : (null all : Bool) (key : Text) (section default : Option Text) → Asking
 
 pub data Editing : Type 0 where
   Delete : (key : Text) (section : Option Text) → Editing
@@ -36,10 +38,10 @@ pub data Request : Type 0 where
 
 abbrev pub asking_of : Question → Asking
 asking_of question.Format = Format
-asking_of question.List = Listing
-asking_of question.Sections = Sections
-asking_of (question.Keys section) = Keys (str_name section)
-asking_of (question.Get key section) = Get (str_text key) (str_name section)
+asking_of (question.List null) = Listing null
+asking_of (question.Sections null) = Sections null
+asking_of (question.Keys section null) = Keys null (str_name section)
+asking_of (question.Get l) = Get l.null l.all (str_text l.key) (str_name l.section) (str_name l.default)
 
 abbrev pub editing_of : Edit → Editing
 editing_of (edit.Delete key section) = Delete (str_text key) (str_name section)

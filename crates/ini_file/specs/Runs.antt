@@ -112,4 +112,4 @@ status_of (Refused refusal.Separator) = 2
 abbrev pub usage_line : List ℕ
 usage_line =
     codes "usage: ini_file [--noescape] [--noquote] [--multiline] [--indent] [--brackets] [--crlf] "
-    ++ codes "[--policy NAME] COMMAND [--existing] [--output FILE] [--] FILE [ARGUMENT]..\n"
+    ++ codes "[--policy NAME] COMMAND [CHOICE].. [--] FILE [ARGUMENT]..\n"

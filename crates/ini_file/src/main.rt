@@ -10,7 +10,9 @@ mod choices;
 mod command;
 mod diagnosis;
 mod edit;
+mod fields;
 mod merge;
+mod merge_files;
 mod merge_words;
 mod page;
 mod run;
@@ -22,6 +24,8 @@ use diagnosis::point_at;
 use ini::Error;
 use ini_edit::EditError;
 use ini_options::{named, words_of};
+use merge_files::merge_files;
+use merge_words::merge_of;
 use page::page_of;
 use run::{Outcome, run, status, tell};
 use save::save;
@@ -31,7 +35,7 @@ use std::process::ExitCode;
 use words::{Asked, Command, Edit, Question, parse};
 
 /// The bytes of a file; `-` is standard input.
-fn read_input(rt: &HostRuntime, file: &str) -> Result<Vec<u8>, Error> {
+pub(crate) fn read_input(rt: &HostRuntime, file: &str) -> Result<Vec<u8>, Error> {
     if file == "-" {
         let mut bytes = Vec::new(rt.alloc());
         match rt.stdin().read_to_end(&mut bytes) {
@@ -62,7 +66,7 @@ fn makes_file(command: &Command<'_>) -> bool {
 }
 
 /// Whether a file can't be read because it isn't there.
-fn is_missing(refusal: &Error) -> bool {
+pub(crate) fn is_missing(refusal: &Error) -> bool {
     match refusal {
         Error::Io(fault) => fault.kind() == io::ErrorKind::NotFound,
         _ => false,
@@ -77,19 +81,19 @@ fn print(rt: &HostRuntime, output: &[u8]) -> Result<(), Error> {
     }
 }
 
-/// Hands on what a command is to write; nothing was read of a file that wasn't there, which is made. A file
-/// that would not change is not written.
-fn hand_on(
+/// Hands on to a place what a command over a file is to write; nothing was read of a file that wasn't there,
+/// which is made. A file that would not change is not written.
+pub(crate) fn hand_on(
     rt: &HostRuntime,
-    asked: &Asked<'_>,
+    place: &str,
+    file: &str,
     read: Option<&[u8]>,
     output: &[u8],
 ) -> Result<(), Error> {
-    let place = place_of(asked);
     if place == "-" {
         return print(rt, output);
     }
-    if place == asked.file {
+    if place == file {
         return match read {
             Some(there) => replace(rt, place, there, output),
             None => save(rt, rt.alloc(), place, None, output),
@@ -147,7 +151,7 @@ fn run_here(rt: &HostRuntime, words: &[String], input: &mut Vec<u8>) -> Outcome 
             } else {
                 None
             };
-            hand_on(rt, &asked, read, output.as_slice()).err()
+            hand_on(rt, place_of(&asked), asked.file, read, output.as_slice()).err()
         }
         _ => None,
     };
@@ -163,6 +167,9 @@ fn main(rt: HostRuntime) -> ExitCode {
     let outcome = match words_of(&rt, rt.alloc()) {
         Ok(given) => {
             words = given;
+            if let Some(merging) = merge_of(words.as_slice()) {
+                return ExitCode::from(merge_files(&rt, &merging));
+            }
             run_here(&rt, words.as_slice(), &mut input)
         }
         Err(refusal) => Outcome::from(refusal),

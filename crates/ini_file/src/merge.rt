@@ -66,8 +66,8 @@ fn merge_text(
     }
 }
 
-// The documents of files; else the number of the file that has none, and why.
-fn load_all(
+/// The documents of files; else the number of the file that has none, and why.
+pub fn load_all(
     alloc: Global,
     reading: ParseOption,
     files: &[Vec<u8>],

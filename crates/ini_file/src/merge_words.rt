@@ -44,7 +44,7 @@ fn files_merged<'a>(
     ensures { option_map merging_of result
         ≡ merged options (chosen_of choices.entry) (map string_bytes files.now) }
 {
-    if choices.existing || reads_input_twice(files) {
+    if !choices.suit("merge") || reads_input_twice(files) {
         return None;
     }
     let (file, others) = files.split_first()?;

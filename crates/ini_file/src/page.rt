@@ -59,9 +59,13 @@ Options, of reading and of writing:
   --policy NAME  which characters are written as escapes
 
 Choices:
-  --existing     set only where the key is there
-  --output FILE  writes this file in place of the other; - is standard output
-  --             what follows is no choice
+  --existing       of set: only where the key is there
+  --all            of get: each value of the key, not the first alone
+  --default VALUE  of get: the value where the key isn't there
+  --null           of get, keys, sections and list: names, keys and values as they
+                   stand, each with NUL behind it
+  --output FILE    writes this file in place of the other; - is standard output
+  --               what follows is no choice
 
 Status: 0 done, 1 not found, 2 wrong words, 3 a refused text, 4 a fault
 of a file or of memory. Only with status 0 is a file changed.

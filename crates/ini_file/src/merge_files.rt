@@ -1,0 +1,108 @@
+//! A merge of files that are there: they are read, what they make is handed on, and what is refused is told.
+//! This file knows the process's streams, and no word of the program.
+
+use crate::diagnosis::point_at;
+use crate::merge::{MergeEnd, load_all, merge};
+use crate::merge_words::Merging;
+use crate::run::{Outcome, status, tell};
+use crate::settings::settings_of;
+use crate::{hand_on, is_missing, read_input};
+use ini::{Error, ParseOption};
+use ini_edit::{Edit, EditError};
+use std::alloc::{AllocError, Global};
+
+/// Merges the files, and answers the exit status. All of them are read before anything is written, and where
+/// one is refused nothing is. A file that isn't there is made; another one must be there.
+///
+/// No contract says what a disk gets; `tests/files.sh` tests it.
+pub fn merge_files(rt: &HostRuntime, merging: &Merging<'_>) -> u8 {
+    let reading = merging.options.reading;
+    let mut others = Vec::new(rt.alloc());
+    for other in merging.others {
+        let refused = match read_input(rt, other.as_str()) {
+            Ok(bytes) => others.push(bytes).is_err().then_some(Error::Memory(AllocError)),
+            Err(refusal) => Some(refusal),
+        };
+        if let Some(refusal) = refused {
+            return refuse(rt, reading, other.as_str(), &[], EditError::Text(refusal));
+        }
+    }
+    match read_input(rt, merging.file) {
+        Ok(input) => merge_read(rt, merging, Some(input.as_slice()), others.as_slice()),
+        Err(refusal) if is_missing(&refusal) => merge_read(rt, merging, None, others.as_slice()),
+        Err(refusal) => refuse(rt, reading, merging.file, &[], EditError::Text(refusal)),
+    }
+}
+
+// Merges files that were read; of the file nothing was read where it isn't there.
+fn merge_read(
+    rt: &HostRuntime,
+    merging: &Merging<'_>,
+    read: Option<&[u8]>,
+    others: &[Vec<u8>],
+) -> u8 {
+    let (reading, file) = (merging.options.reading, merging.file);
+    let input = read.unwrap_or(&[]);
+    match merge(rt.alloc(), merging.options, input, others) {
+        MergeEnd::Done(bytes) => {
+            let place = merging.choices.output.unwrap_or(file);
+            match hand_on(rt, place, file, read, bytes.as_slice()) {
+                Ok(()) => 0,
+                Err(refusal) => refuse(rt, reading, file, &[], EditError::Text(refusal)),
+            }
+        }
+        MergeEnd::Other(index, refusal) => {
+            let name = merging.others.get(index).map_or("", |name| name.as_str());
+            let bytes = others.get(index).map_or(input, |bytes| bytes.as_slice());
+            refuse(rt, reading, name, bytes, EditError::Text(refusal))
+        }
+        MergeEnd::File(refusal) => refuse(rt, reading, file, input, EditError::Text(refusal)),
+        MergeEnd::Edit(refused) => match refused.refusal {
+            EditError::Text(refusal) => {
+                refuse(rt, reading, file, input, EditError::Text(refusal))
+            }
+            refusal => match setting_at(rt.alloc(), reading, others, refused.index) {
+                Ok(setting) => {
+                    let told = format!(in rt.alloc(); "{file}: {setting}");
+                    let name = told.as_ref().map_or(file, |told| told.as_str());
+                    refuse(rt, reading, name, input, refusal)
+                }
+                Err(_) => refuse(rt, reading, file, input, refusal),
+            },
+        },
+    }
+}
+
+// The section and the key that the edit with this number sets.
+fn setting_at(
+    alloc: Global,
+    reading: ParseOption,
+    others: &[Vec<u8>],
+    index: usize,
+) -> Result<String, AllocError> {
+    let Ok(documents) = load_all(alloc, reading, others) else {
+        return Err(AllocError);
+    };
+    let edits = settings_of(alloc, documents.as_slice())?;
+    match edits.get(index) {
+        Some(Edit::Set { name: None, key, .. }) => format!(in alloc; "{key}"),
+        Some(Edit::Set { name: Some(name), key, .. }) => format!(in alloc; "[{name}] {key}"),
+        _ => Err(AllocError),
+    }
+}
+
+// Tells a refusal as the other commands do, and answers its status.
+fn refuse(
+    rt: &HostRuntime,
+    reading: ParseOption,
+    file: &str,
+    input: &[u8],
+    refusal: EditError,
+) -> u8 {
+    let outcome = Outcome::Refused(refusal);
+    tell(file, &outcome, &mut rt.stderr());
+    if let Outcome::Refused(EditError::Text(Error::Parse(fault))) = &outcome {
+        point_at(rt.alloc(), file, input, reading, fault, &mut rt.stderr());
+    }
+    status(&outcome)
+}
