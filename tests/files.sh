@@ -428,6 +428,84 @@ nulls() {
     fi
 }
 
+# what other files set, set in a file
+merging() {
+    fresh
+    new='; a server\nname = two\n[server]\nport = 1\nhost = c\n[client]\n[server]\nlast = 1\n\n[new]\nk=v\n'
+    printf '# of the users\nname = two\n[server]\nport=1\nport=2\nhost = c\n[server]\nlast = 9\n[new]\nk = v\n' \
+        >../other.ini
+    edit 'merge: values in their places, a new section; the first values of the first sections' "$new" \
+        merge settings.ini ../other.ini
+    printf '# of a user\r\n[new]\r\nk = x\r\n' >../first.ini
+    printf '[new]\nk = w\n[client]\nid = 7\n' >../later.ini
+    two='; a server\nname = two\n[server]\nport = 1\nhost = c\n[client]\nid=7\n[server]\nlast = 1\n\n[new]\nk='
+    case_of 'merge of two files: the later one counts' 0 "${two}w\n" '' \
+        merge --output - settings.ini ../first.ini ../later.ini
+    case_of 'merge of two files, the other way round' 0 "${two}x\n" '' \
+        merge --output - -- settings.ini ../later.ini ../first.ini
+    stands 'merge --output: the file stands' "$new"
+    printf '\357\273\277[a]\r\n; c\r\nk = 1 \r\nk = 2\r\n' >settings.ini
+    printf '\357\273\277[a]\nj = 3\nk = 4\n' >../other.ini
+    edit 'merge: a mark and line ends stay' '\357\273\277[a]\r\n; c\r\nk = 4 \r\nj=3\r\n' \
+        merge settings.ini ../other.ini
+    printf '[a]\nk=1\n' >../one.ini
+    rm settings.ini
+    edit 'merge makes a file' '[a]\nk=1\n' merge settings.ini ../one.ini
+    case_of 'merge: standard input goes to standard output' 0 '[b]\nj=2\n\n[a]\nk=1\n' '' merge - ../one.ini <<END
+[b]
+j=2
+END
+    case_of 'merge: another file may be standard input' 0 '[a]\nk=1\n\n[b]\nj=2\n' '' \
+        merge --output - settings.ini - <<END
+[b]
+j=2
+END
+    case_of 'merge of nothing' 0 '[a]\nk=1\n' '' merge --output - settings.ini - <<END
+# nothing
+[c]
+END
+    printf "k = 'v'\n" >../quotes.ini
+    case_of 'merge: options of reading' 0 "k='v'\n[a]\nk=1\n" '' --noquote merge --output - settings.ini ../quotes.ini
+    rm settings.ini
+    edit 'merge: options of writing' '[a]\r\nk=1\r\n' --crlf merge settings.ini ../one.ini
+}
+
+# merges that are refused
+unmerged() {
+    fresh
+    printf 'k = 1\n' >../plain.ini
+    printf 'a = 1\n  =v\n' >../refused.ini
+    printf '\377' >../bytes.ini
+    printf "[new]\nk = ' 1'\n" >../unplain.ini
+    refused 'merge of a file that is not there' 4 'ini_file: none.ini: No such file or directory (os error 2)' \
+        merge settings.ini ../plain.ini none.ini
+    refused 'merge of a refused text' 3 '../refused.ini:2:4: missing key
+  =v
+  ^' merge settings.ini ../plain.ini ../refused.ini
+    refused 'merge of bytes that are no text' 3 'ini_file: ../bytes.ini: the input is not UTF-8' \
+        merge settings.ini ../bytes.ini ../refused.ini
+    refused 'merge of a value that would not be read back' 2 \
+        "ini_file: settings.ini: [new] k: this value can't be written so that it is read back" \
+        merge settings.ini ../plain.ini ../unplain.ini
+    refused 'merge of no other file' 2 "$usage" merge settings.ini
+    refused 'merge of standard input, twice' 2 "$usage" merge settings.ini - -
+    refused 'merge of standard input into itself' 2 "$usage" merge - -
+    refused 'merge --existing' 2 "$usage" merge --existing settings.ini ../plain.ini
+    cp ../refused.ini settings.ini
+    refused 'merge into a refused text' 3 'settings.ini:2:4: missing key
+  =v
+  ^' merge settings.ini ../plain.ini
+    cp ../bytes.ini settings.ini
+    refused 'merge into bytes that are no text' 3 'ini_file: settings.ini: the input is not UTF-8' \
+        merge settings.ini ../plain.ini
+    rm settings.ini
+    case_of 'merge makes no file where another is not there' 4 '' \
+        'ini_file: none.ini: No such file or directory (os error 2)' merge settings.ini none.ini
+    ls -A >"$room/have"
+    : >"$room/want"
+    count 'no file is made where a merge is refused'
+}
+
 # a folder in which nothing may be made, for a user who may not do all
 protected() {
     fresh
@@ -512,6 +590,8 @@ adding
 making
 renaming
 placing
+merging
+unmerged
 choosing
 nulls
 saving

@@ -20,7 +20,10 @@ pub fn merge_files(rt: &HostRuntime, merging: &Merging<'_>) -> u8 {
     let mut others = Vec::new(rt.alloc());
     for other in merging.others {
         let refused = match read_input(rt, other.as_str()) {
-            Ok(bytes) => others.push(bytes).is_err().then_some(Error::Memory(AllocError)),
+            Ok(bytes) => others
+                .push(bytes)
+                .is_err()
+                .then_some(Error::Memory(AllocError)),
             Err(refusal) => Some(refusal),
         };
         if let Some(refusal) = refused {
@@ -61,32 +64,41 @@ fn merge_read(
             EditError::Text(refusal) => {
                 refuse(rt, reading, file, input, EditError::Text(refusal))
             }
-            refusal => match setting_at(rt.alloc(), reading, others, refused.index) {
-                Ok(setting) => {
-                    let told = format!(in rt.alloc(); "{file}: {setting}");
-                    let name = told.as_ref().map_or(file, |told| told.as_str());
-                    refuse(rt, reading, name, input, refusal)
-                }
+            refusal => match setting_at(rt.alloc(), merging, others, refused.index) {
+                Ok(name) => refuse(rt, reading, name.as_str(), input, refusal),
                 Err(_) => refuse(rt, reading, file, input, refusal),
             },
         },
     }
 }
 
-// The section and the key that the edit with this number sets.
+// The file, and the section and the key that the edit with this number sets there.
 fn setting_at(
     alloc: Global,
-    reading: ParseOption,
+    merging: &Merging<'_>,
     others: &[Vec<u8>],
     index: usize,
 ) -> Result<String, AllocError> {
-    let Ok(documents) = load_all(alloc, reading, others) else {
+    let Ok(documents) = load_all(alloc, merging.options.reading, others) else {
         return Err(AllocError);
     };
     let edits = settings_of(alloc, documents.as_slice())?;
+    let file = merging.file;
     match edits.get(index) {
-        Some(Edit::Set { name: None, key, .. }) => format!(in alloc; "{key}"),
-        Some(Edit::Set { name: Some(name), key, .. }) => format!(in alloc; "[{name}] {key}"),
+        Some(
+            Edit::Set {
+                name: None,
+                key,
+                ..
+            },
+        ) => format!(in alloc; "{file}: {key}"),
+        Some(
+            Edit::Set {
+                name: Some(name),
+                key,
+                ..
+            },
+        ) => format!(in alloc; "{file}: [{name}] {key}"),
         _ => Err(AllocError),
     }
 }
