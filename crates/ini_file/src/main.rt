@@ -6,20 +6,28 @@
 #![tactic(auto)]
 
 mod bytes;
+mod check;
+mod check_files;
+mod check_words;
 mod choices;
 mod command;
 mod diagnosis;
+mod diff;
 mod edit;
 mod fields;
+mod lines;
 mod merge;
 mod merge_files;
 mod merge_words;
 mod page;
+mod refusals;
 mod run;
 mod save;
 mod settings;
 mod words;
 
+use check_files::check_files;
+use check_words::check_of;
 use diagnosis::point_at;
 use ini::Error;
 use ini_edit::EditError;
@@ -167,6 +175,9 @@ fn main(rt: HostRuntime) -> ExitCode {
     let outcome = match words_of(&rt, rt.alloc()) {
         Ok(given) => {
             words = given;
+            if let Some(check) = check_of(words.as_slice()) {
+                return ExitCode::from(check_files(&rt, &check));
+            }
             if let Some(merging) = merge_of(words.as_slice()) {
                 return ExitCode::from(merge_files(&rt, &merging));
             }

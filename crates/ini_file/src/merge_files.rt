@@ -1,13 +1,13 @@
 //! A merge of files that are there: they are read, what they make is handed on, and what is refused is told.
 //! This file knows the process's streams, and no word of the program.
 
-use crate::diagnosis::point_at;
 use crate::merge::{MergeEnd, load_all, merge};
 use crate::merge_words::Merging;
-use crate::run::{Outcome, status, tell};
+use crate::refusals::refuse;
+use crate::run::Outcome;
 use crate::settings::settings_of;
 use crate::{hand_on, is_missing, read_input};
-use ini::{Error, ParseOption};
+use ini::Error;
 use ini_edit::{Edit, EditError};
 use std::alloc::{AllocError, Global};
 
@@ -27,13 +27,13 @@ pub fn merge_files(rt: &HostRuntime, merging: &Merging<'_>) -> u8 {
             Err(refusal) => Some(refusal),
         };
         if let Some(refusal) = refused {
-            return refuse(rt, reading, other.as_str(), &[], EditError::Text(refusal));
+            return refuse(rt, reading, other.as_str(), &[], Outcome::from(refusal));
         }
     }
     match read_input(rt, merging.file) {
         Ok(input) => merge_read(rt, merging, Some(input.as_slice()), others.as_slice()),
         Err(refusal) if is_missing(&refusal) => merge_read(rt, merging, None, others.as_slice()),
-        Err(refusal) => refuse(rt, reading, merging.file, &[], EditError::Text(refusal)),
+        Err(refusal) => refuse(rt, reading, merging.file, &[], Outcome::from(refusal)),
     }
 }
 
@@ -51,22 +51,20 @@ fn merge_read(
             let place = merging.choices.output.unwrap_or(file);
             match hand_on(rt, place, file, read, bytes.as_slice()) {
                 Ok(()) => 0,
-                Err(refusal) => refuse(rt, reading, file, &[], EditError::Text(refusal)),
+                Err(refusal) => refuse(rt, reading, file, &[], Outcome::from(refusal)),
             }
         }
         MergeEnd::Other(index, refusal) => {
             let name = merging.others.get(index).map_or("", |name| name.as_str());
             let bytes = others.get(index).map_or(input, |bytes| bytes.as_slice());
-            refuse(rt, reading, name, bytes, EditError::Text(refusal))
+            refuse(rt, reading, name, bytes, Outcome::from(refusal))
         }
-        MergeEnd::File(refusal) => refuse(rt, reading, file, input, EditError::Text(refusal)),
+        MergeEnd::File(refusal) => refuse(rt, reading, file, input, Outcome::from(refusal)),
         MergeEnd::Edit(refused) => match refused.refusal {
-            EditError::Text(refusal) => {
-                refuse(rt, reading, file, input, EditError::Text(refusal))
-            }
+            EditError::Text(refusal) => { refuse(rt, reading, file, input, Outcome::from(refusal)) }
             refusal => match setting_at(rt.alloc(), merging, others, refused.index) {
-                Ok(name) => refuse(rt, reading, name.as_str(), input, refusal),
-                Err(_) => refuse(rt, reading, file, input, refusal),
+                Ok(name) => refuse(rt, reading, name.as_str(), input, Outcome::Refused(refusal)),
+                Err(_) => refuse(rt, reading, file, input, Outcome::Refused(refusal)),
             },
         },
     }
@@ -101,20 +99,4 @@ fn setting_at(
         ) => format!(in alloc; "{file}: [{name}] {key}"),
         _ => Err(AllocError),
     }
-}
-
-// Tells a refusal as the other commands do, and answers its status.
-fn refuse(
-    rt: &HostRuntime,
-    reading: ParseOption,
-    file: &str,
-    input: &[u8],
-    refusal: EditError,
-) -> u8 {
-    let outcome = Outcome::Refused(refusal);
-    tell(file, &outcome, &mut rt.stderr());
-    if let Outcome::Refused(EditError::Text(Error::Parse(fault))) = &outcome {
-        point_at(rt.alloc(), file, input, reading, fault, &mut rt.stderr());
-    }
-    status(&outcome)
 }
