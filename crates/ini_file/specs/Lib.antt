@@ -4,6 +4,7 @@ pub mod Edits
 pub mod Fields
 pub mod Requests
 pub mod Words
+pub mod Writing
 pub mod Outputs
 pub mod Pages
 pub mod Runs

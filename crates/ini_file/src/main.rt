@@ -15,6 +15,7 @@ mod page;
 mod run;
 mod save;
 mod words;
+mod writing;
 
 use diagnosis::point_at;
 use ini::Error;
@@ -46,7 +47,7 @@ fn read_input(rt: &HostRuntime, file: &str) -> Result<Vec<u8>, Error> {
 fn place_of<'a>(asked: &Asked<'a>) -> &'a str {
     match (asked.choices.output, asked.command) {
         (Some(file), _) => file,
-        (None, Command::Ask(Question::Format) | Command::Change(_)) => asked.file,
+        (None, Command::Ask(Question::Format { .. }) | Command::Change(_)) => asked.file,
         (None, Command::Ask(_)) => "-",
     }
 }
