@@ -379,7 +379,7 @@ choosing() {
     case_of 'get --default: the section is not' 0 'a\tb\n' '' get --default "$(printf 'a\tb')" settings.ini port nowhere
     case_of 'get --default: an empty one' 0 '\n' '' get --default '' settings.ini port
     case_of 'get --default: the last of two' 0 '2\n' '' get --default 1 --default 2 settings.ini port
-    case_of 'get --default: it may begin with --' 0 '--null\n' '' get --default --null settings.ini port
+    case_of 'get --default: it may begin with --' 0 '\055-null\n' '' get --default --null settings.ini port
     case_of 'get --default: no text' 2 '' "$usage" get --default
     case_of 'get --default in a file that is not there' 4 '' \
         'ini_file: none.ini: No such file or directory (os error 2)' get --default x none.ini k
@@ -395,6 +395,50 @@ choosing() {
     case_of 'get --all --default of a refused text' 3 '' 'refused.ini:2:4: missing key
   =v
   ^' get --all --default x refused.ini b
+}
+
+# what stands between key and value of new lines
+separating() {
+    fresh
+    edit 'set --separator: a new line' \
+        '; a server\nname = one\nother : x\n[server]\nport = 8080\nhost = a\\tb\nport = 9090\n[client]\n[server]\nlast = 1\n' \
+        set --separator ' : ' settings.ini other x
+    fresh
+    edit 'set --separator: the line that is there stays' \
+        '; a server\nname = two\n[server]\nport = 8080\nhost = a\\tb\nport = 9090\n[client]\n[server]\nlast = 1\n' \
+        set --separator ' : ' settings.ini name two
+    fresh
+    edit 'set --separator: a new section' "$source\n[new]\nk\t=v\n" set --separator "$(printf '\t=')" settings.ini k v new
+    fresh
+    edit 'add --separator: the last of two' \
+        '; a server\nname = one\nname: two\n[server]\nport = 8080\nhost = a\\tb\nport = 9090\n[client]\n[server]\nlast = 1\n' \
+        add --separator = --separator ': ' settings.ini name two
+    fresh
+    edit 'format --separator' "$(printf '%s' "$written" | sed 's/=/ = /g')" format --separator ' = ' settings.ini
+    fresh
+    for text in '' - == ' ' '= x' "$(printf '\n=')"; do
+        for words in 'set settings.ini new v' 'add settings.ini name v' 'format settings.ini'; do
+            # shellcheck disable=SC2086
+            refused "${words%% *} --separator '$text'" 2 \
+                "ini_file: settings.ini: this separator can't be written so that it is read back" \
+                ${words%% *} --separator "$text" ${words#* }
+        done
+    done
+    edit 'set --separator that would not be read back, where no line is new' "$(printf '%s' "$source" | sed 's/one/two/')" \
+        set --separator - settings.ini name two
+    printf 'a=1\n  =v\n' >settings.ini
+    refused 'format --separator of a refused text: the separator first' 2 \
+        "ini_file: settings.ini: this separator can't be written so that it is read back" format --separator - settings.ini
+    refused 'format --separator: the text' 3 'settings.ini:2:4: missing key
+  =v
+  ^' format --separator : settings.ini
+    refused '--separator: no text' 2 "$usage" add --separator
+    for words in 'set --existing --separator : none.ini k v' 'get --separator : none.ini k' 'list --separator : none.ini' \
+        'delete --separator : none.ini k' 'rename-key --separator : none.ini k j'
+    do
+        # shellcheck disable=SC2086
+        case_of "$words: no choice of this command" 2 '' "$usage" $words
+    done
 }
 
 # names, keys and values as they stand, each with NUL
@@ -655,6 +699,7 @@ placing
 merging
 unmerged
 choosing
+separating
 nulls
 checking
 saving

@@ -80,7 +80,8 @@ if has bash completions; then
     offered '--existing ' ini_file set --e
     offered '-- --all --default --null --output ' ini_file get --
     offered '--null ' ini_file --crlf list --n
-    offered '-- --output ' ini_file format --
+    offered '-- --output --separator ' ini_file format --
+    offered '-- --output ' ini_file delete --
     offered ' ' ini_file get --default ''
     offered 'one.ini ' ini_file set --existing --output one.
     is 'completions are registered' "$programs" "$(bash -c '. "$0" && for name; do complete -p "$name"; done' \

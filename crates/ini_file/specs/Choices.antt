@@ -11,11 +11,12 @@ use Rattle.ini_file.specs.declared.choices.Choices.{Choices}
 use Rattle.ini_file.specs.declared.choices.Switches.{Switches}
 
 -- what is chosen by a word alone; the name of the file that is written, where it isn't the one that is read;
--- the value that is got where there is none
+-- the value that is got where there is none; what stands between key and value of new lines
 pub record Chosen : Type 0 where
   pub switches : Switches
   pub output : Option Word
   pub default : Option Word
+  pub separator : Option Word
 
 abbrev pub no_switch : Switches
 no_switch = record {
@@ -29,12 +30,18 @@ no_choice = record {
   switches = no_switch;
   output = None;
   default = None;
+  separator = None;
 }
 
 -- whether the command writes names, keys or values of the document
 abbrev pub writes_texts : Word → Bool
 writes_texts command = bytes_eq command (codes "get") || bytes_eq command (codes "keys")
     || bytes_eq command (codes "sections") || bytes_eq command (codes "list")
+
+-- whether the command writes new lines of pairs
+abbrev pub writes_pairs : Word → Bool
+writes_pairs command = bytes_eq command (codes "set") || bytes_eq command (codes "add")
+    || bytes_eq command (codes "format")
 
 -- whether the command takes the choices
 abbrev pub takes : Word → Chosen → Bool
@@ -43,6 +50,7 @@ takes command c =
     && (not c.switches.all || bytes_eq command (codes "get"))
     && (not (is_some c.default) || bytes_eq command (codes "get"))
     && (not c.switches.null || writes_texts command)
+    && (not (is_some c.separator) || (writes_pairs command && not c.switches.existing))
 
 -- what a word chooses by itself
 abbrev pub switched : Word → Switches → Option Switches
@@ -64,6 +72,8 @@ abbrev mutual
       then chosen_text (λ file. record c { output = Some file }) words
       else if bytes_eq word (codes "--default")
       then chosen_text (λ value. record c { default = Some value }) words
+      else if bytes_eq word (codes "--separator")
+      then chosen_text (λ text. record c { separator = Some text }) words
       else option_map_or (λ s. chosen (record c { switches = s }) words) (switched word c.switches)
       (if starts_with nat_eq word (codes "--") then None else Some (c, word ∷ words))
 
@@ -78,6 +88,7 @@ chosen_of c = record {
   switches = c.switches;
   output = option_map (λ file. file.now) c.output;
   default = option_map (λ value. value.now) c.default;
+  separator = option_map (λ text. text.now) c.separator;
 }
 
 -- what a call answers: the choices, and the words behind them

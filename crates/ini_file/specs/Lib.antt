@@ -13,3 +13,4 @@ pub mod Requests
 pub mod Runs
 pub mod Settings
 pub mod Words
+pub mod Writing

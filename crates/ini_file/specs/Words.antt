@@ -15,7 +15,7 @@ use Rattle.ini_file.specs.Requests.{RenameKey, RenameSection, DeleteSection}
 -- the request of a command without arguments, and of one with one, two or three
 abbrev pub requested_alone : Word → Chosen → Option Request
 requested_alone command c =
-    if bytes_eq command (codes "format") then Some (Ask Format)
+    if bytes_eq command (codes "format") then Some (Ask (Format c.separator))
     else if bytes_eq command (codes "list") then Some (Ask (Listing c.switches.null))
     else if bytes_eq command (codes "sections") then Some (Ask (Sections c.switches.null))
     else if bytes_eq command (codes "keys") then Some (Ask (Keys c.switches.null None))
@@ -38,14 +38,14 @@ requested_with_one command c first =
 abbrev pub setting : Chosen → Text → Text → Option Text → Option Request
 setting c key value section =
     if c.switches.existing then Some (Change (SetExisting key value section))
-    else Some (Change (Set key value section))
+    else Some (Change (Set key value section c.separator))
 
 abbrev pub requested_with_two : Word → Chosen → Text → Text → Option Request
 requested_with_two command c key second =
     if bytes_eq command (codes "get") then getting c key (Some second)
     else if bytes_eq command (codes "delete") then Some (Change (Delete key (Some second)))
     else if bytes_eq command (codes "set") then setting c key second None
-    else if bytes_eq command (codes "add") then Some (Change (Add key second None))
+    else if bytes_eq command (codes "add") then Some (Change (Add key second None c.separator))
     else if bytes_eq command (codes "rename-key") then Some (Change (RenameKey key second None))
     else if bytes_eq command (codes "rename-section") then Some (Change (RenameSection key second))
     else None
@@ -53,7 +53,7 @@ requested_with_two command c key second =
 abbrev pub requested_with_three : Word → Chosen → Text → Text → Text → Option Request
 requested_with_three command c key value section =
     if bytes_eq command (codes "set") then setting c key value (Some section)
-    else if bytes_eq command (codes "add") then Some (Change (Add key value (Some section)))
+    else if bytes_eq command (codes "add") then Some (Change (Add key value (Some section) c.separator))
     else if bytes_eq command (codes "rename-key") then Some (Change (RenameKey key value (Some section)))
     else None
 

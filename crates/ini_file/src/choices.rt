@@ -2,7 +2,7 @@
 //! commands their names alone.
 ghost use Rattle.std.specs.Prelude.{◌≡◌, map, string_bytes};
 ghost use Rattle.ini_file.specs.Choices.{chosen, chosen_by, chosen_of, no_choice, no_switch, switched};
-ghost use Rattle.ini_file.specs.Choices.{takes, writes_texts};
+ghost use Rattle.ini_file.specs.Choices.{takes, writes_pairs, writes_texts};
 
 /// What words behind the command choose by themselves.
 #[derive(Clone, Copy)]
@@ -51,6 +51,8 @@ pub struct Choices<'a> {
     pub output: Option<&'a str>,
     /// The value that is got where the key isn't there.
     pub default: Option<&'a str>,
+    /// What stands between key and value of new lines.
+    pub separator: Option<&'a str>,
 }
 
 impl<'a> Choices<'a> {
@@ -64,6 +66,7 @@ impl<'a> Choices<'a> {
         let mut switches = Switches::none();
         let mut output: Option<&'a str> = None;
         let mut default: Option<&'a str> = None;
+        let mut separator: Option<&'a str> = None;
         let mut rest = words;
         'words: while let Some((word, after)) = rest.split_first() {
             let word = word.as_str();
@@ -72,6 +75,7 @@ impl<'a> Choices<'a> {
                     switches,
                     output,
                     default,
+                    separator,
                 };
                 return Some((choices, after));
             } else if word == "--output" {
@@ -81,6 +85,10 @@ impl<'a> Choices<'a> {
             } else if word == "--default" {
                 let (value, after) = after.split_first()?;
                 default = Some(value.as_str());
+                rest = after;
+            } else if word == "--separator" {
+                let (text, after) = after.split_first()?;
+                separator = Some(text.as_str());
                 rest = after;
             } else if let Some(changed) = switches.switched(word) {
                 switches = changed;
@@ -92,6 +100,7 @@ impl<'a> Choices<'a> {
                     switches,
                     output,
                     default,
+                    separator,
                 };
                 return Some((choices, rest));
             }
@@ -100,6 +109,7 @@ impl<'a> Choices<'a> {
             switches,
             output,
             default,
+            separator,
         };
         Some((choices, rest))
     }
@@ -112,7 +122,15 @@ impl<'a> Choices<'a> {
             && (!self.switches.all || command == "get")
             && (self.default.is_none() || command == "get")
             && (!self.switches.null || writes_texts(command))
+            && (self.separator.is_none() || (writes_pairs(command) && !self.switches.existing))
     }
+}
+
+// Whether the command writes new lines of pairs.
+fn writes_pairs(command: &str) -> bool
+    ensures { result ≡ writes_pairs command.now }
+{
+    matches!(command, "set" | "add" | "format")
 }
 
 // Whether the command writes names, keys or values of the document.

@@ -1,6 +1,8 @@
 //! What each question is answered of a document. This file knows no word and no reader.
 ghost use Rattle.ini_text.specs.Device.Watched.{IsClear};
-ghost use Rattle.ini_file.specs.Requests.{Format, asking_of};
+ghost use Rattle.std.specs.Prelude.{Some};
+ghost use Rattle.ini.specs.Written.{written};
+ghost use Rattle.ini_file.specs.Requests.{asking_of};
 ghost use Rattle.ini_file.specs.Outputs.{output};
 ghost use Rattle.ini_lines.specs.Prints.{Prints};
 
@@ -22,7 +24,7 @@ pub fn answer<W: Write>(
         (output option (asking_of question.entry) document.now) }
 {
     match question {
-        Question::Format => format_document(document, option, out),
+        Question::Format { .. } => format_document(document, option, out),
         Question::List { null: false } => list(document, out),
         Question::List { null: true } => list_fields(document, out),
         Question::Sections { null: false } => sections(document, out),
@@ -46,7 +48,7 @@ fn format_document<W: Write>(
     out: &mut Watched<'_, W>,
 ) -> Result<bool, Error>
     requires { IsClear out.old }
-    ensures { Prints W.contents out.old out.new result (output option Format document.now) }
+    ensures { Prints W.contents out.old out.new result (Some (written document.now option)) }
 {
     document.write_watched(out, option)?;
     Ok(true)

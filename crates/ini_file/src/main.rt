@@ -25,6 +25,7 @@ mod run;
 mod save;
 mod settings;
 mod words;
+mod writing;
 
 use check_files::check_files;
 use check_words::check_of;
@@ -60,7 +61,7 @@ pub(crate) fn read_input(rt: &HostRuntime, file: &str) -> Result<Vec<u8>, Error>
 fn place_of<'a>(asked: &Asked<'a>) -> &'a str {
     match (asked.choices.output, asked.command) {
         (Some(file), _) => file,
-        (None, Command::Ask(Question::Format) | Command::Change(_)) => asked.file,
+        (None, Command::Ask(Question::Format { .. }) | Command::Change(_)) => asked.file,
         (None, Command::Ask(_)) => "-",
     }
 }

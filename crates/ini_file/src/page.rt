@@ -66,6 +66,8 @@ Choices:
   --default VALUE  of get: the value where the key isn't there
   --null           of get, keys, sections and list: names, keys and values as they
                    stand, each with NUL behind it
+  --separator TEXT of set, add and format: what stands between key and value of
+                   new lines; one = or : with spaces and tabs alone around it
   --output FILE    writes this file in place of the other; - is standard output
   --               what follows is no choice
 

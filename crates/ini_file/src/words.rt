@@ -4,9 +4,10 @@ ghost use Rattle.std.specs.Prelude.{◌≡◌, chars, map, string_bytes};
 ghost use Rattle.std.specs.Option.{option_map};
 ghost use Rattle.ini.specs.Texts.{str_name};
 ghost use Rattle.ini_file.specs.Choices.{chosen_of};
-ghost use Rattle.ini_file.specs.Requests.{asks_of, request_of};
+ghost use Rattle.ini_file.specs.Requests.{asking_of, asks_of, request_of, word_of};
 ghost use Rattle.ini_file.specs.Words.{asked, getting, requested, requested_alone, requested_with_one};
 ghost use Rattle.ini_file.specs.Words.{requested_with_three, requested_with_two, setting};
+ghost use Rattle.ini_file.specs.Writing.{separator_of};
 
 use crate::choices::Choices;
 use ini_options::{Options, usage_line};
@@ -15,11 +16,14 @@ use ini_options::{Options, usage_line};
 pub const USAGE: &str = usage_line!("ini_file", "COMMAND [CHOICE].. [--] FILE [ARGUMENT]..",);
 
 /// What is asked of the document of a file. Where no section is named it is the general one. With `null` each
-/// name, key and value is written as it stands, with NUL behind it, and no line.
+/// name, key and value is written as it stands, with NUL behind it, and no line. A separator stands between
+/// key and value.
 #[derive(Clone, Copy)]
 pub enum Question<'a> {
     /// The document, written anew in the file's place.
-    Format,
+    Format {
+        separator: Option<&'a str>,
+    },
     /// A line for each pair.
     List {
         null: bool,
@@ -52,7 +56,8 @@ pub struct Lookup<'a> {
     pub null: bool,
 }
 
-/// What is changed in the text of a file. Where no section is named it is the general one.
+/// What is changed in the text of a file. Where no section is named it is the general one. A separator stands
+/// between key and value of a new line.
 #[derive(Clone, Copy)]
 pub enum Edit<'a> {
     /// The first pair of the key in the first section of the name is taken out.
@@ -71,12 +76,14 @@ pub enum Edit<'a> {
         key: &'a str,
         value: &'a str,
         section: Option<&'a str>,
+        separator: Option<&'a str>,
     },
     /// A pair is added, whatever pairs of the key are there.
     Add {
         key: &'a str,
         value: &'a str,
         section: Option<&'a str>,
+        separator: Option<&'a str>,
     },
     /// The first pair of the key gets another key.
     RenameKey {
@@ -117,6 +124,18 @@ pub struct Asked<'a> {
     pub command: Command<'a>,
 }
 
+impl<'a> Question<'a> {
+    /// The separator that the question chooses.
+    pub fn separator(self) -> Option<&'a str>
+        ensures { word_of result ≡ separator_of (asking_of self.entry) }
+    {
+        match self {
+            Question::Format { separator } => separator,
+            _ => None,
+        }
+    }
+}
+
 // The command of a word and its arguments.
 fn command_of<'a>(word: &str, choices: Choices<'a>, arguments: &'a [String]) -> Option<Command<'a>>
     ensures { option_map request_of result
@@ -144,8 +163,9 @@ fn with_none<'a>(word: &str, choices: Choices<'a>) -> Option<Command<'a>>
     ensures { option_map request_of result ≡ requested_alone word.now (chosen_of choices.entry) }
 {
     let null = choices.switches.null;
+    let separator = choices.separator;
     match word {
-        "format" => Some(Command::Ask(Question::Format)),
+        "format" => Some(Command::Ask(Question::Format { separator })),
         "list" => Some(Command::Ask(Question::List { null })),
         "sections" => Some(Command::Ask(Question::Sections { null })),
         "keys" => Some(Command::Ask(Question::Keys {
@@ -205,6 +225,7 @@ fn with_two<'a>(
                 key,
                 value: second,
                 section: None,
+                separator: choices.separator,
             }))
         }
         "rename-key" => {
@@ -242,6 +263,7 @@ fn with_three<'a>(
                 key,
                 value,
                 section: Some(section),
+                separator: choices.separator,
             }))
         }
         "rename-key" => {
@@ -276,6 +298,7 @@ fn set_of<'a>(
             key,
             value,
             section,
+            separator: choices.separator,
         }
     };
     Some(Command::Change(edit))

@@ -10,7 +10,8 @@ loop-key-init g c =
 
 pub loop-key-preserved : goal.loop-key-preserved
 loop-key-preserved g c =
-    Writing-goes_on _ (ap fields_of_keys c.in-Some.ensures.steps) c.loop-key.invariant c.in_ok-put_ended.ensures
+    Writing-goes_on _ (ap fields_of_keys c.in-Some.ensures.steps)
+    c.loop-key.invariant c.in_ok-put_ended.ensures
 
 pub returns-in_err-put_ended : goal.returns-in_err-put_ended
 returns-in_err-put_ended g c =

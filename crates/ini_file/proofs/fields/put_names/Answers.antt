@@ -11,7 +11,8 @@ loop-name-init g c =
 
 pub loop-name-preserved : goal.loop-name-preserved
 loop-name-preserved g c =
-    Writing-goes_on _ (ap (flat_map name_field) c.in-Some.ensures.steps) c.loop-name.invariant c.in_ok-put_name.ensures
+    Writing-goes_on _ (ap (flat_map name_field) c.in-Some.ensures.steps)
+    c.loop-name.invariant c.in_ok-put_name.ensures
 
 pub returns-in_err-put_name : goal.returns-in_err-put_name
 returns-in_err-put_name g c =

@@ -6,4 +6,5 @@ use Rattle.ini_file.proofs.fields.put_names.Given as goal
 
 abbrev pub invariant-loop-name : goal.invariant-loop-name
 invariant-loop-name g l =
-    Writing g.W.Write.contents l.fn.out l.out (held l.fn.lines) (held l.lines) (name_fields l.document) (flat_map name_field l.name-iterator)
+    Writing g.W.Write.contents l.fn.out l.out (held l.fn.lines) (held l.lines)
+    (name_fields l.document) (flat_map name_field l.name-iterator)

@@ -9,10 +9,11 @@ use Rattle.ini_file.proofs.fields.put_pair.Goals as goal
 
 pub returns-in-Some : goal.returns-in-Some
 returns-in-Some g c =
-    let put = simp (append-nil, chars-open_bracket, chars-close_bracket_nul, chars-nul) at c.put_texts.ensures in
+    let put = simp (append-nil, chars-open_bracket, chars-close_bracket_nul, chars-nul)
+    at c.put_texts.ensures in
     let joined = pair_fields-named (str_text c.in-Some.name) (str_text c.args.key) (str_text c.args.value) in
-    rw c.in-Some.is (subst (SendsText g.W.Write.contents c.args.out.now c.put_texts.new.out (held c.args.lines.now)
-    (held c.put_texts.new.lines) c.put_texts.result) joined put)
+    rw c.in-Some.is (subst (SendsText g.W.Write.contents c.args.out.now c.put_texts.new.out
+    (held c.args.lines.now) (held c.put_texts.new.lines) c.put_texts.result) joined put)
 
 pub returns-in-None : goal.returns-in-None
 returns-in-None g c =

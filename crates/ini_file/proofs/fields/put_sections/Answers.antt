@@ -10,7 +10,8 @@ loop-name-init g c =
 
 pub loop-name-preserved : goal.loop-name-preserved
 loop-name-preserved g c =
-    Writing-goes_on _ (ap listed_fields c.in-Some.ensures.steps) c.loop-name.invariant c.in_ok-put_pairs.ensures
+    Writing-goes_on _ (ap listed_fields c.in-Some.ensures.steps)
+    c.loop-name.invariant c.in_ok-put_pairs.ensures
 
 pub returns-in_err-put_pairs : goal.returns-in_err-put_pairs
 returns-in_err-put_pairs g c =

@@ -5,4 +5,5 @@ use Rattle.ini_file.proofs.fields.put_sections.Given as goal
 
 abbrev pub invariant-loop-name : goal.invariant-loop-name
 invariant-loop-name g l =
-    Writing g.W.Write.contents l.fn.out l.out (held l.fn.lines) (held l.lines) (listed_fields l.document) (listed_fields l.name-iterator)
+    Writing g.W.Write.contents l.fn.out l.out (held l.fn.lines) (held l.lines)
+    (listed_fields l.document) (listed_fields l.name-iterator)

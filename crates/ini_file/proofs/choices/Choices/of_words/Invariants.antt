@@ -9,6 +9,7 @@ invariant-words l =
       switches = l.switches;
       output = option_map (λ file. file.now) l.output;
       default = option_map (λ value. value.now) l.default;
+      separator = option_map (λ text. text.now) l.separator;
     })
     (map string_bytes l.rest) ≡ chosen no_choice (map string_bytes l.words)
 
