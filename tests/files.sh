@@ -23,7 +23,7 @@ passed=0
 failed=0
 skipped=0
 options='[--noescape] [--noquote] [--multiline] [--indent] [--brackets] [--crlf] [--policy NAME]'
-usage="usage: ini_file $options COMMAND [--existing] [--output FILE] [--] FILE [ARGUMENT].."
+usage="usage: ini_file $options COMMAND [CHOICE].. [--] FILE [ARGUMENT].."
 source='; a server\nname = one\n[server]\nport = 8080\nhost = a\\tb\nport = 9090\n[client]\n[server]\nlast = 1\n'
 written='name=one\n\n[server]\nport=8080\nhost=a\\tb\nport=9090\n[client]\n\n[server]\nlast=1\n'
 
@@ -363,6 +363,257 @@ placing() {
     case_of 'arguments may begin with --' 1 '' '' get settings.ini --existing
 }
 
+# choices of a command, which another doesn't take: nothing is read then
+choosing() {
+    fresh
+    refused 'set --existing, twice, without a value' 2 "$usage" set --existing --existing settings.ini name
+    for words in 'get --existing none.ini k' 'add --existing none.ini k v' 'list --existing none.ini' \
+        'delete --existing none.ini k' 'format --existing none.ini' 'rename-key --existing none.ini k j' \
+        'keys --all none.ini' 'list --all none.ini' 'set --all none.ini k v' \
+        'keys --default v none.ini' 'set --default v none.ini k v' 'delete --default v none.ini k' \
+        'format --null none.ini' 'set --null none.ini k v' 'delete --null none.ini k' 'rename-section --null none.ini a b'
+    do
+        # shellcheck disable=SC2086
+        case_of "$words: no choice of this command" 2 '' "$usage" $words
+    done
+    case_of 'get --default: the key is there' 0 'one\n' '' get --default other settings.ini name
+    case_of 'get --default: it is not' 0 'other\n' '' get --default other settings.ini port
+    case_of 'get --default: the section is not' 0 'a\tb\n' '' get --default "$(printf 'a\tb')" settings.ini port nowhere
+    case_of 'get --default: an empty one' 0 '\n' '' get --default '' settings.ini port
+    case_of 'get --default: the last of two' 0 '2\n' '' get --default 1 --default 2 settings.ini port
+    case_of 'get --default: it may begin with --' 0 '\055-null\n' '' get --default --null settings.ini port
+    case_of 'get --default: no text' 2 '' "$usage" get --default
+    case_of 'get --default in a file that is not there' 4 '' \
+        'ini_file: none.ini: No such file or directory (os error 2)' get --default x none.ini k
+    case_of 'get --all' 0 '8080\n9090\n' '' get --all settings.ini port server
+    case_of 'get --all of one value' 0 'a\tb\n' '' get --all settings.ini host server
+    case_of 'get --all: a later section of the name counts for nothing' 1 '' '' get --all settings.ini last server
+    case_of 'get --all in a section that is not there' 1 '' '' get --all settings.ini port nowhere
+    case_of 'get --all in a section without pairs' 1 '' '' get --all settings.ini port client
+    case_of 'get --all --default: the key is there' 0 '8080\n9090\n' '' get --all --default 1 settings.ini port server
+    case_of 'get --default --all: it is not' 0 '1\n' '' get --default 1 --all settings.ini last server
+    case_of 'get --all --default: the section is not' 0 '1\n' '' get --all --default 1 settings.ini port nowhere
+    printf 'a=1\n  =v\n' >refused.ini
+    case_of 'get --all --default of a refused text' 3 '' 'refused.ini:2:4: missing key
+  =v
+  ^' get --all --default x refused.ini b
+}
+
+# what stands between key and value of new lines
+separating() {
+    fresh
+    edit 'set --separator: a new line' \
+        '; a server\nname = one\nother : x\n[server]\nport = 8080\nhost = a\\tb\nport = 9090\n[client]\n[server]\nlast = 1\n' \
+        set --separator ' : ' settings.ini other x
+    fresh
+    edit 'set --separator: the line that is there stays' \
+        '; a server\nname = two\n[server]\nport = 8080\nhost = a\\tb\nport = 9090\n[client]\n[server]\nlast = 1\n' \
+        set --separator ' : ' settings.ini name two
+    fresh
+    edit 'set --separator: a new section' "$source\n[new]\nk\t=v\n" set --separator "$(printf '\t=')" settings.ini k v new
+    fresh
+    edit 'add --separator: the last of two' \
+        '; a server\nname = one\nname: two\n[server]\nport = 8080\nhost = a\\tb\nport = 9090\n[client]\n[server]\nlast = 1\n' \
+        add --separator = --separator ': ' settings.ini name two
+    fresh
+    edit 'format --separator' "$(printf '%s' "$written" | sed 's/=/ = /g')" format --separator ' = ' settings.ini
+    fresh
+    for text in '' - == ' ' '= x' "$(printf '\n=')"; do
+        for words in 'set settings.ini new v' 'add settings.ini name v' 'format settings.ini'; do
+            # shellcheck disable=SC2086
+            refused "${words%% *} --separator '$text'" 2 \
+                "ini_file: settings.ini: this separator can't be written so that it is read back" \
+                ${words%% *} --separator "$text" ${words#* }
+        done
+    done
+    edit 'set --separator that would not be read back, where no line is new' "$(printf '%s' "$source" | sed 's/one/two/')" \
+        set --separator - settings.ini name two
+    printf 'a=1\n  =v\n' >settings.ini
+    refused 'format --separator of a refused text: the separator first' 2 \
+        "ini_file: settings.ini: this separator can't be written so that it is read back" format --separator - settings.ini
+    refused 'format --separator: the text' 3 'settings.ini:2:4: missing key
+  =v
+  ^' format --separator : settings.ini
+    refused '--separator: no text' 2 "$usage" add --separator
+    for words in 'set --existing --separator : none.ini k v' 'get --separator : none.ini k' 'list --separator : none.ini' \
+        'delete --separator : none.ini k' 'rename-key --separator : none.ini k j'
+    do
+        # shellcheck disable=SC2086
+        case_of "$words: no choice of this command" 2 '' "$usage" $words
+    done
+}
+
+# names, keys and values as they stand, each with NUL
+nulls() {
+    fresh
+    case_of 'get --null' 0 '8080\000' '' get --null settings.ini port server
+    case_of 'get --null --all' 0 '8080\0009090\000' '' get --null --all settings.ini port server
+    case_of 'get --null --default' 0 'x\000' '' get --null --default x settings.ini port
+    case_of 'get --null: not there' 1 '' '' get --null settings.ini port
+    case_of 'keys --null' 0 'port\000host\000port\000' '' keys --null settings.ini server
+    case_of 'keys --null of a section without pairs' 0 '' '' keys --null settings.ini client
+    case_of 'keys --null of a section that is not there' 1 '' '' keys --null settings.ini nowhere
+    case_of 'sections --null' 0 'server\000client\000' '' sections --null settings.ini
+    case_of 'list --null' 0 "$(printf '%s' '\000name\000one\000[server]\000port\0008080\000[server]\000host\000a\tb\000' \
+        '[server]\000port\0009090\000[server]\000last\0001\000')" '' list --null settings.ini
+    printf 'k =\na\\nb = x\\ny\\\\z\nk = "2\n\n"\n[s\\nt]\n= 1\n' | sed 's/^= 1$/e=/' >odd.ini
+    case_of 'get --null --all: empty values, and line feeds' 0 '\0002\n\n\000' '' get --null --all odd.ini k
+    case_of 'get --all: line feeds stand' 0 '\n2\n\n\n' '' get --all odd.ini k
+    case_of 'get --null: what was an escape' 0 'x\ny\\z\000' '' get --null odd.ini "$(printf 'a\nb')"
+    case_of 'keys --null: no escapes' 0 'k\000a\nb\000k\000' '' keys --null odd.ini
+    case_of 'sections --null: no escapes' 0 's\nt\000' '' sections --null odd.ini
+    case_of 'list --null: no escapes, empty values' 0 \
+        '\000k\000\000\000a\nb\000x\ny\\z\000\000k\0002\n\n\000[s\nt]\000e\000\000' '' list --null odd.ini
+    : >empty.ini
+    case_of 'list --null of no text' 0 '' '' list --null empty.ini
+    case_of 'sections --null of no text' 0 '' '' sections --null empty.ini
+    if command -v xargs >/dev/null; then
+        "$program" list --null odd.ini | xargs -0 -n 3 printf '<%s|%s|%s>' >"$room/have"
+        printf '<|k|><|a\nb|x\ny\\z><|k|2\n\n><[s\nt]|e|>' >"$room/want"
+        count 'list --null under xargs -0'
+    fi
+}
+
+# what other files set, set in a file
+merging() {
+    fresh
+    new='; a server\nname = two\n[server]\nport = 1\nhost = c\n[client]\n[server]\nlast = 1\n\n[new]\nk=v\n'
+    printf '# of the users\nname = two\n[server]\nport=1\nport=2\nhost = c\n[server]\nlast = 9\n[new]\nk = v\n' \
+        >../other.ini
+    edit 'merge: values in their places, a new section; the first values of the first sections' "$new" \
+        merge settings.ini ../other.ini
+    printf '# of a user\r\n[new]\r\nk = x\r\n' >../first.ini
+    printf '[new]\nk = w\n[client]\nid = 7\n' >../later.ini
+    two='; a server\nname = two\n[server]\nport = 1\nhost = c\n[client]\nid=7\n[server]\nlast = 1\n\n[new]\nk='
+    case_of 'merge of two files: the later one counts' 0 "${two}w\n" '' \
+        merge --output - settings.ini ../first.ini ../later.ini
+    case_of 'merge of two files, the other way round' 0 "${two}x\n" '' \
+        merge --output - -- settings.ini ../later.ini ../first.ini
+    stands 'merge --output: the file stands' "$new"
+    printf '\357\273\277[a]\r\n; c\r\nk = 1 \r\nk = 2\r\n' >settings.ini
+    printf '\357\273\277[a]\nj = 3\nk = 4\n' >../other.ini
+    edit 'merge: a mark and line ends stay' '\357\273\277[a]\r\n; c\r\nk = 4 \r\nj=3\r\n' \
+        merge settings.ini ../other.ini
+    printf '[a]\nk=1\n' >../one.ini
+    rm settings.ini
+    edit 'merge makes a file' '[a]\nk=1\n' merge settings.ini ../one.ini
+    case_of 'merge: standard input goes to standard output' 0 '[b]\nj=2\n\n[a]\nk=1\n' '' merge - ../one.ini <<END
+[b]
+j=2
+END
+    case_of 'merge: another file may be standard input' 0 '[a]\nk=1\n\n[b]\nj=2\n' '' \
+        merge --output - settings.ini - <<END
+[b]
+j=2
+END
+    case_of 'merge of nothing' 0 '[a]\nk=1\n' '' merge --output - settings.ini - <<END
+# nothing
+[c]
+END
+    printf "k = 'v'\n" >../quotes.ini
+    case_of 'merge: options of reading' 0 "k='v'\n[a]\nk=1\n" '' --noquote merge --output - settings.ini ../quotes.ini
+    rm settings.ini
+    edit 'merge: options of writing' '[a]\r\nk=1\r\n' --crlf merge settings.ini ../one.ini
+}
+
+# merges that are refused
+unmerged() {
+    fresh
+    printf 'k = 1\n' >../plain.ini
+    printf 'a = 1\n  =v\n' >../refused.ini
+    printf '\377' >../bytes.ini
+    printf "[new]\nk = ' 1'\n" >../unplain.ini
+    refused 'merge of a file that is not there' 4 'ini_file: none.ini: No such file or directory (os error 2)' \
+        merge settings.ini ../plain.ini none.ini
+    refused 'merge of a refused text' 3 '../refused.ini:2:4: missing key
+  =v
+  ^' merge settings.ini ../plain.ini ../refused.ini
+    refused 'merge of bytes that are no text' 3 'ini_file: ../bytes.ini: the input is not UTF-8' \
+        merge settings.ini ../bytes.ini ../refused.ini
+    refused 'merge of a value that would not be read back' 2 \
+        "ini_file: settings.ini: [new] k: this value can't be written so that it is read back" \
+        merge settings.ini ../plain.ini ../unplain.ini
+    refused 'merge of no other file' 2 "$usage" merge settings.ini
+    refused 'merge of standard input, twice' 2 "$usage" merge settings.ini - -
+    refused 'merge of standard input into itself' 2 "$usage" merge - -
+    refused 'merge --existing' 2 "$usage" merge --existing settings.ini ../plain.ini
+    cp ../refused.ini settings.ini
+    refused 'merge into a refused text' 3 'settings.ini:2:4: missing key
+  =v
+  ^' merge settings.ini ../plain.ini
+    cp ../bytes.ini settings.ini
+    refused 'merge into bytes that are no text' 3 'ini_file: settings.ini: the input is not UTF-8' \
+        merge settings.ini ../plain.ini
+    rm settings.ini
+    case_of 'merge makes no file where another is not there' 4 '' \
+        'ini_file: none.ini: No such file or directory (os error 2)' merge settings.ini none.ini
+    ls -A >"$room/have"
+    : >"$room/want"
+    count 'no file is made where a merge is refused'
+# the warnings of files; the traps are those of crates/ini_check/README.md
+checking() {
+    fresh
+    escape='a backslash begins an escape in this value'
+    repeated='this key was there before in its section'
+    printf 'one\ntwo = 2\n\t#k = v\npath = C:\\temp\n[a]\nk = v ; note\nk = 2\n[a]\n' >traps.ini
+    case_of 'check: each trap, in the order of the places' 1 "\
+traps.ini:1:1: warning: this line has no separator and runs on into the next
+traps.ini:3:1: warning: an indented comment mark begins a key
+traps.ini:3:1: warning: this may not be read back once it is written
+traps.ini:4:8: warning: $escape
+traps.ini:6:5: warning: a comment mark is part of this value
+traps.ini:7:1: warning: $repeated
+traps.ini:8:1: warning: a section of this name was there before
+" '' check traps.ini
+    printf 'path = C:\\temp\n' >path.ini
+    case_of 'check: options of reading apply' 1 \
+        'path.ini:1:1: warning: this may not be read back once it is written\n' '' --noescape check path.ini
+    printf '\357\273\277path = C:\\temp\n' >mark.ini
+    case_of 'check: columns count from behind a mark' 1 "mark.ini:1:8: warning: $escape\n" '' check mark.ini
+    printf '; clean\na = 1\n[b]\na = 2\n' >clean.ini
+    : >empty.ini
+    case_of 'check: clean files' 0 '' '' check clean.ini empty.ini
+    printf 'a = 1\n  =v\n' >bad.ini
+    case_of 'check: a refused file keeps none from being looked at' 3 \
+        "path.ini:1:8: warning: $escape\nmark.ini:1:8: warning: $escape\n" 'bad.ini:2:4: missing key
+  =v
+  ^' check path.ini bad.ini mark.ini
+    printf 'one\ntwo = 2\n= 3\n' >late.ini
+    case_of 'check: a refused file has no warnings' 3 '' 'late.ini:3:2: missing key
+= 3
+^' check late.ini
+    printf 'k = \377\n' >bytes.ini
+    case_of 'check: bytes that are no text' 3 '' 'ini_file: bytes.ini: the input is not UTF-8' \
+        check bytes.ini clean.ini
+    case_of 'check: a file that is not there' 4 "path.ini:1:8: warning: $escape\n" \
+        'ini_file: none.ini: No such file or directory (os error 2)
+bad.ini:2:4: missing key
+  =v
+  ^' check none.ini bad.ini path.ini
+    case_of 'check: standard input' 1 "\055:2:1: warning: $repeated\n" '' check - clean.ini <<END
+k=1
+k=2
+END
+    printf 'k=1\nk=2\n' >--odd.ini
+    case_of 'check: a file behind --' 1 "\055-odd.ini:2:1: warning: $repeated\n" '' check -- --odd.ini
+    case_of 'check: later files may begin with --' 1 "\055-odd.ini:2:1: warning: $repeated\n" '' \
+        check clean.ini --odd.ini
+    case_of 'check: no file' 2 '' "$usage" check
+    case_of 'check: no file behind --' 2 '' "$usage" check --
+    case_of 'check: no choice' 2 '' "$usage" check --output clean.ini path.ini
+    "$program" check path.ini >/dev/full 2>"$room/have"
+    echo "status $?" >>"$room/have"
+    printf 'ini_file: standard output: No space left on device (os error 28)\nstatus 4\n' >"$room/want"
+    count 'check: a full device'
+    "$program" check clean.ini bad.ini >/dev/full 2>/dev/null
+    echo "status $?" >"$room/have"
+    echo 'status 3' >"$room/want"
+    count 'check: where there are no warnings nothing is written'
+    printf 'path = C:\\temp\n' >"$room/want"
+    cp path.ini "$room/have"
+    count 'check: no file is written'
+}
+
 # a folder in which nothing may be made, for a user who may not do all
 protected() {
     fresh
@@ -447,6 +698,12 @@ adding
 making
 renaming
 placing
+merging
+unmerged
+choosing
+separating
+nulls
+checking
 saving
 at_once
 protected

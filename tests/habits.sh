@@ -75,9 +75,14 @@ if has bash completions; then
     offered ' ' ini_tool get ''
     offered 'one two one.ini ' ini_merge ''
     offered 'one.ini ' ini_merge --crlf one.ini one.
-    offered 'add delete delete-section format get keys list rename-key rename-section sections set ' ini_file ''
+    offered 'add check delete delete-section format get keys list merge rename-key rename-section sections set ' ini_file ''
     offered 'one two one.ini ' ini_file get ''
     offered '--existing ' ini_file set --e
+    offered '-- --all --default --null --output ' ini_file get --
+    offered '--null ' ini_file --crlf list --n
+    offered '-- --output --separator ' ini_file format --
+    offered '-- --output ' ini_file delete --
+    offered ' ' ini_file get --default ''
     offered 'one.ini ' ini_file set --existing --output one.
     is 'completions are registered' "$programs" "$(bash -c '. "$0" && for name; do complete -p "$name"; done' \
         "$top/completions/bigrosk" $programs | sed 's/^complete -F _bigrosk //' | tr '\n' ' ' | sed 's/ $//')"

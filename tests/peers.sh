@@ -66,6 +66,24 @@ if peer crudini; then
         is "crudini: $pair" "$(crudini_value $pair)" "$(value $pair)"
     done
 fi
+# The texts behind one another by NUL, which a shell can't hold.
+shown() { tr '\0' '|'; }
+
+if peer git; then
+    printf '[a]\nk = 1\nj = 2\nk = x y\n[b]\nk = 3\n' >repeated.ini
+    is 'git: --get-all' "$(answer git config -f repeated.ini --get-all a.k)" "$(answer "$program" get --all repeated.ini k a)"
+    is 'git: --get-all of no value' "$(answer git config -f repeated.ini --get-all b.j)" \
+        "$(answer "$program" get --all repeated.ini j b)"
+    is 'git: -z --get-all' "$(git config -f repeated.ini -z --get-all a.k | shown)" \
+        "$("$program" get --null --all repeated.ini k a | shown)"
+    is 'git: -z --get' "$(git config -f repeated.ini -z --get b.k | shown)" "$("$program" get --null repeated.ini k b | shown)"
+    for key in b.k b.j c.k; do
+        is "git: --default of $key" "$(answer git config -f repeated.ini --default d --get $key)" \
+            "$(answer "$program" get --default d repeated.ini ${key#*.} ${key%.*})"
+    done
+    is 'git: -z --list' "$(git config -f repeated.ini -z --list | tr '\n' '|' | shown)" \
+        "$("$program" list --null repeated.ini | shown | sed 's/\[\([a-z]*\)\]|/\1./g')"
+fi
 if peer git; then
     is 'git: list' "$(git config -f settings.ini --list)" \
         "$("$program" list settings.ini | sed "s/^\[\(.*\)\]$tab\(.*\)$tab/\1.\2=/")"

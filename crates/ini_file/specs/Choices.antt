@@ -1,49 +1,94 @@
 -- Which words behind the command are options, what they choose, and where the words behind them begin.
-use Rattle.std.specs.Prelude.{ℕ, Bool, true, false, if◌then◌else◌, nat_eq, List, [], ◌∷◌, codes, map}
-use Rattle.std.specs.Prelude.{Option, None, Some, String, string_bytes}
+use Rattle.std.specs.Prelude.{ℕ, Bool, true, false, not, ◌&&◌, ◌||◌, if◌then◌else◌, nat_eq}
+use Rattle.std.specs.Prelude.{List, [], ◌∷◌, codes, map, Option, None, Some, is_some, String, string_bytes}
 use Rattle.std.specs.Borrow.{Bor}
 use Rattle.std.specs.List.{starts_with}
-use Rattle.std.specs.Option.{option_map}
+use Rattle.std.specs.Option.{option_map, option_map_or}
 use Rattle.std.specs.Str.{bytes_eq}
 use Rattle.std.specs.declared.alloc.Global.{Global}
 use Rattle.ini_options.specs.Words.{Word}
 use Rattle.ini_file.specs.declared.choices.Choices.{Choices}
+use Rattle.ini_file.specs.declared.choices.Switches.{Switches}
 
--- a value is set only where its key is there; the name of the file that is written, where it isn't the one
--- that is read
+-- what is chosen by a word alone; the name of the file that is written, where it isn't the one that is read;
+-- the value that is got where there is none; what stands between key and value of new lines
 pub record Chosen : Type 0 where
-  pub existing : Bool
+  pub switches : Switches
   pub output : Option Word
+  pub default : Option Word
+  pub separator : Option Word
+
+abbrev pub no_switch : Switches
+no_switch = record {
+  existing = false;
+  all = false;
+  null = false;
+}
 
 abbrev pub no_choice : Chosen
 no_choice = record {
-  existing = false;
+  switches = no_switch;
   output = None;
+  default = None;
+  separator = None;
 }
 
+-- whether the command writes names, keys or values of the document
+abbrev pub writes_texts : Word → Bool
+writes_texts command = bytes_eq command (codes "get") || bytes_eq command (codes "keys")
+    || bytes_eq command (codes "sections") || bytes_eq command (codes "list")
+
+-- whether the command writes new lines of pairs
+abbrev pub writes_pairs : Word → Bool
+writes_pairs command = bytes_eq command (codes "set") || bytes_eq command (codes "add")
+    || bytes_eq command (codes "format")
+
+-- whether the command takes the choices
+abbrev pub takes : Word → Chosen → Bool
+takes command c =
+    (not c.switches.existing || bytes_eq command (codes "set"))
+    && (not c.switches.all || bytes_eq command (codes "get"))
+    && (not (is_some c.default) || bytes_eq command (codes "get"))
+    && (not c.switches.null || writes_texts command)
+    && (not (is_some c.separator) || (writes_pairs command && not c.switches.existing))
+
+-- what a word chooses by itself
+abbrev pub switched : Word → Switches → Option Switches
+switched word s =
+    if bytes_eq word (codes "--existing") then Some (record s { existing = true })
+    else if bytes_eq word (codes "--all") then Some (record s { all = true })
+    else if bytes_eq word (codes "--null") then Some (record s { null = true })
+    else None
+
 -- the choices of words where `c` holds before them, and the words behind: those behind `--`, else those from
--- the first one on that is no option. None where the name of a file is missing, or a word there begins with
--- `--` and is no option
+-- the first one on that is no option. None where a text is missing, or a word there begins with `--` and is
+-- no option
 abbrev mutual
   pub chosen : Chosen → List Word → Option (Chosen × List Word)
   chosen c [] = Some (c, [])
   chosen c (word ∷ words) =
       if bytes_eq word (codes "--") then Some (c, words)
-      else if bytes_eq word (codes "--output") then chosen_output c words
-      else if bytes_eq word (codes "--existing") then chosen (record c { existing = true }) words
-      else if starts_with nat_eq word (codes "--") then None
-      else Some (c, word ∷ words)
+      else if bytes_eq word (codes "--output")
+      then chosen_text (λ file. record c { output = Some file }) words
+      else if bytes_eq word (codes "--default")
+      then chosen_text (λ value. record c { default = Some value }) words
+      else if bytes_eq word (codes "--separator")
+      then chosen_text (λ text. record c { separator = Some text }) words
+      else option_map_or (λ s. chosen (record c { switches = s }) words) (switched word c.switches)
+      (if starts_with nat_eq word (codes "--") then None else Some (c, word ∷ words))
 
-  -- the same behind the word `--output`, which the name of a file follows
-  pub chosen_output : Chosen → List Word → Option (Chosen × List Word)
-  chosen_output c [] = None
-  chosen_output c (file ∷ words) = chosen (record c { output = Some file }) words
+  -- the same behind a word that a text follows
+  pub chosen_text : (Word → Chosen) → List Word → Option (Chosen × List Word)
+  chosen_text with [] = None
+  chosen_text with (text ∷ words) = chosen (with text) words
 
 -- the choices that are kept as borrowed words
 abbrev pub chosen_of : Choices → Chosen
 chosen_of c = record {
-  existing = c.existing;
+  switches = c.switches;
   output = option_map (λ file. file.now) c.output;
+  default = option_map (λ value. value.now) c.default;
+  separator = option_map (λ text. text.now) c.separator;
 }
 
 -- what a call answers: the choices, and the words behind them

@@ -12,13 +12,13 @@ use Rattle.ini.specs.Loading.{IsDocumentOf, IsParseOrMemory, IsStopOf, IsTextWit
 use Rattle.ini.specs.Texts.{Text}
 use Rattle.ini_edit.specs.declared.error.EditError.{EditError}
 use Rattle.ini_edit.specs.declared.error.EditError.TheVariants as refusal
-use Rattle.ini_options.specs.Words.{IsWriteOption}
 use Rattle.ini_options.specs.declared.options.Options.{Options}
 use Rattle.ini_file.specs.Bytes.{mark_of}
 use Rattle.ini_file.specs.Edits.{HasNothingToEdit, IsEdited, RefusesEdit}
 use Rattle.ini_file.specs.Outputs.{output}
 use Rattle.ini_file.specs.Requests.{Asking, Asks, Editing, Request, Ask, Change}
 use Rattle.ini_file.specs.Words.{asked}
+use Rattle.ini_file.specs.Writing.{IsWriting, Separates, separator_of}
 use Rattle.ini_file.specs.declared.run.Outcome.{Outcome}
 use Rattle.ini_file.specs.declared.run.Outcome.TheVariants.{Done, NotFound, Usage, Refused}
 
@@ -30,7 +30,8 @@ asked_by words = asked (map string_bytes words)
 pub record IsAnswer (o : Options) (q : Asking) (T : Text) (out : Option Text) : Type 0 where
   pub option : WriteOption
   pub document : Document
-  pub is_option : IsWriteOption o option
+  pub is_option : IsWriting o (separator_of q) option
+  pub separates : Separates (separator_of q)
   pub loaded : IsDocumentOf o.reading T document
   pub is_output : out ≡ output option q document
 
@@ -50,9 +51,16 @@ abbrev pub IsAbsent : Options → Request → Text → Type 0
 IsAbsent o (Ask q) T = IsAnswer o q T None
 IsAbsent o (Change e) T = HasNothingToEdit o e T
 
--- what a request is refused with, but for the text's own faults and memory's; a question is with nothing else
+-- what a question is refused with, but for the text's own faults and memory's: a separator that isn't read
+-- back
+abbrev pub RefusesQuestion : Asking → EditError → Type 0
+RefusesQuestion q (refusal.Text _) = ⊤
+RefusesQuestion q refusal.Separator = ¬ Separates (separator_of q)
+RefusesQuestion q _ = ⊥
+
+-- what a request is refused with, but for the text's own faults and memory's
 abbrev pub RefusesRequest : Options → Request → Text → EditError → Type 0
-RefusesRequest o (Ask q) T refused = ⊥
+RefusesRequest o (Ask q) T refused = RefusesQuestion q refused
 RefusesRequest o (Change e) T refused = RefusesEdit o e T refused
 
 -- how a run ends that asks for the request of a file with this mark and text
@@ -112,4 +120,4 @@ status_of (Refused refusal.Separator) = 2
 abbrev pub usage_line : List ℕ
 usage_line =
     codes "usage: ini_file [--noescape] [--noquote] [--multiline] [--indent] [--brackets] [--crlf] "
-    ++ codes "[--policy NAME] COMMAND [--existing] [--output FILE] [--] FILE [ARGUMENT]..\n"
+    ++ codes "[--policy NAME] COMMAND [CHOICE].. [--] FILE [ARGUMENT]..\n"

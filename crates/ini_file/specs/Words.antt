@@ -1,73 +1,80 @@
 -- What the words of the program ask for: options in any order, and then a command, its options, a file and
 -- its arguments.
-use Rattle.std.specs.Prelude.{Bool, if◌then◌else◌, List, [], ◌∷◌, codes, chars}
+use Rattle.std.specs.Prelude.{if◌then◌else◌, List, [], ◌∷◌, codes, chars}
 use Rattle.std.specs.Prelude.{Option, None, Some, option_and_then}
 use Rattle.std.specs.Option.{option_map}
 use Rattle.std.specs.Str.{bytes_eq}
 use Rattle.ini.specs.Texts.{Text}
 use Rattle.ini_options.specs.Words.{Word, default_options, given}
 use Rattle.ini_options.specs.declared.options.Options.{Options}
-use Rattle.ini_file.specs.Choices.{Chosen, chosen, no_choice}
+use Rattle.ini_file.specs.Choices.{Chosen, chosen, no_choice, takes}
 use Rattle.ini_file.specs.Requests.{Asks, Request, Ask, Change}
 use Rattle.ini_file.specs.Requests.{Format, Listing, Sections, Keys, Get, Delete, SetExisting, Set, Add}
 use Rattle.ini_file.specs.Requests.{RenameKey, RenameSection, DeleteSection}
 
 -- the request of a command without arguments, and of one with one, two or three
-abbrev pub requested_alone : Word → Option Request
-requested_alone command =
-    if bytes_eq command (codes "format") then Some (Ask Format)
-    else if bytes_eq command (codes "list") then Some (Ask Listing)
-    else if bytes_eq command (codes "sections") then Some (Ask Sections)
-    else if bytes_eq command (codes "keys") then Some (Ask (Keys None))
+abbrev pub requested_alone : Word → Chosen → Option Request
+requested_alone command c =
+    if bytes_eq command (codes "format") then Some (Ask (Format c.separator))
+    else if bytes_eq command (codes "list") then Some (Ask (Listing c.switches.null))
+    else if bytes_eq command (codes "sections") then Some (Ask (Sections c.switches.null))
+    else if bytes_eq command (codes "keys") then Some (Ask (Keys c.switches.null None))
     else None
 
-abbrev pub requested_with_one : Word → Text → Option Request
-requested_with_one command first =
-    if bytes_eq command (codes "get") then Some (Ask (Get first None))
-    else if bytes_eq command (codes "keys") then Some (Ask (Keys (Some first)))
+-- to get a key's values
+abbrev pub getting : Chosen → Text → Option Text → Option Request
+getting c key section =
+    Some (Ask (Get c.switches.null c.switches.all key section (option_map chars c.default)))
+
+abbrev pub requested_with_one : Word → Chosen → Text → Option Request
+requested_with_one command c first =
+    if bytes_eq command (codes "get") then getting c first None
+    else if bytes_eq command (codes "keys") then Some (Ask (Keys c.switches.null (Some first)))
     else if bytes_eq command (codes "delete") then Some (Change (Delete first None))
     else if bytes_eq command (codes "delete-section") then Some (Change (DeleteSection first))
     else None
 
 -- to set a value: wherever its pair stands, or only where the key is there
-abbrev pub setting : Bool → Text → Text → Option Text → Option Request
-setting existing key value section =
-    if existing then Some (Change (SetExisting key value section))
-    else Some (Change (Set key value section))
+abbrev pub setting : Chosen → Text → Text → Option Text → Option Request
+setting c key value section =
+    if c.switches.existing then Some (Change (SetExisting key value section))
+    else Some (Change (Set key value section c.separator))
 
-abbrev pub requested_with_two : Word → Bool → Text → Text → Option Request
-requested_with_two command existing key second =
-    if bytes_eq command (codes "get") then Some (Ask (Get key (Some second)))
+abbrev pub requested_with_two : Word → Chosen → Text → Text → Option Request
+requested_with_two command c key second =
+    if bytes_eq command (codes "get") then getting c key (Some second)
     else if bytes_eq command (codes "delete") then Some (Change (Delete key (Some second)))
-    else if bytes_eq command (codes "set") then setting existing key second None
-    else if bytes_eq command (codes "add") then Some (Change (Add key second None))
+    else if bytes_eq command (codes "set") then setting c key second None
+    else if bytes_eq command (codes "add") then Some (Change (Add key second None c.separator))
     else if bytes_eq command (codes "rename-key") then Some (Change (RenameKey key second None))
     else if bytes_eq command (codes "rename-section") then Some (Change (RenameSection key second))
     else None
 
-abbrev pub requested_with_three : Word → Bool → Text → Text → Text → Option Request
-requested_with_three command existing key value section =
-    if bytes_eq command (codes "set") then setting existing key value (Some section)
-    else if bytes_eq command (codes "add") then Some (Change (Add key value (Some section)))
+abbrev pub requested_with_three : Word → Chosen → Text → Text → Text → Option Request
+requested_with_three command c key value section =
+    if bytes_eq command (codes "set") then setting c key value (Some section)
+    else if bytes_eq command (codes "add") then Some (Change (Add key value (Some section) c.separator))
     else if bytes_eq command (codes "rename-key") then Some (Change (RenameKey key value (Some section)))
     else None
 
--- the request of a command and its arguments; with `existing` a value is set only where its key is there
-abbrev pub requested : Word → Bool → List Word → Option Request
-requested command existing [] = requested_alone command
-requested command existing (first ∷ []) = requested_with_one command (chars first)
-requested command existing (first ∷ second ∷ []) =
-    requested_with_two command existing (chars first) (chars second)
-requested command existing (first ∷ second ∷ third ∷ []) =
-    requested_with_three command existing (chars first) (chars second) (chars third)
-requested command existing _ = None
+-- the request of a command, its choices and its arguments
+abbrev pub requested : Word → Chosen → List Word → Option Request
+requested command c [] = requested_alone command c
+requested command c (first ∷ []) = requested_with_one command c (chars first)
+requested command c (first ∷ second ∷ []) = requested_with_two command c (chars first) (chars second)
+requested command c (first ∷ second ∷ third ∷ []) =
+    requested_with_three command c (chars first) (chars second) (chars third)
+requested command c _ = None
 
--- what is asked for behind the options and the command: a file, and the command's arguments
+-- what is asked for behind the options and the command, which takes its choices: a file, and the command's
+-- arguments
 abbrev pub filed : Options → Word → Chosen → List Word → Option Asks
 filed o command c [] = None
 filed o command c (file ∷ arguments) =
-    option_map (λ r. record { options = o; choices = c; file = file; request = r })
-    (requested command c.existing arguments)
+    if takes command c
+    then option_map (λ r. record { options = o; choices = c; file = file; request = r })
+    (requested command c arguments)
+    else None
 
 -- the same behind the options: a command comes first, and then its own options
 abbrev pub commanded : Options → List Word → Option Asks

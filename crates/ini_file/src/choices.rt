@@ -1,47 +1,141 @@
-//! The options of the program's own, which stand behind its command. This file knows no command and no
-//! document.
+//! The options of the program's own, which stand behind its command. This file knows no document, and of the
+//! commands their names alone.
 ghost use Rattle.std.specs.Prelude.{◌≡◌, map, string_bytes};
-ghost use Rattle.ini_file.specs.Choices.{chosen, chosen_by, no_choice};
+ghost use Rattle.ini_file.specs.Choices.{chosen, chosen_by, chosen_of, no_choice, no_switch, switched};
+ghost use Rattle.ini_file.specs.Choices.{takes, writes_pairs, writes_texts};
+
+/// What words behind the command choose by themselves.
+#[derive(Clone, Copy)]
+pub struct Switches {
+    /// A value is set only where its key is there.
+    pub existing: bool,
+    /// Each value of a key is got, not the first alone.
+    pub all: bool,
+    /// What is asked for is written as it stands, with NUL behind each name, key and value.
+    pub null: bool,
+}
+
+impl Switches {
+    // Nothing is chosen.
+    fn none() -> Switches
+        ensures { result ≡ no_switch }
+    {
+        Switches {
+            existing: false,
+            all: false,
+            null: false,
+        }
+    }
+
+    // The switches after a word that is one.
+    fn switched(self, word: &str) -> Option<Switches>
+        ensures { result ≡ switched word.now self }
+    {
+        let mut switches = self;
+        match word {
+            "--existing" => switches.existing = true,
+            "--all" => switches.all = true,
+            "--null" => switches.null = true,
+            _ => return None,
+        }
+        Some(switches)
+    }
+}
 
 /// What the options behind the command choose.
 #[derive(Clone, Copy)]
 pub struct Choices<'a> {
-    /// A value is set only where its key is there.
-    pub existing: bool,
+    /// What words choose by themselves.
+    pub switches: Switches,
     /// The file that is written in the place of the one that is read; `-` is standard output.
     pub output: Option<&'a str>,
+    /// The value that is got where the key isn't there.
+    pub default: Option<&'a str>,
+    /// What stands between key and value of new lines.
+    pub separator: Option<&'a str>,
 }
 
 impl<'a> Choices<'a> {
     /// The options that words have at their front, and the words behind them: those behind `--`, else those
     /// from the first one on that is no option. `None` where a word there begins with `--` and is no option,
-    /// or where the name of a file is missing. Of several names the last holds. Takes no memory.
+    /// or where the text is missing that an option takes. Of several texts of an option the last holds. Takes
+    /// no memory.
     pub fn of_words(words: &'a [String]) -> Option<(Choices<'a>, &'a [String])>
         ensures { chosen_by result ≡ chosen no_choice (map string_bytes words.now) }
     {
-        let mut existing = false;
+        let mut switches = Switches::none();
         let mut output: Option<&'a str> = None;
+        let mut default: Option<&'a str> = None;
+        let mut separator: Option<&'a str> = None;
         let mut rest = words;
         'words: while let Some((word, after)) = rest.split_first() {
             let word = word.as_str();
             if word == "--" {
-                let choices = Choices { existing, output };
+                let choices = Choices {
+                    switches,
+                    output,
+                    default,
+                    separator,
+                };
                 return Some((choices, after));
             } else if word == "--output" {
                 let (file, after) = after.split_first()?;
                 output = Some(file.as_str());
                 rest = after;
-            } else if word == "--existing" {
-                existing = true;
+            } else if word == "--default" {
+                let (value, after) = after.split_first()?;
+                default = Some(value.as_str());
+                rest = after;
+            } else if word == "--separator" {
+                let (text, after) = after.split_first()?;
+                separator = Some(text.as_str());
+                rest = after;
+            } else if let Some(changed) = switches.switched(word) {
+                switches = changed;
                 rest = after;
             } else if word.as_bytes().starts_with(b"--") {
                 return None;
             } else {
-                let choices = Choices { existing, output };
+                let choices = Choices {
+                    switches,
+                    output,
+                    default,
+                    separator,
+                };
                 return Some((choices, rest));
             }
         }
-        let choices = Choices { existing, output };
+        let choices = Choices {
+            switches,
+            output,
+            default,
+            separator,
+        };
         Some((choices, rest))
     }
+
+    /// Whether the command of this name takes the choices.
+    pub fn suit(self, command: &str) -> bool
+        ensures { result ≡ takes command.now (chosen_of self.entry) }
+    {
+        (!self.switches.existing || command == "set")
+            && (!self.switches.all || command == "get")
+            && (self.default.is_none() || command == "get")
+            && (!self.switches.null || writes_texts(command))
+            && (self.separator.is_none() || (writes_pairs(command) && !self.switches.existing))
+    }
+}
+
+// Whether the command writes new lines of pairs.
+fn writes_pairs(command: &str) -> bool
+    ensures { result ≡ writes_pairs command.now }
+{
+    matches!(command, "set" | "add" | "format")
+}
+
+// Whether the command writes names, keys or values of the document.
+fn writes_texts(command: &str) -> bool
+    ensures { result ≡ writes_texts command.now }
+{
+    matches!(command, "get" | "keys" | "sections" | "list")
 }

@@ -5,14 +5,12 @@ ghost use Rattle.ini.specs.Loading.{IsStopOf};
 ghost use Rattle.ini_text.specs.Parsing.Items.{string_text};
 ghost use Rattle.ini_edit.specs.Edited.{IfEditParse};
 ghost use Rattle.ini_edit.specs.declared.error.EditError.TheVariants as EditErrors;
-ghost use Rattle.ini_file.specs.Requests.{editing_of};
+ghost use Rattle.ini_file.specs.Requests.{Add, Set, editing_of, word_of};
 ghost use Rattle.ini_file.specs.Edits.{HasNothingToEdit, HasUnplainKey, HasUnplainName, HasUnplainValue};
-ghost use Rattle.ini_file.specs.Edits.{IsAddedBy, IsEdited, IsEditRefusal, IsRefusedBy, IsSetBy};
-ghost use Rattle.ini_file.specs.Edits.{RefusesEdit};
-ghost use Rattle.ini_edit.specs.Added.{RefusesToAdd};
-ghost use Rattle.ini_edit.specs.Settings.{RefusesToSet};
+ghost use Rattle.ini_file.specs.Edits.{IsAddedBy, IsEdited, IsEditRefusal, IsSetBy, RefusesEdit};
 
 use crate::words::Edit;
+use crate::writing::writing;
 use ini_edit::{
     EditError, add, delete, delete_section, rename_key, rename_section, set, set_existing,
 };
@@ -53,12 +51,14 @@ pub fn edited(
             key,
             value,
             section,
-        } => Ok(Some(set_by(alloc, options, key, value, section, text)?)),
+            separator,
+        } => Ok(Some(set_by(alloc, options, separator, key, value, section, text)?)),
         Edit::Add {
             key,
             value,
             section,
-        } => Ok(Some(add_by(alloc, options, key, value, section, text)?)),
+            separator,
+        } => Ok(Some(add_by(alloc, options, separator, key, value, section, text)?)),
         Edit::RenameKey { old, new, section } => {
             rename_key(alloc, text, read, policy, section, old, new)
         }
@@ -71,19 +71,20 @@ pub fn edited(
 fn set_by(
     alloc: Global,
     options: Options,
+    separator: Option<&str>,
     key: &str,
     value: &str,
     section: Option<&str>,
     text: &str,
 ) -> Result<String, EditError>
-    ensures edited { IfOk result (λ new. IsSetBy options (chars text.now) (chars key.now) (chars value.now)
-        (str_name section.entry) (string_text new)) }
-    ensures refused { IfErr result (λ e. IsRefusedBy options (λ w. RefusesToSet options.reading w
-        (chars text.now) (str_name section.entry) (chars key.now) (chars value.now) e)) }
+    ensures edited { IfOk result (λ new. IsSetBy options (word_of separator.entry) (chars text.now)
+        (chars key.now) (chars value.now) (str_name section.entry) (string_text new)) }
+    ensures refused { IfErr result (RefusesEdit options (Set (chars key.now) (chars value.now)
+        (str_name section.entry) (word_of separator.entry)) (chars text.now)) }
     ensures fault { IfEditParse result (IsStopOf options.reading (chars text.now)) }
     ensures only { IfErr result IsEditRefusal }
 {
-    let write = options.write_option();
+    let write = writing(alloc, options, separator)?;
     set(alloc, text, options.reading, &write, section, key, value)
 }
 
@@ -91,18 +92,19 @@ fn set_by(
 fn add_by(
     alloc: Global,
     options: Options,
+    separator: Option<&str>,
     key: &str,
     value: &str,
     section: Option<&str>,
     text: &str,
 ) -> Result<String, EditError>
-    ensures edited { IfOk result (λ new. IsAddedBy options (chars text.now) (chars key.now) (chars value.now)
-        (str_name section.entry) (string_text new)) }
-    ensures refused { IfErr result (λ e. IsRefusedBy options (λ w. RefusesToAdd options.reading w
-        (chars text.now) (str_name section.entry) (chars key.now) (chars value.now) e)) }
+    ensures edited { IfOk result (λ new. IsAddedBy options (word_of separator.entry) (chars text.now)
+        (chars key.now) (chars value.now) (str_name section.entry) (string_text new)) }
+    ensures refused { IfErr result (RefusesEdit options (Add (chars key.now) (chars value.now)
+        (str_name section.entry) (word_of separator.entry)) (chars text.now)) }
     ensures fault { IfEditParse result (IsStopOf options.reading (chars text.now)) }
     ensures only { IfErr result IsEditRefusal }
 {
-    let write = options.write_option();
+    let write = writing(alloc, options, separator)?;
     add(alloc, text, options.reading, &write, section, key, value)
 }

@@ -6,19 +6,35 @@
 #![tactic(auto)]
 
 mod bytes;
+mod check;
+mod check_files;
+mod check_words;
 mod choices;
 mod command;
 mod diagnosis;
+mod diff;
 mod edit;
+mod fields;
+mod lines;
+mod merge;
+mod merge_files;
+mod merge_words;
 mod page;
+mod refusals;
 mod run;
 mod save;
+mod settings;
 mod words;
+mod writing;
 
+use check_files::check_files;
+use check_words::check_of;
 use diagnosis::point_at;
 use ini::Error;
 use ini_edit::EditError;
 use ini_options::{named, words_of};
+use merge_files::merge_files;
+use merge_words::merge_of;
 use page::page_of;
 use run::{Outcome, run, status, tell};
 use save::save;
@@ -28,7 +44,7 @@ use std::process::ExitCode;
 use words::{Asked, Command, Edit, Question, parse};
 
 /// The bytes of a file; `-` is standard input.
-fn read_input(rt: &HostRuntime, file: &str) -> Result<Vec<u8>, Error> {
+pub(crate) fn read_input(rt: &HostRuntime, file: &str) -> Result<Vec<u8>, Error> {
     if file == "-" {
         let mut bytes = Vec::new(rt.alloc());
         match rt.stdin().read_to_end(&mut bytes) {
@@ -45,7 +61,7 @@ fn read_input(rt: &HostRuntime, file: &str) -> Result<Vec<u8>, Error> {
 fn place_of<'a>(asked: &Asked<'a>) -> &'a str {
     match (asked.choices.output, asked.command) {
         (Some(file), _) => file,
-        (None, Command::Ask(Question::Format) | Command::Change(_)) => asked.file,
+        (None, Command::Ask(Question::Format { .. }) | Command::Change(_)) => asked.file,
         (None, Command::Ask(_)) => "-",
     }
 }
@@ -59,7 +75,7 @@ fn makes_file(command: &Command<'_>) -> bool {
 }
 
 /// Whether a file can't be read because it isn't there.
-fn is_missing(refusal: &Error) -> bool {
+pub(crate) fn is_missing(refusal: &Error) -> bool {
     match refusal {
         Error::Io(fault) => fault.kind() == io::ErrorKind::NotFound,
         _ => false,
@@ -74,19 +90,19 @@ fn print(rt: &HostRuntime, output: &[u8]) -> Result<(), Error> {
     }
 }
 
-/// Hands on what a command is to write; nothing was read of a file that wasn't there, which is made. A file
-/// that would not change is not written.
-fn hand_on(
+/// Hands on to a place what a command over a file is to write; nothing was read of a file that wasn't there,
+/// which is made. A file that would not change is not written.
+pub(crate) fn hand_on(
     rt: &HostRuntime,
-    asked: &Asked<'_>,
+    place: &str,
+    file: &str,
     read: Option<&[u8]>,
     output: &[u8],
 ) -> Result<(), Error> {
-    let place = place_of(asked);
     if place == "-" {
         return print(rt, output);
     }
-    if place == asked.file {
+    if place == file {
         return match read {
             Some(there) => replace(rt, place, there, output),
             None => save(rt, rt.alloc(), place, None, output),
@@ -144,7 +160,7 @@ fn run_here(rt: &HostRuntime, words: &[String], input: &mut Vec<u8>) -> Outcome 
             } else {
                 None
             };
-            hand_on(rt, &asked, read, output.as_slice()).err()
+            hand_on(rt, place_of(&asked), asked.file, read, output.as_slice()).err()
         }
         _ => None,
     };
@@ -160,6 +176,12 @@ fn main(rt: HostRuntime) -> ExitCode {
     let outcome = match words_of(&rt, rt.alloc()) {
         Ok(given) => {
             words = given;
+            if let Some(check) = check_of(words.as_slice()) {
+                return ExitCode::from(check_files(&rt, &check));
+            }
+            if let Some(merging) = merge_of(words.as_slice()) {
+                return ExitCode::from(merge_files(&rt, &merging));
+            }
             run_here(&rt, words.as_slice(), &mut input)
         }
         Err(refusal) => Outcome::from(refusal),

@@ -47,7 +47,9 @@ Commands; no SECTION is the general one, FILE - is standard input:
   delete-section FILE SECTION               takes the section out
   rename-key FILE OLD NEW [SECTION]         the key's first pair gets another key
   rename-section FILE OLD NEW               the section gets another name
+  merge FILE OTHER ..                       sets in FILE what the others set
   format FILE                               writes the file anew, without comments
+  check FILE ..                             warnings of each file, a line each
 
 Options, of reading and of writing:
   --noescape     a backslash begins no escape
@@ -59,10 +61,16 @@ Options, of reading and of writing:
   --policy NAME  which characters are written as escapes
 
 Choices:
-  --existing     set only where the key is there
-  --output FILE  writes this file in place of the other; - is standard output
-  --             what follows is no choice
+  --existing       of set: only where the key is there
+  --all            of get: each value of the key, not the first alone
+  --default VALUE  of get: the value where the key isn't there
+  --null           of get, keys, sections and list: names, keys and values as they
+                   stand, each with NUL behind it
+  --separator TEXT of set, add and format: what stands between key and value of
+                   new lines; one = or : with spaces and tabs alone around it
+  --output FILE    writes this file in place of the other; - is standard output
+  --               what follows is no choice
 
-Status: 0 done, 1 not found, 2 wrong words, 3 a refused text, 4 a fault
-of a file or of memory. Only with status 0 is a file changed.
+Status: 0 done, 1 not found or warnings, 2 wrong words, 3 a refused text,
+4 a fault of a file or of memory. Only with status 0 is a file changed.
 ";

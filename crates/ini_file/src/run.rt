@@ -3,7 +3,7 @@
 ghost use Rattle.std.specs.Prelude.{◌≡◌, ◌++◌, ◌↔◌, ◌⊎◌, Err, IfErr, IfOk, MatchOption, None, OnOk};
 ghost use Rattle.std.specs.Prelude.{[], chars, is_some, unwrap_or};
 ghost use Rattle.ini_text.specs.Device.Watched.{AppendsFront};
-ghost use Rattle.ini.specs.Loading.{IfParse, IsParseOrMemory, IsStopOf};
+ghost use Rattle.ini.specs.Loading.{IsStopOf};
 ghost use Rattle.ini.specs.WrittenTo.{IsWrittenTo};
 ghost use Rattle.ini_edit.specs.Edited.{IfEditParse};
 ghost use Rattle.ini_edit.specs.declared.error.EditError.TheVariants as EditErrors;
@@ -12,12 +12,14 @@ ghost use Rattle.ini_file.specs.Edits.{IsEditRefusal, RefusesEdit};
 ghost use Rattle.ini_file.specs.Outputs.{output};
 ghost use Rattle.ini_file.specs.Requests.{asking_of, editing_of};
 ghost use Rattle.ini_file.specs.Runs.{HasOutcome, IsAnswer, IsAnsweredAs, IsChanged, IsDone, IsNotFound};
-ghost use Rattle.ini_file.specs.Runs.{IsUsage, asked_by, status_of, usage_line};
+ghost use Rattle.ini_file.specs.Runs.{IsUsage, RefusesQuestion, asked_by, status_of, usage_line};
+ghost use Rattle.ini_file.specs.Writing.{Separates, separator_of};
 
 use crate::bytes::{joined, text_of};
 use crate::command::answer;
 use crate::edit::edited;
 use crate::words::{Command, Edit, Question, USAGE, parse};
+use crate::writing::{separates, writing};
 use ini::{Error, Ini, Watched, WriteOption, write_raw};
 use ini_edit::EditError;
 use ini_options::Options;
@@ -86,7 +88,7 @@ pub fn run(alloc: Global, words: &[String], input: &[u8]) -> Outcome
         Command::Ask(question) => match ask(alloc, asked.options, question, text) {
             Ok(Some(bytes)) => Outcome::Done(bytes),
             Ok(None) => Outcome::NotFound,
-            Err(refused) => Outcome::from(refused),
+            Err(refused) => Outcome::Refused(refused),
         },
         Command::Change(edit) => match change(alloc, asked.options, edit, mark, text) {
             Ok(Some(bytes)) => Outcome::Done(bytes),
@@ -96,24 +98,33 @@ pub fn run(alloc: Global, words: &[String], input: &[u8]) -> Outcome
     }
 }
 
-// What a question is answered of a text's document; `None` where what it asks for isn't there.
+// What a question is answered of a text's document; `None` where what it asks for isn't there. A separator
+// that wouldn't be read back is refused, whatever the text is.
 fn ask(
     alloc: Global,
     options: Options,
     question: Question<'_>,
     text: &str,
-) -> Result<Option<Vec<u8>>, Error>
+) -> Result<Option<Vec<u8>>, EditError>
     ensures answered { IfOk result (IsAnsweredAs options (asking_of question.entry) (chars text.now)) }
-    ensures fault { IfParse result (IsStopOf options.reading (chars text.now)) }
-    ensures only { IfErr result IsParseOrMemory }
+    ensures separator { (¬ Separates (separator_of (asking_of question.entry)))
+        → result ≡ Err EditErrors.Separator }
+    ensures refused { IfErr result (RefusesQuestion (asking_of question.entry)) }
+    ensures fault { IfEditParse result (IsStopOf options.reading (chars text.now)) }
+    ensures only { IfErr result IsEditRefusal }
 {
+    let separator = question.separator();
+    if !separates(separator) {
+        return Err(EditError::Separator);
+    }
+    let option = writing(alloc, options, separator)?;
     let document = Ini::load_from_str_opt(alloc, text, options.reading)?;
     let mut bytes = Vec::new(alloc);
-    match answer_to(question, &document, options.write_option(), &mut bytes) {
+    match answer_to(question, &document, option, &mut bytes) {
         Ok(true) => Ok(Some(bytes)),
         Ok(false) => Ok(None),
         // Bytes in memory are refused for want of it alone.
-        Err(_) => Err(Error::Memory(AllocError)),
+        Err(_) => Err(EditError::Text(Error::Memory(AllocError))),
     }
 }
 

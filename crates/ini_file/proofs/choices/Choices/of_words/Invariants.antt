@@ -5,7 +5,12 @@ use Rattle.ini_file.proofs.choices.Choices.of_words.Given as goal
 
 abbrev pub invariant-words : goal.invariant-words
 invariant-words l =
-    chosen (record { existing = l.existing; output = option_map (λ file. file.now) l.output })
+    chosen (record {
+      switches = l.switches;
+      output = option_map (λ file. file.now) l.output;
+      default = option_map (λ value. value.now) l.default;
+      separator = option_map (λ text. text.now) l.separator;
+    })
     (map string_bytes l.rest) ≡ chosen no_choice (map string_bytes l.words)
 
 abbrev pub decreases-words : goal.decreases-words

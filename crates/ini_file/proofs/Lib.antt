@@ -1,0 +1,5 @@
+pub mod FieldLemmas
+pub mod LineLemmas
+pub mod MergeLemmas
+pub mod ShareLemmas
+pub mod SplitLemmas

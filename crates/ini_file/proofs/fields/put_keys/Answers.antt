@@ -1,0 +1,20 @@
+use Rattle.std.proofs.Common.{ap}
+use Rattle.std.proofs.lemmas.Result.{err_from_is_err_and}
+use Rattle.ini.proofs.WritingLemmas.{Writing-goes_on, Writing-starts, Writing-stops}
+use Rattle.ini_file.specs.Fields.{fields_of_keys}
+use Rattle.ini_file.proofs.fields.put_keys.Goals as goal
+
+pub loop-key-init : goal.loop-key-init
+loop-key-init g c =
+    rw c.into_iter-key-iterator.ensures.into_iter_gives (Writing-starts c.args.out.now _ c.requires)
+
+pub loop-key-preserved : goal.loop-key-preserved
+loop-key-preserved g c =
+    Writing-goes_on _ (ap fields_of_keys c.in-Some.ensures.steps)
+    c.loop-key.invariant c.in_ok-put_ended.ensures
+
+pub returns-in_err-put_ended : goal.returns-in_err-put_ended
+returns-in_err-put_ended g c =
+    let p = err_from_is_err_and c.from_residual.result c.from_residual.ensures.1 in
+    let front = ap fields_of_keys c.in-Some.ensures.steps in
+    rw (p.1, p.2) (Writing-stops _ front c.loop-key.invariant c.in_err-put_ended.ensures)

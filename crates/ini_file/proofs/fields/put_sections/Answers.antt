@@ -1,0 +1,20 @@
+use Rattle.std.proofs.Common.{ap}
+use Rattle.std.proofs.lemmas.Result.{err_from_is_err_and}
+use Rattle.ini.proofs.WritingLemmas.{Writing-goes_on, Writing-starts, Writing-stops}
+use Rattle.ini_file.specs.Fields.{listed_fields}
+use Rattle.ini_file.proofs.fields.put_sections.Goals as goal
+
+pub loop-name-init : goal.loop-name-init
+loop-name-init g c =
+    rw c.into_iter-name-iterator.ensures.into_iter_gives (Writing-starts c.args.out.now _ c.requires)
+
+pub loop-name-preserved : goal.loop-name-preserved
+loop-name-preserved g c =
+    Writing-goes_on _ (ap listed_fields c.in-Some.ensures.steps)
+    c.loop-name.invariant c.in_ok-put_pairs.ensures
+
+pub returns-in_err-put_pairs : goal.returns-in_err-put_pairs
+returns-in_err-put_pairs g c =
+    let p = err_from_is_err_and c.from_residual.result c.from_residual.ensures.1 in
+    let front = ap listed_fields c.in-Some.ensures.steps in
+    rw (p.1, p.2) (Writing-stops _ front c.loop-name.invariant c.in_err-put_pairs.ensures)

@@ -1,0 +1,15 @@
+use Rattle.std.proofs.lemmas.Result.{err_from_is_err_and}
+use Rattle.ini.proofs.WritingLemmas.{Writing-goes_on, Writing-stops, flat_map-drop}
+use Rattle.ini.specs.Texts.{str_text}
+use Rattle.ini_file.proofs.fields.put_texts.Goals as goal
+
+pub loop-text-preserved : goal.loop-text-preserved
+loop-text-preserved g c =
+    let front = flat_map-drop str_text c.args.texts.now c.loop-text.text-index _ c.loop-text-test.true in
+    Writing-goes_on _ front c.loop-text.invariant c.in_ok-put_text.ensures
+
+pub returns-in_err-put_text : goal.returns-in_err-put_text
+returns-in_err-put_text g c =
+    let p = err_from_is_err_and c.from_residual.result c.from_residual.ensures.1 in
+    let front = flat_map-drop str_text c.args.texts.now c.loop-text.text-index _ c.loop-text-test.true in
+    rw (p.1, p.2) (Writing-stops _ front c.loop-text.invariant c.in_err-put_text.ensures)

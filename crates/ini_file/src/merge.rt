@@ -1,0 +1,110 @@
+//! What other files set, set in a file's text, as a function of their bytes. This file knows no word of the
+//! program and no device.
+ghost use Rattle.std.specs.Prelude.{◌≡◌, ◌++◌, ◌∷◌, [], IfErr, IfOk, OnOk, chars};
+ghost use Rattle.ini.specs.Documents.{Document};
+ghost use Rattle.ini_file.specs.Merges.{AreLoaded, EndsOnText, HasMerge, Loads, RefusesFile, RefusesOther};
+ghost use Rattle.ini_file.specs.Merges.{bytes_of};
+
+use crate::bytes::{joined, text_of};
+use crate::settings::settings_of;
+use ini::{Error, Ini, ParseOption};
+use ini_edit::{RefusedEdit, make_edits};
+use ini_options::Options;
+use std::alloc::{AllocError, Global};
+
+/// How a merge ended.
+#[derive(Debug, Drop)]
+pub enum MergeEnd {
+    /// The file's bytes, with what the others set.
+    Done(Vec<u8>),
+    /// Of the other files the one with this number, counted from 0, was refused.
+    Other(usize, Error),
+    /// The file's bytes are no text, or memory was refused.
+    File(Error),
+    /// An edit of the file's text was refused, or the text was.
+    Edit(RefusedEdit),
+}
+
+/// The file's bytes with what the others set: for each of them in order, each key of the first section of each
+/// name is set to the first value that it has there. A mark (EF BB BF) at the front of any is no part of its
+/// text; that of the file stays. All others are read before the file is; where they set nothing the file's text
+/// isn't read.
+pub fn merge(alloc: Global, options: Options, input: &[u8], others: &[Vec<u8>]) -> MergeEnd
+    ensures { HasMerge options input.now (bytes_of others.now) result }
+{
+    let documents = match load_all(alloc, options.reading, others) {
+        Ok(documents) => documents,
+        Err((index, refusal)) => return MergeEnd::Other(index, refusal),
+    };
+    match text_of(input) {
+        Ok((mark, text)) => merge_text(alloc, options, documents.as_slice(), mark, text),
+        Err(refused) => MergeEnd::File(refused),
+    }
+}
+
+// What documents set, set in a text behind a mark.
+fn merge_text(
+    alloc: Global,
+    options: Options,
+    documents: &[Ini],
+    mark: &[u8],
+    text: &str,
+) -> MergeEnd
+    ensures { EndsOnText options documents.now mark.now (chars text.now) result }
+{
+    let Ok(edits) = settings_of(alloc, documents) else {
+        return MergeEnd::File(Error::Memory(AllocError));
+    };
+    let write = options.write_option();
+    let new = match make_edits(alloc, text, options.reading, &write, edits.as_slice()) {
+        Ok(new) => new,
+        Err(refused) => return MergeEnd::Edit(refused),
+    };
+    match joined(alloc, mark, new.text.as_str()) {
+        Ok(bytes) => MergeEnd::Done(bytes),
+        Err(refused) => MergeEnd::File(refused),
+    }
+}
+
+/// The documents of files; else the number of the file that has none, and why.
+pub fn load_all(
+    alloc: Global,
+    reading: ParseOption,
+    files: &[Vec<u8>],
+) -> Result<Vec<Ini>, (usize, Error)>
+    ensures loaded { IfOk result (λ documents. AreLoaded reading (bytes_of files.now) documents.items) }
+    ensures refused { IfErr result (λ refused. RefusesOther reading (bytes_of files.now) refused.0 refused.1) }
+{
+    let mut documents = Vec::new(alloc);
+    for (index, file) in files.iter().enumerate() {
+        if let Err(refusal) = load_one(alloc, reading, file.as_slice(), &mut documents) {
+            return Err((index, refusal));
+        }
+    }
+    Ok(documents)
+}
+
+// Puts the document of a file last.
+fn load_one(
+    alloc: Global,
+    reading: ParseOption,
+    file: &[u8],
+    documents: &mut Vec<Ini>,
+) -> Result<(), Error>
+    ensures loaded { OnOk result ((document : Document) × Loads reading file.now document
+        × (documents.new.items ≡ documents.old.items ++ document ∷ [])) }
+    ensures refused { IfErr result (RefusesFile reading file.now) }
+{
+    let document = load(alloc, reading, file)?;
+    documents.push(document).map_err(AllocError::from)?;
+    Ok(())
+}
+
+// The document of a file.
+fn load(alloc: Global, reading: ParseOption, file: &[u8]) -> Result<Ini, Error>
+    ensures loaded { IfOk result (Loads reading file.now) }
+    ensures refused { IfErr result (RefusesFile reading file.now) }
+{
+    let (_, text) = text_of(file)?;
+    Ini::load_from_str_opt(alloc, text, reading)
+}

@@ -1,0 +1,102 @@
+//! A merge of files that are there: they are read, what they make is handed on, and what is refused is told.
+//! This file knows the process's streams, and no word of the program.
+
+use crate::merge::{MergeEnd, load_all, merge};
+use crate::merge_words::Merging;
+use crate::refusals::refuse;
+use crate::run::Outcome;
+use crate::settings::settings_of;
+use crate::{hand_on, is_missing, read_input};
+use ini::Error;
+use ini_edit::{Edit, EditError};
+use std::alloc::{AllocError, Global};
+
+/// Merges the files, and answers the exit status. All of them are read before anything is written, and where
+/// one is refused nothing is. A file that isn't there is made; another one must be there.
+///
+/// No contract says what a disk gets; `tests/files.sh` tests it.
+pub fn merge_files(rt: &HostRuntime, merging: &Merging<'_>) -> u8 {
+    let reading = merging.options.reading;
+    let mut others = Vec::new(rt.alloc());
+    for other in merging.others {
+        let refused = match read_input(rt, other.as_str()) {
+            Ok(bytes) => others
+                .push(bytes)
+                .is_err()
+                .then_some(Error::Memory(AllocError)),
+            Err(refusal) => Some(refusal),
+        };
+        if let Some(refusal) = refused {
+            return refuse(rt, reading, other.as_str(), &[], Outcome::from(refusal));
+        }
+    }
+    match read_input(rt, merging.file) {
+        Ok(input) => merge_read(rt, merging, Some(input.as_slice()), others.as_slice()),
+        Err(refusal) if is_missing(&refusal) => merge_read(rt, merging, None, others.as_slice()),
+        Err(refusal) => refuse(rt, reading, merging.file, &[], Outcome::from(refusal)),
+    }
+}
+
+// Merges files that were read; of the file nothing was read where it isn't there.
+fn merge_read(
+    rt: &HostRuntime,
+    merging: &Merging<'_>,
+    read: Option<&[u8]>,
+    others: &[Vec<u8>],
+) -> u8 {
+    let (reading, file) = (merging.options.reading, merging.file);
+    let input = read.unwrap_or(&[]);
+    match merge(rt.alloc(), merging.options, input, others) {
+        MergeEnd::Done(bytes) => {
+            let place = merging.choices.output.unwrap_or(file);
+            match hand_on(rt, place, file, read, bytes.as_slice()) {
+                Ok(()) => 0,
+                Err(refusal) => refuse(rt, reading, file, &[], Outcome::from(refusal)),
+            }
+        }
+        MergeEnd::Other(index, refusal) => {
+            let name = merging.others.get(index).map_or("", |name| name.as_str());
+            let bytes = others.get(index).map_or(input, |bytes| bytes.as_slice());
+            refuse(rt, reading, name, bytes, Outcome::from(refusal))
+        }
+        MergeEnd::File(refusal) => refuse(rt, reading, file, input, Outcome::from(refusal)),
+        MergeEnd::Edit(refused) => match refused.refusal {
+            EditError::Text(refusal) => { refuse(rt, reading, file, input, Outcome::from(refusal)) }
+            refusal => match setting_at(rt.alloc(), merging, others, refused.index) {
+                Ok(name) => refuse(rt, reading, name.as_str(), input, Outcome::Refused(refusal)),
+                Err(_) => refuse(rt, reading, file, input, Outcome::Refused(refusal)),
+            },
+        },
+    }
+}
+
+// The file, and the section and the key that the edit with this number sets there.
+fn setting_at(
+    alloc: Global,
+    merging: &Merging<'_>,
+    others: &[Vec<u8>],
+    index: usize,
+) -> Result<String, AllocError> {
+    let Ok(documents) = load_all(alloc, merging.options.reading, others) else {
+        return Err(AllocError);
+    };
+    let edits = settings_of(alloc, documents.as_slice())?;
+    let file = merging.file;
+    match edits.get(index) {
+        Some(
+            Edit::Set {
+                name: None,
+                key,
+                ..
+            },
+        ) => format!(in alloc; "{file}: {key}"),
+        Some(
+            Edit::Set {
+                name: Some(name),
+                key,
+                ..
+            },
+        ) => format!(in alloc; "{file}: [{name}] {key}"),
+        _ => Err(AllocError),
+    }
+}
