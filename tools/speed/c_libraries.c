@@ -1,9 +1,11 @@
 /* One library at one task, for tools/speed/c_libraries.sh, which compiles this once for each with -DBIGROSK, -DGLIB, -DINIH or
  * -DINIPARSER:
  *
- *     PROGRAM FILE      loads the file five times (the best counts), looks up 1,000,000 values, writes the text
+ *     PROGRAM FILE [RUNS]    loads the file, looks up 1,000,000 values, whose names and keys are made before, and writes the text;
+ *                            each five times, or so many, of which the best counts
  *
  * It prints a row of a table: the name, seconds of each, and the peak of memory in MB; - where the library has no such call. */
+#include <stdbool.h>
 #include <stdio.h>
 #include <stdlib.h>
 #include <string.h>
@@ -111,30 +113,30 @@ int main(int argc, char **argv)
 #ifdef INIPARSER
     path = argv[1];
 #endif
-    double best = 1e9;
+    static char sections[40000][16], keys[10][8];
+    for (int i = 0; i < 40000; i++) sprintf(sections[i], "section%d", i);
+    for (int i = 0; i < 10; i++) sprintf(keys[i], "key%d", i);
+    double best = 1e9, looked = 1e9, written = 1e9;
     for (int i = 0; i < runs; i++) {
         double start = now();
         done = load() && done;
         if (now() - start < best) best = now() - start;
     }
-    char section[64], key[64];
     long found = 0;
-    double start = now(), looked = -1, written = -1;
-    if (look_up("section0", "key0") >= 0) {
-        for (int i = 0; i < 1000000; i++) {
-            sprintf(section, "section%d", i % 40000);
-            sprintf(key, "key%d", i % 10);
-            found += look_up(section, key);
-        }
-        looked = now() - start;
+    bool looks_up = look_up(sections[0], keys[0]) >= 0;
+    for (int run = 0; looks_up && run < runs; run++) {
+        found = 0;
+        double start = now();
+        for (int i = 0; i < 1000000; i++) found += look_up(sections[i % 40000], keys[i % 10]);
+        if (now() - start < looked) looked = now() - start;
         start = now();
         done = put() && done;
-        written = now() - start;
+        if (now() - start < written) written = now() - start;
     }
     struct rusage used;
     getrusage(RUSAGE_SELF, &used);
     printf("| %s | %.3f s", name, best);
-    if (looked < 0) printf(" | - | -"); else printf(" | %.2f s, %ld found | %.3f s", looked, found, written);
+    if (!looks_up) printf(" | - | -"); else printf(" | %.2f s, %ld found | %.3f s", looked, found, written);
     printf(" | %ld MB |%s\n", used.ru_maxrss / 1024, done ? "" : " REFUSED");
     return !done;
 }
