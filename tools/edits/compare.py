@@ -30,7 +30,7 @@ PIECES = ["\n", "\n", "\n", "\r", "\r\n", " ", "\t", "=", ":", "a", "k", "[a]", 
 PIECES += ["\n k=v", "=v"]
 PIECES += ["\n ", "\n\n", "\n  ", "\r\n  w", '"', "'", "\"q\"", "\\", "\\\n", "\\n", "\\x", "\\x0041", "#", "\n#c\n", ";", "\x0b"]
 PIECES += ["\xa0", "]", "[", "x"]
-PIECES += ['k="v"', "k = 'w' ", '\nk="a\\"b"', '""', "'a'"]
+IN_QUOTES = ["v", "w w", " ", "\n", "\r\n ", '"', "'", "\\", "\\\\", '\\"', "\\'", "\\\n", "\\x0041", "=", "#", '""', "'v'"]
 VALUES = ["v", "w", "", "a b", "it's", 'a"b', '"q', "'", "é", " x", "a=b", "#", "a\\b", "l\nm", "\U0001f431", "\t", "]", "\x0b"]
 KEYS = ["k", "a", "x", "", " k", "\tk", "k ", "a=b", ";k", "[k", "é", "k\n", "\xa0k", "  \U0001f431"]
 NAMES = ["d", " a", "a]", "é", "\t", "[a]"]
@@ -52,9 +52,18 @@ def line_of(question):
     return " ".join(words + [digits(text) for text in (question.key, question.value, question.text)])
 
 
+def quoted_pair(chance):
+    """A pair whose value's source begins and ends with one mark."""
+    mark = chance.choice("\"'")
+    content = "".join(chance.choices(IN_QUOTES, k=chance.randrange(4)))
+    return chance.choice(["k=", "[a]\nk = "]) + mark + content + mark
+
+
 def random_question(chance):
     """An edit of a random text by random options, mostly of a name and a key that it may have."""
     text = "".join(chance.choices(PIECES, k=chance.randrange(14)))
+    if chance.random() < 0.3:
+        text = quoted_pair(chance) + text
     option = Option(*(chance.random() < 0.5 for _ in range(5)))
     separator = chance.choice(SEPARATORS if chance.random() < 0.95 else UNPLAIN_SEPARATORS)
     writing = Writing(chance.choice(POLICIES), chance.choice(["\n", "\r\n"]), separator)
