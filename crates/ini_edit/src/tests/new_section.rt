@@ -146,6 +146,15 @@ fn a_key_set(rt: HostRuntime) -> Result<(), Fail> {
     Ok(())
 }
 
+/// Rows whose separator isn't plain.
+const SEPARATORS: &[Answer] = &[
+    // it isn't written
+    ("[a]\nk=u\n", Some("a"), "k", "v", "[a]\nk=v\n"),
+    ("[a]\nj=u\n", Some("a"), "k", "v", "Separator"),
+    ("[a]\nj=u\n", Some("a"), "", "v", "Separator"),
+    ("[a]\nj=u\n", Some(" b"), "k", "v", "Separator"),
+];
+
 #[test]
 fn a_separator_that_is_not_plain(rt: HostRuntime) -> Result<(), Fail> {
     let write = WriteOption {
@@ -153,18 +162,20 @@ fn a_separator_that_is_not_plain(rt: HostRuntime) -> Result<(), Fail> {
         line_separator: LineSeparator::CRLF,
         ..WriteOption::default()
     };
-    for row in &[
-        // it isn't written
-        ("[a]\nk=u\n", Some("a"), "k", "v", "[a]\nk=v\n"),
-        ("[a]\nj=u\n", Some("a"), "k", "v", "Separator"),
-        ("[a]\nj=u\n", Some("a"), "", "v", "Separator"),
-        ("[a]\nj=u\n", Some(" b"), "k", "v", "Separator"),
-    ] {
+    for row in SEPARATORS {
         let is = answer(rt.alloc(), "qe", row, &write)?;
         assert!(&rt; is.as_str() == row.4, "{:?}: {is:?}", row.0);
     }
     Ok(())
 }
+
+/// Rows that are written with CR LF where the text has no line end.
+const LINE_ENDS: &[Answer] = &[
+    ("", Some("b"), "k", "v", "[b]\r\nk=v\r\n"),
+    ("j=w", None, "k", "v", "j=w\r\nk=v\r\n"),
+    ("j=w", Some("b"), "k", "v", "j=w\r\n\r\n[b]\r\nk=v\r\n"),
+    ("j=w\n", Some("b"), "k", "v", "j=w\n\n[b]\nk=v\n"),
+];
 
 #[test]
 fn line_ends_of_the_options(rt: HostRuntime) -> Result<(), Fail> {
@@ -172,12 +183,7 @@ fn line_ends_of_the_options(rt: HostRuntime) -> Result<(), Fail> {
         line_separator: LineSeparator::CRLF,
         ..WriteOption::default()
     };
-    for row in &[
-        ("", Some("b"), "k", "v", "[b]\r\nk=v\r\n"),
-        ("j=w", None, "k", "v", "j=w\r\nk=v\r\n"),
-        ("j=w", Some("b"), "k", "v", "j=w\r\n\r\n[b]\r\nk=v\r\n"),
-        ("j=w\n", Some("b"), "k", "v", "j=w\n\n[b]\nk=v\n"),
-    ] {
+    for row in LINE_ENDS {
         let is = answer(rt.alloc(), "qe", row, &write)?;
         assert!(&rt; is.as_str() == row.4, "{:?}: {is:?}", row.0);
     }

@@ -30,7 +30,8 @@ fn answered(
 ) -> Result<String, Error> {
     match answer {
         Ok(Some(new)) => loaded(alloc, letters, new.as_str()),
-        other => told(alloc, other),
+        Ok(None) => told(alloc, Ok(None)),
+        Err(refused) => told(alloc, Err(refused)),
     }
 }
 

@@ -214,6 +214,29 @@ fn is_there(alloc: Global, text: &str, read: ParseOption, name: Option<&str>, ke
     }
 }
 
+/// Whether the answer's text loads as the document in which the key is renamed, or tells rightly why there is
+/// none.
+fn agrees(
+    alloc: Global,
+    answer: Result<Option<String>, EditError>,
+    read: ParseOption,
+    name: Option<&str>,
+    want: &Option<String>,
+    there: bool,
+    unwritable: bool,
+) -> Result<bool, Error> {
+    match answer {
+        Ok(Some(edited)) => {
+            let is = renamed_document(alloc, edited.as_str(), read, name, "", "")?;
+            Ok(there && is == *want)
+        }
+        Ok(None) => Ok(want.is_some() && !there),
+        Err(EditError::Text(Error::Parse(_))) => Ok(want.is_none()),
+        Err(EditError::Key) => Ok(unwritable),
+        Err(_) => Ok(false),
+    }
+}
+
 /// Renames a key, and asks that the new text loads as the document in which it is renamed: whether it was.
 fn expect_renamed(
     rt: &(impl Abort + AllocGlobal),
@@ -227,15 +250,8 @@ fn expect_renamed(
     let want = renamed_document(rt.alloc(), text, read, name, old, new)?;
     let there = is_there(rt.alloc(), text, read, name, old);
     let answer = rename_key(rt.alloc(), text, read, EscapePolicy::Basics, name, old, new);
-    let is_right = match answer {
-        Ok(Some(edited)) => {
-            there && renamed_document(rt.alloc(), edited.as_str(), read, name, "", "")? == want
-        }
-        Ok(None) => want.is_some() && !there,
-        Err(EditError::Text(Error::Parse(_))) => want.is_none(),
-        Err(EditError::Key) => new == "a\tb" && !read.enabled_escape,
-        Err(_) => false,
-    };
+    let unwritable = new == "a\tb" && !read.enabled_escape;
+    let is_right = agrees(rt.alloc(), answer, read, name, &want, there, unwritable)?;
     assert!(rt; is_right, "{text:?} {letters} {name:?} {old:?} {new:?}");
     Ok(there)
 }
