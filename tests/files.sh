@@ -550,6 +550,8 @@ unmerged() {
     ls -A >"$room/have"
     : >"$room/want"
     count 'no file is made where a merge is refused'
+}
+
 # the warnings of files; the traps are those of crates/ini_check/README.md
 checking() {
     fresh

@@ -131,6 +131,15 @@ edits() {
     done
 }
 
+if peer crudini; then
+    printf '# of the machine\nname = one\n[server]\nport = 81\nuser=ada\n[paths]\nlog = /srv/log\n[new]\nk = v\n' >other.ini
+    cp settings.ini theirs && crudini --merge theirs <other.ini
+    cp settings.ini ours && "$program" merge ours other.ini
+    same_pairs 'crudini: --merge' theirs ours
+    cp settings.ini ours && "$program" merge --output - ours - <other.ini >from_input
+    same_pairs 'crudini: --merge of standard input' theirs from_input
+fi
+
 for edit in 'set' delete; do
     cp settings.ini tried
     "${edit}_ours" server port tried 2>/dev/null
