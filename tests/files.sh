@@ -472,6 +472,70 @@ nulls() {
     fi
 }
 
+# the warnings of files; the traps are those of crates/ini_check/README.md
+checking() {
+    fresh
+    escape='a backslash begins an escape in this value'
+    repeated='this key was there before in its section'
+    printf 'one\ntwo = 2\n\t#k = v\npath = C:\\temp\n[a]\nk = v ; note\nk = 2\n[a]\n' >traps.ini
+    case_of 'check: each trap, in the order of the places' 1 "\
+traps.ini:1:1: warning: this line has no separator and runs on into the next
+traps.ini:3:1: warning: an indented comment mark begins a key
+traps.ini:3:1: warning: this may not be read back once it is written
+traps.ini:4:8: warning: $escape
+traps.ini:6:5: warning: a comment mark is part of this value
+traps.ini:7:1: warning: $repeated
+traps.ini:8:1: warning: a section of this name was there before
+" '' check traps.ini
+    printf 'path = C:\\temp\n' >path.ini
+    case_of 'check: options of reading apply' 1 \
+        'path.ini:1:1: warning: this may not be read back once it is written\n' '' --noescape check path.ini
+    printf '\357\273\277path = C:\\temp\n' >mark.ini
+    case_of 'check: columns count from behind a mark' 1 "mark.ini:1:8: warning: $escape\n" '' check mark.ini
+    printf '; clean\na = 1\n[b]\na = 2\n' >clean.ini
+    : >empty.ini
+    case_of 'check: clean files' 0 '' '' check clean.ini empty.ini
+    printf 'a = 1\n  =v\n' >bad.ini
+    case_of 'check: a refused file keeps none from being looked at' 3 \
+        "path.ini:1:8: warning: $escape\nmark.ini:1:8: warning: $escape\n" 'bad.ini:2:4: missing key
+  =v
+  ^' check path.ini bad.ini mark.ini
+    printf 'one\ntwo = 2\n= 3\n' >late.ini
+    case_of 'check: a refused file has no warnings' 3 '' 'late.ini:3:2: missing key
+= 3
+^' check late.ini
+    printf 'k = \377\n' >bytes.ini
+    case_of 'check: bytes that are no text' 3 '' 'ini_file: bytes.ini: the input is not UTF-8' \
+        check bytes.ini clean.ini
+    case_of 'check: a file that is not there' 4 "path.ini:1:8: warning: $escape\n" \
+        'ini_file: none.ini: No such file or directory (os error 2)
+bad.ini:2:4: missing key
+  =v
+  ^' check none.ini bad.ini path.ini
+    case_of 'check: standard input' 1 "\055:2:1: warning: $repeated\n" '' check - clean.ini <<END
+k=1
+k=2
+END
+    printf 'k=1\nk=2\n' >--odd.ini
+    case_of 'check: a file behind --' 1 "\055-odd.ini:2:1: warning: $repeated\n" '' check -- --odd.ini
+    case_of 'check: later files may begin with --' 1 "\055-odd.ini:2:1: warning: $repeated\n" '' \
+        check clean.ini --odd.ini
+    case_of 'check: no file' 2 '' "$usage" check
+    case_of 'check: no file behind --' 2 '' "$usage" check --
+    case_of 'check: no choice' 2 '' "$usage" check --output clean.ini path.ini
+    "$program" check path.ini >/dev/full 2>"$room/have"
+    echo "status $?" >>"$room/have"
+    printf 'ini_file: standard output: No space left on device (os error 28)\nstatus 4\n' >"$room/want"
+    count 'check: a full device'
+    "$program" check clean.ini bad.ini >/dev/full 2>/dev/null
+    echo "status $?" >"$room/have"
+    echo 'status 3' >"$room/want"
+    count 'check: where there are no warnings nothing is written'
+    printf 'path = C:\\temp\n' >"$room/want"
+    cp path.ini "$room/have"
+    count 'check: no file is written'
+}
+
 # a folder in which nothing may be made, for a user who may not do all
 protected() {
     fresh
@@ -559,6 +623,7 @@ placing
 choosing
 separating
 nulls
+checking
 saving
 at_once
 protected

@@ -75,7 +75,7 @@ if has bash completions; then
     offered ' ' ini_tool get ''
     offered 'one two one.ini ' ini_merge ''
     offered 'one.ini ' ini_merge --crlf one.ini one.
-    offered 'add delete delete-section format get keys list rename-key rename-section sections set ' ini_file ''
+    offered 'add check delete delete-section format get keys list rename-key rename-section sections set ' ini_file ''
     offered 'one two one.ini ' ini_file get ''
     offered '--existing ' ini_file set --e
     offered '-- --all --default --null --output ' ini_file get --

@@ -1,4 +1,5 @@
 pub mod Bytes
+pub mod Checks
 pub mod Choices
 pub mod Edits
 pub mod Fields

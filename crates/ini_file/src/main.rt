@@ -6,6 +6,9 @@
 #![tactic(auto)]
 
 mod bytes;
+mod check;
+mod check_files;
+mod check_words;
 mod choices;
 mod command;
 mod diagnosis;
@@ -17,6 +20,8 @@ mod save;
 mod words;
 mod writing;
 
+use check_files::check_files;
+use check_words::check_of;
 use diagnosis::point_at;
 use ini::Error;
 use ini_edit::EditError;
@@ -30,7 +35,7 @@ use std::process::ExitCode;
 use words::{Asked, Command, Edit, Question, parse};
 
 /// The bytes of a file; `-` is standard input.
-fn read_input(rt: &HostRuntime, file: &str) -> Result<Vec<u8>, Error> {
+pub(crate) fn read_input(rt: &HostRuntime, file: &str) -> Result<Vec<u8>, Error> {
     if file == "-" {
         let mut bytes = Vec::new(rt.alloc());
         match rt.stdin().read_to_end(&mut bytes) {
@@ -162,6 +167,9 @@ fn main(rt: HostRuntime) -> ExitCode {
     let outcome = match words_of(&rt, rt.alloc()) {
         Ok(given) => {
             words = given;
+            if let Some(check) = check_of(words.as_slice()) {
+                return ExitCode::from(check_files(&rt, &check));
+            }
             run_here(&rt, words.as_slice(), &mut input)
         }
         Err(refusal) => Outcome::from(refusal),

@@ -48,6 +48,7 @@ Commands; no SECTION is the general one, FILE - is standard input:
   rename-key FILE OLD NEW [SECTION]         the key's first pair gets another key
   rename-section FILE OLD NEW               the section gets another name
   format FILE                               writes the file anew, without comments
+  check FILE ..                             warnings of each file, a line each
 
 Options, of reading and of writing:
   --noescape     a backslash begins no escape
@@ -69,6 +70,6 @@ Choices:
   --output FILE    writes this file in place of the other; - is standard output
   --               what follows is no choice
 
-Status: 0 done, 1 not found, 2 wrong words, 3 a refused text, 4 a fault
-of a file or of memory. Only with status 0 is a file changed.
+Status: 0 done, 1 not found or warnings, 2 wrong words, 3 a refused text,
+4 a fault of a file or of memory. Only with status 0 is a file changed.
 ";

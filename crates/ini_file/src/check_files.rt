@@ -1,0 +1,63 @@
+//! The check of files that are there: their warnings go to standard output, and what is refused is told. This
+//! file knows the process's streams, and no word of the program.
+
+use crate::check::{check_file, status_of_check, worse};
+use crate::check_words::Check;
+use crate::diagnosis::point_at;
+use crate::read_input;
+use crate::run::{Outcome, status, tell};
+use ini::{Error, ParseOption};
+use ini_edit::EditError;
+use std::alloc::AllocError;
+use std::io::Write;
+
+/// Looks at each file, in order, and tells its refusal; then writes the lines of all warnings to standard
+/// output. The answer is the largest of the files' statuses, or 4 where the lines can't be written.
+///
+/// No contract says what a stream gets; `tests/files.sh` tests it. No file is written.
+pub fn check_files(rt: &HostRuntime, check: &Check<'_>) -> u8 {
+    let mut lines = Vec::new(rt.alloc());
+    let mut worst = 0;
+    for file in check.files {
+        let found = check_one(rt, check.reading, file.as_str(), &mut lines);
+        worst = worse(worst, found);
+    }
+    match rt.stdout().write_all(lines.as_slice()) {
+        Ok(()) => worst,
+        Err(fault) => {
+            let refusal = Error::Io(fault);
+            worse(
+                worst,
+                refuse(rt, check.reading, "standard output", &[], refusal),
+            )
+        }
+    }
+}
+
+// Puts the lines of a file's warnings last, or tells its refusal; and answers its status.
+fn check_one(rt: &HostRuntime, reading: ParseOption, file: &str, lines: &mut Vec<u8>) -> u8 {
+    let input = match read_input(rt, file) {
+        Ok(input) => input,
+        Err(refusal) => return refuse(rt, reading, file, &[], refusal),
+    };
+    let checked = check_file(rt.alloc(), reading, file, input.as_slice());
+    let found = status_of_check(&checked);
+    let refusal = match checked {
+        Ok(more) => match lines.extend_from_slice(more.as_slice()) {
+            Ok(()) => return found,
+            Err(_) => Error::Memory(AllocError),
+        },
+        Err(refusal) => refusal,
+    };
+    refuse(rt, reading, file, input.as_slice(), refusal)
+}
+
+// Tells a refusal as the other commands do, and answers its status.
+fn refuse(rt: &HostRuntime, reading: ParseOption, file: &str, input: &[u8], refusal: Error) -> u8 {
+    let outcome = Outcome::from(refusal);
+    tell(file, &outcome, &mut rt.stderr());
+    if let Outcome::Refused(EditError::Text(Error::Parse(fault))) = &outcome {
+        point_at(rt.alloc(), file, input, reading, fault, &mut rt.stderr());
+    }
+    status(&outcome)
+}
