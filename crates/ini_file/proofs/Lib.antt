@@ -1,1 +1,4 @@
 pub mod FieldLemmas
+pub mod LineLemmas
+pub mod ShareLemmas
+pub mod SplitLemmas

@@ -1,8 +1,10 @@
 pub mod Bytes
 pub mod Checks
 pub mod Choices
+pub mod Diffs
 pub mod Edits
 pub mod Fields
+pub mod Inside
 pub mod Requests
 pub mod Words
 pub mod Writing

@@ -1,0 +1,10 @@
+use Rattle.std.proofs.Common.{◌+◌, ◌≤◌, length}
+use Rattle.ini_file.specs.Inside.Shared.{ShareFirst}
+use Rattle.ini_file.proofs.diff.skip_first.Given as goal
+
+abbrev pub invariant-lines : goal.invariant-lines
+invariant-lines l =
+    (ShareFirst l.old l.new l.count l.gone l.come) × (l.count + length l.gone ≤ length l.old)
+
+abbrev pub decreases-lines : goal.decreases-lines
+decreases-lines l = length l.gone
