@@ -25,6 +25,7 @@ mod writing;
 use check_files::check_files;
 use check_words::check_of;
 use diagnosis::point_at;
+use diff::diff;
 use ini::Error;
 use ini_edit::EditError;
 use ini_options::{named, words_of};
@@ -91,6 +92,9 @@ fn hand_on(
     read: Option<&[u8]>,
     output: &[u8],
 ) -> Result<(), Error> {
+    if asked.choices.switches.dry_run {
+        return show_change(rt, asked, read, output);
+    }
     let place = place_of(asked);
     if place == "-" {
         return print(rt, output);
@@ -105,6 +109,29 @@ fn hand_on(
         Err(Error::Io(fault)) => Err(Error::Io(named(rt.alloc(), place, fault))),
         done => done,
     }
+}
+
+/// Writes to standard output what would change: in the file that `--output` names, else in the file that was
+/// read, if it was there.
+fn show_change(
+    rt: &HostRuntime,
+    asked: &Asked<'_>,
+    read: Option<&[u8]>,
+    output: &[u8],
+) -> Result<(), Error> {
+    let place = place_of(asked);
+    let change = if place == "-" || place == asked.file {
+        diff(rt.alloc(), asked.file, read, output)?
+    } else {
+        match fs::read(rt, place) {
+            Ok(there) => diff(rt.alloc(), place, Some(there.as_slice()), output)?,
+            Err(fault) if fault.kind() == io::ErrorKind::NotFound => {
+                diff(rt.alloc(), place, None, output)?
+            }
+            Err(fault) => return Err(Error::Io(named(rt.alloc(), place, fault))),
+        }
+    };
+    print(rt, change.as_slice())
 }
 
 /// Puts bytes into a file, whatever it has, or into a new one.
