@@ -51,7 +51,7 @@ fresh() {
 # case NAME STATUS OUTPUT ERRORS WORD..: a run of the program on these words
 case_of() {
     name=$1
-    printf "$3" >"$room/want"
+    printf -- "$3" >"$room/want"
     printf '%s\n' "$4" "status $2" >>"$room/want"
     shift 4
     "$program" "$@" >"$room/out" 2>"$room/err"
@@ -616,6 +616,119 @@ END
     count 'check: no file is written'
 }
 
+# preview NAME STATUS DIFF COMMAND WORD..: with --dry-run the command writes this diff of settings.ini, and the file stands; and
+# patch, and git apply, make of the old file and the diff what the command writes without --dry-run
+preview() {
+    name=$1
+    status=$2
+    diff=$3
+    shift 3
+    command=$1
+    shift
+    cp settings.ini "$room/before"
+    case_of "$name: the diff" "$status" "$diff" '' "$command" --dry-run "$@"
+    cp "$room/out" "$room/diff"
+    { cat "$room/before"; echo settings.ini; } >"$room/want"
+    { cat settings.ini; ls -A; } >"$room/have"
+    count "$name: the file stands"
+    "$program" "$command" "$@" >/dev/null
+    cp settings.ini "$room/want"
+    if command -v patch >/dev/null; then
+        cp "$room/before" "$room/have"
+        [ -s "$room/diff" ] && patch -s -u "$room/have" <"$room/diff" >"$room/told" 2>&1
+        count "$name: the diff under patch"
+    else
+        skipped=$((skipped + 1))
+    fi
+    if command -v git >/dev/null; then
+        cp "$room/before" settings.ini
+        [ -s "$room/diff" ] && git apply -p0 --unidiff-zero "$room/diff" >"$room/told" 2>&1
+        cp settings.ini "$room/have"
+        count "$name: the diff under git apply"
+    else
+        skipped=$((skipped + 1))
+    fi
+    cp "$room/before" settings.ini
+}
+
+# changes that are shown, and not written
+previewing() {
+    fresh
+    of='\055-- settings.ini\n+++ settings.ini\n'
+    preview 'set --dry-run: from the first line that changes to the last' 0 \
+        "$of@@ -4,3 +4,2 @@\n-port = 8080\n-host = a\\\\tb\n-port = 9090\n+port = 443\n+host = a\\\\tb\n" \
+        set settings.ini port 443 server
+    preview 'set --dry-run: nothing would change' 0 '' set settings.ini name one
+    preview 'set --existing --dry-run: of a key that is not there' 1 '' set --existing settings.ini other 1
+    preview 'add --dry-run: a line comes' 0 "$of@@ -6,0 +7,1 @@\n+port=443\n" add settings.ini port 443 server
+    preview 'delete --dry-run: a line goes' 0 "$of@@ -4,1 +3,0 @@\n-port = 8080\n" delete settings.ini port server
+    preview 'delete --dry-run: of a key that is not there' 1 '' delete settings.ini other server
+    preview 'delete-section --dry-run' 0 \
+        "$of@@ -3,4 +2,0 @@\n-[server]\n-port = 8080\n-host = a\\\\tb\n-port = 9090\n" \
+        delete-section settings.ini server
+    preview 'rename-key --dry-run' 0 "$of@@ -2,1 +2,1 @@\n-name = one\n+title = one\n" \
+        rename-key settings.ini name title
+    preview 'rename-section --dry-run' 0 "$of@@ -7,1 +7,1 @@\n-[client]\n+[guest]\n" \
+        rename-section settings.ini client guest
+    printf 'k = 1\n\n[a]\nj=1\n' >settings.ini
+    preview 'format --dry-run' 0 "$of@@ -1,1 +1,1 @@\n-k = 1\n+k=1\n" format settings.ini
+    printf 'k=1\nj=2' >settings.ini
+    preview 'set --dry-run: no newline at the end' 0 \
+        "$of@@ -2,1 +2,1 @@\n-j=2\n\\\\ No newline at end of file\n+j=3\n\\\\ No newline at end of file\n" \
+        set settings.ini j 3
+    preview 'add --dry-run: a newline comes to the last line' 0 \
+        "$of@@ -2,1 +2,2 @@\n-j=2\n\\\\ No newline at end of file\n+j=2\n+i=1\n" add settings.ini i 1
+    printf 'k=v\nk=v\n' >settings.ini
+    preview 'add --dry-run: among lines that are the same' 0 "$of@@ -2,0 +3,1 @@\n+k=v\n" add settings.ini k v
+    printf 'k=1\r\nj=2\r\n' >settings.ini
+    preview 'delete --dry-run: CR LF' 0 "$of@@ -2,1 +1,0 @@\n-j=2\r\n" delete settings.ini j
+    printf '\357\273\277k=1\n[a]\n' >settings.ini
+    preview 'set --dry-run: a mark' 0 "$of@@ -1,1 +1,1 @@\n-\357\273\277k=1\n+\357\273\277k=2\n" \
+        set settings.ini k 2
+    : >settings.ini
+    preview 'set --dry-run: an empty file' 0 "$of@@ -0,0 +1,2 @@\n+[a]\n+k=v\n" set settings.ini k v a
+    refused 'set --dry-run of a value that would not be read back' 2 \
+        "ini_file: settings.ini: this value can't be written so that it is read back" set --dry-run settings.ini k ' v'
+    case_of 'get --dry-run' 2 '' "$usage" get --dry-run settings.ini k
+    case_of 'keys --dry-run' 2 '' "$usage" keys --dry-run settings.ini
+    printf 'k=1\n' >settings.ini
+    case_of 'set --dry-run of a file that is not there' 0 \
+        '\055-- /dev/null\n+++ new.ini\n@@ -0,0 +1,1 @@\n+k=v\n' '' set --dry-run new.ini k v
+    ls -A >"$room/have"
+    echo settings.ini >"$room/want"
+    count 'set --dry-run makes no file'
+    if command -v patch >/dev/null; then
+        patch -s -p0 <"$room/out" >"$room/told" 2>&1
+        cp new.ini "$room/have"
+        echo k=v >"$room/want"
+        count 'set --dry-run of a file that is not there, under patch'
+        rm -f new.ini
+    else
+        skipped=$((skipped + 1))
+    fi
+    case_of 'delete --dry-run of a file that is not there' 4 '' \
+        'ini_file: none.ini: No such file or directory (os error 2)' delete --dry-run none.ini k
+    case_of 'set --dry-run of standard input' 0 '\055-- -\n+++ -\n@@ -1,1 +1,1 @@\n-k=1\n+k=2\n' '' set --dry-run - k 2 <<END
+k=1
+END
+    case_of 'set --dry-run --output -' 0 "$of@@ -1,1 +1,1 @@\n-k=1\n+k=2\n" '' \
+        set --dry-run --output - settings.ini k 2
+    printf 'other=1\n' >other.ini
+    case_of 'set --dry-run --output: the change of the other file' 0 \
+        '\055-- other.ini\n+++ other.ini\n@@ -1,1 +1,1 @@\n-other=1\n+k=2\n' '' \
+        set --dry-run --output other.ini settings.ini k 2
+    case_of 'set --dry-run --output: a file that is not there' 0 \
+        '\055-- /dev/null\n+++ far/new.ini\n@@ -0,0 +1,1 @@\n+k=2\n' '' \
+        set --output far/new.ini --dry-run settings.ini k 2
+    { printf 'k=1\nother=1\n'; printf 'other.ini\nsettings.ini\n'; } >"$room/want"
+    { cat settings.ini other.ini; ls -A; } >"$room/have"
+    count 'set --dry-run --output: nothing is written'
+    "$program" set --dry-run settings.ini k 2 >/dev/full 2>"$room/have"
+    echo "status $?" >>"$room/have"
+    printf 'ini_file: settings.ini: standard output: No space left on device (os error 28)\nstatus 4\n' >"$room/want"
+    count 'set --dry-run: a full device'
+}
+
 # a folder in which nothing may be made, for a user who may not do all
 protected() {
     fresh
@@ -706,12 +819,13 @@ choosing
 separating
 nulls
 checking
+previewing
 saving
 at_once
 protected
 faults
 if [ "$skipped" -gt 0 ]; then
-    echo "$skipped skipped: strace or setpriv isn't here, or may not be used"
+    echo "$skipped skipped: strace, setpriv, patch or git isn't here, or may not be used"
 fi
 echo "$passed passed, $failed failed"
 [ "$failed" -eq 0 ]

@@ -78,10 +78,12 @@ if has bash completions; then
     offered 'add check delete delete-section format get keys list merge rename-key rename-section sections set ' ini_file ''
     offered 'one two one.ini ' ini_file get ''
     offered '--existing ' ini_file set --e
+    offered '--dry-run ' ini_file delete --d
+    offered '-- ' ini_file check --
     offered '-- --all --default --null --output ' ini_file get --
     offered '--null ' ini_file --crlf list --n
-    offered '-- --output --separator ' ini_file format --
-    offered '-- --output ' ini_file delete --
+    offered '-- --dry-run --output --separator ' ini_file format --
+    offered '-- --dry-run --output ' ini_file delete --
     offered ' ' ini_file get --default ''
     offered 'one.ini ' ini_file set --existing --output one.
     is 'completions are registered' "$programs" "$(bash -c '. "$0" && for name; do complete -p "$name"; done' \

@@ -23,6 +23,7 @@ no_switch = record {
   existing = false;
   all = false;
   null = false;
+  dry_run = false;
 }
 
 abbrev pub no_choice : Chosen
@@ -51,6 +52,7 @@ takes command c =
     && (not (is_some c.default) || bytes_eq command (codes "get"))
     && (not c.switches.null || writes_texts command)
     && (not (is_some c.separator) || (writes_pairs command && not c.switches.existing))
+    && (not c.switches.dry_run || not (writes_texts command))
 
 -- what a word chooses by itself
 abbrev pub switched : Word → Switches → Option Switches
@@ -58,6 +60,7 @@ switched word s =
     if bytes_eq word (codes "--existing") then Some (record s { existing = true })
     else if bytes_eq word (codes "--all") then Some (record s { all = true })
     else if bytes_eq word (codes "--null") then Some (record s { null = true })
+    else if bytes_eq word (codes "--dry-run") then Some (record s { dry_run = true })
     else None
 
 -- the choices of words where `c` holds before them, and the words behind: those behind `--`, else those from

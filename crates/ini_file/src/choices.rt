@@ -1,6 +1,6 @@
 //! The options of the program's own, which stand behind its command. This file knows no document, and of the
 //! commands their names alone.
-ghost use Rattle.std.specs.Prelude.{◌≡◌, map, string_bytes};
+ghost use Rattle.std.specs.Prelude.{◌≡◌, ◌&&◌, ◌||◌, map, not, string_bytes};
 ghost use Rattle.ini_file.specs.Choices.{chosen, chosen_by, chosen_of, no_choice, no_switch, switched};
 ghost use Rattle.ini_file.specs.Choices.{takes, writes_pairs, writes_texts};
 
@@ -13,6 +13,8 @@ pub struct Switches {
     pub all: bool,
     /// What is asked for is written as it stands, with NUL behind each name, key and value.
     pub null: bool,
+    /// What would change in a file is shown, and no file is written.
+    pub dry_run: bool,
 }
 
 impl Switches {
@@ -24,6 +26,7 @@ impl Switches {
             existing: false,
             all: false,
             null: false,
+            dry_run: false,
         }
     }
 
@@ -36,6 +39,7 @@ impl Switches {
             "--existing" => switches.existing = true,
             "--all" => switches.all = true,
             "--null" => switches.null = true,
+            "--dry-run" => switches.dry_run = true,
             _ => return None,
         }
         Some(switches)
@@ -118,12 +122,30 @@ impl<'a> Choices<'a> {
     pub fn suit(self, command: &str) -> bool
         ensures { result ≡ takes command.now (chosen_of self.entry) }
     {
-        (!self.switches.existing || command == "set")
-            && (!self.switches.all || command == "get")
-            && (self.default.is_none() || command == "get")
-            && (!self.switches.null || writes_texts(command))
-            && (self.separator.is_none() || (writes_pairs(command) && !self.switches.existing))
+        only_where(self.switches.existing, command == "set")
+            && only_where(self.switches.all, command == "get")
+            && only_where(self.default.is_some(), command == "get")
+            && only_where(self.switches.null, writes_texts(command))
+            && only_where(
+                self.separator.is_some(),
+                may_separate(command, self.switches.existing),
+            )
+            && only_where(self.switches.dry_run, !writes_texts(command))
     }
+}
+
+// Whether what may be chosen in its place alone is chosen nowhere else.
+fn only_where(chosen: bool, place: bool) -> bool
+    ensures { result ≡ (not chosen || place) }
+{
+    !chosen || place
+}
+
+// Whether the command may write new lines of pairs.
+fn may_separate(command: &str, existing: bool) -> bool
+    ensures { result ≡ (writes_pairs command.now && not existing) }
+{
+    writes_pairs(command) && !existing
 }
 
 // Whether the command writes new lines of pairs.

@@ -30,6 +30,7 @@ mod writing;
 use check_files::check_files;
 use check_words::check_of;
 use diagnosis::point_at;
+use diff::diff;
 use ini::Error;
 use ini_edit::EditError;
 use ini_options::{named, words_of};
@@ -66,6 +67,17 @@ fn place_of<'a>(asked: &Asked<'a>) -> &'a str {
     }
 }
 
+/// Where what a command makes of a file goes.
+#[derive(Clone, Copy)]
+pub(crate) struct Target<'a> {
+    /// The file that was read.
+    pub(crate) file: &'a str,
+    /// The file that is written; `-` is standard output.
+    pub(crate) place: &'a str,
+    /// Whether what would change in it is shown, and nothing is written.
+    pub(crate) shows_change: bool,
+}
+
 /// Whether the command makes a file that isn't there.
 fn makes_file(command: &Command<'_>) -> bool {
     matches!(
@@ -90,28 +102,53 @@ fn print(rt: &HostRuntime, output: &[u8]) -> Result<(), Error> {
     }
 }
 
-/// Hands on to a place what a command over a file is to write; nothing was read of a file that wasn't there,
-/// which is made. A file that would not change is not written.
+/// Hands on what a command over a file is to write; nothing was read of a file that wasn't there, which is made.
+/// A file that would not change is not written.
 pub(crate) fn hand_on(
     rt: &HostRuntime,
-    place: &str,
-    file: &str,
+    target: Target<'_>,
     read: Option<&[u8]>,
     output: &[u8],
 ) -> Result<(), Error> {
-    if place == "-" {
+    if target.shows_change {
+        return show_change(rt, target, read, output);
+    }
+    if target.place == "-" {
         return print(rt, output);
     }
-    if place == file {
+    if target.place == target.file {
         return match read {
-            Some(there) => replace(rt, place, there, output),
-            None => save(rt, rt.alloc(), place, None, output),
+            Some(there) => replace(rt, target.place, there, output),
+            None => save(rt, rt.alloc(), target.place, None, output),
         };
     }
-    match put(rt, place, output) {
-        Err(Error::Io(fault)) => Err(Error::Io(named(rt.alloc(), place, fault))),
+    match put(rt, target.place, output) {
+        Err(Error::Io(fault)) => Err(Error::Io(named(rt.alloc(), target.place, fault))),
         done => done,
     }
+}
+
+/// Writes to standard output what would change: in the file that `--output` names, else in the file that was
+/// read, if it was there.
+fn show_change(
+    rt: &HostRuntime,
+    target: Target<'_>,
+    read: Option<&[u8]>,
+    output: &[u8],
+) -> Result<(), Error> {
+    let place = target.place;
+    let change = if place == "-" || place == target.file {
+        diff(rt.alloc(), target.file, read, output)?
+    } else {
+        match fs::read(rt, place) {
+            Ok(there) => diff(rt.alloc(), place, Some(there.as_slice()), output)?,
+            Err(fault) if fault.kind() == io::ErrorKind::NotFound => {
+                diff(rt.alloc(), place, None, output)?
+            }
+            Err(fault) => return Err(Error::Io(named(rt.alloc(), place, fault))),
+        }
+    };
+    print(rt, change.as_slice())
 }
 
 /// Puts bytes into a file, whatever it has, or into a new one.
@@ -160,7 +197,12 @@ fn run_here(rt: &HostRuntime, words: &[String], input: &mut Vec<u8>) -> Outcome 
             } else {
                 None
             };
-            hand_on(rt, place_of(&asked), asked.file, read, output.as_slice()).err()
+            let target = Target {
+                file: asked.file,
+                place: place_of(&asked),
+                shows_change: asked.choices.switches.dry_run,
+            };
+            hand_on(rt, target, read, output.as_slice()).err()
         }
         _ => None,
     };

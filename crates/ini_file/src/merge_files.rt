@@ -6,7 +6,7 @@ use crate::merge_words::Merging;
 use crate::refusals::refuse;
 use crate::run::Outcome;
 use crate::settings::settings_of;
-use crate::{hand_on, is_missing, read_input};
+use crate::{Target, hand_on, is_missing, read_input};
 use ini::Error;
 use ini_edit::{Edit, EditError};
 use std::alloc::{AllocError, Global};
@@ -48,8 +48,12 @@ fn merge_read(
     let input = read.unwrap_or(&[]);
     match merge(rt.alloc(), merging.options, input, others) {
         MergeEnd::Done(bytes) => {
-            let place = merging.choices.output.unwrap_or(file);
-            match hand_on(rt, place, file, read, bytes.as_slice()) {
+            let target = Target {
+                file,
+                place: merging.choices.output.unwrap_or(file),
+                shows_change: merging.choices.switches.dry_run,
+            };
+            match hand_on(rt, target, read, bytes.as_slice()) {
                 Ok(()) => 0,
                 Err(refusal) => refuse(rt, reading, file, &[], Outcome::from(refusal)),
             }

@@ -68,6 +68,7 @@ Choices:
                    stand, each with NUL behind it
   --separator TEXT of set, add and format: what stands between key and value of
                    new lines; one = or : with spaces and tabs alone around it
+  --dry-run        of what writes a file: shows the change, and writes none
   --output FILE    writes this file in place of the other; - is standard output
   --               what follows is no choice
 
