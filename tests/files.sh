@@ -670,6 +670,8 @@ previewing() {
         rename-key settings.ini name title
     preview 'rename-section --dry-run' 0 "$of@@ -7,1 +7,1 @@\n-[client]\n+[guest]\n" \
         rename-section settings.ini client guest
+    printf 'name = two\n' >../one.ini
+    preview 'merge --dry-run' 0 "$of@@ -2,1 +2,1 @@\n-name = one\n+name = two\n" merge settings.ini ../one.ini
     printf 'k = 1\n\n[a]\nj=1\n' >settings.ini
     preview 'format --dry-run' 0 "$of@@ -1,1 +1,1 @@\n-k = 1\n+k=1\n" format settings.ini
     printf 'k=1\nj=2' >settings.ini
