@@ -35,8 +35,7 @@ pub record IsDeleted (o : ParseOption) (T : Text) (name : Option Text) (key : Te
 -- the later pairs of the key in that section; and no other byte than those that go with these is another
 -- one: it loads as the document in which the key is set.
 pub record IsSetThere (o : ParseOption) (policy : EscapePolicy) (T : Text) (name : Option Text)
-    (key value : Text)
-    (U : Text) : Type 0 where
+    (key value U : Text) : Type 0 where
   pub pair : Stretches
   pub old : Text
   pub is_first : IsFirstPair o T name key pair old

@@ -24,10 +24,9 @@ pub record LoadAlike (o : ParseOption) (T U : Text) : Type 0 where
   pub second : IsDocumentOf o U document
 
 -- Two pairs that are there are edited, in either order: T to U to V, and T to X to Y.
-pub record EditsBoth (o : ParseOption) (policy : EscapePolicy) (T V Y : Text) (name : Option Text)
-    (key : Text)
-    (value : Option Text) (other_name : Option Text) (other_key : Text)
-    (other_value : Option Text) : Type 0 where
+pub record EditsBoth (o : ParseOption) (policy : EscapePolicy) (T V Y : Text)
+    (name : Option Text) (key : Text) (value : Option Text)
+    (other_name : Option Text) (other_key : Text) (other_value : Option Text) : Type 0 where
   pub U : Text
   pub X : Text
   pub first : IsPairEdited o policy T name key value U

@@ -55,8 +55,7 @@ HasNothing o (DeleteSection name) T = LacksSection o T (Some name)
 HasNothing o (RenameSection old new) T = LacksSection o T (Some old)
 
 -- The edit puts a word in the place of one that is there, and the new word can't be written. (What setting
--- and
--- adding are refused with for their words may depend on the text.)
+-- and adding are refused with for their words may depend on the text.)
 abbrev pub HasUnplainWord : ParseOption → EscapePolicy → Editing → Type 0
 HasUnplainWord o policy (SetExisting name key value) = ¬ IsPlainValue o policy value
 HasUnplainWord o policy (RenameKey name old new) = ¬ IsPlainBareKey o policy new

@@ -25,8 +25,7 @@ module _ (o : ParseOption) (w : WriteOption) where
     nothing : HasNothing o e T → Makes e T false T
 
   -- The edits make U of the text T, each of the text that those before it made. Beside each edit stands
-  -- whether
-  -- it found what it is about.
+  -- whether it found what it is about.
   pub data AreMade (T : Text) : List Editing → List Bool → Text → Type 0 where
     none : AreMade T [] [] T
     then : {edits : List Editing} {found : List Bool} {U : Text} → AreMade T edits found U

@@ -1,5 +1,5 @@
 -- The characters that stand between fields, and the fields of a pair joined.
-use Rattle.std.proofs.Common.{◌≡◌, [], ◌∷◌, ◌++◌, append_assoc, refl, sym, Option, None, Some}
+use Rattle.std.proofs.Common.{◌≡◌, [], ◌∷◌, ◌++◌, append_assoc, refl, sym, None, Some}
 use Rattle.std.specs.Str.{chars}
 use Rattle.ini_text.specs.Grammar.CharacterKinds.{close_bracket, open_bracket}
 use Rattle.ini.specs.Texts.{Text}

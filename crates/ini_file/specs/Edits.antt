@@ -1,5 +1,5 @@
 -- What an edit makes of a text, and what it is refused with, in the words of `ini_edit`.
-use Rattle.std.specs.Prelude.{◌≡◌, ⊤, Option, Some}
+use Rattle.std.specs.Prelude.{⊤, Option, Some}
 use Rattle.ini_text.specs.Laws.Plain.{IsPlainName, IsPlainValue}
 use Rattle.ini_text.specs.declared.write.option.WriteOption.{WriteOption}
 use Rattle.ini.specs.Edits.{add_in, set_in}

@@ -1,5 +1,5 @@
 -- Names, keys and values as they stand, each with its end: for other programs to read.
-use Rattle.std.specs.Prelude.{ℕ, Bool, true, false, if◌then◌else◌, List, [], ◌∷◌, ◌++◌, flat_map}
+use Rattle.std.specs.Prelude.{ℕ, Bool, true, false, if◌then◌else◌, [], ◌∷◌, ◌++◌, flat_map}
 use Rattle.std.specs.Prelude.{Option, None, Some, is_some}
 use Rattle.std.specs.Option.{option_map, option_map_or, option_or}
 use Rattle.ini_text.specs.Grammar.CharacterKinds.{close_bracket, line_feed, open_bracket}

@@ -1,14 +1,13 @@
 -- What a run of the program is, as a function of its words and of a file's bytes.
-use Rattle.std.specs.Prelude.{◌≡◌, ◌↔◌, ℕ, List, [], Option, Some, None, ⊤, IfSome, MatchOption}
+use Rattle.std.specs.Prelude.{◌≡◌, ℕ, List, Option, Some, None, ⊤, IfSome}
 use Rattle.std.specs.Prelude.{◌++◌, chars, codes, encode_utf8_all, map, string_bytes, String}
-use Rattle.std.specs.Option.{option_map}
 use Rattle.std.specs.Str.{IsUtf8}
 use Rattle.std.specs.declared.alloc.Global.{Global}
 use Rattle.std.specs.declared.vec.Vec.{Vec}
 use Rattle.ini_text.specs.declared.error.Error.TheVariants.{Io, Parse, Memory, NotUtf8, NoProgress}
 use Rattle.ini_text.specs.declared.write.option.WriteOption.{WriteOption}
 use Rattle.ini.specs.Documents.{Document}
-use Rattle.ini.specs.Loading.{IsDocumentOf, IsParseOrMemory, IsStopOf, IsTextWith, without_mark}
+use Rattle.ini.specs.Loading.{IsDocumentOf, IsStopOf, IsTextWith, without_mark}
 use Rattle.ini.specs.Texts.{Text}
 use Rattle.ini_edit.specs.declared.error.EditError.{EditError}
 use Rattle.ini_edit.specs.declared.error.EditError.TheVariants as refusal

@@ -1,6 +1,6 @@
 use Rattle.std.proofs.Common.{◌≡◌, length, map, string_bytes}
 use Rattle.std.specs.Option.{option_map}
-use Rattle.ini_file.specs.Choices.{Chosen, chosen, no_choice}
+use Rattle.ini_file.specs.Choices.{chosen, no_choice}
 use Rattle.ini_file.proofs.choices.Choices.of_words.Given as goal
 
 abbrev pub invariant-words : goal.invariant-words
