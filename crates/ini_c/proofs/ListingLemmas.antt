@@ -3,7 +3,8 @@ use Rattle.std.proofs.Common.{◌≡◌, ℕ, List, [], ◌∷◌, ◌++◌, ◌
 use Rattle.std.proofs.lemmas.Str.{encodes-chars}
 use Rattle.ini_c.specs.Listings.{Listed, with_text}
 
-pub text_listed : (before : Listed) (text bytes after counts : List ℕ) → IsUtf8 text → bytes ≡ before.bytes ++ text
+pub text_listed : (before : Listed) (text bytes after counts : List ℕ) → IsUtf8 text
+    → bytes ≡ before.bytes ++ text
     → after ≡ bytes ++ 0 ∷ [] → counts ≡ before.counts ++ length text ∷ []
     → record { bytes = after; counts = counts } ≡ with_text before (chars text)
 text_listed before text bytes after counts is_text grown ended counted =

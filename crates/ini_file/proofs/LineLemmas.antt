@@ -35,17 +35,20 @@ lines_of-one (x ∷ []) h none = elim (eqb_tells x line_feed) [
 ]
 lines_of-one (x ∷ y ∷ ys) h none =
     let ne : x ≡ line_feed → ⊥ = none 0 (omega arith) in
-    let more : (k : ℕ) → k + 1 < length (y ∷ ys) → get_or (y ∷ ys) k 0 ≡ line_feed → ⊥ = λ k l. none (suc k) (omega arith) in
+    let more : (k : ℕ) → k + 1 < length (y ∷ ys) → get_or (y ∷ ys) k 0 ≡ line_feed → ⊥ =
+    λ k l. none (suc k) (omega arith) in
     lines_of-other x (y ∷ ys) ne ∙ ap (onto_first x) (lines_of-one (y ∷ ys) (omega arith) more)
 
 -- bytes have a first line
-lines_of-some : (x : ℕ) (xs : List ℕ) → (line : Line) × (lines : List Line) × (lines_of (x ∷ xs) ≡ line ∷ lines)
+lines_of-some : (x : ℕ) (xs : List ℕ)
+    → (line : Line) × (lines : List Line) × (lines_of (x ∷ xs) ≡ line ∷ lines)
 lines_of-some x xs = elim (eqb_tells x line_feed) [
   | inl e ↦ (x ∷ [], lines_of xs, lines_of-feed x xs e.1)
-  | inr e ↦ elim (lines_of xs) as (λ ls. lines_of xs ≡ ls → (line : Line) × (lines : List Line) × (lines_of (x ∷ xs) ≡ line ∷ lines)) [
-    | [] ↦ λ h. (x ∷ [], [], lines_of-other x xs e.1 ∙ ap (onto_first x) h)
-    | l ∷ ls ↦ λ h. (x ∷ l, ls, lines_of-other x xs e.1 ∙ ap (onto_first x) h)
-  ] refl
+  | inr e ↦ elim (lines_of xs) as (λ ls. lines_of xs ≡ ls
+      → (line : Line) × (lines : List Line) × (lines_of (x ∷ xs) ≡ line ∷ lines)) [
+        | [] ↦ λ h. (x ∷ [], [], lines_of-other x xs e.1 ∙ ap (onto_first x) h)
+        | l ∷ ls ↦ λ h. (x ∷ l, ls, lines_of-other x xs e.1 ∙ ap (onto_first x) h)
+      ] refl
 ]
 
 onto_first-append : (x : ℕ) (some more : List Line) (line : Line) (lines : List Line) → some ≡ line ∷ lines

@@ -9,7 +9,8 @@ use Rattle.ini_text.specs.declared.option.ParseOption.{ParseOption}
 use Rattle.ini.specs.Documents.{Document}
 use Rattle.ini_file.specs.Merges.{AreLoaded, Loads, RefusesFile, RefusesOther, bytes_of}
 
-module _ (o : ParseOption) (files : List (Vec ℕ Global)) (i : ℕ) (file : Vec ℕ Global) (within : i < length files)
+module _ (o : ParseOption) (files : List (Vec ℕ Global)) (i : ℕ) (file : Vec ℕ Global)
+    (within : i < length files)
     (is_at : file ≡ get_or files i file) {documents : List Document}
     (loaded : AreLoaded o (bytes_of (take i files)) documents) where
   -- one file more has a document
@@ -17,9 +18,11 @@ module _ (o : ParseOption) (files : List (Vec ℕ Global)) (i : ℕ) (file : Vec
       → more ≡ documents ++ document ∷ [] → AreLoaded o (bytes_of (take (i + 1) files)) more
   one_more_loaded {more} document loads is =
       let taken : bytes_of (take (i + 1) files) ≡ bytes_of (take i files) ++ file.items ∷ [] =
-      rw (add-one, take-suc files i file within, ← is_at) (map-append (λ f. f.items) (take i files) (file ∷ [])) in
+      rw (add-one, take-suc files i file within, ← is_at)
+      (map-append (λ f. f.items) (take i files) (file ∷ [])) in
       subst (λ fs. AreLoaded o fs more) (sym taken)
-      (subst (λ ds. AreLoaded o (bytes_of (take i files) ++ file.items ∷ []) ds) (sym is) (AreLoaded.then loaded file.items loads))
+      (subst (λ ds. AreLoaded o (bytes_of (take i files) ++ file.items ∷ []) ds) (sym is)
+      (AreLoaded.then loaded file.items loads))
 
   -- the file has none
   pub one_refused : (e : Error) → RefusesFile o file.items e → RefusesOther o (bytes_of files) i e
@@ -30,7 +33,8 @@ module _ (o : ParseOption) (files : List (Vec ℕ Global)) (i : ℕ) (file : Vec
         before = bytes_of (take i files);
         file = file.items;
         behind = bytes_of (drop (suc i) files);
-        whole = ap bytes_of (sym (take-append-drop i files)) ∙ (map-append (λ f. f.items) (take i files) (drop i files)
+        whole = ap bytes_of (sym (take-append-drop i files))
+            ∙ (map-append (λ f. f.items) (take i files) (drop i files)
             ∙ ap (λ fs. bytes_of (take i files) ++ bytes_of fs) split);
         is_at = simp (length-map, length-take) (omega arith);
         documents = documents;

@@ -7,12 +7,14 @@ use Rattle.ini_file.specs.Diffs.{DifferFirst, DifferLast, IsDiffBetween, Line, h
 use Rattle.ini_file.specs.Inside.Shared.{IsFirstLine, IsLastLine, ShareFirst, ShareLast}
 
 pub ShareFirst-more : {old new gone come one other more rest : List ℕ} {count : ℕ}
-    → ShareFirst old new count gone come → IsFirstLine gone one more → IsFirstLine come other rest → one ≡ other
+    → ShareFirst old new count gone come → IsFirstLine gone one more → IsFirstLine come other rest
+    → one ≡ other
     → ShareFirst old new (count + 1) more rest
 ShareFirst-more {old} {new} {gone} {come} {one} {other} {more} {rest} {count} s a b e = record {
   first = s.first ++ one ∷ [];
   counted = omega (arith, s.counted, length-append s.first (one ∷ []));
-  old_lines = s.old_lines ∙ ap (λ ls. s.first ++ ls) a.lines ∙ sym (append_assoc s.first (one ∷ []) (lines_of more));
+  old_lines = s.old_lines ∙ ap (λ ls. s.first ++ ls) a.lines
+      ∙ sym (append_assoc s.first (one ∷ []) (lines_of more));
   new_lines =
       s.new_lines ∙ ap (λ ls. s.first ++ ls) (b.lines ∙ ap (λ l. l ∷ lines_of rest) (sym e))
       ∙ sym (append_assoc s.first (one ∷ []) (lines_of rest));
@@ -49,7 +51,8 @@ true_from_not false e = cc
 -- what `!=` says of two lines
 pub same_line : (one other : List ℕ) (differ : Bool) → differ ≡ not (bytes_eq one other) → differ ≡ false
     → one ≡ other
-same_line one other differ e f = (bytes_eq-Decides one other).0 (true_from_not (bytes_eq one other) (sym e ∙ f))
+same_line one other differ e f =
+    (bytes_eq-Decides one other).0 (true_from_not (bytes_eq one other) (sym e ∙ f))
 
 pub other_line : (one other : List ℕ) (differ : Bool) → differ ≡ not (bytes_eq one other) → differ ≡ true
     → one ≡ other → ⊥
@@ -63,16 +66,17 @@ pub IsDiffBetween-hunk : {from to old new gone come goes comes diff : List ℕ} 
     → ShareFirst old new count gone come → DifferFirst (lines_of gone) (lines_of come)
     → ShareLast gone come goes comes → DifferLast (lines_of goes) (lines_of comes)
     → diff ≡ hunk_where from to count (lines_of goes) (lines_of comes) → IsDiffBetween from to old new diff
-IsDiffBetween-hunk {from} {to} {old} {new} {gone} {come} {goes} {comes} {diff} {count} s differ t last e = record {
-  first = s.first;
-  gone = lines_of goes;
-  come = lines_of comes;
-  is_change = record {
-    last = t.last;
-    old_lines = s.old_lines ∙ ap (λ ls. s.first ++ ls) t.old_lines;
-    new_lines = s.new_lines ∙ ap (λ ls. s.first ++ ls) t.new_lines;
-    longest_first = λ line more rest p q. differ line more rest (t.old_lines ∙ p) (t.new_lines ∙ q);
-    longest_last = last;
-  };
-  is_hunk = e ∙ ap (λ n. hunk_where from to n (lines_of goes) (lines_of comes)) (sym s.counted);
-}
+IsDiffBetween-hunk {from} {to} {old} {new} {gone} {come} {goes} {comes} {diff} {count} s differ t last e =
+    record {
+      first = s.first;
+      gone = lines_of goes;
+      come = lines_of comes;
+      is_change = record {
+        last = t.last;
+        old_lines = s.old_lines ∙ ap (λ ls. s.first ++ ls) t.old_lines;
+        new_lines = s.new_lines ∙ ap (λ ls. s.first ++ ls) t.new_lines;
+        longest_first = λ line more rest p q. differ line more rest (t.old_lines ∙ p) (t.new_lines ∙ q);
+        longest_last = last;
+      };
+      is_hunk = e ∙ ap (λ n. hunk_where from to n (lines_of goes) (lines_of comes)) (sym s.counted);
+    }

@@ -1,5 +1,5 @@
--- The change of a file's bytes as a unified diff without context: one hunk, between the first lines that the old
--- bytes and the new ones share, and the last ones.
+-- The change of a file's bytes as a unified diff without context: one hunk, between the first lines that
+-- the old bytes and the new ones share, and the last ones.
 use Rattle.std.specs.Prelude.{◌≡◌, ◌+◌, ◌==◌, ◌&&◌, ℕ, if◌then◌else◌, List, [], ◌∷◌, ◌++◌, codes, flat_map, length}
 use Rattle.std.specs.Prelude.{Option, None, Some}
 use Rattle.std.specs.Fmt.{decimal}
@@ -19,14 +19,15 @@ lines_of (byte ∷ bytes) =
 
 -- no line stands first in both, or last in both
 abbrev pub DifferFirst : List Line → List Line → Type 0
-DifferFirst ones others = (line : Line) (more rest : List Line) → ones ≡ line ∷ more → others ≡ line ∷ rest → ⊥
+DifferFirst ones others = (line : Line) (more rest : List Line) → ones ≡ line ∷ more
+    → others ≡ line ∷ rest → ⊥
 
 abbrev pub DifferLast : List Line → List Line → Type 0
 DifferLast ones others =
     (line : Line) (more rest : List Line) → ones ≡ more ++ line ∷ [] → others ≡ rest ++ line ∷ [] → ⊥
 
--- of the old lines those of `gone` go, and in their place those of `come` come; as many first lines stay as the
--- two have in common, and as many last ones of the others
+-- of the old lines those of `gone` go, and in their place those of `come` come; as many first lines stay as
+-- the two have in common, and as many last ones of the others
 pub record IsChange (old new : List Line) (first gone come : List Line) : Type 0 where
   pub last : List Line
   pub old_lines : old ≡ first ++ (gone ++ last)
@@ -70,8 +71,8 @@ pub record IsDiffBetween (from to : Word) (old new : List ℕ) (diff : List ℕ)
   pub is_change : IsChange (lines_of old) (lines_of new) first gone come
   pub is_hunk : diff ≡ hunk_where from to (length first) gone come
 
--- the bytes are the diff of what a file of this name has, and of what it is to have; where there is no file it is
--- told as /dev/null, which has no bytes
+-- the bytes are the diff of what a file of this name has, and of what it is to have; where there is no file
+-- it is told as /dev/null, which has no bytes
 abbrev pub IsDiff : Word → Option (List ℕ) → List ℕ → List ℕ → Type 0
 IsDiff name None new diff = IsDiffBetween (codes "/dev/null") name [] new diff
 IsDiff name (Some old) new diff = IsDiffBetween name name old new diff

@@ -1,5 +1,5 @@
-//! The change of a file's bytes as a unified diff without context. This file knows bytes and their lines, and no
-//! device.
+//! The change of a file's bytes as a unified diff without context. This file knows bytes and their lines,
+//! and no device.
 ghost use Rattle.std.specs.Prelude.{◌≡◌, ◌≤◌, ◌<◌, ◌^◌, ◌++◌, IfOk, IsOkUnless, OnOk, alloc_error, flat_map, length};
 ghost use Rattle.std.specs.Prelude.{option_map, string_bytes};
 ghost use Rattle.ini_text.specs.declared.error.Error.TheVariants.{Memory};
@@ -11,11 +11,12 @@ use crate::lines::{count_lines, split_first_line, split_last_line};
 use ini::Error;
 use std::alloc::Global;
 
-/// The diff of the bytes that a file of this name has, and of those that it is to have: one hunk, which `patch`
-/// takes; nothing where the bytes are the same. Where there is no file, it is told as `/dev/null`. Refused for
-/// want of memory alone.
+/// The diff of the bytes that a file of this name has, and of those that it is to have: one hunk, which
+/// `patch` takes; nothing where the bytes are the same. Where there is no file, it is told as `/dev/null`.
+/// Refused for want of memory alone.
 pub fn diff(alloc: Global, name: &str, old: Option<&[u8]>, new: &[u8]) -> Result<Vec<u8>, Error>
-    ensures diff { IfOk result (λ diff. IsDiff name.now (option_map (λ b. b.now) old.entry) new.now diff.items) }
+    ensures diff { IfOk result
+        (λ diff. IsDiff name.now (option_map (λ b. b.now) old.entry) new.now diff.items) }
     ensures only { IsOkUnless result (Memory alloc_error) }
 {
     match old {

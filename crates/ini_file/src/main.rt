@@ -102,8 +102,8 @@ fn print(rt: &HostRuntime, output: &[u8]) -> Result<(), Error> {
     }
 }
 
-/// Hands on what a command over a file is to write; nothing was read of a file that wasn't there, which is made.
-/// A file that would not change is not written.
+/// Hands on what a command over a file is to write; nothing was read of a file that wasn't there, which is
+/// made. A file that would not change is not written.
 pub(crate) fn hand_on(
     rt: &HostRuntime,
     target: Target<'_>,

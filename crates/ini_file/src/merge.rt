@@ -25,10 +25,10 @@ pub enum MergeEnd {
     Edit(RefusedEdit),
 }
 
-/// The file's bytes with what the others set: for each of them in order, each key of the first section of each
-/// name is set to the first value that it has there. A mark (EF BB BF) at the front of any is no part of its
-/// text; that of the file stays. All others are read before the file is; where they set nothing the file's text
-/// isn't read.
+/// The file's bytes with what the others set: for each of them in order, each key of the first section of
+/// each name is set to the first value that it has there. A mark (EF BB BF) at the front of any is no part
+/// of its text; that of the file stays. All others are read before the file is; where they set nothing the
+/// file's text isn't read.
 pub fn merge(alloc: Global, options: Options, input: &[u8], others: &[Vec<u8>]) -> MergeEnd
     ensures { HasMerge options input.now (bytes_of others.now) result }
 {
@@ -73,7 +73,8 @@ pub fn load_all(
     files: &[Vec<u8>],
 ) -> Result<Vec<Ini>, (usize, Error)>
     ensures loaded { IfOk result (λ documents. AreLoaded reading (bytes_of files.now) documents.items) }
-    ensures refused { IfErr result (λ refused. RefusesOther reading (bytes_of files.now) refused.0 refused.1) }
+    ensures refused { IfErr result
+        (λ refused. RefusesOther reading (bytes_of files.now) refused.0 refused.1) }
 {
     let mut documents = Vec::new(alloc);
     for (index, file) in files.iter().enumerate() {

@@ -6,4 +6,5 @@ use Rattle.ini_c.proofs.listing.list_values.Given as goal
 
 -- with what is left it is the whole
 abbrev pub invariant-loop-value : goal.invariant-loop-value
-invariant-loop-value l = fold with_text (listed l.listing) l.value-iterator ≡ values_listed (values (chars l.key) l.section)
+invariant-loop-value l =
+    fold with_text (listed l.listing) l.value-iterator ≡ values_listed (values (chars l.key) l.section)

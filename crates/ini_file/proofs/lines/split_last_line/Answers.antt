@@ -12,4 +12,5 @@ returns c =
       | then-back-test+then-bytes-at-eq-LINE_FEED w ↦
           let same : c.back.at - 1 ≡ j = omega arith in rw same at w.if-bytes-at-eq-LINE_FEED.true
     ] in
-    IsLastLine-at _ _ _ c.back.at c.back.invariant.0 before c.back.invariant.1 c.split_at.ensures.front c.split_at.ensures.back
+    IsLastLine-at _ _ _ c.back.at c.back.invariant.0 before c.back.invariant.1 c.split_at.ensures.front
+    c.split_at.ensures.back

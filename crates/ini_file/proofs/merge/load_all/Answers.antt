@@ -17,4 +17,5 @@ pub returns-in-Err-clause-refused : goal.returns-in-Err-clause-refused
 returns-in-Err-clause-refused c =
     one_refused c.args.reading c.args.files.now c.loop-index.index c.index-files-index.result
     c.loop-index-test.true c.index-files-index.is c.loop-index.invariant c.in-Err.refusal
-    (subst (λ bytes. RefusesFile c.args.reading bytes c.in-Err.refusal) c.as_slice.ensures.value c.in-Err.ensures.refused)
+    (subst (λ bytes. RefusesFile c.args.reading bytes c.in-Err.refusal) c.as_slice.ensures.value
+    c.in-Err.ensures.refused)
