@@ -3,6 +3,7 @@
 
     edits.py own PROGRAM MEGABYTES
     edits.py peers PROGRAM SECTIONS
+    edits.py files FILE_PROGRAM
 
 PROGRAM is `ini_edits`. `own` makes a text of that size, whose last section has the key, and prints for loading it and for each
 edit the milliseconds of user and system time, and the ratio to loading. Reading the text, a run that does nothing else, is
@@ -10,6 +11,9 @@ taken off. The aim is at most 1.2; the status is 1 if an edit misses it.
 
 `peers` sets a value in the last of so many sections: once by PROGRAM, by `crudini` and by `git config -f`, each a run over a
 file, with what starting the program takes. A peer that isn't there is left out.
+
+`files` sets a value in the last section of a file of 10 MB, and of one of 1 KB, by FILE_PROGRAM, which is `ini_file`, and by
+the peers: each reads the file and writes it.
 
 Each time is the shortest of some runs, in turn.
 """
@@ -88,12 +92,34 @@ def peers(program, count):
         print(f"| `{name}` | {taken:.0f} |")
 
 
+def files(program):
+    print("| File | Run | ms |\n|---|---|---|")
+    for count in (92_000, 9):
+        with tempfile.TemporaryDirectory() as folder:
+            path = pathlib.Path(folder, "text.ini")
+            runs = {"ini_file set": [program, "set", str(path), "key", "VALUE", "last"]}
+            if shutil.which("git"):
+                runs["git config -f"] = ["git", "config", "-f", str(path), "last.key", "VALUE"]
+            if shutil.which("crudini"):
+                runs["crudini --set"] = ["crudini", "--set", str(path), "last", "key", "VALUE"]
+            text = "".join(sections(count))
+            for name, command in runs.items():
+                best = None
+                for turn in range(3):
+                    path.write_text(text)
+                    taken = milliseconds([word.replace("VALUE", f"value {turn}") for word in command], os.devnull)
+                    best = taken if best is None else min(best, taken)
+                print(f"| {len(text):,} bytes | `{name}` | {best:.0f} |")
+
+
 def main():
     match sys.argv[1:]:
         case ["own", program, megabytes]:
             sys.exit(not own(program, float(megabytes)))
         case ["peers", program, count]:
             peers(program, int(count))
+        case ["files", program]:
+            files(program)
         case _:
             sys.exit(__doc__)
 
