@@ -10,7 +10,7 @@ use Rattle.ini_file.specs.Requests.{Asking, Format, Listing, Sections, Keys, Get
 
 -- what the question writes of a document; no text where the pair or the section that it asks for isn't there
 abbrev pub output : WriteOption → Asking → Document → Option Text
-output w (Format separator) d = Some (written d w)
+output w Format d = Some (written d w)
 output w (Listing false) d = Some (listed d)
 output w (Listing true) d = Some (listed_fields d)
 output w (Sections false) d = Some (name_lines d)

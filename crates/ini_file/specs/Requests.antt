@@ -3,63 +3,37 @@ use Rattle.std.specs.Prelude.{ℕ, Bool, List, Option}
 use Rattle.std.specs.Borrow.{Bor}
 use Rattle.std.specs.Option.{option_map}
 use Rattle.ini.specs.Texts.{Text, str_name, str_text}
+use Rattle.ini_edit.specs.Editings.{Editing, editing_of}
 use Rattle.ini_options.specs.Words.{Word}
 use Rattle.ini_options.specs.declared.options.Options.{Options}
 use Rattle.ini_file.specs.Choices.{Chosen, chosen_of}
 use Rattle.ini_file.specs.declared.words.Asked.{Asked}
 use Rattle.ini_file.specs.declared.words.Command.{Command}
 use Rattle.ini_file.specs.declared.words.Command.TheVariants as command
-use Rattle.ini_file.specs.declared.words.Edit.{Edit}
-use Rattle.ini_file.specs.declared.words.Edit.TheVariants as edit
 use Rattle.ini_file.specs.declared.words.Question.{Question}
 use Rattle.ini_file.specs.declared.words.Question.TheVariants as question
 
 -- Where no section is named it is the general one. With `null` names, keys and values are written as they
 -- stand, with NUL behind each; with `all` each value of the key is got; with a default that where there is
--- none. A separator, by its bytes, stands between key and value of new lines.
+-- none.
 pub data Asking : Type 0 where
-  Format : (separator : Option Word) → Asking
+  Format : Asking
   Listing : (null : Bool) → Asking
   Sections : (null : Bool) → Asking
   Keys : (null : Bool) (section : Option Text) → Asking
   Get : (null all : Bool) (key : Text) (section default : Option Text) → Asking
-
-pub data Editing : Type 0 where
-  Delete : (key : Text) (section : Option Text) → Editing
-  SetExisting : (key value : Text) (section : Option Text) → Editing
-  Set : (key value : Text) (section : Option Text) (separator : Option Word) → Editing
-  Add : (key value : Text) (section : Option Text) (separator : Option Word) → Editing
-  RenameKey : (old new : Text) (section : Option Text) → Editing
-  RenameSection : (old new : Text) → Editing
-  DeleteSection : (section : Text) → Editing
 
 -- to write something of the file's document, or to change its text
 pub data Request : Type 0 where
   Ask : Asking → Request
   Change : Editing → Request
 
--- the word that an `Option<&str>` stands for
-abbrev pub word_of : Option (Bor (List ℕ)) → Option Word
-word_of text = option_map (λ t. t.now) text
-
 abbrev pub asking_of : Question → Asking
-asking_of (question.Format separator) = Format (word_of separator)
+asking_of question.Format = Format
 asking_of (question.List null) = Listing null
 asking_of (question.Sections null) = Sections null
 asking_of (question.Keys section null) = Keys null (str_name section)
 asking_of (question.Get l) = Get l.null l.all (str_text l.key) (str_name l.section) (str_name l.default)
-
-abbrev pub editing_of : Edit → Editing
-editing_of (edit.Delete key section) = Delete (str_text key) (str_name section)
-editing_of (edit.SetExisting key value section) =
-    SetExisting (str_text key) (str_text value) (str_name section)
-editing_of (edit.Set key value section separator) =
-    Set (str_text key) (str_text value) (str_name section) (word_of separator)
-editing_of (edit.Add key value section separator) =
-    Add (str_text key) (str_text value) (str_name section) (word_of separator)
-editing_of (edit.RenameKey old new section) = RenameKey (str_text old) (str_text new) (str_name section)
-editing_of (edit.RenameSection old new) = RenameSection (str_text old) (str_text new)
-editing_of (edit.DeleteSection section) = DeleteSection (str_text section)
 
 -- the request that a command stands for
 abbrev pub request_of : Command → Request

@@ -1,6 +1,6 @@
 -- What a run of the program is, as a function of its words and of a file's bytes.
 use Rattle.std.specs.Prelude.{◌≡◌, ℕ, List, Option, Some, None, ⊤, IfSome}
-use Rattle.std.specs.Prelude.{◌++◌, chars, codes, encode_utf8_all, map, string_bytes, String}
+use Rattle.std.specs.Prelude.{◌++◌, codes, encode_utf8_all, map, string_bytes, String}
 use Rattle.std.specs.Str.{IsUtf8}
 use Rattle.std.specs.declared.alloc.Global.{Global}
 use Rattle.std.specs.declared.vec.Vec.{Vec}
@@ -9,15 +9,17 @@ use Rattle.ini_text.specs.declared.write.option.WriteOption.{WriteOption}
 use Rattle.ini.specs.Documents.{Document}
 use Rattle.ini.specs.Loading.{IsDocumentOf, IsStopOf, IsTextWith, without_mark}
 use Rattle.ini.specs.Texts.{Text}
+use Rattle.ini_edit.specs.Made.{HasNothing, HasUnplainWord}
 use Rattle.ini_edit.specs.declared.error.EditError.{EditError}
 use Rattle.ini_edit.specs.declared.error.EditError.TheVariants as refusal
+use Rattle.ini_options.specs.Words.{Word}
 use Rattle.ini_options.specs.declared.options.Options.{Options}
 use Rattle.ini_file.specs.Bytes.{mark_of}
-use Rattle.ini_file.specs.Edits.{HasNothingToEdit, IsEdited, RefusesEdit}
+use Rattle.ini_file.specs.Edits.{IsChanged, RefusesEdit}
 use Rattle.ini_file.specs.Outputs.{output}
-use Rattle.ini_file.specs.Requests.{Asking, Asks, Editing, Request, Ask, Change}
+use Rattle.ini_file.specs.Requests.{Asking, Asks, Request, Ask, Change}
 use Rattle.ini_file.specs.Words.{asked}
-use Rattle.ini_file.specs.Writing.{IsWriting, Separates, separator_of}
+use Rattle.ini_file.specs.Writing.{IsWriting, Separates}
 use Rattle.ini_file.specs.declared.run.Outcome.{Outcome}
 use Rattle.ini_file.specs.declared.run.Outcome.TheVariants.{Done, NotFound, Usage, Refused}
 
@@ -26,66 +28,62 @@ abbrev pub asked_by : List (String Global) → Option Asks
 asked_by words = asked (map string_bytes words)
 
 -- what a question is answered of the document that a text gives; no text where what it asks for isn't there
-pub record IsAnswer (o : Options) (q : Asking) (T : Text) (out : Option Text) : Type 0 where
+pub record IsAnswer (o : Options) (separator : Option Word) (q : Asking) (T : Text) (out : Option Text)
+    : Type 0 where
   pub option : WriteOption
   pub document : Document
-  pub is_option : IsWriting o (separator_of q) option
-  pub separates : Separates (separator_of q)
+  pub is_option : IsWriting o separator option
+  pub separates : Separates separator
   pub loaded : IsDocumentOf o.reading T document
   pub is_output : out ≡ output option q document
 
--- the bytes are the file's mark, and behind it a text with the edit made in it
-pub record IsChanged (o : Options) (e : Editing) (mark : List ℕ) (T : Text) (bytes : List ℕ) : Type 0 where
-  pub new : List ℕ
-  pub whole : bytes ≡ mark ++ new
-  pub is_edited : IsEdited o e T (chars new)
-
 -- the bytes are what the request asks to be written of a file with this mark and text
-abbrev pub IsWritten : Options → Request → List ℕ → Text → List ℕ → Type 0
-IsWritten o (Ask q) mark T bytes = (out : Text) × IsAnswer o q T (Some out) × bytes ≡ encode_utf8_all out
-IsWritten o (Change e) mark T bytes = IsChanged o e mark T bytes
+abbrev pub IsWritten : Options → Option Word → Request → List ℕ → Text → List ℕ → Type 0
+IsWritten o separator (Ask q) mark T bytes =
+    (out : Text) × IsAnswer o separator q T (Some out) × bytes ≡ encode_utf8_all out
+IsWritten o separator (Change e) mark T bytes = IsChanged o separator e mark T bytes
 
--- what the request is about isn't in the text
-abbrev pub IsAbsent : Options → Request → Text → Type 0
-IsAbsent o (Ask q) T = IsAnswer o q T None
-IsAbsent o (Change e) T = HasNothingToEdit o e T
+-- what the request is about isn't in the text, and it has no word that can't be written
+abbrev pub IsAbsent : Options → Option Word → Request → Text → Type 0
+IsAbsent o separator (Ask q) T = IsAnswer o separator q T None
+IsAbsent o separator (Change e) T = HasNothing o.reading e T × ¬ HasUnplainWord o.reading o.escape_policy e
 
--- what a question is refused with, but for the text's own faults and memory's: a separator that isn't read
--- back
-abbrev pub RefusesQuestion : Asking → EditError → Type 0
-RefusesQuestion q (refusal.Text _) = ⊤
-RefusesQuestion q refusal.Separator = ¬ Separates (separator_of q)
-RefusesQuestion q _ = ⊥
+-- what a question is refused with: a separator that isn't read back, whatever the text is; else the text's
+-- fault, or memory's
+abbrev pub RefusesQuestion : Options → Option Word → Text → EditError → Type 0
+RefusesQuestion o separator T refusal.Separator = ¬ Separates separator
+RefusesQuestion o separator T (refusal.Text (Parse e)) = Separates separator × IsStopOf o.reading T e
+RefusesQuestion o separator T (refusal.Text (Memory _)) = Separates separator
+RefusesQuestion o separator T _ = ⊥
 
--- what a request is refused with, but for the text's own faults and memory's
-abbrev pub RefusesRequest : Options → Request → Text → EditError → Type 0
-RefusesRequest o (Ask q) T refused = RefusesQuestion q refused
-RefusesRequest o (Change e) T refused = RefusesEdit o e T refused
+-- what a request is refused with
+abbrev pub RefusesRequest : Options → Option Word → Request → Text → EditError → Type 0
+RefusesRequest o separator (Ask q) T refused = RefusesQuestion o separator T refused
+RefusesRequest o separator (Change e) T refused = RefusesEdit o separator e T refused
 
 -- how a run ends that asks for the request of a file with this mark and text
-abbrev pub EndsAs : Options → Request → List ℕ → Text → Outcome → Type 0
-EndsAs o r mark T (Done bytes) = IsWritten o r mark T bytes.items
-EndsAs o r mark T NotFound = IsAbsent o r T
-EndsAs o r mark T Usage = ⊥
-EndsAs o r mark T (Refused (refusal.Text (Parse e))) = IsStopOf o.reading T e
-EndsAs o r mark T (Refused (refusal.Text (Memory _))) = ⊤
-EndsAs o r mark T (Refused (refusal.Text _)) = ⊥
-EndsAs o r mark T (Refused refused) = RefusesRequest o r T refused
+abbrev pub EndsAs : Options → Option Word → Request → List ℕ → Text → Outcome → Type 0
+EndsAs o separator r mark T (Done bytes) = IsWritten o separator r mark T bytes.items
+EndsAs o separator r mark T NotFound = IsAbsent o separator r T
+EndsAs o separator r mark T Usage = ⊥
+EndsAs o separator r mark T (Refused refused) = RefusesRequest o separator r T refused
 
 -- the same of a file's bytes, which may be no text
 abbrev pub EndsOn : List ℕ → Asks → Outcome → Type 0
 EndsOn input a (Refused (refusal.Text NotUtf8)) = ¬ (IsUtf8 (without_mark input))
 EndsOn input a end =
-    IsTextWith (λ T. EndsAs a.options a.request (mark_of input) T end) (without_mark input)
+    IsTextWith (λ T. EndsAs a.options a.choices.separator a.request (mark_of input) T end)
+    (without_mark input)
 
 -- how a run of the words over the file's bytes ends
 abbrev pub HasOutcome : List (String Global) → List ℕ → Outcome → Type 0
 HasOutcome words input end = IfSome (asked_by words) (λ a. EndsOn input a end)
 
 -- the bytes that a call answers are those that answer the question; none where what it asks for isn't there
-abbrev pub IsAnsweredAs : Options → Asking → Text → Option (Vec ℕ Global) → Type 0
-IsAnsweredAs o q T None = IsAnswer o q T None
-IsAnsweredAs o q T (Some bytes) = (out : Text) × IsAnswer o q T (Some out) × bytes.items ≡ encode_utf8_all out
+abbrev pub IsAnsweredAs : Options → Option Word → Asking → Text → Option (Vec ℕ Global) → Type 0
+IsAnsweredAs o separator q T None = IsAnswer o separator q T None
+IsAnsweredAs o separator q T (Some bytes) =
+    (out : Text) × IsAnswer o separator q T (Some out) × bytes.items ≡ encode_utf8_all out
 
 abbrev pub IsDone : Outcome → Type 0
 IsDone (Done _) = ⊤

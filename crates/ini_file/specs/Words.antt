@@ -5,17 +5,17 @@ use Rattle.std.specs.Prelude.{Option, None, Some, option_and_then}
 use Rattle.std.specs.Option.{option_map}
 use Rattle.std.specs.Str.{bytes_eq}
 use Rattle.ini.specs.Texts.{Text}
+use Rattle.ini_edit.specs.Editings.{Add, Delete, DeleteSection, RenameKey, RenameSection, Set, SetExisting}
 use Rattle.ini_options.specs.Words.{Word, default_options, given}
 use Rattle.ini_options.specs.declared.options.Options.{Options}
 use Rattle.ini_file.specs.Choices.{Chosen, chosen, no_choice, takes}
 use Rattle.ini_file.specs.Requests.{Asks, Request, Ask, Change}
-use Rattle.ini_file.specs.Requests.{Format, Listing, Sections, Keys, Get, Delete, SetExisting, Set, Add}
-use Rattle.ini_file.specs.Requests.{RenameKey, RenameSection, DeleteSection}
+use Rattle.ini_file.specs.Requests.{Format, Listing, Sections, Keys, Get}
 
 -- the request of a command without arguments, and of one with one, two or three
 abbrev pub requested_alone : Word → Chosen → Option Request
 requested_alone command c =
-    if bytes_eq command (codes "format") then Some (Ask (Format c.separator))
+    if bytes_eq command (codes "format") then Some (Ask Format)
     else if bytes_eq command (codes "list") then Some (Ask (Listing c.switches.null))
     else if bytes_eq command (codes "sections") then Some (Ask (Sections c.switches.null))
     else if bytes_eq command (codes "keys") then Some (Ask (Keys c.switches.null None))
@@ -30,31 +30,31 @@ abbrev pub requested_with_one : Word → Chosen → Text → Option Request
 requested_with_one command c first =
     if bytes_eq command (codes "get") then getting c first None
     else if bytes_eq command (codes "keys") then Some (Ask (Keys c.switches.null (Some first)))
-    else if bytes_eq command (codes "delete") then Some (Change (Delete first None))
+    else if bytes_eq command (codes "delete") then Some (Change (Delete None first))
     else if bytes_eq command (codes "delete-section") then Some (Change (DeleteSection first))
     else None
 
 -- to set a value: wherever its pair stands, or only where the key is there
-abbrev pub setting : Chosen → Text → Text → Option Text → Option Request
-setting c key value section =
-    if c.switches.existing then Some (Change (SetExisting key value section))
-    else Some (Change (Set key value section c.separator))
+abbrev pub setting : Chosen → Option Text → Text → Text → Option Request
+setting c name key value =
+    if c.switches.existing then Some (Change (SetExisting name key value))
+    else Some (Change (Set name key value))
 
 abbrev pub requested_with_two : Word → Chosen → Text → Text → Option Request
 requested_with_two command c key second =
     if bytes_eq command (codes "get") then getting c key (Some second)
-    else if bytes_eq command (codes "delete") then Some (Change (Delete key (Some second)))
-    else if bytes_eq command (codes "set") then setting c key second None
-    else if bytes_eq command (codes "add") then Some (Change (Add key second None c.separator))
-    else if bytes_eq command (codes "rename-key") then Some (Change (RenameKey key second None))
+    else if bytes_eq command (codes "delete") then Some (Change (Delete (Some second) key))
+    else if bytes_eq command (codes "set") then setting c None key second
+    else if bytes_eq command (codes "add") then Some (Change (Add None key second))
+    else if bytes_eq command (codes "rename-key") then Some (Change (RenameKey None key second))
     else if bytes_eq command (codes "rename-section") then Some (Change (RenameSection key second))
     else None
 
 abbrev pub requested_with_three : Word → Chosen → Text → Text → Text → Option Request
 requested_with_three command c key value section =
-    if bytes_eq command (codes "set") then setting c key value (Some section)
-    else if bytes_eq command (codes "add") then Some (Change (Add key value (Some section) c.separator))
-    else if bytes_eq command (codes "rename-key") then Some (Change (RenameKey key value (Some section)))
+    if bytes_eq command (codes "set") then setting c (Some section) key value
+    else if bytes_eq command (codes "add") then Some (Change (Add (Some section) key value))
+    else if bytes_eq command (codes "rename-key") then Some (Change (RenameKey (Some section) key value))
     else None
 
 -- the request of a command, its choices and its arguments

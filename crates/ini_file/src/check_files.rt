@@ -3,7 +3,7 @@
 
 use crate::check::{check_file, status_of_check, worse};
 use crate::check_words::Check;
-use crate::read_input;
+use crate::files::read_input;
 use crate::refusals::refuse;
 use crate::run::Outcome;
 use ini::{Error, ParseOption};

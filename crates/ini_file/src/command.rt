@@ -24,7 +24,7 @@ pub fn answer<W: Write>(
         (output option (asking_of question.entry) document.now) }
 {
     match question {
-        Question::Format { .. } => format_document(document, option, out),
+        Question::Format => format_document(document, option, out),
         Question::List { null: false } => list(document, out),
         Question::List { null: true } => list_fields(document, out),
         Question::Sections { null: false } => sections(document, out),

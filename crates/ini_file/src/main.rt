@@ -15,6 +15,7 @@ mod diagnosis;
 mod diff;
 mod edit;
 mod fields;
+mod files;
 mod lines;
 mod merge;
 mod merge_files;
@@ -30,52 +31,25 @@ mod writing;
 use check_files::check_files;
 use check_words::check_of;
 use diagnosis::point_at;
-use diff::diff;
+use files::{Target, hand_on, is_missing, print, read_input};
 use ini::Error;
-use ini_edit::EditError;
+use ini_edit::{Edit, EditError};
 use ini_options::{named, words_of};
 use merge_files::merge_files;
 use merge_words::merge_of;
 use page::page_of;
 use run::{Outcome, run, status, tell};
-use save::save;
-use std::fs;
-use std::io::{self, Read, Write};
 use std::process::ExitCode;
-use words::{Asked, Command, Edit, Question, parse};
-
-/// The bytes of a file; `-` is standard input.
-pub(crate) fn read_input(rt: &HostRuntime, file: &str) -> Result<Vec<u8>, Error> {
-    if file == "-" {
-        let mut bytes = Vec::new(rt.alloc());
-        match rt.stdin().read_to_end(&mut bytes) {
-            Ok(_) => Ok(bytes),
-            Err(fault) => Err(Error::Io(fault)),
-        }
-    } else {
-        fs::read(rt, file).map_err(Error::Io)
-    }
-}
+use words::{Asked, Command, Question, parse};
 
 /// The file that is written: the one that `--output` names; else the file itself, where the command is to
 /// change it; else standard output, `-`.
 fn place_of<'a>(asked: &Asked<'a>) -> &'a str {
     match (asked.choices.output, asked.command) {
         (Some(file), _) => file,
-        (None, Command::Ask(Question::Format { .. }) | Command::Change(_)) => asked.file,
+        (None, Command::Ask(Question::Format) | Command::Change(_)) => asked.file,
         (None, Command::Ask(_)) => "-",
     }
-}
-
-/// Where what a command makes of a file goes.
-#[derive(Clone, Copy)]
-pub(crate) struct Target<'a> {
-    /// The file that was read.
-    pub(crate) file: &'a str,
-    /// The file that is written; `-` is standard output.
-    pub(crate) place: &'a str,
-    /// Whether what would change in it is shown, and nothing is written.
-    pub(crate) shows_change: bool,
 }
 
 /// Whether the command makes a file that isn't there.
@@ -84,90 +58,6 @@ fn makes_file(command: &Command<'_>) -> bool {
         command,
         Command::Change(Edit::Set { .. } | Edit::Add { .. })
     )
-}
-
-/// Whether a file can't be read because it isn't there.
-pub(crate) fn is_missing(refusal: &Error) -> bool {
-    match refusal {
-        Error::Io(fault) => fault.kind() == io::ErrorKind::NotFound,
-        _ => false,
-    }
-}
-
-/// Writes to standard output.
-fn print(rt: &HostRuntime, output: &[u8]) -> Result<(), Error> {
-    match rt.stdout().write_all(output) {
-        Ok(()) => Ok(()),
-        Err(fault) => Err(Error::Io(named(rt.alloc(), "standard output", fault))),
-    }
-}
-
-/// Hands on what a command over a file is to write; nothing was read of a file that wasn't there, which is
-/// made. A file that would not change is not written.
-pub(crate) fn hand_on(
-    rt: &HostRuntime,
-    target: Target<'_>,
-    read: Option<&[u8]>,
-    output: &[u8],
-) -> Result<(), Error> {
-    if target.shows_change {
-        return show_change(rt, target, read, output);
-    }
-    if target.place == "-" {
-        return print(rt, output);
-    }
-    if target.place == target.file {
-        return match read {
-            Some(there) => replace(rt, target.place, there, output),
-            None => save(rt, rt.alloc(), target.place, None, output),
-        };
-    }
-    match put(rt, target.place, output) {
-        Err(Error::Io(fault)) => Err(Error::Io(named(rt.alloc(), target.place, fault))),
-        done => done,
-    }
-}
-
-/// Writes to standard output what would change: in the file that `--output` names, else in the file that was
-/// read, if it was there.
-fn show_change(
-    rt: &HostRuntime,
-    target: Target<'_>,
-    read: Option<&[u8]>,
-    output: &[u8],
-) -> Result<(), Error> {
-    let place = target.place;
-    let change = if place == "-" || place == target.file {
-        diff(rt.alloc(), target.file, read, output)?
-    } else {
-        match fs::read(rt, place) {
-            Ok(there) => diff(rt.alloc(), place, Some(there.as_slice()), output)?,
-            Err(fault) if fault.kind() == io::ErrorKind::NotFound => {
-                diff(rt.alloc(), place, None, output)?
-            }
-            Err(fault) => return Err(Error::Io(named(rt.alloc(), place, fault))),
-        }
-    };
-    print(rt, change.as_slice())
-}
-
-/// Puts bytes into a file, whatever it has, or into a new one.
-fn put(rt: &HostRuntime, place: &str, output: &[u8]) -> Result<(), Error> {
-    match fs::read(rt, place) {
-        Ok(there) => replace(rt, place, there.as_slice(), output),
-        Err(fault) if fault.kind() == io::ErrorKind::NotFound => {
-            save(rt, rt.alloc(), place, None, output)
-        }
-        Err(fault) => Err(Error::Io(fault)),
-    }
-}
-
-/// Puts bytes in the place of those that a file has, if they are other bytes.
-fn replace(rt: &HostRuntime, place: &str, there: &[u8], output: &[u8]) -> Result<(), Error> {
-    if there == output {
-        return Ok(());
-    }
-    save(rt, rt.alloc(), place, Some(there), output)
 }
 
 /// Runs over a file and the process's own streams, and keeps the bytes that were read.

@@ -1,12 +1,12 @@
 //! A merge of files that are there: they are read, what they make is handed on, and what is refused is told.
 //! This file knows the process's streams, and no word of the program.
 
+use crate::files::{Target, hand_on, is_missing, read_input};
 use crate::merge::{MergeEnd, load_all, merge};
 use crate::merge_words::Merging;
 use crate::refusals::refuse;
 use crate::run::Outcome;
 use crate::settings::settings_of;
-use crate::{Target, hand_on, is_missing, read_input};
 use ini::Error;
 use ini_edit::{Edit, EditError};
 use std::alloc::{AllocError, Global};

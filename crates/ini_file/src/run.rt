@@ -1,24 +1,19 @@
 //! The program as a function of its words and of a file's bytes. This file knows how a run ends, and what is
 //! told of it; of files it knows their names alone.
-ghost use Rattle.std.specs.Prelude.{◌≡◌, ◌++◌, ◌↔◌, ◌⊎◌, Err, IfErr, IfOk, MatchOption, None, OnOk};
+ghost use Rattle.std.specs.Prelude.{◌≡◌, ◌++◌, ◌↔◌, ◌⊎◌, IfErr, IfOk, None, OnOk};
 ghost use Rattle.std.specs.Prelude.{[], chars, is_some, unwrap_or};
 ghost use Rattle.ini_text.specs.Device.Watched.{AppendsFront};
-ghost use Rattle.ini.specs.Loading.{IsStopOf};
 ghost use Rattle.ini.specs.WrittenTo.{IsWrittenTo};
-ghost use Rattle.ini_edit.specs.Edited.{IfEditParse};
-ghost use Rattle.ini_edit.specs.declared.error.EditError.TheVariants as EditErrors;
-ghost use Rattle.ini_file.specs.Edits.{HasNothingToEdit, HasUnplainKey, HasUnplainName, HasUnplainValue};
-ghost use Rattle.ini_file.specs.Edits.{IsEditRefusal, RefusesEdit};
 ghost use Rattle.ini_file.specs.Outputs.{output};
-ghost use Rattle.ini_file.specs.Requests.{asking_of, editing_of};
-ghost use Rattle.ini_file.specs.Runs.{HasOutcome, IsAnswer, IsAnsweredAs, IsChanged, IsDone, IsNotFound};
-ghost use Rattle.ini_file.specs.Runs.{IsUsage, RefusesQuestion, asked_by, status_of, usage_line};
-ghost use Rattle.ini_file.specs.Writing.{Separates, separator_of};
+ghost use Rattle.ini_file.specs.Requests.{asking_of};
+ghost use Rattle.ini_file.specs.Runs.{HasOutcome, IsAnsweredAs, IsDone, IsNotFound, IsUsage};
+ghost use Rattle.ini_file.specs.Runs.{RefusesQuestion, asked_by, status_of, usage_line};
+ghost use Rattle.ini_file.specs.Writing.{word_of};
 
-use crate::bytes::{joined, text_of};
+use crate::bytes::text_of;
 use crate::command::answer;
-use crate::edit::edited;
-use crate::words::{Command, Edit, Question, USAGE, parse};
+use crate::edit::change;
+use crate::words::{Command, Question, USAGE, parse};
 use crate::writing::{separates, writing};
 use ini::{Error, Ini, Watched, WriteOption, write_raw};
 use ini_edit::EditError;
@@ -85,17 +80,15 @@ pub fn run(alloc: Global, words: &[String], input: &[u8]) -> Outcome
         Ok(parts) => parts,
         Err(refused) => return Outcome::from(refused),
     };
-    match asked.command {
-        Command::Ask(question) => match ask(alloc, asked.options, question, text) {
-            Ok(Some(bytes)) => Outcome::Done(bytes),
-            Ok(None) => Outcome::NotFound,
-            Err(refused) => Outcome::Refused(refused),
-        },
-        Command::Change(edit) => match change(alloc, asked.options, edit, mark, text) {
-            Ok(Some(bytes)) => Outcome::Done(bytes),
-            Ok(None) => Outcome::NotFound,
-            Err(refused) => Outcome::Refused(refused),
-        },
+    let (options, separator) = (asked.options, asked.choices.separator);
+    let made = match asked.command {
+        Command::Ask(question) => ask(alloc, options, separator, question, text),
+        Command::Change(edit) => change(alloc, options, separator, edit, mark, text),
+    };
+    match made {
+        Ok(Some(bytes)) => Outcome::Done(bytes),
+        Ok(None) => Outcome::NotFound,
+        Err(refused) => Outcome::Refused(refused),
     }
 }
 
@@ -104,17 +97,14 @@ pub fn run(alloc: Global, words: &[String], input: &[u8]) -> Outcome
 fn ask(
     alloc: Global,
     options: Options,
+    separator: Option<&str>,
     question: Question<'_>,
     text: &str,
 ) -> Result<Option<Vec<u8>>, EditError>
-    ensures answered { IfOk result (IsAnsweredAs options (asking_of question.entry) (chars text.now)) }
-    ensures separator { (¬ Separates (separator_of (asking_of question.entry)))
-        → result ≡ Err EditErrors.Separator }
-    ensures refused { IfErr result (RefusesQuestion (asking_of question.entry)) }
-    ensures fault { IfEditParse result (IsStopOf options.reading (chars text.now)) }
-    ensures only { IfErr result IsEditRefusal }
+    ensures answered { IfOk result
+        (IsAnsweredAs options (word_of separator.entry) (asking_of question.entry) (chars text.now)) }
+    ensures refused { IfErr result (RefusesQuestion options (word_of separator.entry) (chars text.now)) }
 {
-    let separator = question.separator();
     if !separates(separator) {
         return Err(EditError::Separator);
     }
@@ -142,34 +132,6 @@ fn answer_to<W: Write>(
         (unwrap_or (output option (asking_of question.entry) document.now) [])) }
 {
     answer(question, document, option, &mut Watched::new(writer))
-}
-
-// A file's bytes with an edit made in their text; `None` where what it is about isn't there.
-fn change(
-    alloc: Global,
-    options: Options,
-    edit: Edit<'_>,
-    mark: &[u8],
-    text: &str,
-) -> Result<Option<Vec<u8>>, EditError>
-    ensures changed { IfOk result (λ bytes. MatchOption bytes
-        (HasNothingToEdit options (editing_of edit.entry) (chars text.now))
-        (λ bytes. IsChanged options (editing_of edit.entry) mark.now (chars text.now) bytes.items)) }
-    ensures value { HasUnplainValue options (editing_of edit.entry) → result ≡ Err EditErrors.Value }
-    ensures key { HasUnplainKey options (editing_of edit.entry) → result ≡ Err EditErrors.Key }
-    ensures name { HasUnplainName options (editing_of edit.entry) → result ≡ Err EditErrors.Name }
-    ensures refused { IfErr result (RefusesEdit options (editing_of edit.entry) (chars text.now)) }
-    ensures fault { IfEditParse result (IsStopOf options.reading (chars text.now)) }
-    ensures only { IfErr result IsEditRefusal }
-{
-    match edited(alloc, options, edit, text) {
-        Ok(Some(new)) => match joined(alloc, mark, new.as_str()) {
-            Ok(bytes) => Ok(Some(bytes)),
-            Err(refused) => Err(EditError::Text(refused)),
-        },
-        Ok(None) => Ok(None),
-        Err(refused) => Err(refused),
-    }
 }
 
 /// Prints how a run over a file ended, where there is something to say: the usage; or the file, the place and

@@ -4,26 +4,23 @@ ghost use Rattle.std.specs.Prelude.{◌≡◌, chars, map, string_bytes};
 ghost use Rattle.std.specs.Option.{option_map};
 ghost use Rattle.ini.specs.Texts.{str_name};
 ghost use Rattle.ini_file.specs.Choices.{chosen_of};
-ghost use Rattle.ini_file.specs.Requests.{asking_of, asks_of, request_of, word_of};
+ghost use Rattle.ini_file.specs.Requests.{asks_of, request_of};
 ghost use Rattle.ini_file.specs.Words.{asked, getting, requested, requested_alone, requested_with_one};
 ghost use Rattle.ini_file.specs.Words.{requested_with_three, requested_with_two, setting};
-ghost use Rattle.ini_file.specs.Writing.{separator_of};
 
 use crate::choices::Choices;
+use ini_edit::Edit;
 use ini_options::{Options, usage_line};
 
 /// The line that tells what the program takes, with its line end.
 pub const USAGE: &str = usage_line!("ini_file", "COMMAND [CHOICE].. [--] FILE [ARGUMENT]..",);
 
 /// What is asked of the document of a file. Where no section is named it is the general one. With `null` each
-/// name, key and value is written as it stands, with NUL behind it, and no line. A separator stands between
-/// key and value.
+/// name, key and value is written as it stands, with NUL behind it, and no line.
 #[derive(Clone, Copy)]
 pub enum Question<'a> {
     /// The document, written anew in the file's place.
-    Format {
-        separator: Option<&'a str>,
-    },
+    Format,
     /// A line for each pair.
     List {
         null: bool,
@@ -56,52 +53,6 @@ pub struct Lookup<'a> {
     pub null: bool,
 }
 
-/// What is changed in the text of a file. Where no section is named it is the general one. A separator stands
-/// between key and value of a new line.
-#[derive(Clone, Copy)]
-pub enum Edit<'a> {
-    /// The first pair of the key in the first section of the name is taken out.
-    Delete {
-        key: &'a str,
-        section: Option<&'a str>,
-    },
-    /// The value of the key is set where the key is there.
-    SetExisting {
-        key: &'a str,
-        value: &'a str,
-        section: Option<&'a str>,
-    },
-    /// The value of the key is set, in a new pair where the key isn't there.
-    Set {
-        key: &'a str,
-        value: &'a str,
-        section: Option<&'a str>,
-        separator: Option<&'a str>,
-    },
-    /// A pair is added, whatever pairs of the key are there.
-    Add {
-        key: &'a str,
-        value: &'a str,
-        section: Option<&'a str>,
-        separator: Option<&'a str>,
-    },
-    /// The first pair of the key gets another key.
-    RenameKey {
-        old: &'a str,
-        new: &'a str,
-        section: Option<&'a str>,
-    },
-    /// The first section of the name gets another name.
-    RenameSection {
-        old: &'a str,
-        new: &'a str,
-    },
-    /// The first section of the name is taken out.
-    DeleteSection {
-        section: &'a str,
-    },
-}
-
 /// What is asked of a file.
 #[derive(Clone, Copy)]
 pub enum Command<'a> {
@@ -122,18 +73,6 @@ pub struct Asked<'a> {
     pub file: &'a str,
     /// What is asked of the file.
     pub command: Command<'a>,
-}
-
-impl<'a> Question<'a> {
-    /// The separator that the question chooses.
-    pub fn separator(self) -> Option<&'a str>
-        ensures { word_of result ≡ separator_of (asking_of self.entry) }
-    {
-        match self {
-            Question::Format { separator } => separator,
-            _ => None,
-        }
-    }
 }
 
 // The command of a word and its arguments.
@@ -163,9 +102,8 @@ fn with_none<'a>(word: &str, choices: Choices<'a>) -> Option<Command<'a>>
     ensures { option_map request_of result ≡ requested_alone word.now (chosen_of choices.entry) }
 {
     let null = choices.switches.null;
-    let separator = choices.separator;
     match word {
-        "format" => Some(Command::Ask(Question::Format { separator })),
+        "format" => Some(Command::Ask(Question::Format)),
         "list" => Some(Command::Ask(Question::List { null })),
         "sections" => Some(Command::Ask(Question::Sections { null })),
         "keys" => Some(Command::Ask(Question::Keys {
@@ -199,8 +137,8 @@ fn with_one<'a>(word: &str, choices: Choices<'a>, first: &'a str) -> Option<Comm
     match word {
         "get" => get_of(choices, key, None),
         "keys" => Some(Command::Ask(Question::Keys { section, null })),
-        "delete" => Some(Command::Change(Edit::Delete { key, section: None })),
-        "delete-section" => Some(Command::Change(Edit::DeleteSection { section: first })),
+        "delete" => Some(Command::Change(Edit::Delete { name: None, key })),
+        "delete-section" => Some(Command::Change(Edit::DeleteSection { name: first })),
         _ => None,
     }
 }
@@ -218,21 +156,20 @@ fn with_two<'a>(
     let section = Some(second);
     match word {
         "get" => get_of(choices, key, section),
-        "delete" => Some(Command::Change(Edit::Delete { key, section })),
-        "set" => set_of(choices, key, second, None),
+        "delete" => Some(Command::Change(Edit::Delete { name: section, key })),
+        "set" => set_of(choices, None, key, second),
         "add" => {
             Some(Command::Change(Edit::Add {
+                name: None,
                 key,
                 value: second,
-                section: None,
-                separator: choices.separator,
             }))
         }
         "rename-key" => {
             Some(Command::Change(Edit::RenameKey {
+                name: None,
                 old: key,
                 new: second,
-                section: None,
             }))
         }
         "rename-section" => {
@@ -256,21 +193,15 @@ fn with_three<'a>(
     ensures { option_map request_of result ≡ requested_with_three word.now (chosen_of choices.entry)
         (chars key.now) (chars value.now) (chars section.now) }
 {
+    let name = Some(section);
     match word {
-        "set" => set_of(choices, key, value, Some(section)),
-        "add" => {
-            Some(Command::Change(Edit::Add {
-                key,
-                value,
-                section: Some(section),
-                separator: choices.separator,
-            }))
-        }
+        "set" => set_of(choices, name, key, value),
+        "add" => Some(Command::Change(Edit::Add { name, key, value })),
         "rename-key" => {
             Some(Command::Change(Edit::RenameKey {
+                name,
                 old: key,
                 new: value,
-                section: Some(section),
             }))
         }
         _ => None,
@@ -280,26 +211,17 @@ fn with_three<'a>(
 // The command `set`.
 fn set_of<'a>(
     choices: Choices<'a>,
+    name: Option<&'a str>,
     key: &'a str,
     value: &'a str,
-    section: Option<&'a str>,
 ) -> Option<Command<'a>>
     ensures { option_map request_of result ≡ setting (chosen_of choices.entry)
-        (chars key.now) (chars value.now) (str_name section.entry) }
+        (str_name name.entry) (chars key.now) (chars value.now) }
 {
     let edit = if choices.switches.existing {
-        Edit::SetExisting {
-            key,
-            value,
-            section,
-        }
+        Edit::SetExisting { name, key, value }
     } else {
-        Edit::Set {
-            key,
-            value,
-            section,
-            separator: choices.separator,
-        }
+        Edit::Set { name, key, value }
     };
     Some(Command::Change(edit))
 }

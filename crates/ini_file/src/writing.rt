@@ -2,8 +2,7 @@
 //! choose. This file knows no document.
 ghost use Rattle.std.specs.Prelude.{◌≡◌, ◌↔◌, IfOk, IsOkUnless, IsTrue, alloc_error};
 ghost use Rattle.ini_text.specs.declared.error.Error.TheVariants.{Memory};
-ghost use Rattle.ini_file.specs.Requests.{word_of};
-ghost use Rattle.ini_file.specs.Writing.{IsWriting, Separates};
+ghost use Rattle.ini_file.specs.Writing.{IsWriting, Separates, word_of};
 
 use ini::{Error, WriteOption, is_plain_separator};
 use ini_options::Options;
