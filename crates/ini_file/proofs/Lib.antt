@@ -1,4 +1,3 @@
-pub mod FieldLemmas
 pub mod LineLemmas
 pub mod MergeLemmas
 pub mod ShareLemmas

@@ -3,7 +3,7 @@ pub mod Checks
 pub mod Choices
 pub mod Diffs
 pub mod Edits
-pub mod Fields
+pub mod Forms
 pub mod Inside
 pub mod MergeWords
 pub mod Merges

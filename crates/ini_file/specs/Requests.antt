@@ -1,7 +1,5 @@
 -- What the program may be asked to do with a file.
-use Rattle.std.specs.Prelude.{ℕ, Bool, List, Option}
-use Rattle.std.specs.Borrow.{Bor}
-use Rattle.std.specs.Option.{option_map}
+use Rattle.std.specs.Prelude.{Bool, Option}
 use Rattle.ini.specs.Texts.{Text, str_name, str_text}
 use Rattle.ini_edit.specs.Editings.{Editing, editing_of}
 use Rattle.ini_options.specs.Words.{Word}

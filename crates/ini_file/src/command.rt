@@ -1,15 +1,16 @@
 //! What each question is answered of a document. This file knows no word and no reader.
 ghost use Rattle.ini_text.specs.Device.Watched.{IsClear};
-ghost use Rattle.std.specs.Prelude.{Some};
+ghost use Rattle.std.specs.Prelude.{◌≡◌, Some};
 ghost use Rattle.ini.specs.Written.{written};
 ghost use Rattle.ini_file.specs.Requests.{asking_of};
+ghost use Rattle.ini_file.specs.Forms.{listing_form};
 ghost use Rattle.ini_file.specs.Outputs.{output};
 ghost use Rattle.ini_lines.specs.Prints.{Prints};
 
-use crate::fields::{get, key_fields, list_fields, section_fields};
+use crate::lookup::get;
 use crate::words::Question;
 use ini::{Error, Ini, Watched, WriteOption};
-use ini_lines::{keys, list, sections};
+use ini_lines::{Form, keys, list, sections};
 use std::io::Write;
 
 /// Writes what the question asks of the document, and answers whether what it asks for was there.
@@ -25,20 +26,18 @@ pub fn answer<W: Write>(
 {
     match question {
         Question::Format => format_document(document, option, out),
-        Question::List { null: false } => list(document, out),
-        Question::List { null: true } => list_fields(document, out),
-        Question::Sections { null: false } => sections(document, out),
-        Question::Sections { null: true } => section_fields(document, out),
-        Question::Keys {
-            section,
-            null: false,
-        } => keys(document, section, out),
-        Question::Keys {
-            section,
-            null: true,
-        } => key_fields(document, section, out),
+        Question::List { null } => list(document, listing_form(null), out),
+        Question::Sections { null } => sections(document, listing_form(null), out),
+        Question::Keys { section, null } => keys(document, section, listing_form(null), out),
         Question::Get(lookup) => get(document, lookup, out),
     }
+}
+
+// How what is listed is written.
+fn listing_form(null: bool) -> Form
+    ensures { result ≡ listing_form null }
+{
+    if null { Form::Null } else { Form::Escaped }
 }
 
 // The document, written anew.

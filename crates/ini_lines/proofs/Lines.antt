@@ -1,7 +1,10 @@
--- The characters that stand between the parts of a line.
+-- The characters that stand between the parts of an entry.
 use Rattle.std.proofs.Common.{◌≡◌, [], ◌∷◌, refl}
 use Rattle.std.specs.Str.{chars}
-use Rattle.ini_text.specs.Grammar.CharacterKinds.{close_bracket, tab}
+use Rattle.ini_text.specs.Grammar.CharacterKinds.{tab}
+use Rattle.ini_lines.specs.Lines.{text_in}
+use Rattle.ini_lines.specs.declared.form.Form.{Form}
+use Rattle.ini_lines.specs.declared.form.Form.TheVariants.{Escaped, AsIs, Null}
 
 pub chars-nothing : chars [] ≡ []
 unfolding chars
@@ -11,6 +14,11 @@ pub chars-tab : chars (tab ∷ []) ≡ tab ∷ []
 unfolding chars
 chars-tab = refl
 
-pub chars-close_bracket_tab : chars (close_bracket ∷ tab ∷ []) ≡ close_bracket ∷ tab ∷ []
+pub chars-nul : chars (0 ∷ []) ≡ 0 ∷ []
 unfolding chars
-chars-close_bracket_tab = refl
+chars-nul = refl
+
+pub nothing-in : (form : Form) → text_in form [] ≡ []
+nothing-in Escaped = refl
+nothing-in AsIs = refl
+nothing-in Null = refl

@@ -1,48 +1,65 @@
--- The lines that the programs write of a document: of its sections, its keys, a value and its pairs.
-use Rattle.std.specs.Prelude.{[], ◌∷◌, ◌++◌, flat_map, Option, None, Some}
+-- What the programs write of a document: of its sections, its keys, values and pairs.
+use Rattle.std.specs.Prelude.{ℕ, [], ◌∷◌, ◌++◌, flat_map, Option, None, Some}
 use Rattle.std.specs.Option.{option_map}
 use Rattle.ini_text.specs.Grammar.CharacterKinds.{close_bracket, line_feed, open_bracket, tab}
 use Rattle.ini_text.specs.Escaping.EscapedTexts.{escaped}
 use Rattle.ini_text.specs.declared.write.policy.EscapePolicy.TheVariants.{Basics}
 use Rattle.ini.specs.Texts.{Text}
-use Rattle.ini.specs.Documents.{Document, first_section, names, value_in}
+use Rattle.ini.specs.Documents.{Document, first_section, names}
 use Rattle.ini.specs.Properties.{Pairs}
+use Rattle.ini_lines.specs.declared.form.Form.{Form}
+use Rattle.ini_lines.specs.declared.form.Form.TheVariants.{Escaped, AsIs, Null}
+
+-- a text in a form: with the basic escapes, or as it stands
+abbrev pub text_in : Form → Text → Text
+text_in Escaped text = escaped Basics text
+text_in AsIs text = text
+text_in Null text = text
+
+-- what stands behind an entry
+abbrev pub end_in : Form → ℕ
+end_in Escaped = line_feed
+end_in AsIs = line_feed
+end_in Null = 0
+
+-- what stands behind a section's name and behind a key, where a value follows
+abbrev pub between_in : Form → ℕ
+between_in Escaped = tab
+between_in AsIs = tab
+between_in Null = 0
 
 -- the name in brackets; the general section has none
-abbrev pub listed_name : Option Text → Text
-listed_name None = []
-listed_name (Some name) = open_bracket ∷ escaped Basics name ++ close_bracket ∷ []
+abbrev pub listed_name : Form → Option Text → Text
+listed_name form None = []
+listed_name form (Some name) = open_bracket ∷ text_in form name ++ close_bracket ∷ []
 
--- a line of the name, the key and the value, with tabs between them
-abbrev pub listed_pair : Option Text → Text × Text → Text
-listed_pair name p =
-    listed_name name ++ tab ∷ escaped Basics p.0 ++ tab ∷ escaped Basics p.1 ++ line_feed ∷ []
+-- the name, the key and the value
+abbrev pub listed_pair : Form → Option Text → Text × Text → Text
+listed_pair form name p =
+    listed_name form name ++ between_in form ∷ text_in form p.0
+    ++ between_in form ∷ text_in form p.1 ++ end_in form ∷ []
 
--- a line for each pair, in order
-abbrev pub listed : Document → Text
-listed d = flat_map (λ s. flat_map (listed_pair s.0) s.1) d
+-- each pair, in order
+abbrev pub listed : Form → Document → Text
+listed form d = flat_map (λ s. flat_map (listed_pair form s.0) s.1) d
 
--- the value of the key, on a line of its own; no text where it isn't there
-abbrev pub value_line : Option Text → Text → Document → Option Text
-value_line section key d = option_map (λ value. value ++ line_feed ∷ []) (value_in section key d)
+-- a text, and what ends it
+abbrev pub entry : Form → Text → Text
+entry form text = text_in form text ++ end_in form ∷ []
 
--- a text with the basic escapes, on a line of its own
-abbrev pub escaped_line : Text → Text
-escaped_line text = escaped Basics text ++ line_feed ∷ []
+-- the name; the general section has none
+abbrev pub name_entry : Form → Option Text → Text
+name_entry form None = []
+name_entry form (Some name) = entry form name
 
--- the name on a line of its own; the general section has none
-abbrev pub name_line : Option Text → Text
-name_line None = []
-name_line (Some name) = escaped_line name
+-- each distinct name, in the order of first occurrence
+abbrev pub name_entries : Form → Document → Text
+name_entries form d = flat_map (name_entry form) (names d)
 
--- a line for each distinct name, in the order of first occurrence
-abbrev pub name_lines : Document → Text
-name_lines d = flat_map name_line (names d)
-
--- a line for the key of each pair, in order
-abbrev pub lines_of_keys : Pairs → Text
-lines_of_keys ps = flat_map (λ p. escaped_line p.0) ps
+-- the key of each pair, in order
+abbrev pub entries_of_keys : Form → Pairs → Text
+entries_of_keys form ps = flat_map (λ p. entry form p.0) ps
 
 -- those of the first section of the name; no text where there is none
-abbrev pub key_lines : Option Text → Document → Option Text
-key_lines section d = option_map lines_of_keys (first_section section d)
+abbrev pub key_entries : Form → Option Text → Document → Option Text
+key_entries form section d = option_map (entries_of_keys form) (first_section section d)

@@ -1,16 +1,16 @@
--- What serves private functions: what a command did to its writer, and what is put into a line of `list`.
+-- What a call did to its writer; and, for private functions, what is put into an entry.
 use Rattle.std.specs.Prelude.{◌≡◌, ◌++◌, ℕ, Bool, false, List, [], chars, encode_utf8_all, ⊤}
 use Rattle.std.specs.Prelude.{Option, IsSome, is_some, unwrap_or, Result, Ok, Err, IfOk, IfErr, OnOk, OnErr}
 use Rattle.std.specs.Borrow.{Bor}
-use Rattle.ini_text.specs.Escaping.EscapedTexts.{escaped}
 use Rattle.ini_text.specs.Device.DeviceRefusals.{failures_in, stalls_in}
 use Rattle.ini_text.specs.Device.Watched.{SameDevice, WritesAll, WritesFront, device_now, failure_count}
 use Rattle.ini_text.specs.Device.Watched.{stall_count}
 use Rattle.ini_text.specs.declared.error.Error.{Error}
 use Rattle.ini_text.specs.declared.error.Error.TheVariants.{Io, Memory, NoProgress}
-use Rattle.ini_text.specs.declared.write.policy.EscapePolicy.TheVariants.{Basics}
 use Rattle.ini_text.specs.declared.device.Watched.{Watched}
 use Rattle.ini.specs.Texts.{Text}
+use Rattle.ini_lines.specs.Lines.{text_in}
+use Rattle.ini_lines.specs.declared.form.Form.{Form}
 
 -- nothing was there to write, or memory was refused
 abbrev pub IsSilent : Result Bool Error → Type 0
@@ -43,6 +43,6 @@ pub record Prints {W : Type 0} (contents : W → Option (List ℕ)) (old new : W
   pub stalls : stall_count new ≡ stalls_in result
   pub only : IfErr result IsCommandRefusal
 
--- what a part of a line of `list` writes
-abbrev pub part_text : Bor (List ℕ) × Bor (List ℕ) → Text
-part_text p = chars p.0.now ++ escaped Basics (chars p.1.now)
+-- what a part of an entry writes
+abbrev pub part_text : Form → Bor (List ℕ) × Bor (List ℕ) → Text
+part_text form p = chars p.0.now ++ text_in form (chars p.1.now)

@@ -1,101 +1,87 @@
 //! The lines that the programs write of a document. This crate knows no word and no reader.
+//!
+//! Each call answers whether what it writes is there, and its errors are these: `Io` where the writer answers a
+//! fault, `NoProgress` where it takes no bytes. A front was written then.
 #![tactic(auto)]
 
-ghost use Rattle.std.specs.Prelude.{Some, [], ◌∷◌, ◌++◌, chars, encode_utf8_all, flat_map};
-ghost use Rattle.ini_text.specs.Grammar.CharacterKinds.{line_feed};
-ghost use Rattle.ini_text.specs.Escaping.EscapedTexts.{escaped};
+ghost use Rattle.std.specs.Prelude.{Some, chars, encode_utf8_all, flat_map};
+ghost use Rattle.std.specs.Option.{option_map};
 ghost use Rattle.ini_text.specs.Device.HeldBack.{held};
 ghost use Rattle.ini_text.specs.Device.Watched.{IsClear, WritesBytes};
-ghost use Rattle.ini_text.specs.declared.write.policy.EscapePolicy.TheVariants.{Basics};
+ghost use Rattle.ini.specs.Properties.{values};
 ghost use Rattle.ini.specs.Texts.{str_name};
 ghost use Rattle.ini.specs.Inside.SentTexts.{SendsText};
-ghost use Rattle.ini_lines.specs.Lines.{escaped_line, key_lines, lines_of_keys, listed, listed_pair};
-ghost use Rattle.ini_lines.specs.Lines.{name_line, name_lines, value_line};
-ghost use Rattle.ini_lines.specs.Prints.{Prints, part_text};
+ghost use Rattle.ini_lines.specs.Lines.{entries_of_keys, entry, key_entries, listed, listed_pair, name_entries};
+ghost use Rattle.ini_lines.specs.Lines.{name_entry};
+ghost use Rattle.ini_lines.specs.Prints.{Prints};
 
-use ini::{Error, EscapePolicy, Gatherer, Ini, Properties, Watched};
+mod form;
+mod parts;
+
+pub use form::Form;
+use ini::{Error, Gatherer, Ini, Properties, Watched};
+use parts::{put_entry, put_parts};
 use std::io::Write;
 
-/// Writes the first value of the key in the first section of the name, as it is, on a line of its own. Where
-/// it isn't there, the answer is `false`, and nothing is written.
-///
-/// # Errors
-///
-/// `Io` where the writer answers a fault, `NoProgress` where it takes no bytes: a front of the line was
-/// written then.
-pub fn get<W: Write>(
-    document: &Ini,
-    key: &str,
-    section: Option<&str>,
-    out: &mut Watched<'_, W>,
-) -> Result<bool, Error>
+/// Writes each pair: its section's name in brackets, the key and the value. The answer is `true`.
+pub fn list<W: Write>(document: &Ini, form: Form, out: &mut Watched<'_, W>) -> Result<bool, Error>
     requires { IsClear out.old }
-    ensures { Prints W.contents out.old out.new result
-        (value_line (str_name section.entry) (chars key.now) document.now) }
+    ensures { Prints W.contents out.old out.new result (Some (listed form document.now)) }
 {
-    let Some(value) = document.get_from(section, key) else {
-        return Ok(false);
-    };
-    write_line(value, out)?;
+    write_listed(document, form, out)?;
     Ok(true)
 }
 
-/// Writes a line for each pair: its section's name in brackets, the key and the value, with tabs between
-/// them. The answer is `true`; the errors are those of `get`.
-pub fn list<W: Write>(document: &Ini, out: &mut Watched<'_, W>) -> Result<bool, Error>
+// Each pair of each section, written as the sections are gone over.
+fn write_listed<W: Write>(document: &Ini, form: Form, out: &mut Watched<'_, W>) -> Result<(), Error>
     requires { IsClear out.old }
-    ensures { Prints W.contents out.old out.new result (Some (listed document.now)) }
-{
-    write_listed(document, out)?;
-    Ok(true)
-}
-
-// A line for each pair of each section, written as the sections are gone over.
-fn write_listed<W: Write>(document: &Ini, out: &mut Watched<'_, W>) -> Result<(), Error>
-    requires { IsClear out.old }
-    ensures { WritesBytes W.contents out.old out.new result (encode_utf8_all (listed document.now)) }
+    ensures { WritesBytes W.contents out.old out.new result
+        (encode_utf8_all (listed form document.now)) }
 {
     let mut lines = Gatherer::new();
-    list_sections(&mut lines, document, out)?;
+    list_sections(&mut lines, form, document, out)?;
     lines.flush(out)
 }
 
-// A line for each pair of each section.
+// Each pair of each section.
 fn list_sections<W: Write>(
     lines: &mut Gatherer,
+    form: Form,
     document: &Ini,
     out: &mut Watched<'_, W>,
 ) -> Result<(), Error>
     requires { IsClear out.old }
     ensures { SendsText W.contents out.old out.new (held lines.old) (held lines.new) result
-        (listed document.now) }
+        (listed form document.now) }
 {
     for (name, pairs) in document {
-        list_pairs(lines, name, pairs, out)?;
+        list_pairs(lines, form, name, pairs, out)?;
     }
     Ok(())
 }
 
-// A line for each pair of a section.
+// Each pair of a section.
 fn list_pairs<W: Write>(
     lines: &mut Gatherer,
+    form: Form,
     name: Option<&str>,
     pairs: &Properties,
     out: &mut Watched<'_, W>,
 ) -> Result<(), Error>
     requires { IsClear out.old }
     ensures { SendsText W.contents out.old out.new (held lines.old) (held lines.new) result
-        (flat_map (listed_pair (str_name name.entry)) pairs.now) }
+        (flat_map (listed_pair form (str_name name.entry)) pairs.now) }
 {
     for (key, value) in pairs {
-        list_pair(lines, name, key, value, out)?;
+        list_pair(lines, form, name, key, value, out)?;
     }
     Ok(())
 }
 
-// The line of a pair.
+// A pair.
 fn list_pair<'a, W: Write>(
     lines: &mut Gatherer,
+    form: Form,
     name: Option<&'a str>,
     key: &'a str,
     value: &'a str,
@@ -103,178 +89,212 @@ fn list_pair<'a, W: Write>(
 ) -> Result<(), Error>
     requires { IsClear out.old }
     ensures { SendsText W.contents out.old out.new (held lines.old) (held lines.new) result
-        (listed_pair (str_name name.entry) (chars key.now, chars value.now)) }
+        (listed_pair form (str_name name.entry) (chars key.now, chars value.now)) }
 {
+    let (between, end) = (form.between(), form.end());
     match name {
         Some(name) => {
-            let parts = [("[", name), ("]\t", key), ("\t", value), ("\n", "")];
-            put_parts(lines, &parts, out)
+            let parts = [
+                ("[", name),
+                ("]", ""),
+                (between, key),
+                (between, value),
+                (end, ""),
+            ];
+            put_parts(lines, form, &parts, out)
         }
-        None => put_parts(lines, &[("\t", key), ("\t", value), ("\n", "")], out),
+        None => put_parts(
+            lines,
+            form,
+            &[(between, key), (between, value), (end, "")],
+            out,
+        ),
     }
 }
 
-/// Writes each distinct name of a section on a line of its own, with the basic escapes, in the order of first
-/// occurrence. The general section has no name. The answer is `true`; the errors are those of `get`.
-pub fn sections<W: Write>(document: &Ini, out: &mut Watched<'_, W>) -> Result<bool, Error>
+/// Writes each distinct name of a section, in the order of first occurrence. The general section has no name.
+/// The answer is `true`.
+pub fn sections<W: Write>(
+    document: &Ini,
+    form: Form,
+    out: &mut Watched<'_, W>,
+) -> Result<bool, Error>
     requires { IsClear out.old }
-    ensures { Prints W.contents out.old out.new result (Some (name_lines document.now)) }
+    ensures { Prints W.contents out.old out.new result (Some (name_entries form document.now)) }
 {
-    write_names(document, out)?;
+    write_names(document, form, out)?;
     Ok(true)
 }
 
-// A line for each name.
-fn write_names<W: Write>(document: &Ini, out: &mut Watched<'_, W>) -> Result<(), Error>
+// Each name.
+fn write_names<W: Write>(document: &Ini, form: Form, out: &mut Watched<'_, W>) -> Result<(), Error>
     requires { IsClear out.old }
-    ensures { WritesBytes W.contents out.old out.new result (encode_utf8_all (name_lines document.now)) }
+    ensures { WritesBytes W.contents out.old out.new result
+        (encode_utf8_all (name_entries form document.now)) }
 {
     let mut lines = Gatherer::new();
-    put_names(&mut lines, document, out)?;
+    put_names(&mut lines, form, document, out)?;
     lines.flush(out)
 }
 
-// A line for each name.
+// Each name.
 fn put_names<W: Write>(
     lines: &mut Gatherer,
+    form: Form,
     document: &Ini,
     out: &mut Watched<'_, W>,
 ) -> Result<(), Error>
     requires { IsClear out.old }
     ensures { SendsText W.contents out.old out.new (held lines.old) (held lines.new) result
-        (name_lines document.now) }
+        (name_entries form document.now) }
 {
     for name in document.sections() {
-        put_name(lines, name, out)?;
+        put_name(lines, form, name, out)?;
     }
     Ok(())
 }
 
-// The line of a name.
+// A name.
 fn put_name<W: Write>(
     lines: &mut Gatherer,
+    form: Form,
     name: Option<&str>,
     out: &mut Watched<'_, W>,
 ) -> Result<(), Error>
     requires { IsClear out.old }
     ensures { SendsText W.contents out.old out.new (held lines.old) (held lines.new) result
-        (name_line (str_name name.entry)) }
+        (name_entry form (str_name name.entry)) }
 {
     match name {
-        Some(name) => put_escaped_line(lines, name, out),
-        None => put_parts(lines, &[], out),
+        Some(name) => put_entry(lines, form, name, out),
+        None => put_parts(lines, form, &[], out),
     }
 }
 
-/// Writes the key of each pair in the first section of the name on a line of its own, with the basic escapes.
-/// Where there is no such section, the answer is `false`, and nothing is written. The errors are those of
-/// `get`.
+/// Writes the key of each pair in the first section of the name. Where there is no such section, the answer is
+/// `false`, and nothing is written.
 pub fn keys<W: Write>(
     document: &Ini,
     section: Option<&str>,
+    form: Form,
     out: &mut Watched<'_, W>,
 ) -> Result<bool, Error>
     requires { IsClear out.old }
-    ensures { Prints W.contents out.old out.new result (key_lines (str_name section.entry) document.now) }
+    ensures { Prints W.contents out.old out.new result
+        (key_entries form (str_name section.entry) document.now) }
 {
     let Some(pairs) = document.section(section) else {
         return Ok(false);
     };
-    write_keys(pairs, out)?;
+    write_keys(pairs, form, out)?;
     Ok(true)
 }
 
-// A line for each key.
-fn write_keys<W: Write>(pairs: &Properties, out: &mut Watched<'_, W>) -> Result<(), Error>
+// Each key.
+fn write_keys<W: Write>(
+    pairs: &Properties,
+    form: Form,
+    out: &mut Watched<'_, W>,
+) -> Result<(), Error>
     requires { IsClear out.old }
-    ensures { WritesBytes W.contents out.old out.new result (encode_utf8_all (lines_of_keys pairs.now)) }
+    ensures { WritesBytes W.contents out.old out.new result
+        (encode_utf8_all (entries_of_keys form pairs.now)) }
 {
     let mut lines = Gatherer::new();
-    put_keys(&mut lines, pairs, out)?;
+    put_keys(&mut lines, form, pairs, out)?;
     lines.flush(out)
 }
 
-// A line for each key.
+// Each key.
 fn put_keys<W: Write>(
     lines: &mut Gatherer,
+    form: Form,
     pairs: &Properties,
     out: &mut Watched<'_, W>,
 ) -> Result<(), Error>
     requires { IsClear out.old }
     ensures { SendsText W.contents out.old out.new (held lines.old) (held lines.new) result
-        (lines_of_keys pairs.now) }
+        (entries_of_keys form pairs.now) }
 {
     for (key, _) in pairs {
-        put_escaped_line(lines, key, out)?;
+        put_entry(lines, form, key, out)?;
     }
     Ok(())
 }
 
-// A text with the basic escapes, on a line of its own.
-fn put_escaped_line<W: Write>(
-    lines: &mut Gatherer,
-    text: &str,
+/// Writes a value, where there is one; the answer is whether there is.
+pub fn value<W: Write>(
+    value: Option<&str>,
+    form: Form,
     out: &mut Watched<'_, W>,
-) -> Result<(), Error>
+) -> Result<bool, Error>
     requires { IsClear out.old }
-    ensures { SendsText W.contents out.old out.new (held lines.old) (held lines.new) result
-        (escaped_line (chars text.now)) }
+    ensures { Prints W.contents out.old out.new result
+        (option_map (entry form) (str_name value.entry)) }
 {
-    put_parts(lines, &[("", text), ("\n", "")], out)
+    let Some(value) = value else {
+        return Ok(false);
+    };
+    write_entry(value, form, out)?;
+    Ok(true)
 }
 
-// Texts with the basic escapes, each behind one that is written as it is.
-fn put_parts<W: Write>(
-    lines: &mut Gatherer,
-    parts: &[(&str, &str)],
-    out: &mut Watched<'_, W>,
-) -> Result<(), Error>
-    requires { IsClear out.old }
-    ensures { SendsText W.contents out.old out.new (held lines.old) (held lines.new) result
-        (flat_map part_text parts.now) }
-{
-    for (before, text) in parts {
-        put_part(lines, before, text, out)?;
-    }
-    Ok(())
-}
-
-// A text as it is, and one with the basic escapes.
-fn put_part<W: Write>(
-    lines: &mut Gatherer,
-    before: &str,
-    text: &str,
-    out: &mut Watched<'_, W>,
-) -> Result<(), Error>
-    requires { IsClear out.old }
-    ensures { SendsText W.contents out.old out.new (held lines.old) (held lines.new) result
-        (chars before.now ++ escaped Basics (chars text.now)) }
-{
-    lines.put(before, out)?;
-    lines.put_escaped(text, EscapePolicy::Basics, out)
-}
-
-// A text as it is, on a line of its own.
-fn write_line<W: Write>(text: &str, out: &mut Watched<'_, W>) -> Result<(), Error>
+// A text alone.
+fn write_entry<W: Write>(text: &str, form: Form, out: &mut Watched<'_, W>) -> Result<(), Error>
     requires { IsClear out.old }
     ensures { WritesBytes W.contents out.old out.new result
-        (encode_utf8_all (chars text.now ++ line_feed ∷ [])) }
+        (encode_utf8_all (entry form (chars text.now))) }
 {
     let mut lines = Gatherer::new();
-    put_line(&mut lines, text, out)?;
+    put_entry(&mut lines, form, text, out)?;
     lines.flush(out)
 }
 
-// The text and its line end.
-fn put_line<W: Write>(
+/// Writes each value of the key, in order. The answer is `true`.
+pub fn values<W: Write>(
+    pairs: &Properties,
+    key: &str,
+    form: Form,
+    out: &mut Watched<'_, W>,
+) -> Result<bool, Error>
+    requires { IsClear out.old }
+    ensures { Prints W.contents out.old out.new result
+        (Some (flat_map (entry form) (values (chars key.now) pairs.now))) }
+{
+    write_values(pairs, key, form, out)?;
+    Ok(true)
+}
+
+// Each value of the key.
+fn write_values<W: Write>(
+    pairs: &Properties,
+    key: &str,
+    form: Form,
+    out: &mut Watched<'_, W>,
+) -> Result<(), Error>
+    requires { IsClear out.old }
+    ensures { WritesBytes W.contents out.old out.new result
+        (encode_utf8_all (flat_map (entry form) (values (chars key.now) pairs.now))) }
+{
+    let mut lines = Gatherer::new();
+    put_values(&mut lines, form, pairs, key, out)?;
+    lines.flush(out)
+}
+
+// Each value of the key.
+fn put_values<W: Write>(
     lines: &mut Gatherer,
-    text: &str,
+    form: Form,
+    pairs: &Properties,
+    key: &str,
     out: &mut Watched<'_, W>,
 ) -> Result<(), Error>
     requires { IsClear out.old }
     ensures { SendsText W.contents out.old out.new (held lines.old) (held lines.new) result
-        (chars text.now ++ line_feed ∷ []) }
+        (flat_map (entry form) (values (chars key.now) pairs.now)) }
 {
-    lines.put(text, out)?;
-    lines.put("\n", out)
+    for value in pairs.get_all(key) {
+        put_entry(lines, form, value, out)?;
+    }
+    Ok(())
 }

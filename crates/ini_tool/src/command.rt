@@ -8,7 +8,7 @@ ghost use Rattle.ini_lines.specs.Prints.{Prints};
 
 use crate::words::Command;
 use ini::{Error, Ini, Watched, WriteOption};
-use ini_lines::{get, list};
+use ini_lines::{Form, list, value};
 use std::alloc::Global;
 use std::io::Write;
 use std::mem;
@@ -27,12 +27,12 @@ pub fn answer<W: Write>(
     match command {
         Command::Fmt => fmt(document, option, out),
         Command::List => {
-            let listed = list(&document, out);
+            let listed = list(&document, Form::Escaped, out);
             mem::forget(document);
             listed
         }
         Command::Get { key, section } => {
-            let found = get(&document, key, section, out);
+            let found = value(document.get_from(section, key), Form::AsIs, out);
             mem::forget(document);
             found
         }

@@ -1,7 +1,7 @@
 use Rattle.std.proofs.Common.{ap}
+use Rattle.ini_lines.specs.Lines.{listed}
 use Rattle.std.proofs.lemmas.Result.{err_from_is_err_and}
 use Rattle.ini.proofs.WritingLemmas.{Writing-goes_on, Writing-starts, Writing-stops}
-use Rattle.ini_lines.specs.Lines.{listed}
 use Rattle.ini_lines.proofs.list_sections.Goals as goal
 
 pub loop-name-init : goal.loop-name-init
@@ -10,10 +10,11 @@ loop-name-init g c =
 
 pub loop-name-preserved : goal.loop-name-preserved
 loop-name-preserved g c =
-    Writing-goes_on _ (ap listed c.in-Some.ensures.steps) c.loop-name.invariant c.in_ok-list_pairs.ensures
+    let front = ap (listed c.args.form) c.in-Some.ensures.steps in
+    Writing-goes_on _ front c.loop-name.invariant c.in_ok-list_pairs.ensures
 
 pub returns-in_err-list_pairs : goal.returns-in_err-list_pairs
 returns-in_err-list_pairs g c =
     let p = err_from_is_err_and c.from_residual.result c.from_residual.ensures.1 in
-    let front = ap listed c.in-Some.ensures.steps in
+    let front = ap (listed c.args.form) c.in-Some.ensures.steps in
     rw (p.1, p.2) (Writing-stops _ front c.loop-name.invariant c.in_err-list_pairs.ensures)

@@ -5,4 +5,5 @@ use Rattle.ini_lines.proofs.list_sections.Given as goal
 
 abbrev pub invariant-loop-name : goal.invariant-loop-name
 invariant-loop-name g l =
-    Writing g.W.Write.contents l.fn.out l.out (held l.fn.lines) (held l.lines) (listed l.document) (listed l.name-iterator)
+    Writing g.W.Write.contents l.fn.out l.out (held l.fn.lines) (held l.lines)
+    (listed l.form l.document) (listed l.form l.name-iterator)

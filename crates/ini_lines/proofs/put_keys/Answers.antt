@@ -1,7 +1,7 @@
 use Rattle.std.proofs.Common.{ap}
+use Rattle.ini_lines.specs.Lines.{entries_of_keys}
 use Rattle.std.proofs.lemmas.Result.{err_from_is_err_and}
 use Rattle.ini.proofs.WritingLemmas.{Writing-goes_on, Writing-starts, Writing-stops}
-use Rattle.ini_lines.specs.Lines.{lines_of_keys}
 use Rattle.ini_lines.proofs.put_keys.Goals as goal
 
 pub loop-key-init : goal.loop-key-init
@@ -10,10 +10,11 @@ loop-key-init g c =
 
 pub loop-key-preserved : goal.loop-key-preserved
 loop-key-preserved g c =
-    Writing-goes_on _ (ap lines_of_keys c.in-Some.ensures.steps) c.loop-key.invariant c.in_ok-put_escaped_line.ensures
+    let front = ap (entries_of_keys c.args.form) c.in-Some.ensures.steps in
+    Writing-goes_on _ front c.loop-key.invariant c.in_ok-put_entry.ensures
 
-pub returns-in_err-put_escaped_line : goal.returns-in_err-put_escaped_line
-returns-in_err-put_escaped_line g c =
+pub returns-in_err-put_entry : goal.returns-in_err-put_entry
+returns-in_err-put_entry g c =
     let p = err_from_is_err_and c.from_residual.result c.from_residual.ensures.1 in
-    let front = ap lines_of_keys c.in-Some.ensures.steps in
-    rw (p.1, p.2) (Writing-stops _ front c.loop-key.invariant c.in_err-put_escaped_line.ensures)
+    let front = ap (entries_of_keys c.args.form) c.in-Some.ensures.steps in
+    rw (p.1, p.2) (Writing-stops _ front c.loop-key.invariant c.in_err-put_entry.ensures)

@@ -1,7 +1,7 @@
 use Rattle.std.proofs.Common.{ap, flat_map}
+use Rattle.ini_lines.specs.Lines.{name_entry}
 use Rattle.std.proofs.lemmas.Result.{err_from_is_err_and}
 use Rattle.ini.proofs.WritingLemmas.{Writing-goes_on, Writing-starts, Writing-stops}
-use Rattle.ini_lines.specs.Lines.{name_line}
 use Rattle.ini_lines.proofs.put_names.Goals as goal
 
 pub loop-name-init : goal.loop-name-init
@@ -11,10 +11,11 @@ loop-name-init g c =
 
 pub loop-name-preserved : goal.loop-name-preserved
 loop-name-preserved g c =
-    Writing-goes_on _ (ap (flat_map name_line) c.in-Some.ensures.steps) c.loop-name.invariant c.in_ok-put_name.ensures
+    let front = ap (flat_map (name_entry c.args.form)) c.in-Some.ensures.steps in
+    Writing-goes_on _ front c.loop-name.invariant c.in_ok-put_name.ensures
 
 pub returns-in_err-put_name : goal.returns-in_err-put_name
 returns-in_err-put_name g c =
     let p = err_from_is_err_and c.from_residual.result c.from_residual.ensures.1 in
-    let front = ap (flat_map name_line) c.in-Some.ensures.steps in
+    let front = ap (flat_map (name_entry c.args.form)) c.in-Some.ensures.steps in
     rw (p.1, p.2) (Writing-stops _ front c.loop-name.invariant c.in_err-put_name.ensures)

@@ -9,4 +9,5 @@ returns-in_err-list_sections g c =
 
 pub returns : goal.returns
 returns g c =
-    Sends-flushed c.requires c.new-lines.ensures c.in_ok-list_sections.ensures.sends c.flush.ensures.sends c.flush.ensures.empty
+    Sends-flushed c.requires c.new-lines.ensures
+    c.in_ok-list_sections.ensures.sends c.flush.ensures.sends c.flush.ensures.empty

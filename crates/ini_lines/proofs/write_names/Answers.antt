@@ -9,4 +9,5 @@ returns-in_err-put_names g c =
 
 pub returns : goal.returns
 returns g c =
-    Sends-flushed c.requires c.new-lines.ensures c.in_ok-put_names.ensures.sends c.flush.ensures.sends c.flush.ensures.empty
+    Sends-flushed c.requires c.new-lines.ensures
+    c.in_ok-put_names.ensures.sends c.flush.ensures.sends c.flush.ensures.empty
