@@ -1,9 +1,11 @@
 -- Where and why reading a text stops, as C is told.
 use Rattle.std.specs.Prelude.{◌≡◌, ℕ, List, Some, take, length, min, slice_get}
+use Rattle.std.specs.Cow.{cow_str_bytes}
 use Rattle.ini.specs.Texts.{Text}
 use Rattle.ini_text.specs.Errors.Messages.{HasMessage}
 use Rattle.ini_text.specs.Grammar.Texts.{Stops}
 use Rattle.ini_text.specs.Grammar.Positions.{column_of, line_of}
+use Rattle.ini_text.specs.declared.error.ParseError.{ParseError}
 use Rattle.ini_text.specs.declared.error.ParseKind.{ParseKind}
 use Rattle.ini_text.specs.declared.error.ParseKind.TheVariants.{EndOfText, BrokenEscape, UnknownCharacter}
 use Rattle.ini_text.specs.declared.error.ParseKind.TheVariants.{InlineComment, MissingKey, CrAlone}
@@ -29,6 +31,13 @@ shown words = min (length words) 63
 pub record ShowsWords (words bytes : List ℕ) : Type 0 where
   pub front : take (shown words) bytes ≡ take (shown words) words
   pub zero : slice_get bytes (shown words) ≡ Some 0
+
+-- the fault tells kind, line, column and message of this one
+pub record Tells (stop : ParseError) (f : Fault) : Type 0 where
+  pub kind : f.kind ≡ kind_number stop.kind
+  pub line : f.line ≡ stop.line
+  pub column : f.column ≡ stop.col
+  pub message : ShowsWords (cow_str_bytes stop.msg) f.message
 
 -- reading the text stops at the end of a front, and the fault tells kind, line, column and message
 pub record IsStopAt (o : ParseOption) (T : Text) (f : Fault) : Type 0 where

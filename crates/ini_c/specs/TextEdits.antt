@@ -1,16 +1,21 @@
 -- What an edit of a text gives, as C is told.
-use Rattle.std.specs.Prelude.{◌≡◌, ℕ, List, Option, length, chars}
+use Rattle.std.specs.Prelude.{◌≡◌, ℕ, List, Option, length, chars, ⊤}
 use Rattle.std.specs.Str.{IsUtf8}
 use Rattle.ini.specs.Edits.{add_in, set_in}
 use Rattle.ini.specs.Texts.{Text}
+use Rattle.ini_text.specs.declared.error.Error.TheVariants.{Parse}
+use Rattle.ini_text.specs.declared.error.ParseError.{ParseError}
 use Rattle.ini_text.specs.declared.option.ParseOption.{ParseOption}
 use Rattle.ini_text.specs.declared.write.option.WriteOption.{WriteOption}
 use Rattle.ini_edit.specs.Added.{IsAdded, LoadsEdited, RefusesToAdd}
 use Rattle.ini_edit.specs.NewLines.{like_lines_of}
 use Rattle.ini_edit.specs.Settings.{IsSet, RefusesToSet}
 use Rattle.ini_edit.specs.declared.error.EditError.{EditError}
+use Rattle.ini_edit.specs.declared.error.EditError.TheVariants.{Text as TextError}
 use Rattle.ini_c.specs.Choices.{IsWriteOption}
+use Rattle.ini_c.specs.Faults.{Tells}
 use Rattle.ini_c.specs.LookUps.{AreTexts}
+use Rattle.ini_c.specs.declared.fault.Fault.{Fault}
 use Rattle.ini_c.specs.declared.options.WriteChoice.{WriteChoice}
 
 -- a text, a section's name and a key are UTF-8
@@ -23,6 +28,17 @@ pub record IsCountOfText (P : Text → Type 0) (count : ℕ) : Type 0 where
   pub is_utf8 : IsUtf8 bytes
   pub holds : P (chars bytes)
   pub is_length : count ≡ length bytes
+
+-- an edit is refused since the text breaks the grammar
+abbrev pub IsTextFault : EditError → Type 0
+IsTextFault (TextError (Parse stop)) = ⊤
+IsTextFault _ = ⊥
+
+-- so it is, and the fault for C tells where and why
+pub record TellsRefusal (refusal : EditError) (f : Fault) : Type 0 where
+  pub stop : ParseError
+  pub is : refusal ≡ TextError (Parse stop)
+  pub tells : Tells stop f
 
 -- The text U is T with the key set, by the option that the choice asks for, and loads so.
 pub record IsSetBy (o : ParseOption) (choice : WriteChoice) (T : Text) (name : Option Text)

@@ -1,12 +1,15 @@
 //! Bytes and listings to C, and names, keys and values from C. This file knows no document.
-ghost use Rattle.std.specs.Prelude.{◌≡◌, ◌<◌, ◌≤◌, ◌↔◌, IsTrue, IsSome, IfSome, Some, length, slice_get, take};
+ghost use Rattle.std.specs.Prelude.{◌≡◌, ◌∷◌, [], ◌<◌, ◌≤◌, ◌↔◌, IsTrue, IsSome, IfSome, Some, length};
+ghost use Rattle.std.specs.Prelude.{slice_get, take, false};
 ghost use Rattle.std.specs.Str.{IsUtf8, chars};
 ghost use Rattle.ini.specs.Texts.{str_name};
 ghost use Rattle.ini_c.specs.Inside.Gathered.{listed};
 ghost use Rattle.ini_c.specs.Listings.{AreSizesOf, copied, fits};
 ghost use Rattle.ini_c.specs.LookUps.{AreTexts, name_if};
+ghost use Rattle.ini_c.specs.Statuses.{is_among, no_room, ok};
 
 use crate::listing::Listing;
+use crate::{NO_ROOM, OK};
 
 /// How much a listing takes: so many bytes, and so many numbers.
 #[repr(C)]
@@ -33,6 +36,22 @@ pub(crate) fn copy_out(bytes: &[u8], out: &mut [u8], count: &mut usize) -> bool
     front.copy_from_slice(bytes);
     rest[0] = 0;
     true
+}
+
+// Copies a text out, and a 0 behind it; the status of that, and the text's number of bytes in any case.
+pub(crate) fn give(text: &str, out: &mut [u8], count: &mut usize) -> u32
+    ensures text { result ≡ ok → take count.new out.new ≡ text.now }
+    ensures zero { result ≡ ok → slice_get out.new count.new ≡ Some 0 }
+    ensures no_room { result ≡ no_room → length out.old ≤ count.new }
+    ensures count { count.new ≡ length text.now }
+    ensures stays { ¬ (result ≡ ok) → out.new ≡ out.old }
+    ensures statuses { IsTrue (is_among result (ok ∷ no_room ∷ [])) }
+{
+    if copy_out(text.as_bytes(), out, count) {
+        OK
+    } else {
+        NO_ROOM
+    }
 }
 
 // A section's name, of UTF-8; without `named` it is the general section's.
@@ -91,25 +110,27 @@ fn put_front<T: Copy>(list: &[T], out: &mut [T])
     front.copy_from_slice(list);
 }
 
-// Copies a listing out, where both of its parts fit, and tells whether they did; its sizes in any case.
-pub(crate) fn copy_listing(
+// Copies a listing out, where both of its parts fit; the status of that, and the listing's sizes in any
+// case.
+pub(crate) fn give_listing(
     listing: &Listing,
     bytes: &mut [u8],
     counts: &mut [usize],
     sizes: &mut Sizes,
-) -> bool
-    ensures fits { result ≡ fits sizes.new bytes.old counts.old }
+) -> u32
     ensures sizes { AreSizesOf sizes.new (listed listing.now) }
-    ensures whole { IsTrue result → listed listing.now ≡ copied sizes.new bytes.new counts.new }
-    ensures bytes_stay { ¬ (IsTrue result) → bytes.new ≡ bytes.old }
-    ensures counts_stay { ¬ (IsTrue result) → counts.new ≡ counts.old }
+    ensures whole { result ≡ ok → listed listing.now ≡ copied sizes.new bytes.new counts.new }
+    ensures no_room { result ≡ no_room ↔ (fits sizes.new bytes.old counts.old ≡ false) }
+    ensures bytes_stay { ¬ (result ≡ ok) → bytes.new ≡ bytes.old }
+    ensures counts_stay { ¬ (result ≡ ok) → counts.new ≡ counts.old }
+    ensures statuses { IsTrue (is_among result (ok ∷ no_room ∷ [])) }
 {
     sizes.bytes = listing.bytes.len();
     sizes.counts = listing.counts.len();
     if bytes.len() < sizes.bytes || counts.len() < sizes.counts {
-        return false;
+        return NO_ROOM;
     }
     put_front(listing.bytes.as_slice(), bytes);
     put_front(listing.counts.as_slice(), counts);
-    true
+    OK
 }

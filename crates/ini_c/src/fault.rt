@@ -1,7 +1,6 @@
 //! Faults of a text as C sees them. This file knows the kinds of faults, and no grammar.
 ghost use Rattle.std.specs.Prelude.{◌≡◌};
-ghost use Rattle.std.specs.Cow.{cow_str_bytes};
-ghost use Rattle.ini_c.specs.Faults.{ShowsWords, kind_number};
+ghost use Rattle.ini_c.specs.Faults.{ShowsWords, Tells, kind_number};
 
 use crate::copies::copy_out;
 use ini::{ParseError, ParseKind};
@@ -34,7 +33,7 @@ fn number_of(kind: ParseKind) -> u32
     }
 }
 
-// As much of the words as there is room for, and a 0 behind it.
+// As much of the words as there is room for, and a 0 behind that.
 fn show(words: &[u8], out: &mut [u8; 64])
     ensures { ShowsWords words.now out.new }
 {
@@ -45,10 +44,7 @@ fn show(words: &[u8], out: &mut [u8; 64])
 
 // Tells C of a fault.
 pub(crate) fn tell(refused: &ParseError, fault: &mut Fault)
-    ensures kind { fault.new.kind ≡ kind_number refused.now.kind }
-    ensures line { fault.new.line ≡ refused.now.line }
-    ensures column { fault.new.column ≡ refused.now.col }
-    ensures message { ShowsWords (cow_str_bytes refused.now.msg) fault.new.message }
+    ensures { Tells refused.now fault.new }
 {
     fault.kind = number_of(refused.kind);
     fault.line = refused.line;

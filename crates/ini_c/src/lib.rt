@@ -31,6 +31,7 @@ mod loading;
 mod look_up;
 mod options;
 mod parts;
+mod refusal;
 mod text_edits;
 mod text_renames;
 mod text_sections;

@@ -41,6 +41,7 @@ fn load(alloc: Global, bytes: &[u8], option: ParseOption) -> Result<Box<Kept>, E
     Ok(kept)
 }
 
+// Loads the document of bytes in place of the one that is there, or tells C of the fault.
 pub(crate) fn load_into(
     alloc: Global,
     bytes: &[u8],

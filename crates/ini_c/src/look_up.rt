@@ -6,8 +6,8 @@ ghost use Rattle.ini.specs.Documents.{first_section, value_in};
 ghost use Rattle.ini_c.specs.LookUps.{AreTexts, name_if};
 ghost use Rattle.ini_c.specs.Statuses.{absent, is_among, no_room, not_utf8, ok};
 
-use crate::copies::{copy_out, name_of, place_of};
-use crate::{ABSENT, NO_ROOM, NOT_UTF8, OK};
+use crate::copies::{give, name_of, place_of};
+use crate::{ABSENT, NOT_UTF8, OK};
 use ini::Ini;
 
 // Copies the first value of the key in the first section of the name out, and a 0 behind it.
@@ -37,11 +37,7 @@ pub(crate) fn find(
     let Some(value) = document.get_from(name, key) else {
         return ABSENT;
     };
-    if copy_out(value.as_bytes(), out, count) {
-        OK
-    } else {
-        NO_ROOM
-    }
+    give(value, out, count)
 }
 
 // Whether the first section of the name has the key.

@@ -21,32 +21,14 @@ ghost use Rattle.ini_c.specs.Statuses.{not_utf8, ok, unplain_key, unplain_name, 
 ghost use Rattle.ini_c.specs.TextEdits.{AreEdit, IsAddedBy, IsCountOfText, IsSetBy, RefusesToAddBy};
 ghost use Rattle.ini_c.specs.TextEdits.{RefusesToSetBy};
 
-use crate::copies::{copy_out, pair_of, place_of};
-use crate::fault::{Fault, tell};
+use crate::copies::{give, pair_of, place_of};
+use crate::fault::Fault;
 use crate::options::{ReadChoice, WriteChoice};
-use crate::{
-    ABSENT, BROKEN, NO_MEMORY, NO_PLACE, NO_ROOM, NOT_UTF8, OK, UNPLAIN_KEY, UNPLAIN_NAME,
-    UNPLAIN_VALUE,
-};
+use crate::refusal::refused;
+use crate::{ABSENT, NOT_UTF8};
 use ini_edit::{EditError, add, delete, set};
-use ini_text::{Error, ParseOption, WriteOption};
+use ini_text::{ParseOption, WriteOption};
 use std::alloc::Global;
-
-// Copies a new text out, and a 0 behind it.
-pub(crate) fn give(new: &str, out: &mut [u8], count: &mut usize) -> u32
-    ensures text { result ≡ ok → take count.new out.new ≡ new.now }
-    ensures zero { result ≡ ok → slice_get out.new count.new ≡ Some 0 }
-    ensures no_room { result ≡ no_room → length out.old ≤ count.new }
-    ensures count { count.new ≡ length new.now }
-    ensures stays { ¬ (result ≡ ok) → out.new ≡ out.old }
-    ensures statuses { IsTrue (is_among result (ok ∷ no_room ∷ [])) }
-{
-    if copy_out(new.as_bytes(), out, count) {
-        OK
-    } else {
-        NO_ROOM
-    }
-}
 
 // The text with the key set.
 fn with_set(
@@ -124,15 +106,7 @@ pub extern "C" fn bigrosk_ini_edit_set(
     let option = write.to_option();
     match with_set(alloc, text, read.to_option(), &option, name, key, value) {
         Ok(new) => give(new.as_str(), out, count),
-        Err(EditError::Value) => UNPLAIN_VALUE,
-        Err(EditError::Key) => UNPLAIN_KEY,
-        Err(EditError::Name) => UNPLAIN_NAME,
-        Err(EditError::NoPlace) => NO_PLACE,
-        Err(EditError::Text(Error::Parse(stop))) => {
-            tell(&stop, fault);
-            BROKEN
-        }
-        Err(_) => NO_MEMORY,
+        Err(refusal) => refused(refusal, fault),
     }
 }
 
@@ -217,15 +191,7 @@ pub extern "C" fn bigrosk_ini_edit_add(
     let option = write.to_option();
     match added(alloc, text, read.to_option(), &option, name, key, value) {
         Ok(new) => give(new.as_str(), out, count),
-        Err(EditError::Value) => UNPLAIN_VALUE,
-        Err(EditError::Key) => UNPLAIN_KEY,
-        Err(EditError::Name) => UNPLAIN_NAME,
-        Err(EditError::NoPlace) => NO_PLACE,
-        Err(EditError::Text(Error::Parse(stop))) => {
-            tell(&stop, fault);
-            BROKEN
-        }
-        Err(_) => NO_MEMORY,
+        Err(refusal) => refused(refusal, fault),
     }
 }
 
@@ -269,10 +235,6 @@ pub extern "C" fn bigrosk_ini_edit_delete(
     match delete(alloc, text, read.to_option(), name, key) {
         Ok(Some(new)) => give(new.as_str(), out, count),
         Ok(None) => ABSENT,
-        Err(EditError::Text(Error::Parse(stop))) => {
-            tell(&stop, fault);
-            BROKEN
-        }
-        Err(_) => NO_MEMORY,
+        Err(refusal) => refused(refusal, fault),
     }
 }

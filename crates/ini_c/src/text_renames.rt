@@ -13,13 +13,12 @@ ghost use Rattle.ini_c.specs.Statuses.{absent, broken, is_among, no_memory, no_r
 ghost use Rattle.ini_c.specs.Statuses.{unplain_key, unplain_name};
 ghost use Rattle.ini_c.specs.TextEdits.{AreEdit, IsCountOfText};
 
-use crate::copies::pair_of;
-use crate::fault::{Fault, tell};
+use crate::copies::{give, pair_of};
+use crate::fault::Fault;
 use crate::options::{ReadChoice, WriteChoice};
-use crate::text_edits::give;
-use crate::{ABSENT, BROKEN, NO_MEMORY, NOT_UTF8, UNPLAIN_KEY, UNPLAIN_NAME};
-use ini_edit::{EditError, rename_key, rename_section};
-use ini_text::Error;
+use crate::refusal::refused;
+use crate::{ABSENT, NOT_UTF8};
+use ini_edit::{rename_key, rename_section};
 use std::alloc::Global;
 
 /// Copies the text out with another key in the place of that of the first pair of the key in the first
@@ -70,12 +69,7 @@ pub extern "C" fn bigrosk_ini_edit_rename_key(
     match rename_key(alloc, text, read.to_option(), policy, name, key, new_key) {
         Ok(Some(new)) => give(new.as_str(), out, count),
         Ok(None) => ABSENT,
-        Err(EditError::Key) => UNPLAIN_KEY,
-        Err(EditError::Text(Error::Parse(stop))) => {
-            tell(&stop, fault);
-            BROKEN
-        }
-        Err(_) => NO_MEMORY,
+        Err(refusal) => refused(refusal, fault),
     }
 }
 
@@ -128,11 +122,6 @@ pub extern "C" fn bigrosk_ini_edit_rename_section(
     match rename_section(alloc, text, read.to_option(), policy, section, new_name) {
         Ok(Some(new)) => give(new.as_str(), out, count),
         Ok(None) => ABSENT,
-        Err(EditError::Name) => UNPLAIN_NAME,
-        Err(EditError::Text(Error::Parse(stop))) => {
-            tell(&stop, fault);
-            BROKEN
-        }
-        Err(_) => NO_MEMORY,
+        Err(refusal) => refused(refusal, fault),
     }
 }

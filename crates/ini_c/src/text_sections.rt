@@ -10,12 +10,12 @@ ghost use Rattle.ini_c.specs.LookUps.{AreTexts};
 ghost use Rattle.ini_c.specs.Statuses.{absent, broken, is_among, no_memory, no_room, not_utf8, ok};
 ghost use Rattle.ini_c.specs.TextEdits.{IsCountOfText};
 
-use crate::fault::{Fault, tell};
+use crate::copies::give;
+use crate::fault::Fault;
 use crate::options::ReadChoice;
-use crate::text_edits::give;
-use crate::{ABSENT, BROKEN, NO_MEMORY, NOT_UTF8};
-use ini_edit::{EditError, delete_section};
-use ini_text::Error;
+use crate::refusal::refused;
+use crate::{ABSENT, NOT_UTF8};
+use ini_edit::delete_section;
 use std::alloc::Global;
 
 /// Copies the text out without the first section of the name, from its header's bracket up to the next
@@ -57,10 +57,6 @@ pub extern "C" fn bigrosk_ini_edit_delete_section(
     match delete_section(alloc, text, read.to_option(), section) {
         Ok(Some(new)) => give(new.as_str(), out, count),
         Ok(None) => ABSENT,
-        Err(EditError::Text(Error::Parse(stop))) => {
-            tell(&stop, fault);
-            BROKEN
-        }
-        Err(_) => NO_MEMORY,
+        Err(refusal) => refused(refusal, fault),
     }
 }

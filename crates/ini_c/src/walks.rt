@@ -8,9 +8,9 @@ ghost use Rattle.ini_c.specs.Listings.{pairs_found_in, pairs_listed, values_list
 ghost use Rattle.ini_c.specs.LookUps.{AreTexts, name_if};
 ghost use Rattle.ini_c.specs.Statuses.{absent, is_among, no_memory, no_room, not_utf8, ok};
 
-use crate::copies::{Sizes, copy_listing, name_of, place_of};
+use crate::copies::{Sizes, give_listing, name_of, place_of};
 use crate::listing::{list_document, list_pairs, list_values};
-use crate::{ABSENT, NO_MEMORY, NO_ROOM, NOT_UTF8, OK};
+use crate::{ABSENT, NO_MEMORY, NOT_UTF8};
 use ini::Ini;
 use std::alloc::Global;
 
@@ -53,11 +53,7 @@ pub(crate) fn values(
     let Ok(listing) = list_values(alloc, section, key) else {
         return NO_MEMORY;
     };
-    if copy_listing(&listing, bytes, counts, sizes) {
-        OK
-    } else {
-        NO_ROOM
-    }
+    give_listing(&listing, bytes, counts, sizes)
 }
 
 // Copies all pairs of the first section of the name out.
@@ -91,11 +87,7 @@ pub(crate) fn pairs(
     let Ok(listing) = list_pairs(alloc, section) else {
         return NO_MEMORY;
     };
-    if copy_listing(&listing, bytes, counts, sizes) {
-        OK
-    } else {
-        NO_ROOM
-    }
+    give_listing(&listing, bytes, counts, sizes)
 }
 
 // Copies all sections with their pairs out.
@@ -116,9 +108,5 @@ pub(crate) fn items(
     let Ok(listing) = list_document(alloc, document) else {
         return NO_MEMORY;
     };
-    if copy_listing(&listing, bytes, counts, sizes) {
-        OK
-    } else {
-        NO_ROOM
-    }
+    give_listing(&listing, bytes, counts, sizes)
 }
