@@ -13,11 +13,13 @@ use Rattle.ini_multimap.proofs.MoveLemmas.{code_key}
 module _ {K : Type 0} (eq : K → K → Bool) (code : K → ℕ) where
   -- the codes of the first n slots tell their keys apart
   abbrev pub IsInjectiveTo : (ℕ → Option K) → ℕ → Type 0
-  IsInjectiveTo at n = (i j : ℕ) (x y : K) → i < n → j < n → at i ≡ Some x → at j ≡ Some y → code x ≡ code y → eq x y ≡ true
+  IsInjectiveTo at n =
+      (i j : ℕ) (x y : K) → i < n → j < n → at i ≡ Some x → at j ≡ Some y → code x ≡ code y → eq x y ≡ true
 
   -- one more slot, of which the chain tells the last before it of its code
   module _ (laws : IsEquivalence eq) (at : ℕ → Option K) (n : ℕ) (told : IsInjectiveTo at n) (key : K)
-      (here : at n ≡ Some key) (last : Option ℕ) (is_last : IsPrev (λ k. option_map code (at k)) (code key) n last)
+      (here : at n ≡ Some key) (last : Option ℕ)
+      (is_last : IsPrev (λ k. option_map code (at k)) (code key) n last)
       (same : IfSome last (λ s. (x : K) → at s ≡ Some x → eq x key ≡ true)) where
     before : (last : Option ℕ) → IsPrev (λ k. option_map code (at k)) (code key) n last
         → IfSome last (λ s. (x : K) → at s ≡ Some x → eq x key ≡ true) → (i : ℕ) (x : K) → i < n
@@ -32,14 +34,20 @@ module _ {K : Type 0} (eq : K → K → Bool) (code : K → ℕ) where
         elim (cases_eq i n) [
           | inl i_is ↦ (let x_is : x ≡ key = same_some (sym e ∙ ap at i_is ∙ here) in
               elim (cases_eq j n) [
-                | inl j_is ↦ ap (λ z. eq z y) x_is ∙ ap (eq key) (same_some (sym f ∙ ap at j_is ∙ here)) ∙ laws.refl key
+                | inl j_is ↦
+                    ap (λ z. eq z y) x_is ∙ ap (eq key) (same_some (sym f ∙ ap at j_is ∙ here))
+                    ∙ laws.refl key
                 | inr j_not ↦ ap (λ z. eq z y) x_is ∙ laws.symm key y
-                    ∙ before last is_last same j y (let d : j ≢ n = j_not in omega arith) f (sym c ∙ ap code x_is)
+                    ∙ before last is_last same j y (let d : j ≢ n = j_not in omega arith) f
+                    (sym c ∙ ap code x_is)
               ])
           | inr i_not ↦ elim (cases_eq j n) [
             | inl j_is ↦ (let y_is : y ≡ key = same_some (sym f ∙ ap at j_is ∙ here) in
-                ap (eq x) y_is ∙ before last is_last same i x (let d : i ≢ n = i_not in omega arith) e (c ∙ ap code y_is))
-            | inr j_not ↦ told i j x y (let d : i ≢ n = i_not in omega arith) (let d : j ≢ n = j_not in omega arith) e f c
+                ap (eq x) y_is
+                ∙ before last is_last same i x (let d : i ≢ n = i_not in omega arith) e (c ∙ ap code y_is))
+            | inr j_not ↦
+                told i j x y (let d : i ≢ n = i_not in omega arith)
+                (let d : j ≢ n = j_not in omega arith) e f c
           ]
         ]
 
@@ -54,48 +62,57 @@ module _ {K : Type 0} (eq : K → K → Bool) (code : K → ℕ) where
       ]
 
   -- slot n, whose key is that of the slot before it of its code
-  pub one_slot : IsEquivalence eq → (ks : List (Option K)) (n : ℕ) (last : Option ℕ) → IsInjectiveTo (value_in ks) n
+  pub one_slot : IsEquivalence eq → (ks : List (Option K)) (n : ℕ) (last : Option ℕ)
+      → IsInjectiveTo (value_in ks) n
       → ((c : ℕ) → code_at code ks n ≡ Some c → IsPrev (code_at code ks) c n last)
       → ((x : K) → value_in ks n ≡ Some x → IsKeyOf eq ks last x) → IsInjectiveTo (value_in ks) (n + 1)
-  one_slot laws ks n last told is_last same = subst (IsInjectiveTo (value_in ks)) (omega arith) (at (value_in ks n) refl)
+  one_slot laws ks n last told is_last same =
+      subst (IsInjectiveTo (value_in ks)) (omega arith) (at (value_in ks n) refl)
     where
       at : (o : Option K) → value_in ks n ≡ o → IsInjectiveTo (value_in ks) (suc n)
       at None e = one_hole (value_in ks) n told e
-      at (Some x) e = one_more laws (value_in ks) n told x e last (is_last (code x) (ap (option_map code) e)) (same x e)
+      at (Some x) e =
+          one_more laws (value_in ks) n told x e last (is_last (code x) (ap (option_map code) e)) (same x e)
 
   pub whole : (ks : List (Option K)) → IsInjectiveTo (value_in ks) (length ks) → IsInjective eq code ks
   whole ks told i j x y e f c = told i j x y (value_within ks i x e) (value_within ks j y f) e f c
 
   -- keys of which each was there
-  pub injective_kept : (ks ls : List (Option K)) → ((j : ℕ) (x : K) → value_in ls j ≡ Some x → (i : ℕ) × (value_in ks i ≡ Some x))
+  pub injective_kept : (ks ls : List (Option K))
+      → ((j : ℕ) (x : K) → value_in ls j ≡ Some x → (i : ℕ) × (value_in ks i ≡ Some x))
       → IsInjective eq code ks → IsInjective eq code ls
   injective_kept ks ls back told i j x y e f c =
       let a = back i x e in
       let b = back j y f in
       told a.0 b.0 x y a.1 b.1 c
 
-  pub injective_moved : (ks ls : List (Option K)) → MovesDown ks ls → IsInjective eq code ks → IsInjective eq code ls
+  pub injective_moved : (ks ls : List (Option K)) → MovesDown ks ls → IsInjective eq code ks
+      → IsInjective eq code ls
   injective_moved ks ls moves = injective_kept ks ls moves.back
 
-  still : (ks : List (Option K)) (s j : ℕ) (x : K) → value_in (set ks s None) j ≡ Some x → value_in ks j ≡ Some x
+  still : (ks : List (Option K)) (s j : ℕ) (x : K) → value_in (set ks s None) j ≡ Some x
+      → value_in ks j ≡ Some x
   still [] s j x e = e
   still (k ∷ ks) zero zero x e = absurd (none_is_some e)
   still (k ∷ ks) zero (suc j) x e = e
   still (k ∷ ks) (suc s) zero x e = e
   still (k ∷ ks) (suc s) (suc j) x e = still ks s j x e
 
-  pub injective_without : (ks : List (Option K)) (s : ℕ) → IsInjective eq code ks → IsInjective eq code (set ks s None)
+  pub injective_without : (ks : List (Option K)) (s : ℕ) → IsInjective eq code ks
+      → IsInjective eq code (set ks s None)
   injective_without ks s = injective_kept ks (set ks s None) (λ j x e. (j, still ks s j x e))
 
   -- a key goes last
   pub injective_push : IsEquivalence eq → (ks : List (Option K)) (key : K) (last : Option ℕ)
-      → IsPrev (code_at code ks) (code key) (length ks) last → IsKeyOf eq ks last key → IsToldBy eq code ks key
+      → IsPrev (code_at code ks) (code key) (length ks) last → IsKeyOf eq ks last key
+      → IsToldBy eq code ks key
   injective_push laws ks key last is_last same told = whole (ks ++ Some key ∷ []) (all told)
     where
       old : (i : ℕ) → i < (length ks) → value_in (ks ++ Some key ∷ []) i ≡ value_in ks i
       old i less = value_before ks (Some key) i (λ e. absurd (omega (arith, e, less)))
 
-      prev : (r : Option ℕ) → IsPrev (code_at code ks) (code key) (length ks) r → IsPrev (λ k. option_map code (value_in (ks ++ Some key ∷ []) k)) (code key) (length ks) r
+      prev : (r : Option ℕ) → IsPrev (code_at code ks) (code key) (length ks) r
+          → IsPrev (λ k. option_map code (value_in (ks ++ Some key ∷ []) k)) (code key) (length ks) r
       prev None none = λ k less e. none k less (ap (option_map code) (sym (old k less)) ∙ e)
       prev (Some s) found = (
         found.0,
@@ -111,6 +128,10 @@ module _ {K : Type 0} (eq : K → K → Bool) (code : K → ℕ) where
       upto : IsInjective eq code ks → IsInjectiveTo (value_in (ks ++ Some key ∷ [])) (length ks)
       upto told i j x y a b e f c = told i j x y (sym (old i a) ∙ e) (sym (old j b) ∙ f) c
 
-      all : IsInjective eq code ks → IsInjectiveTo (value_in (ks ++ Some key ∷ [])) (length (ks ++ Some key ∷ []))
-      all told = subst (IsInjectiveTo (value_in (ks ++ Some key ∷ []))) (omega (arith, length-append ks (Some key ∷ [])))
-          (one_more laws (value_in (ks ++ Some key ∷ [])) (length ks) (upto told) key (value_push ks (Some key) (length ks) refl) last (prev last is_last) (like last is_last same))
+      all : IsInjective eq code ks
+          → IsInjectiveTo (value_in (ks ++ Some key ∷ [])) (length (ks ++ Some key ∷ []))
+      all told =
+          subst (IsInjectiveTo (value_in (ks ++ Some key ∷ [])))
+          (omega (arith, length-append ks (Some key ∷ [])))
+          (one_more laws (value_in (ks ++ Some key ∷ [])) (length ks) (upto told) key
+          (value_push ks (Some key) (length ks) refl) last (prev last is_last) (like last is_last same))

@@ -12,7 +12,8 @@ use Rattle.ini_multimap.specs.declared.slots.chains.Chains.{Chains}
 use Rattle.ini_multimap.proofs.SlotLemmas.{holes_push, holes_set, none_is_some, pairs_last}
 
 module _ {K V : Type 0} where
-  pub few_pairs : (ks : List (Option K)) (vs : List (Option V)) → length (pairs_in ks vs) + holes_in ks ≤ length ks
+  pub few_pairs : (ks : List (Option K)) (vs : List (Option V))
+      → length (pairs_in ks vs) + holes_in ks ≤ length ks
   few_pairs [] vs = omega arith
   few_pairs (None ∷ ks) [] = omega (arith, few_pairs ks [])
   few_pairs (Some k ∷ ks) [] = omega (arith, few_pairs ks [])
@@ -27,8 +28,10 @@ module _ {K V : Type 0} where
   paired_value (None ∷ ks) (v ∷ vs) zero l p h = absurd (true≢false (sym h))
   paired_value (Some k ∷ ks) (None ∷ vs) s l p h = absurd (omega (arith, p, few_pairs ks vs))
   paired_value (Some k ∷ ks) (Some v ∷ vs) zero l p h = refl
-  paired_value (None ∷ ks) (v ∷ vs) (suc s) l p h = paired_value ks vs s (omega (arith, l)) (omega (arith, p)) h
-  paired_value (Some k ∷ ks) (Some v ∷ vs) (suc s) l p h = paired_value ks vs s (omega (arith, l)) (omega (arith, p)) h
+  paired_value (None ∷ ks) (v ∷ vs) (suc s) l p h =
+      paired_value ks vs s (omega (arith, l)) (omega (arith, p)) h
+  paired_value (Some k ∷ ks) (Some v ∷ vs) (suc s) l p h =
+      paired_value ks vs s (omega (arith, l)) (omega (arith, p)) h
 
   pub paired_push : (ks : List (Option K)) (vs : List (Option V)) (k : K) (v : V) → length vs ≡ length ks
       → ArePaired ks vs → ArePaired (ks ++ Some k ∷ []) (vs ++ Some v ∷ [])
@@ -57,7 +60,8 @@ module _ {K V : Type 0} where
 
   pub paired_without : (ks : List (Option K)) (vs : List (Option V)) (s : ℕ) → IsSome (value_in ks s)
       → IsSome (value_in vs s) → ArePaired ks vs → ArePaired (set ks s None) (set vs s None)
-  paired_without ks vs s h f p = omega (arith, p, holes_set ks s h, fewer_pairs ks vs s h f, length-set ks s None)
+  paired_without ks vs s h f p =
+      omega (arith, p, holes_set ks s h, fewer_pairs ks vs s h f, length-set ks s None)
 
   same_pairs : (ks : List (Option K)) (vs : List (Option V)) (s : ℕ) (w : V) → IsSome (value_in vs s)
       → length (pairs_in ks (set vs s (Some w))) ≡ length (pairs_in ks vs)

@@ -15,13 +15,15 @@ module _ {A : Type 0} where
   none_left : (a b : ℕ) (xs : List A) → b ≤ a → drop a (take b xs) ≡ []
   none_left a b xs h = drop_all a (take b xs) (simp length-take (omega arith))
 
-  taken_first : (a b : ℕ) (xs : List A) (x : A) → slice_get xs a ≡ Some x → a < b → drop a (take b xs) ≡ x ∷ drop (suc a) (take b xs)
+  taken_first : (a b : ℕ) (xs : List A) (x : A) → slice_get xs a ≡ Some x → a < b
+      → drop a (take b xs) ≡ x ∷ drop (suc a) (take b xs)
   taken_first a b [] x e h = absurd cc
   taken_first a zero (y ∷ xs) x e h = absurd (omega arith)
   taken_first zero (suc b) (y ∷ xs) x e h = cc
   taken_first (suc a) (suc b) (y ∷ xs) x e h = taken_first a b xs x e (omega arith)
 
-  taken_last : (a b : ℕ) (xs : List A) (x : A) → slice_get xs b ≡ Some x → a ≤ b → drop a (take (suc b) xs) ≡ drop a (take b xs) ++ x ∷ []
+  taken_last : (a b : ℕ) (xs : List A) (x : A) → slice_get xs b ≡ Some x → a ≤ b
+      → drop a (take (suc b) xs) ≡ drop a (take b xs) ++ x ∷ []
   taken_last a b [] x e h = absurd cc
   taken_last zero zero (y ∷ xs) x e h = cc
   taken_last (suc a) zero (y ∷ xs) x e h = absurd (omega arith)
@@ -42,12 +44,16 @@ module _ {K V : Type 0} (code : K → ℕ) (test : K → Bool) (c : ℕ) (class 
   from_ahead i e None h within f = let same =
       no_more code test c class index ks vs i (suc e) h (omega arith) f in
       sym (none_left (before i) (before (suc e)) all (omega arith))
-  from_ahead i e (Some t) h within f = ap (λ n. drop n (take (before (suc e)) all)) (none_ahead code test c class index ks vs i t f)
+  from_ahead i e (Some t) h within f =
+      ap (λ n. drop n (take (before (suc e)) all)) (none_ahead code test c class index ks vs i t f)
 
   to_behind : (s i : ℕ) (r : Option ℕ) → IsBehind index code c ks i r
       → values_from test ks vs (Some s) r ≡ drop (before s) (take (before i) all)
-  to_behind s i None f = let none = none_before code test c class index ks vs i f in sym (none_left (before s) (before i) all (omega arith))
-  to_behind s i (Some t) f = ap (λ n. drop (before s) (take n all)) (sym (none_behind code test c class index ks vs i t f))
+  to_behind s i None f =
+      let none = none_before code test c class index ks vs i f in
+      sym (none_left (before s) (before i) all (omega arith))
+  to_behind s i (Some t) f =
+      ap (λ n. drop (before s) (take n all)) (sym (none_behind code test c class index ks vs i t f))
 
   pub all_from : values_from test ks vs (first_in index (length ks) c) (last_in index (length ks) c) ≡ all
   all_from = both (first_in index (length ks) c) (last_in index (length ks) c)
@@ -56,20 +62,24 @@ module _ {K V : Type 0} (code : K → ℕ) (test : K → Bool) (c : ℕ) (class 
       whole : take (before (length ks)) all ≡ all
       whole = take_all (before (length ks)) all (omega (arith, fits_count test ks vs))
 
-      both : (r t : Option ℕ) → IsAhead index code c ks 0 r → IsBehind index code c ks (length ks) t → values_from test ks vs r t ≡ all
+      both : (r t : Option ℕ) → IsAhead index code c ks 0 r → IsBehind index code c ks (length ks) t
+          → values_from test ks vs r t ≡ all
       both None t f h =
           let none = no_more code test c class index ks vs 0 (length ks) (omega arith) (omega arith) f in
-          sym (sym whole ∙ none_left 0 (before (length ks)) all (omega (arith, none, before_zero test ks vs)))
+          sym (sym whole
+          ∙ none_left 0 (before (length ks)) all (omega (arith, none, before_zero test ks vs)))
       both (Some s) t f h =
           to_behind s (length ks) t h
           ∙ ap (λ n. drop n (take (before (length ks)) all))
           (none_ahead code test c class index ks vs 0 s f ∙ before_zero test ks vs) ∙ whole
 
-  ahead_candidate : (i : ℕ) (r : Option ℕ) → IsAhead index code c ks i r → IfSome r (IsCandidate index code c ks)
+  ahead_candidate : (i : ℕ) (r : Option ℕ) → IsAhead index code c ks i r
+      → IfSome r (IsCandidate index code c ks)
   ahead_candidate i None f = tt
   ahead_candidate i (Some t) f = f.1
 
-  behind_candidate : (i : ℕ) (r : Option ℕ) → IsBehind index code c ks i r → IfSome r (IsCandidate index code c ks)
+  behind_candidate : (i : ℕ) (r : Option ℕ) → IsBehind index code c ks i r
+      → IfSome r (IsCandidate index code c ks)
   behind_candidate i None f = tt
   behind_candidate i (Some t) f = f.1
 
@@ -85,7 +95,9 @@ module _ {K V : Type 0} (code : K → ℕ) (test : K → Bool) (c : ℕ) (class 
     both_ends = λ j. values_from test ks vs (at_first j) (at_last j)
 
     pub crossed : e < s → values_from test ks vs first last ≡ []
-    crossed h = both_ends ∙ none_left (before s) (before (suc e)) all (before_more test ks vs (suc e) s (omega arith))
+    crossed h =
+        both_ends
+        ∙ none_left (before s) (before (suc e)) all (before_more test ks vs (suc e) s (omega arith))
 
     -- a step from the front, to the candidate r
     module _ (order : s ≤ e) (r : Option ℕ) (next : r ≡ after_in index (length ks) s) where
@@ -96,13 +108,21 @@ module _ {K V : Type 0} (code : K → ℕ) (test : K → Bool) (c : ℕ) (class 
       after = ap (values_from test ks vs r) at_last ∙ from_ahead (suc s) e r (omega arith) there.0 follows
 
       pub front_slots : AreBetween code c ks vs index r last
-      front_slots = record { long = slots.long; indexed = indexed; first_is = ahead_candidate (suc s) r follows; last_is = slots.last_is }
+      front_slots = record {
+        long = slots.long;
+        indexed = indexed;
+        first_is = ahead_candidate (suc s) r follows;
+        last_is = slots.last_is;
+      }
 
       pub front_shorter : walk_left (length ks) r < walk_left (length ks) first
       front_shorter = rw at_first (walk_shorter index code c ks s r follows here.0)
 
-      pub front_misses : fits_at test ks vs s ≡ false → values_from test ks vs first last ≡ values_from test ks vs r last
-      front_misses miss = both_ends ∙ sym (after ∙ ap (λ n. drop n (take (before (suc e)) all)) (before_miss test ks vs s miss))
+      pub front_misses : fits_at test ks vs s ≡ false
+          → values_from test ks vs first last ≡ values_from test ks vs r last
+      front_misses miss =
+          both_ends
+          ∙ sym (after ∙ ap (λ n. drop n (take (before (suc e)) all)) (before_miss test ks vs s miss))
 
       pub front_fits : (v : V) → fits_at test ks vs s ≡ true → value_in vs s ≡ Some v
           → values_from test ks vs first last ≡ v ∷ values_from test ks vs r last
@@ -110,7 +130,8 @@ module _ {K V : Type 0} (code : K → ℕ) (test : K → Bool) (c : ℕ) (class 
           let one = before_hit test ks vs s hit in
           let more = before_more test ks vs (suc s) (suc e) (omega arith) in
           both_ends
-          ∙ taken_first (before s) (before (suc e)) all v ((nth_is test ks vs s (before s) hit refl).value ∙ is) (omega arith)
+          ∙ taken_first (before s) (before (suc e)) all v
+          ((nth_is test ks vs s (before s) hit refl).value ∙ is) (omega arith)
           ∙ sym (ap (λ l. v ∷ l) (after ∙ ap (λ n. drop n (take (before (suc e)) all)) one))
 
     -- and one from the back
@@ -122,18 +143,27 @@ module _ {K V : Type 0} (code : K → ℕ) (test : K → Bool) (c : ℕ) (class 
       behind = ap (λ f. values_from test ks vs f r) at_first ∙ to_behind s e r leads
 
       pub back_slots : AreBetween code c ks vs index first r
-      back_slots = record { long = slots.long; indexed = indexed; first_is = slots.first_is; last_is = behind_candidate e r leads }
+      back_slots = record {
+        long = slots.long;
+        indexed = indexed;
+        first_is = slots.first_is;
+        last_is = behind_candidate e r leads;
+      }
 
       pub back_left_less : back_left r < back_left last
       back_left_less = rw at_last (back_shorter index code c ks e r leads)
 
-      pub back_misses : fits_at test ks vs e ≡ false → values_from test ks vs first last ≡ values_from test ks vs first r
-      back_misses miss = both_ends ∙ sym (behind ∙ ap (λ n. drop (before s) (take n all)) (sym (before_miss test ks vs e miss)))
+      pub back_misses : fits_at test ks vs e ≡ false
+          → values_from test ks vs first last ≡ values_from test ks vs first r
+      back_misses miss =
+          both_ends
+          ∙ sym (behind ∙ ap (λ n. drop (before s) (take n all)) (sym (before_miss test ks vs e miss)))
 
       pub back_fits : (v : V) → fits_at test ks vs e ≡ true → value_in vs e ≡ Some v
           → values_from test ks vs first last ≡ values_from test ks vs first r ++ v ∷ []
       back_fits v hit is =
           both_ends
           ∙ ap (λ n. drop (before s) (take n all)) (before_hit test ks vs e hit)
-          ∙ taken_last (before s) (before e) all v ((nth_is test ks vs e (before e) hit refl).value ∙ is) (before_more test ks vs s e order)
+          ∙ taken_last (before s) (before e) all v ((nth_is test ks vs e (before e) hit refl).value ∙ is)
+          (before_more test ks vs s e order)
           ∙ sym (ap (λ l. l ++ v ∷ []) behind)

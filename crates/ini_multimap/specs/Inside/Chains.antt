@@ -118,7 +118,8 @@ after_in None n s = cond (nat_lt (suc s) n) (Some (suc s)) None
 abbrev pub IsCandidate : {K : Type 0} → Option (Box Chains) → (K → ℕ) → ℕ → List (Option K) → ℕ → Type 0
 IsCandidate index code c ks s = (s < length ks) × IfSome index (λ _. code_at code ks s ≡ Some c)
 
--- a walk from the front stands at the candidate r: `left` and the pairs that fit and that it has passed are n
+-- a walk from the front stands at the candidate r: `left` and the pairs that fit and that it has passed are
+-- n
 abbrev pub IsReached : {K V : Type 0} → Option (Box Chains) → (K → ℕ) → (K → Bool) → ℕ → List (Option K)
     → List (Option V) → ℕ → ℕ → Option ℕ → Type 0
 IsReached index code test c ks vs n left r = MatchOption r (left + fits_before test ks vs (length ks) ≡ n)

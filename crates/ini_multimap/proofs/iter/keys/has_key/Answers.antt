@@ -15,7 +15,8 @@ loop-before-init g c =
 pub candidate_before-before-requires-in-Some : goal.candidate_before-before-requires-in-Some
 candidate_before-before-requires-in-Some g c =
     let reached = rw c.in-Some.is at c.loop-before.invariant in
-    linked_within c.args.index.now g.K.MapKey.key_code c.args.keys.now c.in-Some.s c.requires.indexed reached.0.0
+    linked_within c.args.index.now g.K.MapKey.key_code c.args.keys.now c.in-Some.s c.requires.indexed
+    reached.0.0
 
 pub is_key-requires-clause-within : goal.is_key-requires-clause-within
 is_key-requires-clause-within g c = let reached = rw c.in-Some.is at c.loop-before.invariant in reached.0.0
@@ -54,4 +55,5 @@ loop-before-smaller g c =
 pub returns : goal.returns
 returns g c =
     let test : g.row.K.Denot → Bool = λ x. g.K.PartialEq.eq x c.args.key.now in
-    sym (any_before test c.args.keys.now c.args.values.now c.args.at ∙ ap is_more (rw c.in_default.is at c.loop-before.invariant))
+    sym (any_before test c.args.keys.now c.args.values.now c.args.at
+    ∙ ap is_more (rw c.in_default.is at c.loop-before.invariant))

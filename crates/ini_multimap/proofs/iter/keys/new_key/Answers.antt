@@ -23,5 +23,6 @@ returns-in_default g c =
       | in_default-via-in-Some+else-not-has_key w ↦
           sym (fresh_pair g.K.PartialEq.eq seen k v w.in-Some.key.now w.in-Some.ensures
           ∙ ap (λ b. cond b [] (w.in-Some.key.now ∷ [])) (sym w.has_key.ensures ∙ w.if-not-has_key.false))
-      | in_default-via-in_default w ↦ sym (ap (fresh g.K.PartialEq.eq seen) (no_pair k v w.in_default.ensures))
+      | in_default-via-in_default w ↦
+          sym (ap (fresh g.K.PartialEq.eq seen) (no_pair k v w.in_default.ensures))
     ]

@@ -15,7 +15,9 @@ returns-in-Some g c =
     let here : value_in ks at ≡ Some c.in-Some.key =
     value_read ks at c.index-keys-at.result c.requires.within c.index-keys-at.is ∙ c.in-Some.is in
     let there : IsSome (value_in vs at) = elim c.if-is_paired.branch [
-      | then-is_paired w ↦ paired_value ks vs at c.requires.long (OnTrue_at w.if-is_paired.true c.requires.paired) (ap is_some here)
+      | then-is_paired w ↦
+          paired_value ks vs at c.requires.long (OnTrue_at w.if-is_paired.true c.requires.paired)
+          (ap is_some here)
       | else-is_paired w ↦ ap is_some
           (value_read vs at w.index-values-at.result within w.index-values-at.is) ∙ sym w.is_some.ensures
           ∙ sym w.value-is ∙ c.if-is_some.true
@@ -30,7 +32,8 @@ returns-in_default g c =
     let within : at < length vs = omega (arith, c.requires.within, c.requires.long) in
     elim c.in_default.branch [
       | in_default-via-in-Some+else-is_some w ↦ elim w.if-is_paired.branch [
-        | then-is_paired v ↦ absurd (true≢false (sym v.if-is_paired.true ∙ sym v.value-is ∙ w.if-is_some.false))
+        | then-is_paired v ↦
+            absurd (true≢false (sym v.if-is_paired.true ∙ sym v.value-is ∙ w.if-is_some.false))
         | else-is_paired v ↦ no_value_there (value_in ks at) (value_in vs at)
             (ap is_some (value_read vs at v.index-values-at.result within v.index-values-at.is)
             ∙ sym v.is_some.ensures ∙ sym v.value-is ∙ w.if-is_some.false)

@@ -8,7 +8,8 @@ add_one : (n : ℕ) → n + 1 ≡ suc n
 add_one n = omega arith
 
 pub loop-s-init : goal.loop-s-init
-loop-s-init g c = record { counted = sym (before_zero (λ _. true) c.args.keys.now c.args.values.now); few = omega arith }
+loop-s-init g c =
+    record { counted = sym (before_zero (λ _. true) c.args.keys.now c.args.values.now); few = omega arith }
 
 pub loop-s-preserved : goal.loop-s-preserved
 loop-s-preserved g c =
@@ -25,7 +26,9 @@ loop-s-preserved g c =
         few = omega (arith, w.pairs-is, inv.few);
       }
       | else-is_full w ↦ record {
-        counted = w.pairs-is ∙ inv.counted ∙ sym (before_miss (λ _. true) ks vs s (sym w.if-is_full.ensures)) ∙ ap F more;
+        counted =
+            w.pairs-is ∙ inv.counted ∙ sym (before_miss (λ _. true) ks vs s (sym w.if-is_full.ensures))
+            ∙ ap F more;
         few = omega (arith, w.pairs-is, inv.few);
       }
     ]

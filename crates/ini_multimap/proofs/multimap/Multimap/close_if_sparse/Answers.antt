@@ -26,7 +26,8 @@ invariant_of-self g c =
     let vs = c.close_holes.new.values.items in
     let holes = c.count_holes-self-inside.result in
     let pairs = c.len_pairs-pairs.result in
-    let counted : holes ≡ holes_in ks = c.count_holes-self-inside.ensures ∙ ap holes_in c.as_slice-then-is_sparse.ensures.value in
+    let counted : holes ≡ holes_in ks =
+    c.count_holes-self-inside.ensures ∙ ap holes_in c.as_slice-then-is_sparse.ensures.value in
     let all : pairs ≡ length (pairs_in ks vs) = c.len_pairs-pairs.ensures
     ∙ ap length (c.new.ensures
     ∙ (λ j. pairs_in (c.as_slice-then-is_sparse-2.ensures.value j)
@@ -38,6 +39,7 @@ invariant_of-self g c =
       paired = OnTrue_from _ _ (λ e. let same = (Decides-eqb pairs (c.len.result - holes)).0 e in
           omega (arith, same, all, counted, holes_le ks, c.len.ensures, c.close_holes.new.keys.ok.0));
       injective = OnTrue_from c.self.inside.is_injective _
-          (λ e. injective_moved g.K.PartialEq.eq g.K.MapKey.key_code c.self.inside.keys.items ks c.close_holes.ensures.moves
+          (λ e. injective_moved g.K.PartialEq.eq g.K.MapKey.key_code c.self.inside.keys.items ks
+          c.close_holes.ensures.moves
           (OnTrue_at e c.self.invariant.injective));
     }

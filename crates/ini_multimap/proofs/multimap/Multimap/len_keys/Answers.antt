@@ -18,8 +18,10 @@ returns-in-Some g c =
     let P : Option (Box Chains) → Type 0 = IsIndexed code m.keys.items in
     let chained : AreChained code m.keys.items c.in-Some.chains.value = subst P c.in-Some.is inv.indexed in
     let U : Chains → Type 0 = λ d. IsUnique nat_eq d.ends in
-    let injective : IsInjective eq code m.keys.items = OnTrue_at {b = m.is_injective} c.if-self-2.true inv.injective in
-    let paired : ArePaired m.keys.items m.values.items = OnTrue_at {b = m.is_paired} c.if-self.true inv.paired in
+    let injective : IsInjective eq code m.keys.items =
+    OnTrue_at {b = m.is_injective} c.if-self-2.true inv.injective in
+    let paired : ArePaired m.keys.items m.values.items =
+    OnTrue_at {b = m.is_paired} c.if-self.true inv.paired in
     c.codes.ensures.count ∙ ap (λ d. hash_map_len d.ends) c.deref.ensures
     ∙ sym (count_is code eq g.met.K.Eq.laws g.met.K.MapKey.equal_codes m.keys.items m.values.items
     injective c.in-Some.chains.value.ends inv.long

@@ -13,7 +13,8 @@ returns-in-Some-keys g c =
     let P : Option ℕ → Type 0 = λ r. IsKeyOf eq ks r key in
     let Q : Option ℕ → Type 0 = λ r. IfSome r (λ s. s < length ks) in
     let read : value_in ks s ≡ Some c.in-Some-keys.other =
-    value_read ks s c.index-keys-s.result (subst Q c.in-Some.is c.requires) c.index-keys-s.is ∙ c.in-Some-keys.is in
+    value_read ks s c.index-keys-s.result (subst Q c.in-Some.is c.requires) c.index-keys-s.is
+    ∙ c.in-Some-keys.is in
     OnTrue_from c.eq.result _
     (λ e. subst P (sym c.in-Some.is)
     (λ x f. ap (λ z. eq z key) (same_some (sym f ∙ read)) ∙ sym c.eq.ensures ∙ e))
@@ -24,5 +25,7 @@ returns-in-None g c =
     let s = c.in-Some.s in
     let P : Option ℕ → Type 0 = λ r. IsKeyOf g.K.PartialEq.eq ks r c.args.key.now in
     let Q : Option ℕ → Type 0 = λ r. IfSome r (λ s. s < length ks) in
-    let read = value_read ks s c.index-keys-s.result (subst Q c.in-Some.is c.requires) c.index-keys-s.is ∙ c.in-None.is in
+    let read =
+    value_read ks s c.index-keys-s.result (subst Q c.in-Some.is c.requires) c.index-keys-s.is
+    ∙ c.in-None.is in
     subst P (sym c.in-Some.is) (λ x f. absurd (none_is_some (sym read ∙ f)))

@@ -14,7 +14,8 @@ returns-in-Some-Some-clause-fits g c =
 pub returns-in-Some-Some-clause-value : goal.returns-in-Some-Some-clause-value
 returns-in-Some-Some-clause-value g c =
     let within : c.args.s < length c.args.values.now = omega (arith, c.requires.within, c.requires.long) in
-    value_read c.args.values.now c.args.s c.index-values-s.result within c.index-values-s.is ∙ c.in-Some-Some.is-1
+    value_read c.args.values.now c.args.s c.index-values-s.result within c.index-values-s.is
+    ∙ c.in-Some-Some.is-1
 
 pub returns-in_default-clause-fits : goal.returns-in_default-clause-fits
 returns-in_default-clause-fits g c =
@@ -24,6 +25,8 @@ returns-in_default-clause-fits g c =
     elim c.in_default.branch [
       | in_default-via-in-Some-Some+else-stands_for w ↦ w.if-stands_for.ensures
           ∙ sym (read ∙ (λ j. fit test (w.in-Some-Some.is-0 j) (w.in-Some-Some.is-1 j)))
-      | in_default-via-in-Some+in_default w ↦ sym (read ∙ (λ j. fit test (w.in_default.is-0 j) (w.in_default.is-1 j)))
-      | in_default-via-in_default w ↦ sym (read ∙ (λ j. fit test (w.in_default.is-0 j) c.index-values-s.result))
+      | in_default-via-in-Some+in_default w ↦
+          sym (read ∙ (λ j. fit test (w.in_default.is-0 j) (w.in_default.is-1 j)))
+      | in_default-via-in_default w ↦
+          sym (read ∙ (λ j. fit test (w.in_default.is-0 j) c.index-values-s.result))
     ]

@@ -8,7 +8,9 @@ pub returns-in-Some-clause-steps : goal.returns-in-Some-clause-steps
 returns-in-Some-clause-steps g c =
     let it = c.loop-self.self-inside in
     let inv = c.loop-self.invariant in
-    let rest = fresh_after g.K.PartialEq.eq it.passed (take (it.end - 1) it.keys.now) (take (it.end - 1) it.values.now) in
+    let rest =
+    fresh_after g.K.PartialEq.eq it.passed (take (it.end - 1) it.keys.now)
+    (take (it.end - 1) it.values.now) in
     sym inv.left ∙ back_passed g.K.PartialEq.eq it.keys.now it.values.now it.end inv.slots.long
     inv.slots.end_within it.passed (it.end - 1) (omega (arith, c.loop-self-test.true))
     (omega (arith, c.loop-self-test.true)) ∙ ap (λ l. rest ++ l) (sym c.in-Some.ensures)
@@ -17,18 +19,27 @@ pub returns-in-Some-clause-goes : goal.returns-in-Some-clause-goes
 returns-in-Some-clause-goes g c =
     let it = c.loop-self.self-inside in
     let inv = c.loop-self.invariant in
-    let rest = fresh_after g.K.PartialEq.eq it.passed (take (it.end - 1) it.keys.now) (take (it.end - 1) it.values.now) in
+    let rest =
+    fresh_after g.K.PartialEq.eq it.passed (take (it.end - 1) it.keys.now)
+    (take (it.end - 1) it.values.now) in
     let steps = sym inv.left
     ∙ back_passed g.K.PartialEq.eq it.keys.now it.values.now it.end inv.slots.long inv.slots.end_within
     it.passed (it.end - 1) (omega (arith, c.loop-self-test.true))
     (omega (arith, c.loop-self-test.true)) ∙ ap (λ l. rest ++ l) (sym c.in-Some.ensures) in
-    record { on = λ finite. (tt, finite, omega (arith, simp length-append at (ap length steps))); keeps = tt; rests = λ _. tt }
+    record {
+      on = λ finite.
+          (tt, finite, omega (arith, simp length-append at (ap length steps)));
+      keeps = tt;
+      rests = λ _. tt;
+    }
 
 pub loop-self-preserved : goal.loop-self-preserved
 loop-self-preserved g c =
     let it = c.loop-self.self-inside in
     let inv = c.loop-self.invariant in
-    let rest = fresh_after g.K.PartialEq.eq it.passed (take (it.end - 1) it.keys.now) (take (it.end - 1) it.values.now) in
+    let rest =
+    fresh_after g.K.PartialEq.eq it.passed (take (it.end - 1) it.keys.now)
+    (take (it.end - 1) it.values.now) in
     record {
       slots = record {
         long = inv.slots.long;

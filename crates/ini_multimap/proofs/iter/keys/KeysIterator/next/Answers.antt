@@ -7,7 +7,8 @@ pub returns-in-Some-clause-steps : goal.returns-in-Some-clause-steps
 returns-in-Some-clause-steps g c =
     let it = c.loop-self.self-inside in
     let inv = c.loop-self.invariant in
-    let rest = fresh_after g.K.PartialEq.eq (it.passed + 1) (take it.end it.keys.now) (take it.end it.values.now) in
+    let rest =
+    fresh_after g.K.PartialEq.eq (it.passed + 1) (take it.end it.keys.now) (take it.end it.values.now) in
     sym inv.left ∙ front_passed g.K.PartialEq.eq it.keys.now it.values.now it.end inv.slots.long
     inv.slots.end_within it.passed c.loop-self-test.true ∙ ap (λ l. l ++ rest) (sym c.in-Some.ensures)
 
@@ -15,7 +16,8 @@ pub returns-in-Some-clause-goes : goal.returns-in-Some-clause-goes
 returns-in-Some-clause-goes g c =
     let it = c.loop-self.self-inside in
     let inv = c.loop-self.invariant in
-    let rest = fresh_after g.K.PartialEq.eq (it.passed + 1) (take it.end it.keys.now) (take it.end it.values.now) in
+    let rest =
+    fresh_after g.K.PartialEq.eq (it.passed + 1) (take it.end it.keys.now) (take it.end it.values.now) in
     let steps = sym inv.left
     ∙ front_passed g.K.PartialEq.eq it.keys.now it.values.now it.end inv.slots.long
     inv.slots.end_within it.passed c.loop-self-test.true ∙ ap (λ l. l ++ rest) (sym c.in-Some.ensures) in
@@ -25,7 +27,8 @@ pub loop-self-preserved : goal.loop-self-preserved
 loop-self-preserved g c =
     let it = c.loop-self.self-inside in
     let inv = c.loop-self.invariant in
-    let rest = fresh_after g.K.PartialEq.eq (it.passed + 1) (take it.end it.keys.now) (take it.end it.values.now) in
+    let rest =
+    fresh_after g.K.PartialEq.eq (it.passed + 1) (take it.end it.keys.now) (take it.end it.values.now) in
     record {
       slots = record {
         long = inv.slots.long;

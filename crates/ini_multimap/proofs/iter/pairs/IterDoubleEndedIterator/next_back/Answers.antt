@@ -14,11 +14,18 @@ returns-in-Some-pair_of-clause-goes g c =
     let steps = sym c.loop-key.invariant.left
     ∙ last_cell _ _ _ _ _ _ c.in-Some.ensures.cases.0 c.in-Some-split_last.ensures.cases.0
     c.loop-key.invariant.long (deref_pair c.in-Some-pair_of.pair ∷ []) (sym c.in-Some-pair_of.ensures) in
-    record { on = λ finite. (tt, finite, omega (arith, simp length-append at (ap length steps))); keeps = tt; rests = λ _. tt }
+    record {
+      on = λ finite.
+          (tt, finite, omega (arith, simp length-append at (ap length steps)));
+      keeps = tt;
+      rests = λ _. tt;
+    }
 
 pub loop-key-preserved : goal.loop-key-preserved
 loop-key-preserved g c = record {
   left = sym (last_none _ _ _ _ _ _ c.in-Some.ensures.cases.0 c.in-Some-split_last.ensures.cases.0
       c.loop-key.invariant.long (sym c.in-None.ensures)) ∙ c.loop-key.invariant.left;
-  long = rest_long _ _ _ _ _ _ c.in-Some.ensures.cases.0 c.in-Some-split_last.ensures.cases.0 c.loop-key.invariant.long;
+  long =
+      rest_long _ _ _ _ _ _ c.in-Some.ensures.cases.0 c.in-Some-split_last.ensures.cases.0
+      c.loop-key.invariant.long;
 }

@@ -34,11 +34,17 @@ returns-in-Some-pair_of_mut-clause-goes g c =
     ∙ last_cell _ _ _ _ _ _ c.in-Some.ensures.cases.0 c.in-Some-next_back.ensures.steps
     c.loop-key.self.long (deref_pair_mut c.in-Some-pair_of_mut.pair ∷ [])
     (sym c.in-Some-pair_of_mut.ensures) in
-    record { on = λ finite. (tt, finite, omega (arith, simp length-append at (ap length steps))); keeps = tt; rests = λ _. tt }
+    record {
+      on = λ finite.
+          (tt, finite, omega (arith, simp length-append at (ap length steps)));
+      keeps = tt;
+      rests = λ _. tt;
+    }
 
 pub invariant_of-self-in-None : goal.invariant_of-self-in-None
 invariant_of-self-in-None g c = record {
-  long = rest_long _ _ _ _ _ _ c.in-Some.ensures.cases.0 c.in-Some-next_back.ensures.steps c.loop-key.self.long;
+  long =
+      rest_long _ _ _ _ _ _ c.in-Some.ensures.cases.0 c.in-Some-next_back.ensures.steps c.loop-key.self.long;
   counted = c.loop-key.self.counted
       ∙ ap length (last_none _ _ _ _ _ _ c.in-Some.ensures.cases.0 c.in-Some-next_back.ensures.steps
       c.loop-key.self.long (sym c.in-None.ensures));

@@ -43,7 +43,12 @@ returns-in-Some-fitting_value-clause-goes g c =
     c.candidate_before-self-inside.result c.candidate_before-self-inside.ensures
     c.in-Some-fitting_value.value.now (sym c.in-Some-fitting_value.ensures.fits)
     c.in-Some-fitting_value.ensures.value in
-    record { on = λ finite. (tt, finite, omega (arith, simp length-append at (ap length steps))); keeps = tt; rests = λ _. tt }
+    record {
+      on = λ finite.
+          (tt, finite, omega (arith, simp length-append at (ap length steps)));
+      keeps = tt;
+      rests = λ _. tt;
+    }
 
 pub loop-self-smaller : goal.loop-self-smaller
 loop-self-smaller g c =

@@ -15,9 +15,11 @@ is_key_of-requires g c =
     let s = c.args.s in
     let P : Option ℕ → Type 0 = λ r. IfSome r (λ t. t < length ks) in
     let here : code_at code ks s ≡ Some (code c.in-Some.key) =
-    ap (option_map code) (value_read ks s c.index-keys-s.result c.requires.within c.index-keys-s.is ∙ c.in-Some.is) in
+    ap (option_map code)
+    (value_read ks s c.index-keys-s.result c.requires.within c.index-keys-s.is ∙ c.in-Some.is) in
     let is_prev : prev_at links s ≡ c.slot_of.result =
-    prev_read links s c.index.result.now (omega (arith, c.requires.within, c.requires.chained.long)) c.index.ensures
+    prev_read links s c.index.result.now (omega (arith, c.requires.within, c.requires.chained.long))
+    c.index.ensures
     ∙ sym c.slot_of.ensures in
     subst P is_prev
     (prev_within (code_at code ks) (code c.in-Some.key) s (length ks) (prev_at links s)
@@ -33,7 +35,8 @@ returns-in-Some g c =
     let read : value_in ks s ≡ Some c.in-Some.key =
     value_read ks s c.index-keys-s.result c.requires.within c.index-keys-s.is ∙ c.in-Some.is in
     let is_prev : prev_at links s ≡ c.slot_of.result =
-    prev_read links s c.index.result.now (omega (arith, c.requires.within, c.requires.chained.long)) c.index.ensures
+    prev_read links s c.index.result.now (omega (arith, c.requires.within, c.requires.chained.long))
+    c.index.ensures
     ∙ sym c.slot_of.ensures in
     OnTrue_from c.is_key_of.result _
     (λ e x f. subst (λ r. P r x) (sym is_prev)
@@ -41,5 +44,7 @@ returns-in-Some g c =
 
 pub returns-in-None : goal.returns-in-None
 returns-in-None g c =
-    let read = value_read c.args.keys.now c.args.s c.index-keys-s.result c.requires.within c.index-keys-s.is ∙ c.in-None.is in
+    let read =
+    value_read c.args.keys.now c.args.s c.index-keys-s.result c.requires.within c.index-keys-s.is
+    ∙ c.in-None.is in
     λ x f. absurd (none_is_some (sym read ∙ f))

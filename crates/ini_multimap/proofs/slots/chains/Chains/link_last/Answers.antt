@@ -19,7 +19,8 @@ returns-clause-chained g c =
     let old = get nat_eq c.args.self.now.ends in
     let new = get nat_eq c.put_last-last.new.ends in
     let last = c.put_last-last.result in
-    let is_last : last ≡ last_of old (code key) = c.put_last-last.ensures.last ∙ ap (last_of old) c.code-code.ensures in
+    let is_last : last ≡ last_of old (code key) =
+    c.put_last-last.ensures.last ∙ ap (last_of old) c.code-code.ensures in
     let N : Option ℕ → Type 0 = λ r. IsNextSet links mid r (Some (length ks)) in
     let E : ℕ → Type 0 = λ q. IsPutLast old new q (length ks) in
     let all = ks ++ Some key ∷ [] in
@@ -47,7 +48,8 @@ returns-clause-same g c =
     let ks = c.args.keys.now in
     let key = c.args.key.now in
     let P : Option ℕ → Type 0 = IsPrev (code_at code ks) (code key) (length ks) in
-    let is_last = c.put_last-last.ensures.last ∙ ap (last_of (get nat_eq c.args.self.now.ends)) c.code-code.ensures in
+    let is_last =
+    c.put_last-last.ensures.last ∙ ap (last_of (get nat_eq c.args.self.now.ends)) c.code-code.ensures in
     OnTrue_from c.is_key_of.result _
     (λ e. injective_push g.K.PartialEq.eq code g.met.K.Eq.laws ks key c.put_last-last.result
     (subst P (sym is_last) (c.requires.chained.linked.lasts (code key))) (OnTrue_at e c.is_key_of.ensures))

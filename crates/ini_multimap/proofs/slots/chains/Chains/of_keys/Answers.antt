@@ -28,6 +28,7 @@ loop-s-preserved g c =
 
 pub relink-requires-clause-stale : goal.relink-requires-clause-stale
 relink-requires-clause-stale g c =
-    let end : c.loop-s.s ≡ length c.args.keys.now = omega (arith, c.loop-s-test.false, c.loop-s.auto.s-end) in
+    let end : c.loop-s.s ≡ length c.args.keys.now =
+    omega (arith, c.loop-s-test.false, c.loop-s.auto.s-end) in
     let P : ℕ → Type 0 = λ n. IsStale n g.K.MapKey.key_code c.args.keys.now (get nat_eq c.loop-s.ends) in
     subst P end c.loop-s.invariant.stale

@@ -60,20 +60,23 @@ loop-at-preserved g c =
           let l : Link = record { prev = w.link_to.result; next = 4294967295 } in
           let first = unwrap_or (first_of (known n ends) k) n in
           let new = get nat_eq w.put_anew-last.new.ends in
-          let ends_new : new k ≡ Some (first, n) = ends_here ends new k (Some (first, n)) w.put_anew-last.ensures.ends in
+          let ends_new : new k ≡ Some (first, n) =
+          ends_here ends new k (Some (first, n)) w.put_anew-last.ensures.ends in
           let ends_old = ends_apart ends new k (Some (first, n)) w.put_anew-last.ensures.ends in
           let less : n < length mid = omega (arith, within, w.link_after.ensures.links.long) in
           let apart : (j : ℕ) → j < n → j ≢ n = λ j less e. absurd (omega (arith, less, e)) in
           let F : Link → Option ℕ = λ x. named x.next in
           let G : Link → Option ℕ = λ x. named x.prev in
-          let linked : IsLinked (suc n) (upto (suc n) at) (next_at (set mid n l)) (prev_at (set mid n l)) (known (suc n) new) =
+          let linked : IsLinked (suc n) (upto (suc n) at) (next_at (set mid n l)) (prev_at (set mid n l))
+          (known (suc n) new) =
           relinked_key n at (next_at links) (prev_at links) ends inv.linked inv.stale.early k first
           (next_at (set mid n l)) (prev_at (set mid n l)) new here refl
           (link_here F mid n l less)
           (λ j e. link_other F mid n j l
           (apart j (last_within (upto n at) k n j (last_of (known n ends) k) e (inv.linked.lasts k)))
           ∙ w.link_after.ensures.links.here j (is_last ∙ e))
-          (λ j below d. link_other F mid n j l (apart j below) ∙ w.link_after.ensures.links.others j (λ e. d (sym is_last ∙ e)))
+          (λ j below d. link_other F mid n j l (apart j below)
+          ∙ w.link_after.ensures.links.others j (λ e. d (sym is_last ∙ e)))
           (link_here G mid n l less ∙ w.link_to.ensures ∙ is_last)
           (λ j below. link_other G mid n j l (apart j below) ∙ w.link_after.ensures.links.prevs j)
           ends_new ends_old in

@@ -12,10 +12,13 @@ link_after-requires-clause-within g c =
     let links = c.args.self.now.links.items in
     let s = c.args.s in
     let linked = c.requires.chained.linked in
-    let within : s < length links = omega (arith, linked.within s c.args.code c.requires.here, c.requires.chained.long) in
+    let within : s < length links =
+    omega (arith, linked.within s c.args.code c.requires.here, c.requires.chained.long) in
     let W : Option ℕ → Type 0 = λ r. IfSome r (λ t. t < length links) in
-    subst W (prev_read links s c.index-link.result.now within c.index-link.ensures ∙ sym c.slot_of-prev.ensures)
-    (prev_within at c.args.code s (length links) (prev_at links s) (linked.prevs s c.args.code c.requires.here) (omega (arith, within)))
+    subst W (prev_read links s c.index-link.result.now within c.index-link.ensures
+    ∙ sym c.slot_of-prev.ensures)
+    (prev_within at c.args.code s (length links) (prev_at links s)
+    (linked.prevs s c.args.code c.requires.here) (omega (arith, within)))
 
 pub link_before-requires-clause-within : goal.link_before-requires-clause-within
 link_before-requires-clause-within g c =
@@ -24,9 +27,11 @@ link_before-requires-clause-within g c =
     let mid = c.link_after.new.links.items in
     let s = c.args.s in
     let linked = c.requires.chained.linked in
-    let within : s < length links = omega (arith, linked.within s c.args.code c.requires.here, c.requires.chained.long) in
+    let within : s < length links =
+    omega (arith, linked.within s c.args.code c.requires.here, c.requires.chained.long) in
     let W : Option ℕ → Type 0 = λ r. IfSome r (λ t. t < length mid) in
-    subst W (next_read links s c.index-link.result.now within c.index-link.ensures ∙ sym c.slot_of-next.ensures)
+    subst W (next_read links s c.index-link.result.now within c.index-link.ensures
+    ∙ sym c.slot_of-next.ensures)
     (next_within at c.args.code (suc s) (length mid) (next_at links s)
     (linked.nexts s c.args.code c.requires.here)
     (λ k e. omega (
@@ -48,10 +53,13 @@ returns g c =
     let links = c.args.self.now.links.items in
     let s = c.args.s in
     let chained = c.requires.chained in
-    let within : s < length links = omega (arith, chained.linked.within s c.args.code c.requires.here, chained.long) in
+    let within : s < length links =
+    omega (arith, chained.linked.within s c.args.code c.requires.here, chained.long) in
     record {
       few = omega (arith, chained.few, length-set ks s None);
-      long = c.link_before.ensures.long ∙ c.link_after.ensures.links.long ∙ chained.long ∙ sym (length-set ks s None);
+      long =
+          c.link_before.ensures.long ∙ c.link_after.ensures.links.long ∙ chained.long
+          ∙ sym (length-set ks s None);
       linked =
           linked_without code ks links c.link_after.new.links.items c.link_before.new.links.items s
           c.args.code (get nat_eq c.args.self.now.ends) (get nat_eq c.close_ends.new.ends)
