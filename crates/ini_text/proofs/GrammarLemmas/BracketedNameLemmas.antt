@@ -20,7 +20,8 @@ no_name_in_blanks (c ∷ w) h =
     let parts = and_parts (is_blank c) (list_all is_blank w) h in
     rw (no_name_in_blanks w parts.1, blank-apart c parts.0) refl
 
-name_before : (name w : List ℕ) → list_all is_blank w ≡ true → name_in (name ++ close_bracket ∷ w) ≡ Some name
+name_before : (name w : List ℕ) → list_all is_blank w ≡ true
+    → name_in (name ++ close_bracket ∷ w) ≡ Some name
 name_before [] w h = rw (no_name_in_blanks w h, h) refl
 name_before (c ∷ name) w h = rw (name_before name w h) refl
 
@@ -32,7 +33,8 @@ no_name text none name i = let some = finds_name i in cc
 
 -- at the front of a text, where the rest has a name or none
 name_found_from : (c : ℕ) (cs : List ℕ) (found : Option (List ℕ)) (name : List ℕ)
-    → ((n : List ℕ) → found ≡ Some n → IsBracketed cs n) → name_from c cs found ≡ Some name → IsBracketed (c ∷ cs) name
+    → ((n : List ℕ) → found ≡ Some n → IsBracketed cs n) → name_from c cs found ≡ Some name
+    → IsBracketed (c ∷ cs) name
 name_found_from c cs (Some n) name more e =
     let rest = more n refl in
     let same : c ∷ n ≡ name = cc in

@@ -24,8 +24,10 @@ use Rattle.ini_text.proofs.ReaderLemmas.RunReaderLemmas.{BeginsWith-some}
 pub reads-append : {o : ParseOption} {T b c d : List ℕ} {xs ys : List Given} → Reads o T b xs c
     → Reads o T c ys d → Reads o T b (xs ++ ys) d
 reads-append (Reads.stay r e) more = more
-reads-append {o} {T} {d = d} {ys = ys} (Reads.step {b = b} {s = s} {r = r} {c = c} {gives = gives} {items = items} e x rest) more =
-    subst (λ l. Reads o T b l d) (sym (append_assoc gives items ys)) (Reads.step e x (reads-append rest more))
+reads-append {o} {T} {d = d} {ys = ys}
+    (Reads.step {b = b} {s = s} {r = r} {c = c} {gives = gives} {items = items} e x rest) more =
+    subst (λ l. Reads o T b l d) (sym (append_assoc gives items ys))
+    (Reads.step e x (reads-append rest more))
 
 gap-some : {b s r : List ℕ} → Gap b s r → 1 ≤ length s
 gap-some (Gap.blank_line {w = w} c i ends) = omega (arith, length-append w (c ∷ []))
@@ -33,15 +35,18 @@ gap-some (Gap.before_header {w = w} i) = BeginsWith-some is_blank w i.some
 gap-some (Gap.white is inside) = omega arith
 
 -- an element isn't empty
-pub element-some : {o : ParseOption} {b s r : List ℕ} {gives : List Given} → Element o b s r gives → 1 ≤ length s
+pub element-some : {o : ParseOption} {b s r : List ℕ} {gives : List Given} → Element o b s r gives
+    → 1 ≤ length s
 element-some (Element.gap g) = gap-some g
 element-some (Element.comment s one marks all) = omega arith
 element-some (Element.last_comment one marks all) = omega arith
 element-some (Element.header off str) = omega arith
 element-some (Element.bracketed_header on str i) = omega arith
-element-some (Element.pair {k = k} {s = s} {m = m} front some separates value) = omega (arith, length-append k (m ∷ s))
+element-some (Element.pair {k = k} {s = s} {m = m} front some separates value) =
+    omega (arith, length-append k (m ∷ s))
 element-some (Element.dropped_blanks {w = w} i) = BeginsWith-some is_blank w i.some
-element-some (Element.dropped_key {w = w} {s = s} i begins str) = omega (arith, length-append w s, BeginsWith-some is_blank w i.some)
+element-some (Element.dropped_key {w = w} {s = s} i begins str) =
+    omega (arith, length-append w s, BeginsWith-some is_blank w i.some)
 
 -- behind the rest of a text, an element moves the parser on
 pub record Moved (o : ParseOption) (T b rest after : List ℕ) (gives : List Given) : Type 0 where
@@ -52,7 +57,8 @@ pub record Moved (o : ParseOption) (T b rest after : List ℕ) (gives : List Giv
 
 pub moved : {o : ParseOption} {T b rest front after cs : List ℕ} {c : ℕ} {gives items : List Given}
     → IsRest T rest → Reads o T b [] (front_of T rest) → rest ≡ c ∷ cs
-    → front ≡ front_of T rest → gives ≡ items → element o front rest ≡ found gives after → Moved o T b rest after items
+    → front ≡ front_of T rest → gives ≡ items → element o front rest ≡ found gives after
+    → Moved o T b rest after items
 moved {o} {T} {b} {rest} {after = after} {items = items} within reads is at same read =
     let c = front_of T rest in let (s, holds, whole) =
     element-says o c is (subst₂ (λ f g. element o f rest ≡ found g after) at same read) in
@@ -102,11 +108,14 @@ module _ (o : ParseOption) (T b : List ℕ) where
   -- reading stops in an element
   pub refuses : (rest : List ℕ) {front cs : List ℕ} {c : ℕ} (stop : Stop) → IsRest T rest
       → Reads o T b [] (front_of T rest) → rest ≡ c ∷ cs → front ≡ front_of T rest
-      → StopsBy (element o front rest) stop → StopIsWithin T stop × ((e : Error) → Tells (refusal_of T stop) e → Refuses o T b e)
+      → StopsBy (element o front rest) stop
+      → StopIsWithin T stop × ((e : Error) → Tells (refusal_of T stop) e → Refuses o T b e)
   refuses rest stops.Memory within reads is at read = (tt, tells_memory)
   refuses rest (stops.Fault fault) within reads is at read =
       let c = front_of T rest in
-      let (s, holds, whole) = element-says o c is (subst (λ f. element o f rest ≡ stopped (chars fault.rest.now) fault.kind) at read) in
+      let (s, holds, whole) =
+      element-says o c
+      is (subst (λ f. element o f rest ≡ stopped (chars fault.rest.now) fault.kind) at read) in
       let grown = front_grows T rest s (chars fault.rest.now) within (sym whole) in (
         grown.1,
         tells_parse fault.message.now (record {

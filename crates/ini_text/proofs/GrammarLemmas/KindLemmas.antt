@@ -5,17 +5,23 @@ use Rattle.std.specs.Char.{is_whitespace}
 use Rattle.ini_text.specs.Grammar.CharacterKinds.{semicolon, hash, is_blank, is_line_end, is_comment_mark, is_inline_white}
 
 pub blank_is_white : (c : ℕ) → is_blank c ≡ true → is_whitespace c ≡ true
-blank_is_white c h = elim (or_cases (c == 32) (c == 9) h) [ inl q ↦ rw (eqb-true c 32 q) refl | inr q ↦ rw (eqb-true c 9 q) refl ]
+blank_is_white c h = elim (or_cases (c == 32) (c == 9) h)
+    [ inl q ↦ rw (eqb-true c 32 q) refl | inr q ↦ rw (eqb-true c 9 q) refl ]
 
 pub blank_inline : (c : ℕ) → is_blank c ≡ true → is_inline_white c ≡ true
-blank_inline c h = elim (or_cases (c == 32) (c == 9) h) [ inl q ↦ rw (eqb-true c 32 q) refl | inr q ↦ rw (eqb-true c 9 q) refl ]
+blank_inline c h = elim (or_cases (c == 32) (c == 9) h)
+    [ inl q ↦ rw (eqb-true c 32 q) refl | inr q ↦ rw (eqb-true c 9 q) refl ]
 
 pub no_white_no_blank : (c : ℕ) → is_whitespace c ≡ false → is_blank c ≡ false
-no_white_no_blank c h = false_from_ne_true (is_blank c) (λ q. both_ways (is_whitespace c) h (blank_is_white c q))
+no_white_no_blank c h =
+    false_from_ne_true (is_blank c) (λ q. both_ways (is_whitespace c) h (blank_is_white c q))
 
 pub line_end_no_blank : (c : ℕ) → is_line_end c ≡ true → is_blank c ≡ false
-line_end_no_blank c h = elim (or_cases (c == 10) (c == 13) h) [ inl q ↦ rw (eqb-true c 10 q) refl | inr q ↦ rw (eqb-true c 13 q) refl ]
+line_end_no_blank c h = elim (or_cases (c == 10) (c == 13) h)
+    [ inl q ↦ rw (eqb-true c 10 q) refl | inr q ↦ rw (eqb-true c 13 q) refl ]
 
-pub comment_mark-apart : (c : ℕ) → is_comment_mark c ≡ true → (is_blank c ≡ false) × (is_whitespace c ≡ false)
+pub comment_mark-apart : (c : ℕ) → is_comment_mark c ≡ true
+    → (is_blank c ≡ false) × (is_whitespace c ≡ false)
 comment_mark-apart c h =
-    elim (or_cases (c == semicolon) (c == hash) h) [ inl q ↦ rw (eqb-true c 59 q) (refl, refl) | inr q ↦ rw (eqb-true c 35 q) (refl, refl) ]
+    elim (or_cases (c == semicolon) (c == hash) h)
+    [ inl q ↦ rw (eqb-true c 59 q) (refl, refl) | inr q ↦ rw (eqb-true c 35 q) (refl, refl) ]

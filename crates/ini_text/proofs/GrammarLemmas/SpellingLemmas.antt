@@ -7,7 +7,8 @@ use Rattle.std.specs.Char.{is_digit, digit_value}
 use Rattle.ini_text.specs.Grammar.CharacterKinds.{plus}
 use Rattle.ini_text.specs.Grammar.EscapeSequences.{spelled, first_digit}
 
-some_iff_cond : (t s : Bool) (n : ℕ) (r : Option ℕ) → t ≡ true → SomeIff r (s ≡ true) n → r ≡ cond (t && s) (Some n) None
+some_iff_cond : (t s : Bool) (n : ℕ) (r : Option ℕ) → t ≡ true → SomeIff r (s ≡ true) n
+    → r ≡ cond (t && s) (Some n) None
 some_iff_cond true true n (Some x) q h = ap Some h.1
 some_iff_cond true true n None q h = absurd (h refl)
 some_iff_cond true false n (Some x) q h = let z = h.0 in cc
@@ -49,7 +50,12 @@ first_other a f y h d q = (
 -- four digits, none of which is a plus sign
 pub digits_spell : (a b c d f y z x : ℕ) (r : Option ℕ) → (f < 16) × (f ≡ digit_value a)
     → (y < 16) × (y ≡ digit_value b) → (z < 16) × (z ≡ digit_value c) → (x < 16) × (x ≡ digit_value d)
-    → SomeIff r (scalar (f * 0x1000 + y * 0x100 + z * 0x10 + x) ≡ true) (f * 0x1000 + y * 0x100 + z * 0x10 + x) → r ≡ spelled a b c d
+    → SomeIff r (scalar (f * 0x1000 + y * 0x100 + z * 0x10 + x) ≡ true)
+    (f * 0x1000 + y * 0x100 + z * 0x10 + x)
+    → r ≡ spelled a b c d
 digits_spell a b c d f y z x r ha hb hc hd h =
-    let first = first_other a f f (λ q. let z = subst (λ k. f ≡ digit_value k) q ha.1 in absurd (omega arith)) (omega arith, ha.1) refl in
-    spelled_value a b c d f y z x _ r first.0 first.1 (omega arith, hb.1) (omega arith, hc.1) (omega arith, hd.1) refl h
+    let first =
+    first_other a f f (λ q. let z = subst (λ k. f ≡ digit_value k) q ha.1 in absurd (omega arith))
+    (omega arith, ha.1) refl in
+    spelled_value a b c d f y z x _ r first.0 first.1 (omega arith, hb.1) (omega arith, hc.1)
+    (omega arith, hd.1) refl h

@@ -65,7 +65,8 @@ module _ (W : List ℕ) (one : is_column_one W ≡ true) where
     ElementStops-behind : {b s r : List ℕ} {kind : ParseKind} → ElementStops o b s r kind
         → ElementStops o (W ++ b) s r kind
     ElementStops-behind (ElementStops.in_header off stops) = ElementStops.in_header off stops
-    ElementStops-behind (ElementStops.in_bracketed_header on stops) = ElementStops.in_bracketed_header on stops
+    ElementStops-behind (ElementStops.in_bracketed_header on stops) =
+        ElementStops.in_bracketed_header on stops
     ElementStops-behind (ElementStops.no_header_end on str none) = ElementStops.no_header_end on str none
     ElementStops-behind (ElementStops.in_key begins stops) = ElementStops.in_key begins stops
     ElementStops-behind (ElementStops.in_indented_key i begins stops n) =

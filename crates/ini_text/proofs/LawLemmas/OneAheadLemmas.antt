@@ -1,4 +1,5 @@
--- Reading looks one character ahead: an element stands before each text that begins with the character that followed it.
+-- Reading looks one character ahead: an element stands before each text that begins with the character that
+-- followed it.
 use Rattle.std.proofs.Common.{◌≤◌, ◌≡◌, ℕ, Bool, List, [], ◌∷◌, ◌++◌, length, refl, sym, ap, ◌∙◌, subst, append_assoc, append-nil, arith}
 use Rattle.std.proofs.lemmas.List.{append_cancel_left}
 use Rattle.ini_text.specs.declared.option.ParseOption.{ParseOption}
@@ -27,7 +28,8 @@ Alike-some (c ∷ s) r x l = Alike.same
 pub BeginsWith-alike : (test : ℕ → Bool) {r x : List ℕ} → Alike r x → BeginsWith test r → BeginsWith test x
 BeginsWith-alike test Alike.same h = h
 
-pub BeginsWithNo-alike : (test : ℕ → Bool) {r x : List ℕ} → Alike r x → BeginsWithNo test r → BeginsWithNo test x
+pub BeginsWithNo-alike : (test : ℕ → Bool) {r x : List ℕ} → Alike r x → BeginsWithNo test r
+    → BeginsWithNo test x
 BeginsWithNo-alike test Alike.same h = h
 
 pub Lead-alike : {w r x : List ℕ} → Alike r x → Lead w r → Lead w x
@@ -53,63 +55,78 @@ module _ {o : ParseOption} where
       Line.line k (λ on. BeginsWithNo-alike is_mark (Alike-behind p a) (plain on)) (Str-alike a str)
 
   -- a line before its line end stands before each text before which the line end does
-  pub EndedLine-before : {first : Bool} {w l e r x u : List ℕ} → LineEnd e x → EndedLine o first w l e r u → EndedLine o first w l e x u
+  pub EndedLine-before : {first : Bool} {w l e r x u : List ℕ} → LineEnd e x → EndedLine o first w l e r u
+      → EndedLine o first w l e x u
   EndedLine-before {l = l} {e} {r} {x} end n =
       let a = Alike-some e r x (line_end-some end) in
       record { lead = Lead-alike (Alike-behind l a) n.lead; line = Line-alike a n.line; end = end }
 
   pub MoreLines-alike : {s r v x : List ℕ} → Alike r x → MoreLines o s r v → MoreLines o s x v
-  MoreLines-alike a (MoreLines.done n m) = MoreLines.done (BeginsWithNo-alike is_blank a n) (BeginsWithNo-alike is_line_end a m)
+  MoreLines-alike a (MoreLines.done n m) =
+      MoreLines.done (BeginsWithNo-alike is_blank a n) (BeginsWithNo-alike is_line_end a m)
   MoreLines-alike a (MoreLines.empty_lf m) = MoreLines.empty_lf (MoreLines-alike a m)
   MoreLines-alike a (MoreLines.empty_cr_lf m) = MoreLines.empty_cr_lf (MoreLines-alike a m)
   MoreLines-alike a (MoreLines.continued {t = t} b lead ln end m) =
-      let n = EndedLine-before (LineEnd-alike (Alike-behind t a) end) (record { lead = lead; line = ln; end = end }) in
+      let n =
+      EndedLine-before (LineEnd-alike (Alike-behind t a) end)
+      (record { lead = lead; line = ln; end = end }) in
       MoreLines.continued b n.lead n.line n.end (MoreLines-alike a m)
   MoreLines-alike a (MoreLines.last b lead ln) = elim a [ ]
 
   pub Value-alike : {s r v x : List ℕ} → Alike r x → Value o s r v → Value o s x v
-  Value-alike a (Value.one_line {l = l} off lead ln) = Value.one_line off (Lead-alike (Alike-behind l a) lead) (Line-alike a ln)
+  Value-alike a (Value.one_line {l = l} off lead ln) =
+      Value.one_line off (Lead-alike (Alike-behind l a) lead) (Line-alike a ln)
   Value-alike a (Value.to_end on lead ln) = elim a [ ]
   Value-alike a (Value.lines {t = t} on lead ln end m) =
-      let n = EndedLine-before (LineEnd-alike (Alike-behind t a) end) (record { lead = lead; line = ln; end = end }) in
+      let n =
+      EndedLine-before (LineEnd-alike (Alike-behind t a) end)
+      (record { lead = lead; line = ln; end = end }) in
       Value.lines on n.lead n.line n.end (MoreLines-alike a m)
 
   pub KeyFront-alike : {b s r v x : List ℕ} → Alike r x → KeyFront o b s r v → KeyFront o b s x v
   KeyFront-alike a (KeyFront.unindented {s} begins str) =
       KeyFront.unindented (BeginsWith-alike begins_key (Alike-behind s a) begins) (Str-alike a str)
   KeyFront-alike a (KeyFront.indented {s = s} ind begins str) =
-      KeyFront.indented ind (BeginsWith-alike begins_indented_key (Alike-behind s a) begins) (Str-alike a str)
+      KeyFront.indented ind (BeginsWith-alike begins_indented_key (Alike-behind s a) begins)
+      (Str-alike a str)
 
-  pub Element-alike : {b s r x : List ℕ} {gives : List Given} → Alike r x → Element o b s r gives → Element o b s x gives
+  pub Element-alike : {b s r x : List ℕ} {gives : List Given} → Alike r x → Element o b s r gives
+      → Element o b s x gives
   Element-alike a (Element.gap g) = Element.gap (Gap-alike a g)
   Element-alike a (Element.comment s one mark all) = Element.comment s one mark all
   Element-alike a (Element.last_comment one mark all) = elim a [ ]
   Element-alike a (Element.header off str) = Element.header off (Str-alike Alike.same str)
   Element-alike a (Element.bracketed_header on str i) = Element.bracketed_header on (Str-alike a str) i
-  Element-alike a (Element.pair front some sep given) = Element.pair (KeyFront-alike Alike.same front) some sep (Value-alike a given)
+  Element-alike a (Element.pair front some sep given) =
+      Element.pair (KeyFront-alike Alike.same front) some sep (Value-alike a given)
   Element-alike a (Element.dropped_blanks ind) = elim a [ ]
   Element-alike a (Element.dropped_key ind begins stops) = elim a [ ]
 
   pub Reads-front : {T b c : List ℕ} {items : List Given} → Reads o T b items c → (m : List ℕ) × (b ++ m ≡ c)
   Reads-front {b = b} (Reads.stay r h) = ([], append-nil b)
-  Reads-front {b = b} (Reads.step {s = s} h e reads) = let x = Reads-front reads in (s ++ x.0, sym (append_assoc b s x.0) ∙ x.1)
+  Reads-front {b = b} (Reads.step {s = s} h e reads) =
+      let x = Reads-front reads in (s ++ x.0, sym (append_assoc b s x.0) ∙ x.1)
 
   -- elements up to the front c, before x in place of r, and then further elements
   pub Reads-alike : {T b c d r x : List ℕ} {items others : List Given} → Alike r x → T ≡ c ++ r
       → Reads o T b items c → Reads o (c ++ x) c others d
       → Reads o (c ++ x) b (items ++ others) d
   Reads-alike a h (Reads.stay y q) rest = rest
-  Reads-alike {b = b} {c} {d} {r} {x} {others = others} a h (Reads.step {s = s} {r = y} {gives = gives} {items} q e reads) rest =
+  Reads-alike {b = b} {c} {d} {r} {x} {others = others} a h
+      (Reads.step {s = s} {r = y} {gives = gives} {items} q e reads) rest =
       let front = Reads-front reads in
       let m = front.0 in
       let behind : y ≡ m ++ r = append_cancel_left (b ++ s) y (m ++ r)
       (append_assoc b s y ∙ sym q ∙ h ∙ ap (λ z. z ++ r) (sym front.1) ∙ append_assoc (b ++ s) m r) in
-      let whole : c ++ x ≡ b ++ (s ++ (m ++ x)) = ap (λ z. z ++ x) (sym front.1) ∙ append_assoc (b ++ s) m x ∙ append_assoc b s (m ++ x) in
+      let whole : c ++ x ≡ b ++ (s ++ (m ++ x)) =
+      ap (λ z. z ++ x) (sym front.1) ∙ append_assoc (b ++ s) m x ∙ append_assoc b s (m ++ x) in
       subst (λ z. Reads o (c ++ x) b z d) (sym (append_assoc gives items others))
-      (Reads.step whole (Element-alike (Alike-behind m a) (subst (λ z. Element o b s z gives) behind e)) (Reads-alike a h reads rest))
+      (Reads.step whole (Element-alike (Alike-behind m a) (subst (λ z. Element o b s z gives) behind e))
+      (Reads-alike a h reads rest))
 
   -- elements up to the front c stand there whatever follows its next character
   pub Reads-before : {b c : List ℕ} {items : List Given} (x : ℕ) (r more : List ℕ)
       → Reads o (c ++ x ∷ r) b items c → Reads o (c ++ x ∷ more) b items c
   Reads-before {b} {c} {items} x r more reads =
-      subst (λ l. Reads o (c ++ x ∷ more) b l c) (append-nil items) (Reads-alike Alike.same refl reads (Reads.stay (x ∷ more) refl))
+      subst (λ l. Reads o (c ++ x ∷ more) b l c) (append-nil items)
+      (Reads-alike Alike.same refl reads (Reads.stay (x ∷ more) refl))

@@ -16,11 +16,13 @@ module _ (o : ParseOption) (T : List ℕ) where
   -- what comes of the text behind the front b
   data Gives : List ℕ → Answer Given → Type 0 where
     over : {b : List ℕ} → T ≡ b → Gives b (found [] [])
-    halts : {b s r : List ℕ} {k : ParseKind} → T ≡ b ++ (s ++ r) → ElementStops o b s r k → Gives b (stopped r k)
+    halts : {b s r : List ℕ} {k : ParseKind} → T ≡ b ++ (s ++ r) → ElementStops o b s r k
+        → Gives b (stopped r k)
     then : {b s r : List ℕ} {gives : List Given} {a : Answer Given} → T ≡ b ++ (s ++ r)
         → Element o b s r gives → Gives (b ++ s) a → Gives b (prepend gives a)
 
-  Gives-behind : {b c : List ℕ} {items : List Given} {a : Answer Given} → Reads o T b items c → Gives c a → Gives b (prepend items a)
+  Gives-behind : {b c : List ℕ} {items : List Given} {a : Answer Given} → Reads o T b items c → Gives c a
+      → Gives b (prepend items a)
   Gives-behind {a = a} (Reads.stay r h) g = subst (Gives _) (sym (prepend-nil a)) g
   Gives-behind {a = a} (Reads.step {gives = gives} {items} h e reads) g =
       subst (Gives _) (prepend-prepend gives items a) (Gives.then h e (Gives-behind reads g))
@@ -36,7 +38,8 @@ module _ (o : ParseOption) (T : List ℕ) where
   outcome_at {b} (Gives.halts {s = s} {r} h e) = ([], b, s, Reads.stay (s ++ r) h, h, e)
   outcome_at (Gives.then {gives = gives} {a} h e rest) = behind a h e (outcome_at rest)
     where
-      behind : {b s r : List ℕ} {gives : List Given} (a : Answer Given) → T ≡ b ++ (s ++ r) → Element o b s r gives → OutcomeAt (b ++ s) a
+      behind : {b s r : List ℕ} {gives : List Given} (a : Answer Given) → T ≡ b ++ (s ++ r)
+          → Element o b s r gives → OutcomeAt (b ++ s) a
           → OutcomeAt b (prepend gives a)
       behind (found items x) h e reads = Reads.step h e reads
       behind {gives = gives} (stopped x k) h e (items, c, s, reads, whole, stops) =
@@ -70,18 +73,22 @@ module _ (o : ParseOption) (T : List ℕ) where
           (rw source (Gives.then whole e (rest (b ++ s) r shorter (whole ∙ sym (append_assoc b s r)))))
       by (stopped r k) (s, stops, q) rest = Gives.halts (h ∙ ap (λ y. b ++ y) (sym q)) stops
 
-  walk-stopped : (n : ℕ) (b t : List ℕ) {r : List ℕ} {k : ParseKind} → element o b t ≡ stopped r k → walk (suc n) b t ≡ stopped r k
+  walk-stopped : (n : ℕ) (b t : List ℕ) {r : List ℕ} {k : ParseKind} → element o b t ≡ stopped r k
+      → walk (suc n) b t ≡ stopped r k
   walk-stopped n b [] e = cc (element-end o b)
   walk-stopped n b (c ∷ cs) e = rw e
 
-  walk-found : (n : ℕ) (b t : List ℕ) {gives : List Given} {r : List ℕ} → 1 ≤ length t → element o b t ≡ found gives r
+  walk-found : (n : ℕ) (b t : List ℕ) {gives : List Given} {r : List ℕ} → 1 ≤ length t
+      → element o b t ≡ found gives r
       → walk (suc n) b t ≡ onward (walk n) b t (found gives r)
   walk-found n b [] some e = absurd (omega arith)
   walk-found n b (c ∷ cs) some e = rw e
 
-  walk-finds : {b : List ℕ} {a : Answer Given} → Gives b a → (n : ℕ) (t : List ℕ) → length t < n → T ≡ b ++ t → walk n b t ≡ a
+  walk-finds : {b : List ℕ} {a : Answer Given} → Gives b a → (n : ℕ) (t : List ℕ) → length t < n → T ≡ b ++ t
+      → walk n b t ≡ a
   walk-finds g zero t l h = absurd (omega arith)
-  walk-finds {b} (Gives.over q) (suc n) t l h = rw (append_cancel_left b t [] (sym h ∙ q ∙ sym (append-nil b)))
+  walk-finds {b} (Gives.over q) (suc n) t l h =
+      rw (append_cancel_left b t [] (sym h ∙ q ∙ sym (append-nil b)))
   walk-finds {b} (Gives.halts {s = s} {r} {k} q stops) (suc n) t l h =
       let same : t ≡ s ++ r = append_cancel_left b t (s ++ r) (sym h ∙ q) in
       walk-stopped n b t (ap (element o b) same ∙ element-stops o b stops)
@@ -90,25 +97,33 @@ module _ (o : ParseOption) (T : List ℕ) where
       let some = element-some e in
       rw same (walk-found n b (s ++ r) (omega (arith, length-append s r)) (element-finds o b e)
       ∙ ap (λ y. prepend gives (walk n (b ++ y) r)) (source s r)
-      ∙ ap (prepend gives) (walk-finds rest n r (omega (arith, ap length same, length-append s r)) (q ∙ sym (append_assoc b s r))))
+      ∙ ap (prepend gives) (walk-finds rest n r (omega (arith, ap length same, length-append s r))
+      (q ∙ sym (append_assoc b s r))))
 
   Derives-gives : {items : List Given} → Derives o T items → Gives [] (found items [])
-  Derives-gives {items} d = subst (λ y. Gives [] (found y [])) (append-nil items) (Gives-behind d (Gives.over refl))
+  Derives-gives {items} d =
+      subst (λ y. Gives [] (found y [])) (append-nil items) (Gives-behind d (Gives.over refl))
 
-  Stops-gives : {kind : ParseKind} {f : List ℕ} → Stops o T kind f → (r : List ℕ) × Gives [] (stopped r kind) × (T ≡ f ++ r)
-  Stops-gives (Stops.stops {b} {s} {r} reads h e) = (r, Gives-behind reads (Gives.halts h e), h ∙ sym (append_assoc b s r))
+  Stops-gives : {kind : ParseKind} {f : List ℕ} → Stops o T kind f
+      → (r : List ℕ) × Gives [] (stopped r kind) × (T ≡ f ++ r)
+  Stops-gives (Stops.stops {b} {s} {r} reads h e) =
+      (r, Gives-behind reads (Gives.halts h e), h ∙ sym (append_assoc b s r))
 
   one : (a c : Answer Given) → Gives [] a → Gives [] c → a ≡ c
-  one a c g k = sym (walk-finds g (suc (length T)) T (omega arith) refl) ∙ walk-finds k (suc (length T)) T (omega arith) refl
+  one a c g k =
+      sym (walk-finds g (suc (length T)) T (omega arith) refl)
+      ∙ walk-finds k (suc (length T)) T (omega arith) refl
 
   derives_just : {items : List Given} {r : List ℕ} → Gives [] (found items r) → DerivesJust o T items
   derives_just {items} {r} g = record {
     derives = outcome_at g;
     alone = λ others d. let same : found others [] ≡ found items r = one _ _ (Derives-gives d) g in cc;
-    never_stops = λ kind front s. let x = Stops-gives s in let same : stopped x.0 kind ≡ found items r = one _ _ x.1 g in cc;
+    never_stops = λ kind front s.
+        let x = Stops-gives s in let same : stopped x.0 kind ≡ found items r = one _ _ x.1 g in cc;
   }
 
-  stops_just : {r : List ℕ} {kind : ParseKind} → Gives [] (stopped r kind) → (front : List ℕ) × StopsJust o T kind front
+  stops_just : {r : List ℕ} {kind : ParseKind} → Gives [] (stopped r kind)
+      → (front : List ℕ) × StopsJust o T kind front
   stops_just {r} {kind} g =
       let (items, b, s, reads, whole, stops) = outcome_at g in (
         b ++ s,
@@ -122,7 +137,8 @@ module _ (o : ParseOption) (T : List ℕ) where
                 append_cancel_right elsewhere (b ++ s) r (ap (λ y. elsewhere ++ y) (sym same_rest)
                     ∙ sym x.2 ∙ whole ∙ sym (append_assoc b s r)),
               );
-          derives_nothing = λ items d. let same : found items [] ≡ stopped r kind = one _ _ (Derives-gives d) g in cc;
+          derives_nothing =
+              λ items d. let same : found items [] ≡ stopped r kind = one _ _ (Derives-gives d) g in cc;
         },
       )
 
@@ -131,4 +147,5 @@ module _ (o : ParseOption) (T : List ℕ) where
   outcome (stopped r kind) g = let x = stops_just g in inr (kind, x.0, x.1)
 
 pub one_outcome : (o : ParseOption) (T : List ℕ) → HasOneReading o T
-one_outcome o T = outcome o T (walk o T (suc (length T)) [] T) (walk-sound o T (suc (length T)) [] T (omega arith) refl)
+one_outcome o T =
+    outcome o T (walk o T (suc (length T)) [] T) (walk-sound o T (suc (length T)) [] T (omega arith) refl)

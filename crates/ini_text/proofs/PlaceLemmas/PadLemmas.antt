@@ -30,7 +30,9 @@ pad_more {before = before} c p is white = record {
 pub pad_escaped : {lines own : List ℕ} (before : List ℕ) (c : ℕ) → PadSoFar lines own
     → own ≡ before ++ c ∷ [] → c ≡ backslash → IsBeforePad lines lines
 pad_escaped {lines} before c p is slash =
-    let whole = p.whole ∙ ap (λ x. x ++ p.white) is ∙ append_assoc before (c ∷ []) p.white ∙ ap (λ x. before ++ x ∷ p.white) slash in
+    let whole =
+    p.whole ∙ ap (λ x. x ++ p.white) is ∙ append_assoc before (c ∷ []) p.white
+    ∙ ap (λ x. before ++ x ∷ p.white) slash in
     ([], sym (append-nil lines), subst (λ x. Padded x []) (sym whole) (Padded.escaped before p.white p.all))
 
 pub pad_bare : {lines own : List ℕ} (before : List ℕ) (c : ℕ) → PadSoFar lines own → own ≡ before ++ c ∷ []
@@ -44,13 +46,15 @@ pad_bare before c p is other ink =
 pub pad_all : {lines own : List ℕ} → PadSoFar lines own → own ≡ [] → IsBeforePad lines own
 pad_all p is = (p.white, p.whole, subst (λ x. Padded x p.white) (sym is) (Padded.bare {own = []} refl p.all))
 
-pub shorter_before : {own : List ℕ} (before : List ℕ) (c : ℕ) → own ≡ before ++ c ∷ [] → length before < length own
+pub shorter_before : {own : List ℕ} (before : List ℕ) (c : ℕ) → own ≡ before ++ c ∷ []
+    → length before < length own
 shorter_before before c is = omega (arith, ap length is, length-append before (c ∷ []))
 
 -- the bytes of a text behind a front of it
 behind_bytes : (t f w : List ℕ) → IsUtf8 t → IsUtf8 f → chars t ≡ chars f ++ w → t ≡ f ++ encode_utf8_all w
 behind_bytes t f w u v h =
-    sym (encodes-chars t u) ∙ ap encode_utf8_all h ∙ encodes-append (chars f) w ∙ ap (λ x. x ++ encode_utf8_all w) (encodes-chars f v)
+    sym (encodes-chars t u) ∙ ap encode_utf8_all h ∙ encodes-append (chars f) w
+    ∙ ap (λ x. x ++ encode_utf8_all w) (encodes-chars f v)
 
 module _ (t f : List ℕ) (u : IsUtf8 t) (v : IsUtf8 f) (before : IsBeforePad (chars t) (chars f)) where
   bytes : t ≡ f ++ encode_utf8_all before.0
@@ -71,7 +75,8 @@ module _ (t f a b : List ℕ) (u : IsUtf8 t) (v : IsUtf8 f) (before : IsBeforePa
   front_is = front ∙ front_bytes t f u v before
 
   back_is : b ≡ encode_utf8_all before.0
-  back_is = back ∙ ap (drop (length f)) (bytes t f u v before) ∙ drop-append_seam f (encode_utf8_all before.0)
+  back_is =
+      back ∙ ap (drop (length f)) (bytes t f u v before) ∙ drop-append_seam f (encode_utf8_all before.0)
 
   pub pad_whole : chars t ≡ chars a ++ chars b
   pad_whole =

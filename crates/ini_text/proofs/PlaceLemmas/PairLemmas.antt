@@ -42,10 +42,12 @@ pub rest_of : (f r t : List ℕ) → f ++ r ≡ t → IsRest t r
 rest_of f r t h = ap (λ x. x ++ r) (front_is f r t h) ∙ h
 
 pub front_all : {t r : List ℕ} → IsRest t r → r ≡ [] → front_of t r ≡ t
-front_all {t} {r} within none = sym (append-nil (front_of t r)) ∙ ap (λ x. front_of t r ++ x) (sym none) ∙ within
+front_all {t} {r} within none =
+    sym (append-nil (front_of t r)) ∙ ap (λ x. front_of t r ++ x) (sym none) ∙ within
 
 -- what is found isn't a fault
-no_fault : {A : Type 0} {v : List A} {r : List ℕ} {a : Answer A} → a ≡ found v r → (stop : Stop) → StopsBy a stop → fault_of stop ≡ None
+no_fault : {A : Type 0} {v : List A} {r : List ℕ} {a : Answer A} → a ≡ found v r → (stop : Stop)
+    → StopsBy a stop → fault_of stop ≡ None
 no_fault h stops.Memory s = refl
 no_fault h (stops.Fault fault) s = absurd (found_stopped (sym s ∙ h))
 
@@ -73,7 +75,8 @@ pair_of (Element.comment s one mark all) e = cc
 pair_of (Element.last_comment one mark all) e = cc
 pair_of (Element.header off str) e = cc
 pair_of (Element.bracketed_header on str i) e = cc
-pair_of {o} {b} {r = r} {key} {v} (Element.pair {k = k} {s = x} {key = key2} {v = v2} {m = m} front some sep given) e =
+pair_of {o} {b} {r = r} {key} {v}
+    (Element.pair {k = k} {s = x} {key = key2} {v = v2} {m = m} front some sep given) e =
     let same_key : key2 ≡ key = cc in
     let same_value : v2 ≡ v = cc in
     record {
@@ -105,13 +108,18 @@ indented_begins (c ∷ t) begins =
 -- behind the blanks of its line a key is read as a string
 key_read : {o : ParseOption} {b k x key : List ℕ} {m : ℕ} → KeyFront o b k (m ∷ x) key
     → (u : List ℕ) × (string o.enabled_escape key_ends (skipped is_blank (k ++ m ∷ x)) ≡ found u (m ∷ x))
-key_read {o} {x = x} {m = m} (KeyFront.unindented {s} {v = v} begins str) =
-    (v, ap (string o.enabled_escape key_ends) (key_begins (s ++ m ∷ x) begins) ∙ (string-reads o.enabled_escape key_ends refl).finds str)
+key_read {o} {x = x} {m = m} (KeyFront.unindented {s} {v = v} begins str) = (
+  v,
+  ap (string o.enabled_escape key_ends) (key_begins (s ++ m ∷ x) begins)
+      ∙ (string-reads o.enabled_escape key_ends refl).finds str,
+)
 key_read {o} {x = x} {m = m} (KeyFront.indented {w} {s} {v = v} ind begins str) =
     let behind : skipped is_blank ((w ++ s) ++ m ∷ x) ≡ s ++ m ∷ x =
     ap (skipped is_blank) (append_assoc w s (m ∷ x))
-    ∙ (run-finds is_blank w (s ++ m ∷ x) ind.blank (indented_begins (s ++ m ∷ x) begins)).1 in
-    (v, ap (string o.enabled_escape key_ends) behind ∙ (string-reads o.enabled_escape key_ends refl).finds str)
+    ∙ (run-finds is_blank w (s ++ m ∷ x) ind.blank (indented_begins (s ++ m ∷ x) begins)).1 in (
+      v,
+      ap (string o.enabled_escape key_ends) behind ∙ (string-reads o.enabled_escape key_ends refl).finds str,
+    )
 
 -- what is read of a pair
 pub record PairRead (o : ParseOption) (t r name : List ℕ) : Type 0 where
@@ -128,23 +136,28 @@ read_of : {o : ParseOption} {t r name b s key v : List ℕ} → name ≡ skipped
     → Element o b s r (Pair key v ∷ []) → s ++ r ≡ t → PairRead o t r name
 read_of {o} {t} {r} {name} {v = v} name_is holds whole =
     let p = pair_of holds refl in
-    let at_t : p.k ++ p.m ∷ (p.x ++ r) ≡ t = sym (append_assoc p.k (p.m ∷ p.x) r) ∙ ap (λ y. y ++ r) (sym p.whole) ∙ whole in
+    let at_t : p.k ++ p.m ∷ (p.x ++ r) ≡ t =
+    sym (append_assoc p.k (p.m ∷ p.x) r) ∙ ap (λ y. y ++ r) (sym p.whole) ∙ whole in
     record {
       u = (key_read p.front).0;
       m = p.m;
       k = p.k;
       behind = p.x ++ r;
       v = v;
-      key_is = ap (string o.enabled_escape key_ends) (name_is ∙ ap (skipped is_blank) (sym at_t)) ∙ (key_read p.front).1;
+      key_is =
+          ap (string o.enabled_escape key_ends) (name_is ∙ ap (skipped is_blank) (sym at_t))
+          ∙ (key_read p.front).1;
       value_is = (value-reads o).finds p.given;
       whole = at_t;
     }
 
-pub pair_read : {o : ParseOption} {t r name : List ℕ} → BeginsPair o t r → name ≡ skipped is_blank t → PairRead o t r name
+pub pair_read : {o : ParseOption} {t r name : List ℕ} → BeginsPair o t r → name ≡ skipped is_blank t
+    → PairRead o t r name
 pair_read (b, s, key, v, holds, whole) name_is = read_of name_is holds whole
 
 module _ {o : ParseOption} {t r name : List ℕ} (p : PairRead o t r name) where
-  pub key_found : (w : List ℕ) → prepend w (string o.enabled_escape key_ends name) ≡ found (w ++ p.u) (p.m ∷ p.behind)
+  pub key_found : (w : List ℕ)
+      → prepend w (string o.enabled_escape key_ends name) ≡ found (w ++ p.u) (p.m ∷ p.behind)
   key_found w = ap (prepend w) p.key_is
 
   module _ {out mark : List ℕ} (read : string o.enabled_escape key_ends name ≡ found out mark) where
@@ -174,22 +187,30 @@ module _ {o : ParseOption} {t r name : List ℕ} (p : PairRead o t r name) where
       tail_rest h = found_rest (sym h.reads ∙ value_found)
 
       pub tail_within : {start tail : List ℕ} → HasTail o after start tail → IsRest tail r
-      tail_within {tail = tail} h = rest_of h.behind r tail (ap (λ x. h.behind ++ x) (sym (tail_rest h)) ∙ sym h.tail_is)
+      tail_within {tail = tail} h =
+          rest_of h.behind r tail (ap (λ x. h.behind ++ x) (sym (tail_rest h)) ∙ sym h.tail_is)
 
-pub own_within : {o : ParseOption} {after start tail : List ℕ} → HasTail o after start tail → IsRest start tail
+pub own_within : {o : ParseOption} {after start tail : List ℕ} → HasTail o after start tail
+    → IsRest start tail
 own_within {start = start} {tail} h = rest_of h.own tail start (sym h.own_is)
 
-lead_whole : {after start : List ℕ} → start ≡ skipped is_inline_white after → run_of is_inline_white after ++ start ≡ after
-lead_whole {after} skips = ap (λ x. run_of is_inline_white after ++ x) skips ∙ (run-sound is_inline_white after).whole
+lead_whole : {after start : List ℕ} → start ≡ skipped is_inline_white after
+    → run_of is_inline_white after ++ start ≡ after
+lead_whole {after} skips =
+    ap (λ x. run_of is_inline_white after ++ x) skips ∙ (run-sound is_inline_white after).whole
 
-pub lead_within : {o : ParseOption} {after start tail : List ℕ} → HasTail o after start tail → IsRest after start
-lead_within {after = after} {start} h = rest_of (run_of is_inline_white after) start after (lead_whole h.skips)
+pub lead_within : {o : ParseOption} {after start tail : List ℕ} → HasTail o after start tail
+    → IsRest after start
+lead_within {after = after} {start} h =
+    rest_of (run_of is_inline_white after) start after (lead_whole h.skips)
 
 abbrev made_of : List ℕ → ℕ → List ℕ → List ℕ → List ℕ → List ℕ → Stretches
-made_of key_s sep lead_s own pad tail_s = record { key = key_s; separator = sep; lead = lead_s; own = own; pad = pad; tail = tail_s }
+made_of key_s sep lead_s own pad tail_s =
+    record { key = key_s; separator = sep; lead = lead_s; own = own; pad = pad; tail = tail_s }
 
 -- the stretches, from the rests at which they end
-module _ {o : ParseOption} (t r : List ℕ) {name out mark after start tail own pad key_s lead_s tail_s : List ℕ} {sep : ℕ}
+module _ {o : ParseOption} (t r : List ℕ)
+    {name out mark after start tail own pad key_s lead_s tail_s : List ℕ} {sep : ℕ}
     (name_is : name ≡ skipped is_blank t) (read : string o.enabled_escape key_ends name ≡ found out mark)
     (splits : mark ≡ sep ∷ after) (h : HasTail o after start tail)
     (key_cut : key_s ≡ front_of t mark) (lead_cut : lead_s ≡ front_of after start)
@@ -225,7 +246,9 @@ module _ {o : ParseOption} (t r : List ℕ) {name out mark after start tail own 
     tail_at = sym tail_whole ∙ ap (λ x. x ++ r) tail_is
 
     start_at : start ≡ own ++ (pad ++ (tail_s ++ r))
-    start_at = h.own_is ∙ ap (λ x. x ++ tail) own_is ∙ append_assoc own pad tail ∙ ap (λ x. own ++ (pad ++ x)) tail_at
+    start_at =
+        h.own_is ∙ ap (λ x. x ++ tail) own_is ∙ append_assoc own pad tail
+        ∙ ap (λ x. own ++ (pad ++ x)) tail_at
 
     seam : (own ++ (pad ++ tail_s)) ++ r ≡ own ++ (pad ++ (tail_s ++ r))
     seam = append_assoc own (pad ++ tail_s) r ∙ ap (λ x. own ++ x) (append_assoc pad tail_s r)
@@ -248,7 +271,10 @@ module _ {o : ParseOption} (t r : List ℕ) {name out mark after start tail own 
           ∙ ap (λ x. p.k ++ x ∷ (value_source (made_of key_s sep lead_s own pad tail_s))) sep_is
           ∙ ap (λ x. x ++ sep ∷ (value_source (made_of key_s sep lead_s own pad tail_s))) key_is,
       record {
-        key_front = subst (λ y. KeyFront o b y (sep ∷ ((value_source (made_of key_s sep lead_s own pad tail_s)) ++ r)) key) key_is
+        key_front =
+            subst
+            (λ y. KeyFront o b y (sep ∷ ((value_source (made_of key_s sep lead_s own pad tail_s)) ++ r)) key)
+            key_is
             (subst (λ y. KeyFront o b p.k
             (y ∷ ((value_source (made_of key_s sep lead_s own pad tail_s)) ++ r)) key) sep_is
             (subst (λ y. KeyFront o b p.k (p.m ∷ (y ++ r)) key) source_is p.front));
@@ -256,8 +282,12 @@ module _ {o : ParseOption} (t r : List ℕ) {name out mark after start tail own 
         separates = subst (λ y. is_separator y ≡ true) sep_is p.separates;
         gives = subst (λ y. Value o y r v) source_is p.given;
         lead = record {
-          white = subst (λ y. list_all is_inline_white y ≡ true) (sym lead_is) (run-sound is_inline_white after).all;
-          ends = subst (BeginsWithNo is_inline_white) (sym h.skips ∙ start_at) (run-sound is_inline_white after).ends;
+          white =
+              subst (λ y. list_all is_inline_white y ≡ true) (sym lead_is)
+              (run-sound is_inline_white after).all;
+          ends =
+              subst (BeginsWithNo is_inline_white) (sym h.skips ∙ start_at)
+              (run-sound is_inline_white after).ends;
         };
         own = subst₂ (OwnLines o) own_is tail_at h.own_lines;
         pad = padded;
@@ -297,7 +327,8 @@ module _ (o : ParseOption) (T b : List ℕ) where
 module _ (o : ParseOption) {T rest front cs : List ℕ} {c : ℕ} (within : IsRest T rest) (is : rest ≡ c ∷ cs)
     (at_front : front ≡ front_of T rest) where
   pub refuses_element : (stop : Stop) → StopsBy (element o front rest) stop
-      → StopIsWithin T stop × ((e : Error) → Tells (refusal_of T stop) e → RefusesElement o T (front_of T rest) e)
+      → StopIsWithin T stop
+      × ((e : Error) → Tells (refusal_of T stop) e → RefusesElement o T (front_of T rest) e)
   refuses_element stops.Memory read = (tt, tells_memory o T (front_of T rest))
   refuses_element (stops.Fault fault) read =
       let b = front_of T rest in
@@ -317,16 +348,19 @@ module _ (o : ParseOption) {T rest front cs : List ℕ} {c : ℕ} (within : IsRe
 
   module _ {after : List ℕ} {items : List Given} (read : element o front rest ≡ found items after) where
     said : (s : List ℕ) × Element o (front_of T rest) s after items × (s ++ after ≡ rest)
-    said = element-says o (front_of T rest) is (subst (λ f. element o f rest ≡ found items after) at_front read)
+    said =
+        element-says o (front_of T rest) is (subst (λ f. element o f rest ≡ found items after) at_front read)
 
     pub source_within : IsRest rest after
     source_within = rest_of said.0 after rest said.2
 
     pub begins_pair : {key v : List ℕ} → items ≡ Pair key v ∷ [] → BeginsPair o rest after
-    begins_pair {key} {v} q = (front_of T rest, said.0, key, v, subst (Element o (front_of T rest) said.0 after) q said.1, said.2)
+    begins_pair {key} {v} q =
+        (front_of T rest, said.0, key, v, subst (Element o (front_of T rest) said.0 after) q said.1, said.2)
 
     pub stands : (e : PlacedElement) → chars e.source.now ≡ front_of rest after → items ≡ gives e.content
-        → ((s : List ℕ) → Element o (front_of T rest) s after items → s ++ after ≡ rest → HasPlaces o (front_of T rest) s after e.content)
+        → ((s : List ℕ) → Element o (front_of T rest) s after items → s ++ after ≡ rest
+        → HasPlaces o (front_of T rest) s after e.content)
         → IsRest T after × StandsBetween o T (front_of T rest) (front_of T after) e
     stands e cut q places =
         let b = front_of T rest in

@@ -30,14 +30,16 @@ feeds_all (c ∷ cs) h = elim (cases_Bool (is_line_feed c)) [
   | inr n ↦ let z : c ∷ cs ≡ [] = rw n at h in cc
 ]
 
-pub feeds_some : {d : ℕ} {ds : List ℕ} (u : List ℕ) → skipped is_line_feed u ≡ d ∷ ds → list_all is_line_feed u ≡ false
+pub feeds_some : {d : ℕ} {ds : List ℕ} (u : List ℕ) → skipped is_line_feed u ≡ d ∷ ds
+    → list_all is_line_feed u ≡ false
 feeds_some [] h = cc
 feeds_some (c ∷ cs) h = elim (cases_Bool (is_line_feed c)) [
   | inl q ↦ rw q (feeds_some cs (rw q at h))
   | inr n ↦ rw n refl
 ]
 
-all_behind : (u v : List ℕ) → list_all is_line_feed u ≡ true → list_all is_line_feed v ≡ true → list_all is_line_feed (u ++ v) ≡ true
+all_behind : (u v : List ℕ) → list_all is_line_feed u ≡ true → list_all is_line_feed v ≡ true
+    → list_all is_line_feed (u ++ v) ≡ true
 all_behind u v a b = rw (list_all-append is_line_feed u v, a, b) refl
 
 -- a line that no line end follows ends the text
@@ -57,7 +59,8 @@ found_stopped h = cc
 behind_cr-is : (cs r : List ℕ) → empty_cr cs ≡ found [] r → cs ≡ line_feed ∷ r
 behind_cr-is [] r h = absurd (found_stopped h)
 behind_cr-is (c ∷ cs) r h = elim (cases_Bool (c == line_feed)) [
-  | inl q ↦ let feed : c ≡ line_feed = eqb-true c 10 q in ap (λ x. x ∷ cs) feed ∙ ap (λ x. line_feed ∷ x) (found_rest (rw q at h))
+  | inl q ↦ let feed : c ≡ line_feed = eqb-true c 10 q in
+      ap (λ x. x ∷ cs) feed ∙ ap (λ x. line_feed ∷ x) (found_rest (rw q at h))
   | inr n ↦ absurd (found_stopped (rw n at h))
 ]
 
@@ -75,15 +78,22 @@ module _ (o : ParseOption) where
       → start ≡ skipped is_inline_white t → line o false start ≡ found u end
       → LineAt o t end u
   line_at {t} {cs} {start} {end} {u} {c} is b skips read =
-      let (l, ln, h) = subst (Says (Line o false) (LineStops o) start) read ((line-reads o false).sound start) in
+      let (l, ln, h) =
+      subst (Says (Line o false) (LineStops o) start) read ((line-reads o false).sound start) in
       let split = run-sound is_inline_white t in
       record {
         w = run_of is_inline_white t;
         l = l;
-        begins = subst (λ y. BeginsWith is_blank (run_of is_inline_white y)) (sym is) (rw (blank_inline c b) b);
-        lead = record { white = split.all; ends = subst (BeginsWithNo is_inline_white) (sym (h ∙ skips)) split.ends };
+        begins =
+            subst (λ y. BeginsWith is_blank (run_of is_inline_white y)) (sym is) (rw (blank_inline c b) b);
+        lead = record {
+          white = split.all;
+          ends = subst (BeginsWithNo is_inline_white) (sym (h ∙ skips)) split.ends;
+        };
         ln = ln;
-        whole = append_assoc (run_of is_inline_white t) l end ∙ ap (λ y. run_of is_inline_white t ++ y) (h ∙ skips) ∙ split.whole;
+        whole =
+            append_assoc (run_of is_inline_white t) l end
+            ∙ ap (λ y. run_of is_inline_white t ++ y) (h ∙ skips) ∙ split.whole;
       }
 
   -- a row p, of the value u, behind which `next` stands
@@ -95,9 +105,11 @@ module _ (o : ParseOption) where
   lf_row next = record { last = λ s r e x. LastLine.empty_lf x; more = λ s r v e m. MoreLines.empty_lf m }
 
   cr_lf_row : (next : List ℕ) → Row (carriage_return ∷ line_feed ∷ []) next (line_feed ∷ [])
-  cr_lf_row next = record { last = λ s r e x. LastLine.empty_cr_lf x; more = λ s r v e m. MoreLines.empty_cr_lf m }
+  cr_lf_row next =
+      record { last = λ s r e x. LastLine.empty_cr_lf x; more = λ s r v e m. MoreLines.empty_cr_lf m }
 
-  module _ {t end next u : List ℕ} (here : LineAt o t end u) (e : List ℕ) (le : LineEnd e next) (is : e ++ next ≡ end) where
+  module _ {t end next u : List ℕ} (here : LineAt o t end u) (e : List ℕ) (le : LineEnd e next)
+      (is : e ++ next ≡ end) where
     abbrev row_source : List ℕ
     row_source = here.w ++ (here.l ++ e)
 
@@ -119,9 +131,12 @@ module _ (o : ParseOption) where
     }
 
     row_whole : t ≡ row_source ++ next
-    row_whole = sym here.whole ∙ ap (λ x. (here.w ++ here.l) ++ x) (sym is) ∙ append_assoc here.w here.l (e ++ next) ∙ sym (seam next)
+    row_whole =
+        sym here.whole ∙ ap (λ x. (here.w ++ here.l) ++ x) (sym is) ∙ append_assoc here.w here.l (e ++ next)
+        ∙ sym (seam next)
 
--- Of a value the own lines are known up to `tail`, and the lines behind them, which give nothing, up to `rest`.
+-- Of a value the own lines are known up to `tail`, and the lines behind them, which give nothing, up to
+-- `rest`.
 pub record TailSoFar (o : ParseOption) (text start tail rest : List ℕ) : Type 0 where
   pub before : List ℕ
   pub own : List ℕ
@@ -197,7 +212,8 @@ module _ (o : ParseOption) {text start : List ℕ} (skips : start ≡ skipped is
         closes = λ s r v q m all. (v, m, all);
         grows = λ s r q last.
             subst (λ x. OwnLines o x r) (sym (append_assoc l e s))
-            (OwnLines.more (subst (λ y. Line o true l y u) (sym is ∙ ap (λ x. e ++ x) (sym q)) ln) (subst (LineEnd e) (sym q) le) last);
+            (OwnLines.more (subst (λ y. Line o true l y u) (sym is ∙ ap (λ x. e ++ x) (sym q)) ln)
+            (subst (LineEnd e) (sym q) le) last);
       }
 
   -- a row that gives nothing stays behind the value's own lines
@@ -212,7 +228,8 @@ module _ (o : ParseOption) {text start : List ℕ} (skips : start ≡ skipped is
     given = st.given ++ u;
     start_is = st.start_is ∙ ap (λ x. st.before ++ x) is ∙ sym (append_assoc st.before p next);
     own_is = st.own_is;
-    tail_is = st.tail_is ∙ ap (λ x. st.end ++ x) (ap (λ x. st.lines ++ x) is ∙ sym (append_assoc st.lines p next));
+    tail_is =
+        st.tail_is ∙ ap (λ x. st.end ++ x) (ap (λ x. st.lines ++ x) is ∙ sym (append_assoc st.lines p next));
     own_lines = st.own_lines;
     ends = subst (LineEnd st.end) (ap (λ x. st.lines ++ x) is ∙ sym (append_assoc st.lines p next)) st.ends;
     reads = st.reads ∙ ap (λ a. altered without_outer_line_feeds (prepend st.given a)) turn
@@ -229,7 +246,8 @@ module _ (o : ParseOption) {text start : List ℕ} (skips : start ≡ skipped is
   pub tail_lf : {tail rest next : List ℕ} {c : ℕ} → TailSoFar o text start tail rest → rest ≡ c ∷ next
       → c ≡ line_feed → TailSoFar o text start tail next
   tail_lf {next = next} {c} st is feed =
-      tail_row (line_feed ∷ []) (line_feed ∷ []) st (is ∙ ap (λ x. x ∷ next) feed) (empty_line o is feed) (lf_row o next) refl
+      tail_row (line_feed ∷ []) (line_feed ∷ []) st (is ∙ ap (λ x. x ∷ next) feed) (empty_line o is feed)
+      (lf_row o next) refl
 
   pub tail_cr_lf : {tail rest cs next : List ℕ} {c : ℕ} → TailSoFar o text start tail rest → rest ≡ c ∷ cs
       → c ≡ carriage_return → empty_cr cs ≡ found [] next → TailSoFar o text start tail next
@@ -249,7 +267,8 @@ module _ (o : ParseOption) {text start : List ℕ} (skips : start ≡ skipped is
       → list_all is_line_feed v ≡ true → HasTail o text start tail
   tail_done {rest = rest} on st s r v q m all =
       let x = st.closes s r v q m all in
-      let whole : st.lines ++ rest ≡ (st.lines ++ s) ++ r = ap (λ y. st.lines ++ y) (sym q) ∙ sym (append_assoc st.lines s r) in
+      let whole : st.lines ++ rest ≡ (st.lines ++ s) ++ r =
+      ap (λ y. st.lines ++ y) (sym q) ∙ sym (append_assoc st.lines s r) in
       record {
         own = st.own;
         behind = st.end ++ (st.lines ++ s);
@@ -278,11 +297,14 @@ module _ (o : ParseOption) {text start : List ℕ} (skips : start ≡ skipped is
 
   pub tail_at_end : {tail rest : List ℕ} → o.enabled_indented_mutiline_value ≡ true
       → TailSoFar o text start tail rest → rest ≡ [] → HasTail o text start tail
-  tail_at_end on st none = tail_ends on st (subst (BeginsWithNo is_blank) (sym none) tt) (subst (BeginsWithNo is_line_end) (sym none) tt)
+  tail_at_end on st none =
+      tail_ends on st (subst (BeginsWithNo is_blank) (sym none) tt)
+      (subst (BeginsWithNo is_line_end) (sym none) tt)
 
   pub tail_line_stops : {tail rest cs behind r : List ℕ} {c : ℕ} {k : ParseKind}
       → TailSoFar o text start tail rest → rest ≡ c ∷ cs → is_blank c ≡ true
-      → behind ≡ skipped is_inline_white rest → line o false behind ≡ stopped r k → value o text ≡ stopped r k
+      → behind ≡ skipped is_inline_white rest → line o false behind ≡ stopped r k
+      → value o text ≡ stopped r k
   tail_line_stops {rest = rest} st is b from h =
       tail_stops st (sym (prepend-nil (more_lines o rest))
       ∙ line_stops o [] (line_feed ∷ []) is b from refl (ap (prepend (line_feed ∷ [])) h))
@@ -295,10 +317,13 @@ module _ (o : ParseOption) {text start : List ℕ} (skips : start ≡ skipped is
     here = line_at o is b from read
 
     own_line : list_all is_line_feed u ≡ false → OwnLines o (st.before ++ (here.w ++ here.l)) end
-    own_line some = st.grows (here.w ++ here.l) end here.whole (LastLine.last here.begins here.lead here.ln some)
+    own_line some =
+        st.grows (here.w ++ here.l) end here.whole (LastLine.last here.begins here.lead here.ln some)
 
     own_whole : start ≡ (st.before ++ (here.w ++ here.l)) ++ end
-    own_whole = st.start_is ∙ ap (λ x. st.before ++ x) (sym here.whole) ∙ sym (append_assoc st.before (here.w ++ here.l) end)
+    own_whole =
+        st.start_is ∙ ap (λ x. st.before ++ x) (sym here.whole)
+        ∙ sym (append_assoc st.before (here.w ++ here.l) end)
 
     feed_first : prepend (line_feed ∷ []) (line o false behind) ≡ found (line_feed ∷ u) end
     feed_first = ap (prepend (line_feed ∷ [])) read
@@ -310,8 +335,10 @@ module _ (o : ParseOption) {text start : List ℕ} (skips : start ≡ skipped is
       -- it is the last, and gives nothing
       pub last_line-empty : list_all is_line_feed u ≡ true → HasTail o text start tail
       last_line-empty all =
-          let lead : Lead here.w here.l = subst (Lead here.w) (ap (λ x. here.l ++ x) ended ∙ append-nil here.l) here.lead in
-          let whole : (here.w ++ here.l) ++ [] ≡ rest = ap (λ x. (here.w ++ here.l) ++ x) (sym ended) ∙ here.whole in
+          let lead : Lead here.w here.l =
+          subst (Lead here.w) (ap (λ x. here.l ++ x) ended ∙ append-nil here.l) here.lead in
+          let whole : (here.w ++ here.l) ++ [] ≡ rest =
+          ap (λ x. (here.w ++ here.l) ++ x) (sym ended) ∙ here.whole in
           tail_done on st (here.w ++ here.l) [] (line_feed ∷ u) whole
           (MoreLines.last here.begins lead (subst (λ x. Line o false here.l x u) ended here.ln)) all
 
@@ -332,7 +359,8 @@ module _ (o : ParseOption) {text start : List ℕ} (skips : start ≡ skipped is
       }
 
     module _ {next : List ℕ} (some : after_end end ≡ Some next) where
-      goes : (prepend [] (more_lines o rest) ≡ prepend (line_feed ∷ u) (more_lines o next)) × (length next < length rest)
+      goes : (prepend [] (more_lines o rest) ≡ prepend (line_feed ∷ u) (more_lines o next))
+          × (length next < length rest)
       goes = line_goes_on o [] (line_feed ∷ []) is b from refl feed_first some
 
       turn : more_lines o rest ≡ prepend (line_feed ∷ u) (more_lines o next)

@@ -46,7 +46,8 @@ spelled-digits c low valid =
 
 -- What is written for a character, but for U+000B, U+000C and those above U+FFFF, is a piece that stands
 -- for it.
-by_letter : (l v c : ℕ) → control l ≡ Some v → eqb c v ≡ true → EscapeSequence true (backslash ∷ l ∷ []) (c ∷ [])
+by_letter : (l v c : ℕ) → control l ≡ Some v → eqb c v ≡ true
+    → EscapeSequence true (backslash ∷ l ∷ []) (c ∷ [])
 by_letter l v c named same =
     subst (λ x. EscapeSequence true (backslash ∷ l ∷ []) (x ∷ [])) (sym (eqb-true c v same))
     (EscapeSequence.named refl named)

@@ -18,17 +18,21 @@ use Rattle.ini_text.proofs.PlainLemmas.PlainLineLemmas.{header_element, header_l
 use Rattle.ini_text.proofs.PlainLemmas.PlainPairLemmas.{value_no_end}
 
 -- a line end ends the string of a name with brackets
-line_ends_close : (w : WriteOption) (twice : Bool) (r : List ℕ) → Closes bracketed_name_ends (line_ends w twice ++ r)
+line_ends_close : (w : WriteOption) (twice : Bool) (r : List ℕ)
+    → Closes bracketed_name_ends (line_ends w twice ++ r)
 line_ends_close w twice r = at w.line_separator twice
   where
-    at : (s : LineSeparator) (twice : Bool) → Closes bracketed_name_ends ((line_end s ++ cond twice (line_end s) []) ++ r)
+    at : (s : LineSeparator) (twice : Bool)
+        → Closes bracketed_name_ends ((line_end s ++ cond twice (line_end s) []) ++ r)
     at SystemDefault twice = refl
     at CR twice = refl
     at CRLF twice = refl
 
 bracketed_row : {escapes : Bool} {policy : EscapePolicy} (name : List ℕ) → AllRead escapes policy name
-    → Row escapes bracketed_name_ends (escaped policy name ++ close_bracket ∷ []) (name ++ close_bracket ∷ [])
-bracketed_row name all = row_escaped name all (value_no_end all) (Row.raw (λ e. absurd (omega arith)) refl Row.none)
+    → Row escapes bracketed_name_ends (escaped policy name ++ close_bracket ∷ [])
+    (name ++ close_bracket ∷ [])
+bracketed_row name all =
+    row_escaped name all (value_no_end all) (Row.raw (λ e. absurd (omega arith)) refl Row.none)
 
 bracketed_element : {o : ParseOption} {b : List ℕ} (policy : EscapePolicy) (name : List ℕ) (w : WriteOption)
     (twice : Bool) (r : List ℕ) → o.enabled_brackets_in_section_names ≡ true → IsPlainName o policy name

@@ -36,7 +36,8 @@ gaps_of (c ∷ e) h =
 line_ends-all : (w : WriteOption) (twice : Bool) → list_all is_line_end (line_ends w twice) ≡ true
 line_ends-all w twice = at w.line_separator twice
   where
-    at : (s : LineSeparator) (twice : Bool) → list_all is_line_end (line_end s ++ cond twice (line_end s) []) ≡ true
+    at : (s : LineSeparator) (twice : Bool)
+        → list_all is_line_end (line_end s ++ cond twice (line_end s) []) ≡ true
     at SystemDefault true = refl
     at SystemDefault false = refl
     at CR true = refl
@@ -53,7 +54,8 @@ pub gaps_read : {o : ParseOption} {T r : List ℕ} {b s : List ℕ} → AreGaps 
 gaps_read {o} {T} {r} {b} AreGaps.none q = subst (Reads o T b []) (sym (append-nil b)) (Reads.stay r q)
 gaps_read {o} {T} {r} (AreGaps.more {b} {s} {t} gap gaps) q =
     let whole : T ≡ b ++ (s ++ (t ++ r)) = q ∙ ap (λ y. b ++ y) (append_assoc s t r) in
-    let rest : Reads o T (b ++ s) [] ((b ++ s) ++ t) = gaps_read gaps (whole ∙ sym (append_assoc b s (t ++ r))) in
+    let rest : Reads o T (b ++ s) [] ((b ++ s) ++ t) =
+    gaps_read gaps (whole ∙ sym (append_assoc b s (t ++ r))) in
     subst (Reads o T b []) (append_assoc b s t) (Reads.step whole (Element.gap gap) rest)
 
 -- a line gives its item as an element and then gaps do
@@ -67,13 +69,16 @@ element_then_gaps-gives {o} {b} {s} {e} {r} {item} x =
     (subst (Reads o T b (item ∷ [])) (append_assoc b s e) (Reads.step whole x.element gaps), x.column_one)
 
 -- behind line ends column one begins
-pub column_one_behind : (x : List ℕ) (c : ℕ) (y : List ℕ) → is_column_one (x ++ c ∷ y) ≡ is_column_one (c ∷ y)
+pub column_one_behind : (x : List ℕ) (c : ℕ) (y : List ℕ)
+    → is_column_one (x ++ c ∷ y) ≡ is_column_one (c ∷ y)
 column_one_behind x c y = ap is_line_feed (last_or-behind line_feed c x y)
 
-pub line_ends_column : (x : List ℕ) (w : WriteOption) (twice : Bool) → is_column_one (x ++ line_ends w twice) ≡ true
+pub line_ends_column : (x : List ℕ) (w : WriteOption) (twice : Bool)
+    → is_column_one (x ++ line_ends w twice) ≡ true
 line_ends_column x w twice = at w.line_separator twice
   where
-    at : (s : LineSeparator) (twice : Bool) → is_column_one (x ++ (line_end s ++ cond twice (line_end s) [])) ≡ true
+    at : (s : LineSeparator) (twice : Bool)
+        → is_column_one (x ++ (line_end s ++ cond twice (line_end s) [])) ≡ true
     at SystemDefault true = column_one_behind x line_feed (line_feed ∷ [])
     at SystemDefault false = column_one_behind x line_feed []
     at CR true = column_one_behind x line_feed (line_feed ∷ [])

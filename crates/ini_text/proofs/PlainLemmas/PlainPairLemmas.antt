@@ -120,11 +120,13 @@ blank_row (c ∷ w) h =
     elim (or_cases (eqb c 0x20) (eqb c 0x09) parts.0) [
       | inl q ↦
           let e = eqb-true c 0x20 q in
-          let no_end : is_endpoint key_ends c ≡ false = subst (λ x. is_endpoint key_ends x ≡ false) (sym e) refl in
+          let no_end : is_endpoint key_ends c ≡ false =
+          subst (λ x. is_endpoint key_ends x ≡ false) (sym e) refl in
           Row.raw (λ s. absurd (omega arith)) no_end (blank_row w parts.1)
       | inr q ↦
           let e = eqb-true c 0x09 q in
-          let no_end : is_endpoint key_ends c ≡ false = subst (λ x. is_endpoint key_ends x ≡ false) (sym e) refl in
+          let no_end : is_endpoint key_ends c ≡ false =
+          subst (λ x. is_endpoint key_ends x ≡ false) (sym e) refl in
           Row.raw (λ s. absurd (omega arith)) no_end (blank_row w parts.1)
     ]
 
@@ -233,7 +235,8 @@ module _ {o : ParseOption} {policy : EscapePolicy} where
       let begins : BeginsWith begins_indented_key ((escaped policy key ++ w) ++ m ∷ r) =
       rw (append_assoc (escaped policy key) w (m ∷ r)) (bare_indented policy (w ++ m ∷ r) bare) in
       let both = end_trimmed ((c ∷ spaces) ++ (key ++ w)) in
-      let key_is : cond o.enabled_preserve_key_leading_whitespace both (trimmed (key ++ w)) ≡ (c ∷ spaces) ++ key =
+      let key_is : cond o.enabled_preserve_key_leading_whitespace both (trimmed (key ++ w))
+      ≡ (c ∷ spaces) ++ key =
       cond-true o.enabled_preserve_key_leading_whitespace _ _ kept
       ∙ ap end_trimmed (sym (append_assoc (c ∷ spaces) key w))
       ∙ end_trimmed-blanks ((c ∷ spaces) ++ key) w blank
@@ -301,7 +304,8 @@ inline_blanks (c ∷ w) h =
 -- a plain value before a line end
 module _ {o : ParseOption} {policy : EscapePolicy} {value : List ℕ} (plain : IsPlainValue o policy value)
     (all : AllRead o.enabled_escape policy value) where
-  pub value_line : (l : ℕ) (r : List ℕ) → is_line_end l ≡ true → Line o true (escaped policy value) (l ∷ r) value
+  pub value_line : (l : ℕ) (r : List ℕ) → is_line_end l ≡ true
+      → Line o true (escaped policy value) (l ∷ r) value
   value_line l r h =
       let unquoted : BeginsPlain o (escaped policy value ++ l ∷ r) = λ on.
       value_begins (BeginsWithNo is_mark) (λ y. refl) policy l r plain h (λ y. line_end_no_mark l h)
@@ -315,7 +319,8 @@ module _ {o : ParseOption} {policy : EscapePolicy} {value : List ℕ} (plain : I
   value_lead w l r blank h = record {
     white = inline_blanks w blank;
     ends = value_begins (BeginsWithNo is_inline_white) (λ y. refl) policy l r plain h
-        (λ y. and_right (is_whitespace l) _ (ap not h)) (λ c y white mark. and_left (is_whitespace c) _ white);
+        (λ y. and_right (is_whitespace l) _ (ap not h))
+        (λ c y white mark. and_left (is_whitespace c) _ white);
   }
 
 pub ends_begin : (s : LineSeparator) (x : List ℕ)
@@ -345,7 +350,8 @@ source-parts key value sep =
     ∙ ap (λ x. key ++ x) (sym (append_assoc sep.before (sep.mark ∷ sep.after) value))
     ∙ ap (λ x. key ++ (x ++ value)) (sym sep.whole)
 
-module _ (o : ParseOption) (w : WriteOption) (twice : Bool) (b key value r : List ℕ) (one : is_column_one b ≡ true)
+module _ (o : ParseOption) (w : WriteOption) (twice : Bool) (b key value r : List ℕ)
+    (one : is_column_one b ≡ true)
     (sep : IsPlainSeparator (chars w.kv_separator.now)) (plain : IsPlainPair o w.escape_policy key value)
     (follows : FollowsPair o w.escape_policy r) where
   abbrev policy : EscapePolicy
@@ -373,7 +379,8 @@ module _ (o : ParseOption) (w : WriteOption) (twice : Bool) (b key value r : Lis
       → Element o b (ek ++ (chars w.kv_separator.now ++ v)) rest (Pair key value ∷ [])
   pair_element v rest given =
       let read_key = all_read {o = o} policy key plain.key_read_back in
-      let front = key_front {b = b} sep.before ((sep.after ++ v) ++ rest) sep.mark one plain.plain_key read_key
+      let front =
+      key_front {b = b} sep.before ((sep.after ++ v) ++ rest) sep.mark one plain.plain_key read_key
       sep.blank_before sep.separates in
       subst (λ x. Element o b x rest (Pair key value ∷ [])) (source-parts ek v sep)
       (Element.pair front (key_some plain.plain_key) sep.separates given)
@@ -383,18 +390,22 @@ module _ (o : ParseOption) (w : WriteOption) (twice : Bool) (b key value r : Lis
   value_parts x =
       let begin = ends_begin w.line_separator x in
       let lead = value_lead plain.plain_value read_value sep.after begin.0 begin.1 sep.blank_after begin.2 in
-      let line = value_line plain.plain_value read_value begin.0 begin.1 begin.2 in
-      (subst (λ y. Lead sep.after (ev ++ y)) (sym begin.3) lead, subst (λ y. Line o true ev y value) (sym begin.3) line)
+      let line = value_line plain.plain_value read_value begin.0 begin.1 begin.2 in (
+        subst (λ y. Lead sep.after (ev ++ y)) (sym begin.3) lead,
+        subst (λ y. Line o true ev y value) (sym begin.3) line,
+      )
 
   -- the line ends left as gaps
-  value_left : o.enabled_indented_mutiline_value ≡ false → Value o (sep.after ++ ev) (line_ends w twice ++ r) value
+  value_left : o.enabled_indented_mutiline_value ≡ false
+      → Value o (sep.after ++ ev) (line_ends w twice ++ r) value
   value_left off =
       let parts = value_parts (more_ends ++ r) in
       subst (λ x. Value o (sep.after ++ ev) x value) (sym (append_assoc end more_ends r))
       (Value.one_line off parts.0 parts.1)
 
   -- the line ends taken by a multiline value
-  value_taken : o.enabled_indented_mutiline_value ≡ true → Value o (sep.after ++ (ev ++ line_ends w twice)) r value
+  value_taken : o.enabled_indented_mutiline_value ≡ true
+      → Value o (sep.after ++ (ev ++ line_ends w twice)) r value
   value_taken on =
       let ahead = follows_multiline policy follows on in
       let more = more_lines {o = o} w.line_separator twice ahead.0 ahead.1 in
@@ -407,18 +418,22 @@ module _ (o : ParseOption) (w : WriteOption) (twice : Bool) (b key value r : Lis
   column : is_column_one (b ++ (pair_source w key value ++ line_ends w twice)) ≡ true
   column =
       let source = pair_source w key value in
-      ap is_column_one (sym (append_assoc b source (line_ends w twice))) ∙ line_ends_column (b ++ source) w twice
+      ap is_column_one (sym (append_assoc b source (line_ends w twice)))
+      ∙ line_ends_column (b ++ source) w twice
 
   pub pair_line : IsPairLine o w twice b key value r
   pair_line = record {
     taken = λ on.
-        let source : ek ++ (chars w.kv_separator.now ++ (ev ++ line_ends w twice)) ≡ pair_source w key value ++ line_ends w twice =
+        let source : ek ++ (chars w.kv_separator.now ++ (ev ++ line_ends w twice))
+        ≡ pair_source w key value ++ line_ends w twice =
         simp append_assoc in
         let element = pair_element (ev ++ line_ends w twice) r (value_taken on) in
         record {
           element = subst (λ x. Element o b x r (Pair key value ∷ [])) source element;
           are_gaps = AreGaps.none;
-          column_one = ap (λ x. is_column_one (b ++ x)) (append-nil (pair_source w key value ++ line_ends w twice)) ∙ column;
+          column_one =
+              ap (λ x. is_column_one (b ++ x)) (append-nil (pair_source w key value ++ line_ends w twice))
+              ∙ column;
         };
     left = λ off.
         record {
@@ -436,6 +451,7 @@ pair_line-gives {o} {w} {twice} {b} {key} {value} {r} x =
     let line = pair_source w key value ++ line_ends w twice in
     elim (cases_Bool o.enabled_indented_mutiline_value) [
       | inl on ↦
-          subst (λ l. GivesLine o b l r (Pair key value)) (append-nil line) (element_then_gaps-gives (x.taken on))
+          subst (λ l. GivesLine o b l r (Pair key value)) (append-nil line)
+          (element_then_gaps-gives (x.taken on))
       | inr off ↦ element_then_gaps-gives (x.left off)
     ]

@@ -24,7 +24,8 @@ itself : (b : Bool) → Decides b (b ≡ true)
 itself b = (λ e. e, λ e. e)
 
 -- two tests of each character are one
-all_and : (p q : ℕ → Bool) (cs : List ℕ) → Decides (list_all (λ c. p c && q c) cs) ((list_all p cs ≡ true) × (list_all q cs ≡ true))
+all_and : (p q : ℕ → Bool) (cs : List ℕ)
+    → Decides (list_all (λ c. p c && q c) cs) ((list_all p cs ≡ true) × (list_all q cs ≡ true))
 all_and p q [] = (λ e. (refl, refl), λ e. refl)
 all_and p q (c ∷ cs) = (
   λ e.
@@ -35,7 +36,8 @@ all_and p q (c ∷ cs) = (
   λ e.
       let ps = and_parts (p c) (list_all p cs) e.0 in
       let qs = and_parts (q c) (list_all q cs) e.1 in
-      and_from (p c && q c) (list_all (λ x. p x && q x) cs) (and_from (p c) (q c) ps.0 qs.0) ((all_and p q cs).1 (ps.1, qs.1)),
+      and_from (p c && q c) (list_all (λ x. p x && q x) cs) (and_from (p c) (q c) ps.0 qs.0)
+      ((all_and p q cs).1 (ps.1, qs.1)),
 )
 
 begins_decides : (test : ℕ → Bool) (cs : List ℕ) → Decides (begins test cs) (BeginsWith test cs)
@@ -71,7 +73,8 @@ skipped-none : (p : ℕ → Bool) (cs : List ℕ) → BeginsWithNo p cs → skip
 skipped-none p [] h = refl
 skipped-none p (c ∷ cs) h = cond-false (p c) (skipped p cs) (c ∷ cs) h
 
-separator_found : (text rest : List ℕ) → skipped is_blank text ≡ rest → is_mark_and_blanks rest ≡ true → IsPlainSeparator text
+separator_found : (text rest : List ℕ) → skipped is_blank text ≡ rest → is_mark_and_blanks rest ≡ true
+    → IsPlainSeparator text
 separator_found text [] e h = absurd (false≢true h)
 separator_found text (c ∷ cs) e h =
     let parts = and_parts (is_separator c) (list_all is_blank cs) h in
@@ -92,7 +95,8 @@ separator_decides text = (
       let found : skipped is_blank text ≡ s.mark ∷ s.after =
       ap (skipped is_blank) s.whole ∙ skipped-behind is_blank s.before (s.mark ∷ s.after) s.blank_before
       ∙ skipped-none is_blank (s.mark ∷ s.after) (separator_no_blank s.mark s.separates) in
-      ap is_mark_and_blanks found ∙ and_from (is_separator s.mark) (list_all is_blank s.after) s.separates s.blank_after,
+      ap is_mark_and_blanks found
+      ∙ and_from (is_separator s.mark) (list_all is_blank s.after) s.separates s.blank_after,
 )
 
 -- what is read back
@@ -107,11 +111,14 @@ nothing_decides ReservedUnicodeExtended = (λ e. absurd (false≢true e), λ e. 
 nothing_decides Everything = (λ e. absurd (false≢true e), λ e. cc)
 
 module _ (o : ParseOption) (policy : EscapePolicy) where
-  read_escapes_decides : (text : List ℕ) → Decides (has_read_escapes o policy text) (HasReadEscapes o policy text)
+  read_escapes_decides : (text : List ℕ)
+      → Decides (has_read_escapes o policy text) (HasReadEscapes o policy text)
   read_escapes_decides text =
-      Decides-like _ (λ e. record { escapes = e.0; escaping = e.1.0; no_unread_letter = e.1.1.0; no_extended = e.1.1.1 })
+      Decides-like _ (λ e.
+      record { escapes = e.0; escaping = e.1.0; no_unread_letter = e.1.1.0; no_extended = e.1.1.1 })
       (λ r. (r.escapes, (r.escaping, (r.no_unread_letter, r.no_extended))))
-      (Decides-and _ _ (itself o.enabled_escape) (Decides-and _ _ (Decides-not _ (nothing_decides policy)) (all_and _ _ text)))
+      (Decides-and _ _ (itself o.enabled_escape)
+      (Decides-and _ _ (Decides-not _ (nothing_decides policy)) (all_and _ _ text)))
 
   no_escapes_decides : (text : List ℕ) → Decides (has_no_escapes policy text) (HasNoEscapes policy text)
   no_escapes_decides text =
@@ -119,7 +126,8 @@ module _ (o : ParseOption) (policy : EscapePolicy) where
       (λ n. (n.no_escaped, n.no_backslash)) (all_and _ _ text)
 
   -- of a text that is made of characters
-  read_back_decides : (text : List ℕ) → all_scalars text ≡ true → Decides (is_read_back o policy text) (IsReadBack o policy text)
+  read_back_decides : (text : List ℕ) → all_scalars text ≡ true
+      → Decides (is_read_back o policy text) (IsReadBack o policy text)
   read_back_decides text valid =
       Decides-like _ (λ e. record { of_characters = valid; is_read = e }) (λ r. r.is_read)
       (Decides-or _ _ (read_escapes_decides text) (no_escapes_decides text))
@@ -129,15 +137,18 @@ module _ (o : ParseOption) (policy : EscapePolicy) where
       (o.enabled_brackets_in_section_names ≡ false → has_no_close_bracket name ≡ true)
   no_bracket_decides name = at o.enabled_brackets_in_section_names
     where
-      at : (b : Bool) → Decides (b || has_no_close_bracket name) (b ≡ false → has_no_close_bracket name ≡ true)
+      at : (b : Bool)
+          → Decides (b || has_no_close_bracket name) (b ≡ false → has_no_close_bracket name ≡ true)
       at true = (λ e off. absurd (false≢true (sym off)), λ f. refl)
       at false = (λ e off. e, λ f. f refl)
 
-  pub name_decides : (name : List ℕ) → all_scalars name ≡ true → Decides (is_plain_name o policy name) (IsPlainName o policy name)
+  pub name_decides : (name : List ℕ) → all_scalars name ≡ true
+      → Decides (is_plain_name o policy name) (IsPlainName o policy name)
   name_decides name valid =
       Decides-like _ (λ e. record { is_trimmed = e.0; no_bracket = e.1.0; read_back = e.1.1 })
       (λ n. (n.is_trimmed, (n.no_bracket, n.read_back)))
-      (Decides-and _ _ (trimmed_decides name) (Decides-and _ _ (no_bracket_decides name) (read_back_decides name valid)))
+      (Decides-and _ _ (trimmed_decides name)
+      (Decides-and _ _ (no_bracket_decides name) (read_back_decides name valid)))
 
   -- values
   no_mark_decides : (value : List ℕ)
@@ -149,16 +160,22 @@ module _ (o : ParseOption) (policy : EscapePolicy) where
       at true = let none = begins_no_decides is_mark value in (λ e on. none.0 e, λ h. none.1 (h refl))
       at false = (λ e on. absurd (false≢true on), λ h. refl)
 
-  pub value_decides : (value : List ℕ) → all_scalars value ≡ true → Decides (is_plain_value o policy value) (IsPlainValue o policy value)
+  pub value_decides : (value : List ℕ) → all_scalars value ≡ true
+      → Decides (is_plain_value o policy value) (IsPlainValue o policy value)
   value_decides value valid =
-      Decides-like _ (λ e. record { is_trimmed = e.0; no_mark = e.1.0; read_back = e.1.1 }) (λ v. (v.is_trimmed, (v.no_mark, v.read_back)))
-      (Decides-and _ _ (trimmed_decides value) (Decides-and _ _ (no_mark_decides value) (read_back_decides value valid)))
+      Decides-like _ (λ e. record { is_trimmed = e.0; no_mark = e.1.0; read_back = e.1.1 })
+      (λ v. (v.is_trimmed, (v.no_mark, v.read_back)))
+      (Decides-and _ _ (trimmed_decides value)
+      (Decides-and _ _ (no_mark_decides value) (read_back_decides value valid)))
 
   -- keys
-  indented_decides : (key : List ℕ) → Decides (is_indented_by_escape o policy key) (IsIndentedByEscape o policy key)
+  indented_decides : (key : List ℕ)
+      → Decides (is_indented_by_escape o policy key) (IsIndentedByEscape o policy key)
   indented_decides key =
-      Decides-like _ (λ e. record { kept = e.0; white = e.1.0; end_is_trimmed = e.1.1 }) (λ i. (i.kept, (i.white, i.end_is_trimmed)))
-      (Decides-and _ _ (itself _) (Decides-and _ _ (begins_decides _ key) (bytes_decides (end_trimmed key) key)))
+      Decides-like _ (λ e. record { kept = e.0; white = e.1.0; end_is_trimmed = e.1.1 })
+      (λ i. (i.kept, (i.white, i.end_is_trimmed)))
+      (Decides-and _
+      _ (itself _) (Decides-and _ _ (begins_decides _ key) (bytes_decides (end_trimmed key) key)))
 
   begins_bare : List ℕ → Type 0
   begins_bare key = (key ≢ [])
@@ -175,17 +192,28 @@ module _ (o : ParseOption) (policy : EscapePolicy) where
   front_decides [] = (λ e. absurd (false≢true e), λ b. absurd (b.0 refl))
   front_decides (c ∷ cs) =
       Decides-like _ (λ e. (λ q. cc, e)) (λ b. b.1)
-      (Decides-and _ _ (not_false (eqb c open_bracket)) (escaped_mark (is_comment_mark c) (is_escaped policy c)))
+      (Decides-and _ _ (not_false (eqb c open_bracket))
+      (escaped_mark (is_comment_mark c) (is_escaped policy c)))
 
   bare_decides : (key : List ℕ) → Decides (is_bare_key o policy key) (IsBareKey o policy key)
   unfolding begins_bare
   bare_decides key =
-      Decides-like _ (λ e. record { some = e.0.0; is_trimmed = e.1.0; no_bracket = e.0.1.0; no_separator = e.1.1; no_comment = e.0.1.1 })
+      Decides-like _
+      (λ e.
+      record {
+        some = e.0.0;
+        is_trimmed = e.1.0;
+        no_bracket = e.0.1.0;
+        no_separator = e.1.1;
+        no_comment = e.0.1.1;
+      })
       (λ k. ((k.some, (k.no_bracket, k.no_comment)), (k.is_trimmed, k.no_separator)))
-      (Decides-and _ _ (front_decides key) (Decides-and _ _ (Decides-or _ _ (trimmed_decides key) (indented_decides key)) (itself _)))
+      (Decides-and _ _ (front_decides key)
+      (Decides-and _ _ (Decides-or _ _ (trimmed_decides key) (indented_decides key)) (itself _)))
 
   -- no policy escapes a space, so a bare key doesn't begin with one
-  no_space : (key : List ℕ) → (trimmed key ≡ key) ⊎ IsIndentedByEscape o policy key → BeginsWithNo (λ c. eqb c space) key
+  no_space : (key : List ℕ) → (trimmed key ≡ key) ⊎ IsIndentedByEscape o policy key
+      → BeginsWithNo (λ c. eqb c space) key
   no_space [] h = tt
   no_space (c ∷ cs) (inl t) =
       false_from_ne_true (eqb c space)
@@ -202,15 +230,19 @@ module _ (o : ParseOption) (policy : EscapePolicy) where
           → is_bare_key o policy (cond b (skipped (λ c. eqb c space) key) key) ≡ true
           → IsPlainKey o policy key
       at true b h =
-          let on = and_parts o.enabled_preserve_key_leading_whitespace (not o.enabled_indented_mutiline_value) b in
+          let on =
+          and_parts o.enabled_preserve_key_leading_whitespace (not o.enabled_indented_mutiline_value) b in
           subst (IsPlainKey o policy) (run-sound (λ c. eqb c space) key).whole
           (IsPlainKey.behind_spaces (run_of (λ c. eqb c space) key) on.0
           (not-true o.enabled_indented_mutiline_value on.1) ((run-sound (λ c. eqb c space) key).all)
           ((bare_decides _).0 h))
       at false b h = IsPlainKey.bare ((bare_decides key).0 h)
 
-  bare_stays : (key : List ℕ) → IsBareKey o policy key → is_bare_key o policy (skipped (λ c. eqb c space) key) ≡ true
-  bare_stays key k = ap (is_bare_key o policy) (skipped-none (λ c. eqb c space) key (no_space key k.is_trimmed)) ∙ (bare_decides key).1 k
+  bare_stays : (key : List ℕ) → IsBareKey o policy key
+      → is_bare_key o policy (skipped (λ c. eqb c space) key) ≡ true
+  bare_stays key k =
+      ap (is_bare_key o policy) (skipped-none (λ c. eqb c space) key (no_space key k.is_trimmed))
+      ∙ (bare_decides key).1 k
 
   key_tested : {key : List ℕ} → IsPlainKey o policy key → is_plain_key o policy key ≡ true
   key_tested (IsPlainKey.bare {key} k) =
@@ -231,4 +263,5 @@ module _ (o : ParseOption) (policy : EscapePolicy) where
   pair_decides key value key_valid value_valid =
       Decides-like _ (λ e. record { plain_key = e.0; key_read_back = e.1.0; plain_value = e.1.1 })
       (λ p. (p.plain_key, (p.key_read_back, p.plain_value)))
-      (Decides-and _ _ (key_decides key) (Decides-and _ _ (read_back_decides key key_valid) (value_decides value value_valid)))
+      (Decides-and _ _ (key_decides key)
+      (Decides-and _ _ (read_back_decides key key_valid) (value_decides value value_valid)))

@@ -1,4 +1,5 @@
--- Reading an element by the character with which it begins: the reader finds what the grammar says, and the code gives it.
+-- Reading an element by the character with which it begins: the reader finds what the grammar says, and the
+-- code gives it.
 use Rattle.std.proofs.Common.{◌≡◌, ◌≢◌, ℕ, Bool, true, false, not, ◌&&◌, ◌||◌, ◌==◌, if◌then◌else◌, List, [], ◌∷◌, ◌++◌, drop, Option, Some, None, inl, inr, refl, sym, ap, ◌∙◌, subst, append_assoc, append-nil, eqb-true, ne_eqb}
 use Rattle.std.proofs.Math.Bool.{or-false}
 use Rattle.std.proofs.lemmas.Bool.{cases_Bool, cond-true, cond-false, and_parts, or_parts, not-true, not-false}
@@ -44,13 +45,15 @@ escape_at_end (EscapeStops.cut_in_unit units few) e = refl
 escape_at_end (EscapeStops.broken units few other) e = cc
 escape_at_end (EscapeStops.unknown units four none) e = cc
 
-stopped_at_end : {e : Bool} {ends : Ends} {s r : List ℕ} {k : ParseKind} → StrStops e ends s r k → k ≡ EndOfText → r ≡ []
+stopped_at_end : {e : Bool} {ends : Ends} {s r : List ℕ} {k : ParseKind} → StrStops e ends s r k
+    → k ≡ EndOfText → r ≡ []
 stopped_at_end (StrStops.at_end row h) e = refl
 stopped_at_end (StrStops.after_backslash row h) e = refl
 stopped_at_end (StrStops.in_escape row on stop) e = escape_at_end stop e
 
 -- the key that a key front gives of its string
-key_value : (kept : Bool) (v : List ℕ) → trimmed_at (not kept) v ≡ (if kept then end_trimmed v else trimmed v)
+key_value : (kept : Bool) (v : List ℕ)
+    → trimmed_at (not kept) v ≡ (if kept then end_trimmed v else trimmed v)
 key_value true v = refl
 key_value false v = refl
 
@@ -61,7 +64,8 @@ indented_value true w v = refl
 indented_value false w v = refl
 
 -- behind a key, and where an indented key begins
-pub behind_key : (o : ParseOption) (key r : List ℕ) → key ≢ [] → behind_separator o key r ≡ paired key (value o r)
+pub behind_key : (o : ParseOption) (key r : List ℕ) → key ≢ []
+    → behind_separator o key r ≡ paired key (value o r)
 behind_key o [] r some = absurd (some refl)
 behind_key o (c ∷ key) r some = refl
 
@@ -70,7 +74,8 @@ pub key_at : (o : ParseOption) (w : List ℕ) {t cs : List ℕ} {c : ℕ} → t 
 key_at o w {c = c} is end bracket = rw is (rw (end, ne_eqb c 91 bracket))
 
 module _ (o : ParseOption) (b : List ℕ) where
-  no_line_start : (c : ℕ) → (is_blank c ≡ true → starts_line b ≡ false) → (is_blank c && starts_line b) ≡ false
+  no_line_start : (c : ℕ) → (is_blank c ≡ true → starts_line b ≡ false)
+      → (is_blank c && starts_line b) ≡ false
   no_line_start c h = elim (cases_Bool (is_blank c)) [ inl q ↦ rw (q, h q) refl | inr q ↦ rw q refl ]
 
   pub element-end : element o b [] ≡ found [] []
@@ -80,10 +85,12 @@ module _ (o : ParseOption) (b : List ℕ) where
   abbrev ElementSays : List ℕ → Answer Given → Type 0
   ElementSays t a = Says (Element o b) (ElementStops o b) t a
 
-  name-reads : IsReader (Str o.enabled_escape name_ends) (StrStops o.enabled_escape name_ends) (string o.enabled_escape name_ends)
+  name-reads : IsReader (Str o.enabled_escape name_ends) (StrStops o.enabled_escape name_ends)
+      (string o.enabled_escape name_ends)
   name-reads = string-reads o.enabled_escape name_ends refl
 
-  key-reads : IsReader (Str o.enabled_escape key_ends) (StrStops o.enabled_escape key_ends) (string o.enabled_escape key_ends)
+  key-reads : IsReader (Str o.enabled_escape key_ends) (StrStops o.enabled_escape key_ends)
+      (string o.enabled_escape key_ends)
   key-reads = string-reads o.enabled_escape key_ends refl
 
   line-reads : IsReader (Str o.enabled_escape bracketed_name_ends)
@@ -91,19 +98,23 @@ module _ (o : ParseOption) (b : List ℕ) where
   line-reads = string-reads o.enabled_escape bracketed_name_ends refl
 
   -- what follows a string begins with an endpoint
-  key-separator : {s r v : List ℕ} → Str o.enabled_escape key_ends s r v → (m : ℕ) × (x : List ℕ) × (r ≡ m ∷ x) × (is_separator m ≡ true)
+  key-separator : {s r v : List ℕ} → Str o.enabled_escape key_ends s r v
+      → (m : ℕ) × (x : List ℕ) × (r ≡ m ∷ x) × (is_separator m ≡ true)
   key-separator {r = []} (Str.closed k h) = cc
   key-separator {r = m ∷ x} (Str.closed k h) = (m, x, refl, rw (or-false (m == 0x3A)) at h)
   key-separator (Str.lone k h) = cc
 
-  name-bracket : {s r v : List ℕ} → Str o.enabled_escape name_ends s r v → (x : List ℕ) × (r ≡ close_bracket ∷ x)
+  name-bracket : {s r v : List ℕ} → Str o.enabled_escape name_ends s r v
+      → (x : List ℕ) × (r ≡ close_bracket ∷ x)
   name-bracket {r = []} (Str.closed k h) = cc
   name-bracket {r = m ∷ x} (Str.closed k h) = (x, ap (λ y. y ∷ x) (eqb-true m 93 (rw or-false at h)))
   name-bracket (Str.lone k h) = cc
 
-  behind_separator-sound : {k r : List ℕ} {m : ℕ} (key : List ℕ) → KeyFront o b k (m ∷ r) key → is_separator m ≡ true
+  behind_separator-sound : {k r : List ℕ} {m : ℕ} (key : List ℕ) → KeyFront o b k (m ∷ r) key
+      → is_separator m ≡ true
       → ElementSays (k ++ m ∷ r) (behind_separator o key r)
-  behind_separator-sound {k} {r} {m} [] front sep = (k ++ m ∷ [], ElementStops.no_key front sep, append_assoc k (m ∷ []) r)
+  behind_separator-sound {k} {r} {m} [] front sep =
+      (k ++ m ∷ [], ElementStops.no_key front sep, append_assoc k (m ∷ []) r)
   behind_separator-sound {k} {r} {m} (c ∷ key) front sep = by (value o r) ((value-reads o).sound r)
     where
       by : (a : Answer ℕ) → Says (Value o) (ValueStops o) r a → ElementSays (k ++ m ∷ r) (paired (c ∷ key) a)
@@ -116,19 +127,25 @@ module _ (o : ParseOption) (b : List ℕ) where
 
   keyed-sound : (w : List ℕ) {s r v t : List ℕ} (key : List ℕ)
       → ((x : List ℕ) → s ++ x ≡ t → Str o.enabled_escape key_ends s x v → KeyFront o b (w ++ s) x key)
-      → Str o.enabled_escape key_ends s r v → s ++ r ≡ t → ElementSays (w ++ t) (behind_separator o key (drop 1 r))
+      → Str o.enabled_escape key_ends s r v → s ++ r ≡ t
+      → ElementSays (w ++ t) (behind_separator o key (drop 1 r))
   keyed-sound w {s} {r} {v} {t} key front str h =
       let x = key-separator str in
       let whole : s ++ x.0 ∷ x.1 ≡ t = ap (λ y. s ++ y) (sym x.2) ∙ h in
-      rw x.2 (subst (λ y. ElementSays y (behind_separator o key x.1)) (append_assoc w s (x.0 ∷ x.1) ∙ ap (λ y. w ++ y) whole)
-      (behind_separator-sound key (front (x.0 ∷ x.1) whole (subst (λ y. Str o.enabled_escape key_ends s y v) x.2 str)) x.3))
+      rw x.2 (subst (λ y. ElementSays y (behind_separator o key x.1))
+      (append_assoc w s (x.0 ∷ x.1) ∙ ap (λ y. w ++ y) whole)
+      (behind_separator-sound
+      key (front (x.0 ∷ x.1) whole (subst (λ y. Str o.enabled_escape key_ends s y v) x.2 str)) x.3))
 
   unindented-sound : (t : List ℕ) → BeginsWith begins_key t → (a : Answer ℕ)
       → StringSays o.enabled_escape key_ends t a → ElementSays t (keyed o (trimmed_key o a))
   unindented-sound t begins (found v r) (s, str, h) =
-      subst (λ k. ElementSays t (behind_separator o k (drop 1 r))) (sym (key_value o.enabled_preserve_key_leading_whitespace v))
-      (keyed-sound [] _ (λ x q k. KeyFront.unindented (subst (BeginsWith begins_key) (sym q) begins) k) str h)
-  unindented-sound t begins (stopped r k) (s, stops, h) = (s, ElementStops.in_key (subst (BeginsWith begins_key) (sym h) begins) stops, h)
+      subst (λ k. ElementSays t (behind_separator o k (drop 1 r)))
+      (sym (key_value o.enabled_preserve_key_leading_whitespace v))
+      (keyed-sound [] _ (λ x q k. KeyFront.unindented (subst (BeginsWith begins_key) (sym q) begins) k) str
+      h)
+  unindented-sound t begins (stopped r k) (s, stops, h) =
+      (s, ElementStops.in_key (subst (BeginsWith begins_key) (sym h) begins) stops, h)
 
   indented-sound : (w t : List ℕ) → Indentation b w → BeginsWith begins_indented_key t → (a : Answer ℕ)
       → StringSays o.enabled_escape key_ends t a
@@ -136,8 +153,10 @@ module _ (o : ParseOption) (b : List ℕ) where
   indented-sound w t ind begins (found v r) (s, str, h) =
       subst (λ k. ElementSays (w ++ t) (behind_separator o k (drop 1 r)))
       (sym (indented_value o.enabled_preserve_key_leading_whitespace w v))
-      (keyed-sound w _ (λ x q k. KeyFront.indented ind (subst (BeginsWith begins_indented_key) (sym q) begins) k) str h)
-  indented-sound w t ind begins (stopped r k) (s, stops, h) = by k stops (subst (BeginsWith begins_indented_key) (sym h) begins)
+      (keyed-sound w
+      _ (λ x q k. KeyFront.indented ind (subst (BeginsWith begins_indented_key) (sym q) begins) k) str h)
+  indented-sound w t ind begins (stopped r k) (s, stops, h) =
+      by k stops (subst (BeginsWith begins_indented_key) (sym h) begins)
     where
       whole : (w ++ s) ++ r ≡ w ++ t
       whole = append_assoc w s r ∙ ap (λ y. w ++ y) h
@@ -151,7 +170,8 @@ module _ (o : ParseOption) (b : List ℕ) where
           (w ++ s, subst (λ y. Element o b (w ++ s) y []) (sym none) key, whole)
       by k stops begins = (w ++ s, ElementStops.in_indented_key ind begins stops (λ q. cc), whole)
 
-  behind_blanks-sound : (w t : List ℕ) → Indentation b w → BeginsWithNo is_blank t → ElementSays (w ++ t) (behind_blanks o w t)
+  behind_blanks-sound : (w t : List ℕ) → Indentation b w → BeginsWithNo is_blank t
+      → ElementSays (w ++ t) (behind_blanks o w t)
   behind_blanks-sound w [] ind other = (w, Element.dropped_blanks ind, refl)
   behind_blanks-sound w (c ∷ cs) ind other = elim (cases_Bool (is_line_end c)) [
     | inl h ↦ rw h (w ++ c ∷ [], Element.gap (Gap.blank_line c ind h), append_assoc w (c ∷ []) cs)
@@ -162,15 +182,18 @@ module _ (o : ParseOption) (b : List ℕ) where
     ]
   ]
 
-  header-sound : o.enabled_brackets_in_section_names ≡ false → (t : List ℕ) (a : Answer ℕ) → StringSays o.enabled_escape name_ends t a
+  header-sound : o.enabled_brackets_in_section_names ≡ false → (t : List ℕ) (a : Answer ℕ)
+      → StringSays o.enabled_escape name_ends t a
       → ElementSays (open_bracket ∷ t) (header (altered (trimmed_at true) a))
-  header-sound off t (stopped r k) (s, stops, h) = (open_bracket ∷ s, ElementStops.in_header off stops, ap (λ y. open_bracket ∷ y) h)
+  header-sound off t (stopped r k) (s, stops, h) =
+      (open_bracket ∷ s, ElementStops.in_header off stops, ap (λ y. open_bracket ∷ y) h)
   header-sound off t (found v r) (s, str, h) =
       let x = name-bracket str in
       rw x.1 (
         open_bracket ∷ (s ++ close_bracket ∷ []),
         Element.header off (subst (λ y. Str o.enabled_escape name_ends s y v) x.1 str),
-        ap (λ y. open_bracket ∷ y) (append_assoc s (close_bracket ∷ []) x.0 ∙ ap (λ y. s ++ y) (sym x.1) ∙ h),
+        ap (λ y. open_bracket ∷ y)
+            (append_assoc s (close_bracket ∷ []) x.0 ∙ ap (λ y. s ++ y) (sym x.1) ∙ h),
       )
 
   named-sound : {s r v t : List ℕ} → o.enabled_brackets_in_section_names ≡ true
@@ -182,34 +205,45 @@ module _ (o : ParseOption) (b : List ℕ) where
       let (c, x, is, ends) = endpoint_follows str refl in
       rw is (
         open_bracket ∷ (s ++ c ∷ []),
-        ElementStops.no_header_end on (subst (λ y. Str o.enabled_escape bracketed_name_ends s y v) is str) (no_name v e),
+        ElementStops.no_header_end on (subst (λ y. Str o.enabled_escape bracketed_name_ends s y v) is str)
+            (no_name v e),
         ap (λ y. open_bracket ∷ y) (append_assoc s (c ∷ []) x ∙ ap (λ y. s ++ y) (sym is) ∙ h),
       )
 
   bracketed_header-sound : o.enabled_brackets_in_section_names ≡ true → (t : List ℕ) (a : Answer ℕ)
-      → StringSays o.enabled_escape bracketed_name_ends t a → ElementSays (open_bracket ∷ t) (bracketed_header a)
+      → StringSays o.enabled_escape bracketed_name_ends t a
+      → ElementSays (open_bracket ∷ t) (bracketed_header a)
   bracketed_header-sound on t (stopped r k) (s, stops, h) =
       (open_bracket ∷ s, ElementStops.in_bracketed_header on stops, ap (λ y. open_bracket ∷ y) h)
   bracketed_header-sound on t (found v r) (s, str, h) = named-sound on str h (name_in v) refl
 
   behind_bracket-sound : (cs : List ℕ) → ElementSays (open_bracket ∷ cs) (behind_bracket o cs)
   behind_bracket-sound cs = elim (cases_Bool o.enabled_brackets_in_section_names) [
-    | inl on ↦ subst (ElementSays (open_bracket ∷ cs)) (sym (cond-true o.enabled_brackets_in_section_names _ _ on))
+    | inl on ↦
+        subst (ElementSays (open_bracket ∷ cs)) (sym (cond-true o.enabled_brackets_in_section_names _ _ on))
         (bracketed_header-sound on cs (string o.enabled_escape bracketed_name_ends cs) (line-reads.sound cs))
-    | inr off ↦ subst (ElementSays (open_bracket ∷ cs)) (sym (cond-false o.enabled_brackets_in_section_names _ _ off))
+    | inr off ↦
+        subst (ElementSays (open_bracket ∷ cs))
+        (sym (cond-false o.enabled_brackets_in_section_names _ _ off))
         (header-sound off cs (string o.enabled_escape name_ends cs) (name-reads.sound cs))
   ]
 
-  comment-sound : (c : ℕ) (s rest : List ℕ) → is_column_one b ≡ true → is_comment_mark c ≡ true → list_all is_comment_part s ≡ true
+  comment-sound : (c : ℕ) (s rest : List ℕ) → is_column_one b ≡ true → is_comment_mark c ≡ true
+      → list_all is_comment_part s ≡ true
       → BeginsWithNo is_comment_part rest
       → ElementSays (c ∷ (s ++ rest)) (found [] (drop 1 rest))
   comment-sound c s [] one mark all other = (c ∷ s, Element.last_comment one mark all, refl)
   comment-sound c s (l ∷ rest) one mark all other =
       let feed : l ≡ line_feed = eqb-true l 10 (not-false (l == line_feed) other) in
-      rw feed (c ∷ (s ++ line_feed ∷ []), Element.comment s one mark all, ap (λ y. c ∷ y) (append_assoc s (line_feed ∷ []) rest))
+      rw feed (
+        c ∷ (s ++ line_feed ∷ []),
+        Element.comment s one mark all,
+        ap (λ y. c ∷ y) (append_assoc s (line_feed ∷ []) rest),
+      )
 
   mark-sound : (c : ℕ) (cs : List ℕ) → is_comment_mark c ≡ true
-      → ElementSays (c ∷ cs) (if is_column_one b then found [] (drop 1 (skipped is_comment_part cs)) else stopped cs InlineComment)
+      → ElementSays (c ∷ cs) (if is_column_one b then found [] (drop 1 (skipped is_comment_part cs))
+      else stopped cs InlineComment)
   mark-sound c cs mark = elim (cases_Bool (is_column_one b)) [
     | inl one ↦
         let split = run-sound is_comment_part cs in
@@ -225,8 +259,10 @@ module _ (o : ParseOption) (b : List ℕ) where
       let split = run-sound is_blank (c ∷ cs) in
       let w = run_of is_blank (c ∷ cs) in
       let rest = skipped is_blank (c ∷ cs) in
-      let ind : Indentation b w = record { at_line_start = start; some = rw blank blank; blank = split.all } in
-      subst (λ y. ElementSays y (behind_blanks o w rest)) split.whole (behind_blanks-sound w rest ind split.ends)
+      let ind : Indentation b w =
+      record { at_line_start = start; some = rw blank blank; blank = split.all } in
+      subst (λ y. ElementSays y (behind_blanks o w rest)) split.whole
+      (behind_blanks-sound w rest ind split.ends)
 
   pub element-sound : (c : ℕ) (cs : List ℕ) → ElementSays (c ∷ cs) (element o b (c ∷ cs))
   unfolding element
@@ -247,12 +283,14 @@ module _ (o : ParseOption) (b : List ℕ) where
   ]
 
   -- at a line's start, behind blanks
-  element-blanks : {w : List ℕ} (t : List ℕ) → Indentation b w → BeginsWithNo is_blank t → element o b (w ++ t) ≡ behind_blanks o w t
+  element-blanks : {w : List ℕ} (t : List ℕ) → Indentation b w → BeginsWithNo is_blank t
+      → element o b (w ++ t) ≡ behind_blanks o w t
   unfolding element
   element-blanks {w = []} t ind other = let none = ind.some in cc
   element-blanks {w = c ∷ w} t ind other =
       let split = run-finds is_blank (c ∷ w) t ind.blank other in
-      cond-true (is_blank c && starts_line b) _ _ (rw (ind.some, ind.at_line_start) refl) ∙ rw (split.0, split.1) refl
+      cond-true (is_blank c && starts_line b) _ _ (rw (ind.some, ind.at_line_start) refl)
+      ∙ rw (split.0, split.1) refl
 
   element-indented : {w : List ℕ} (t : List ℕ) → Indentation b w → BeginsWith begins_indented_key t
       → element o b (w ++ t) ≡ indented o w t
@@ -282,57 +320,86 @@ module _ (o : ParseOption) (b : List ℕ) where
   element-gap : {s r : List ℕ} → Gap b s r → element o b (s ++ r) ≡ found [] r
   unfolding element
   element-gap {r = r} (Gap.blank_line {w} c ind end) =
-      rw (append_assoc w (c ∷ []) r, element-blanks (c ∷ r) ind (line_end_no_blank c end)) (cond-true (is_line_end c) _ _ end)
+      rw (append_assoc w (c ∷ []) r, element-blanks (c ∷ r) ind (line_end_no_blank c end))
+      (cond-true (is_line_end c) _ _ end)
   element-gap (Gap.before_header {w} {r} ind) = element-blanks (open_bracket ∷ r) ind refl
   element-gap (Gap.white {c} w n) = rw (no_line_start c n, w)
 
-  element-comment : (m : ℕ) (s r : List ℕ) → is_column_one b ≡ true → is_comment_mark m ≡ true → list_all is_comment_part s ≡ true
+  element-comment : (m : ℕ) (s r : List ℕ) → is_column_one b ≡ true → is_comment_mark m ≡ true
+      → list_all is_comment_part s ≡ true
       → BeginsWithNo is_comment_part r → element o b (m ∷ (s ++ r)) ≡ found [] (drop 1 r)
   unfolding element
   element-comment m s r one mark all other =
-      let apart = comment_mark-apart m mark in rw (apart.0, apart.1, mark, one, (run-finds is_comment_part s r all other).1)
+      let apart = comment_mark-apart m mark in rw (
+        apart.0,
+        apart.1,
+        mark,
+        one,
+        (run-finds is_comment_part s r all other).1,
+      )
 
-  pub element-finds : {s r : List ℕ} {gives : List Given} → Element o b s r gives → element o b (s ++ r) ≡ found gives r
+  pub element-finds : {s r : List ℕ} {gives : List Given} → Element o b s r gives
+      → element o b (s ++ r) ≡ found gives r
   unfolding element
   element-finds (Element.gap g) = element-gap g
   element-finds {r = r} (Element.comment {m} s one mark all) =
       rw (append_assoc s (line_feed ∷ []) r) (element-comment m s (line_feed ∷ r) one mark all refl)
   element-finds (Element.last_comment {m} {s} one mark all) = element-comment m s [] one mark all tt
-  element-finds {r = r} (Element.header {s} off str) = rw (off, append_assoc s (close_bracket ∷ []) r, name-reads.finds str)
+  element-finds {r = r} (Element.header {s} off str) =
+      rw (off, append_assoc s (close_bracket ∷ []) r, name-reads.finds str)
   element-finds (Element.bracketed_header on str i) = rw (on, line-reads.finds str, finds_name i)
   element-finds {r = r} (Element.pair {k} {s} {key = key} {m = m} front some sep given) =
-      rw (append_assoc k (m ∷ s) r, element-key front sep, behind_key o key (s ++ r) some, (value-reads o).finds given)
+      rw (
+        append_assoc k (m ∷ s) r,
+        element-key front sep,
+        behind_key o key (s ++ r) some,
+        (value-reads o).finds given,
+      )
   element-finds (Element.dropped_blanks ind) = element-blanks [] ind tt
   element-finds (Element.dropped_key {w} {s} ind begins stops) =
-      let reads : string o.enabled_escape key_ends s ≡ stopped [] EndOfText = rw (append-nil s) at (key-reads.stops stops) in
+      let reads : string o.enabled_escape key_ends s ≡ stopped [] EndOfText =
+      rw (append-nil s) at (key-reads.stops stops) in
       rw (append-nil (w ++ s), element-indented s ind begins, reads)
 
   dropped-stops : (r : List ℕ) (k : ParseKind) → k ≢ EndOfText → dropped r k ≡ stopped r k
   dropped-stops r EndOfText n = absurd (n refl)
   dropped-stops r _ n = refl
 
-  pub element-stops : {s r : List ℕ} {k : ParseKind} → ElementStops o b s r k → element o b (s ++ r) ≡ stopped r k
+  pub element-stops : {s r : List ℕ} {k : ParseKind} → ElementStops o b s r k
+      → element o b (s ++ r) ≡ stopped r k
   unfolding element
   element-stops (ElementStops.in_header off stops) = rw (off, name-reads.stops stops)
   element-stops (ElementStops.in_bracketed_header on stops) = rw (on, line-reads.stops stops)
   element-stops {r = r} (ElementStops.no_header_end {s} {v = v} {c} on str none) =
       rw (on, append_assoc s (c ∷ []) r, line-reads.finds str, none_found v none)
-  element-stops {s} {r} (ElementStops.in_key begins stops) = rw (element-unindented (s ++ r) begins, key-reads.stops stops)
+  element-stops {s} {r} (ElementStops.in_key begins stops) =
+      rw (element-unindented (s ++ r) begins, key-reads.stops stops)
   element-stops {r = r} {k} (ElementStops.in_indented_key {w} {s} ind begins stops n) =
-      rw (append_assoc w s r, element-indented (s ++ r) ind begins, key-reads.stops stops) (dropped-stops r k n)
-  element-stops {r = r} (ElementStops.no_key {k} {m = m} front sep) = rw (append_assoc k (m ∷ []) r) (element-key front sep)
+      rw (append_assoc w s r, element-indented (s ++ r) ind begins, key-reads.stops stops)
+      (dropped-stops r k n)
+  element-stops {r = r} (ElementStops.no_key {k} {m = m} front sep) =
+      rw (append_assoc k (m ∷ []) r) (element-key front sep)
   element-stops {r = r} (ElementStops.in_value {k} {s} {key = key} {m = m} front some sep stops) =
-      rw (append_assoc k (m ∷ s) r, element-key front sep, behind_key o key (s ++ r) some, (value-reads o).stops stops)
-  element-stops (ElementStops.late_comment {m} mark late) = let apart = comment_mark-apart m mark in rw (apart.0, apart.1, mark, late)
+      rw (
+        append_assoc k (m ∷ s) r,
+        element-key front sep,
+        behind_key o key (s ++ r) some,
+        (value-reads o).stops stops,
+      )
+  element-stops (ElementStops.late_comment {m} mark late) =
+      let apart = comment_mark-apart m mark in rw (apart.0, apart.1, mark, late)
 
   -- what the reader answers at a text that isn't at its end
-  pub element-says : {t cs : List ℕ} {c : ℕ} {a : Answer Given} → t ≡ c ∷ cs → element o b t ≡ a → ElementSays t a
+  pub element-says : {t cs : List ℕ} {c : ℕ} {a : Answer Given} → t ≡ c ∷ cs → element o b t ≡ a
+      → ElementSays t a
   element-says {t} {cs} {c} is e = subst (ElementSays t) e (rw is (element-sound c cs))
 
 -- the front before the rest behind a line's blanks
-pub blanks_front : {t start : List ℕ} → start ≡ skipped is_blank t → (front_of t start ≡ run_of is_blank t) × IsRest t start
+pub blanks_front : {t start : List ℕ} → start ≡ skipped is_blank t
+    → (front_of t start ≡ run_of is_blank t) × IsRest t start
 blanks_front {t} {start} is =
-    let whole : run_of is_blank t ++ start ≡ t = ap (λ x. run_of is_blank t ++ x) is ∙ (run-sound is_blank t).whole in
+    let whole : run_of is_blank t ++ start ≡ t =
+    ap (λ x. run_of is_blank t ++ x) is ∙ (run-sound is_blank t).whole in
     let front = front_is (run_of is_blank t) start t whole in
     (front, ap (λ x. x ++ start) front ∙ whole)
 

@@ -1,4 +1,5 @@
--- Reading a line by its quoted parts and its plain part: the reader finds what the grammar says, and the code gives it.
+-- Reading a line by its quoted parts and its plain part: the reader finds what the grammar says, and the
+-- code gives it.
 use Rattle.std.proofs.Common.{◌≡◌, ℕ, Bool, true, ◌&&◌, ◌||◌, not, List, [], ◌∷◌, ◌++◌, ◌<◌, length, drop, Some, None, inl, inr, refl, sym, ap, ◌∙◌, subst, append_assoc, append-nil, length-append, arith, ne_eqb, eqb-true}
 use Rattle.std.proofs.Math.Bool.{or-false}
 use Rattle.std.proofs.lemmas.Bool.{cases_Bool, and_parts}
@@ -24,7 +25,8 @@ closed_by_mark {e} {m = m} {s = s} {r = d ∷ r} {v = v} (Str.closed row h) =
 closed_by_mark (Str.lone row h) = cc
 
 -- a string before its mark
-Str-before : {e : Bool} {m : ℕ} {s v r : List ℕ} (t : List ℕ) → Str e (quote_ends m) s (m ∷ r) v → Str e (quote_ends m) s (m ∷ t) v
+Str-before : {e : Bool} {m : ℕ} {s v r : List ℕ} (t : List ℕ) → Str e (quote_ends m) s (m ∷ r) v
+    → Str e (quote_ends m) s (m ∷ t) v
 Str-before t (Str.closed k h) = Str.closed k h
 
 abbrev pub LineSays : ParseOption → Bool → List ℕ → Answer ℕ → Type 0
@@ -32,31 +34,37 @@ LineSays o first t a = Says (Line o first) (LineStops o) t a
 
 module _ (o : ParseOption) where
   quote-reads : (m : ℕ) → is_mark m ≡ true
-      → IsReader (Str o.enabled_escape (quote_ends m)) (StrStops o.enabled_escape (quote_ends m)) (string o.enabled_escape (quote_ends m))
+      → IsReader (Str o.enabled_escape (quote_ends m)) (StrStops o.enabled_escape (quote_ends m))
+      (string o.enabled_escape (quote_ends m))
   quote-reads m h = string-reads o.enabled_escape (quote_ends m)
       (rw (ne_eqb 92 m (λ q. let z = subst (λ x. is_mark x ≡ true) (sym q) h in cc)) refl)
 
-  plain-reads : IsReader (Str o.enabled_escape plain_ends) (StrStops o.enabled_escape plain_ends) (string o.enabled_escape plain_ends)
+  plain-reads : IsReader (Str o.enabled_escape plain_ends) (StrStops o.enabled_escape plain_ends)
+      (string o.enabled_escape plain_ends)
   plain-reads = string-reads o.enabled_escape plain_ends refl
 
   opens_none : (t : List ℕ) → BeginsPlain o t → quote_at o t ≡ None
   opens_none [] h = refl
-  opens_none (c ∷ cs) h = elim (cases_Bool o.enabled_quote) [ inl on ↦ rw (on, h on) refl | inr off ↦ rw off refl ]
+  opens_none (c ∷ cs) h = elim (cases_Bool o.enabled_quote)
+      [ inl on ↦ rw (on, h on) refl | inr off ↦ rw off refl ]
 
   -- the quoted parts before the plain part, and a stop among them
   abbrev Parts : List ℕ → List ℕ → List ℕ → Type 0
   Parts s r w = Quoted o s w (opens_quote o (s ++ r)) × BeginsPlain o r
 
   data PartsStop : List ℕ → List ℕ → ParseKind → Type 0 where
-    stop : {q w s r : List ℕ} {quoted : Bool} {m : ℕ} {kind : ParseKind} → Quoted o q w quoted → o.enabled_quote ≡ true → is_mark m ≡ true
+    stop : {q w s r : List ℕ} {quoted : Bool} {m : ℕ} {kind : ParseKind} → Quoted o q w quoted
+        → o.enabled_quote ≡ true → is_mark m ≡ true
         → StrStops o.enabled_escape (quote_ends m) s r kind → PartsStop (q ++ m ∷ s) r kind
 
   abbrev PartSays : List ℕ → Step ℕ → Type 0
   PartSays t x = StepSays Parts PartsStop t x
 
   -- behind a quoted part
-  behind : {m : ℕ} {s v : List ℕ} → o.enabled_quote ≡ true → is_mark m ≡ true → Str o.enabled_escape (quote_ends m) s (m ∷ []) v
-      → (r : List ℕ) (a : Answer ℕ) → Says Parts PartsStop r a → Says Parts PartsStop (m ∷ (s ++ m ∷ r)) (prepend v a)
+  behind : {m : ℕ} {s v : List ℕ} → o.enabled_quote ≡ true → is_mark m ≡ true
+      → Str o.enabled_escape (quote_ends m) s (m ∷ []) v
+      → (r : List ℕ) (a : Answer ℕ) → Says Parts PartsStop r a
+      → Says Parts PartsStop (m ∷ (s ++ m ∷ r)) (prepend v a)
   behind {m} {s} {v} on mark str r (found w x) (q, (quoted, plain), h) =
       let opens : opens_quote o ((m ∷ (s ++ m ∷ q)) ++ x) ≡ true = rw (on, mark) refl in (
         m ∷ (s ++ m ∷ q),
@@ -67,14 +75,19 @@ module _ (o : ParseOption) where
         ),
         simp (append_assoc, h),
       )
-  behind {m} {s} {v} on mark str r (stopped x k) (_, PartsStop.stop {q} {w} {s = p} {m = n} quoted on' mark' stops, h) =
-      let whole : q ++ n ∷ (p ++ x) ≡ r = simp append_assoc at h in
-      ((m ∷ (s ++ m ∷ q)) ++ n ∷ p, PartsStop.stop (Quoted.part on mark str quoted) on' mark' stops, simp (append_assoc, whole))
+  behind {m} {s} {v} on mark str r (stopped x k)
+      (_, PartsStop.stop {q} {w} {s = p} {m = n} quoted on' mark' stops, h) =
+      let whole : q ++ n ∷ (p ++ x) ≡ r = simp append_assoc at h in (
+        (m ∷ (s ++ m ∷ q)) ++ n ∷ p,
+        PartsStop.stop (Quoted.part on mark str quoted) on' mark' stops,
+        simp (append_assoc, whole),
+      )
 
   behind-sound : (m : ℕ) (t : List ℕ) → o.enabled_quote ≡ true → is_mark m ≡ true → (a : Answer ℕ)
       → StringSays o.enabled_escape (quote_ends m) t a
       → PartSays (m ∷ t) (behind_mark a)
-  behind-sound m t on mark (stopped r k) (s, stops, h) = (m ∷ s, PartsStop.stop Quoted.none on mark stops, ap (λ y. m ∷ y) h)
+  behind-sound m t on mark (stopped r k) (s, stops, h) =
+      (m ∷ s, PartsStop.stop Quoted.none on mark stops, ap (λ y. m ∷ y) h)
   behind-sound m t on mark (found v r) (s, str, h) =
       let x = closed_by_mark str in
       let whole : s ++ m ∷ x.0 ≡ t = ap (λ y. s ++ y) (sym x.1) ∙ h in
@@ -85,7 +98,8 @@ module _ (o : ParseOption) where
   part-sound (c ∷ cs) = elim (cases_Bool (o.enabled_quote && is_mark c)) [
     | inl h ↦
         let test = and_parts o.enabled_quote (is_mark c) h in
-        rw h (behind-sound c cs test.0 test.1 (string o.enabled_escape (quote_ends c) cs) ((quote-reads c test.1).sound cs))
+        rw h (behind-sound c cs test.0 test.1 (string o.enabled_escape (quote_ends c) cs)
+        ((quote-reads c test.1).sound cs))
     | inr h ↦ rw h ([], (rw h Quoted.none, λ on. rw on at h), refl)
   ]
 
@@ -117,37 +131,50 @@ module _ (o : ParseOption) where
         → prepend w (string o.enabled_escape to after) ≡ stopped r k → prepend w (parts o t) ≡ stopped r k
     part_stops h = ap (prepend w) part-turn ∙ then_stopped _ w _ h
 
-    pub part_shortens : {v r : List ℕ} → prepend w (string o.enabled_escape to after) ≡ found v r → length (drop 1 r) < length t
+    pub part_shortens : {v r : List ℕ} → prepend w (string o.enabled_escape to after) ≡ found v r
+        → length (drop 1 r) < length t
     part_shortens {r = r} h =
         let (u, read, grown) = read_behind w (string o.enabled_escape to after) h in
         let step : part o t ≡ more u (drop 1 r) = rw opens (ap behind_mark read) in
         shortens Parts PartsStop (part o) part-sound step
 
-  pub line_plain : (t : List ℕ) → quote_at o t ≡ None → line o true t ≡ altered (trimmed_at true) (string o.enabled_escape plain_ends t)
+  pub line_plain : (t : List ℕ) → quote_at o t ≡ None
+      → line o true t ≡ altered (trimmed_at true) (string o.enabled_escape plain_ends t)
   unfolding line
   line_plain t none = rw (parts_end t none, none) (prepend-nil _)
 
-  Quoted-read : {q w : List ℕ} {quoted : Bool} → Quoted o q w quoted → (r : List ℕ) → parts o (q ++ r) ≡ prepend w (parts o r)
+  Quoted-read : {q w : List ℕ} {quoted : Bool} → Quoted o q w quoted → (r : List ℕ)
+      → parts o (q ++ r) ≡ prepend w (parts o r)
   Quoted-read Quoted.none r = sym (prepend-nil (parts o r))
   Quoted-read (Quoted.part {m} {s} {v} {q} {w} on mark str k) r =
-      let whole : (m ∷ (s ++ m ∷ q)) ++ r ≡ m ∷ (s ++ m ∷ (q ++ r)) = ap (λ y. m ∷ y) (append_assoc s (m ∷ q) r) in
-      let opens : quote_at o (m ∷ (s ++ m ∷ (q ++ r))) ≡ Some (quote_ends m, s ++ m ∷ (q ++ r)) = rw (on, mark) refl in
+      let whole : (m ∷ (s ++ m ∷ q)) ++ r ≡ m ∷ (s ++ m ∷ (q ++ r)) =
+      ap (λ y. m ∷ y) (append_assoc s (m ∷ q) r) in
+      let opens : quote_at o (m ∷ (s ++ m ∷ (q ++ r))) ≡ Some (quote_ends m, s ++ m ∷ (q ++ r)) =
+      rw (on, mark) refl in
       let read = (quote-reads m mark).finds (Str-before (q ++ r) str) in
       ap (parts o) whole ∙ part-turn _ w opens ∙ ap (and_then (λ x. parts o (drop 1 x))) read
       ∙ ap (prepend v) (Quoted-read k r) ∙ prepend-prepend v w (parts o r)
 
-  Quoted-opens : {q w : List ℕ} {quoted : Bool} → Quoted o q w quoted → (r : List ℕ) → BeginsPlain o r → opens_quote o (q ++ r) ≡ quoted
+  Quoted-opens : {q w : List ℕ} {quoted : Bool} → Quoted o q w quoted → (r : List ℕ) → BeginsPlain o r
+      → opens_quote o (q ++ r) ≡ quoted
   Quoted-opens Quoted.none r plain = rw (opens_none r plain)
   Quoted-opens (Quoted.part on mark str k) r plain = rw (on, mark) refl
 
   module _ (first : Bool) where
-    plained-sound : {q w : List ℕ} {quoted : Bool} → Quoted o q w quoted → (r : List ℕ) → BeginsPlain o r → (a : Answer ℕ)
+    plained-sound : {q w : List ℕ} {quoted : Bool} → Quoted o q w quoted → (r : List ℕ) → BeginsPlain o r
+        → (a : Answer ℕ)
         → StringSays o.enabled_escape plain_ends r a
         → LineSays o first (q ++ r) (prepend w (altered (plain_value first quoted) a))
-    plained-sound {q} quoted r plain (found v x) (p, str, h) =
-        (q ++ p, Line.line quoted (subst (BeginsPlain o) (sym h) plain) str, append_assoc q p x ∙ ap (λ y. q ++ y) h)
-    plained-sound {q} quoted r plain (stopped x k) (p, stops, h) =
-        (q ++ p, LineStops.in_plain quoted (subst (BeginsPlain o) (sym h) plain) stops, append_assoc q p x ∙ ap (λ y. q ++ y) h)
+    plained-sound {q} quoted r plain (found v x) (p, str, h) = (
+      q ++ p,
+      Line.line quoted (subst (BeginsPlain o) (sym h) plain) str,
+      append_assoc q p x ∙ ap (λ y. q ++ y) h,
+    )
+    plained-sound {q} quoted r plain (stopped x k) (p, stops, h) = (
+      q ++ p,
+      LineStops.in_plain quoted (subst (BeginsPlain o) (sym h) plain) stops,
+      append_assoc q p x ∙ ap (λ y. q ++ y) h,
+    )
 
     line-by : (t : List ℕ) (a : Answer ℕ) → Says Parts PartsStop t a
         → LineSays o first t (and_then (plain_part o first (opens_quote o t)) a)
@@ -165,17 +192,27 @@ module _ (o : ParseOption) where
       stops = stops;
     }
       where
-        part_found : {q w : List ℕ} {quoted : Bool} → Quoted o q w quoted → (t : List ℕ) → BeginsPlain o t → parts o (q ++ t) ≡ found w t
-        part_found {w = w} k t plain = and_found w (Quoted-read k t) (parts_end t (opens_none t plain)) (sym (append-nil w))
+        part_found : {q w : List ℕ} {quoted : Bool} → Quoted o q w quoted → (t : List ℕ) → BeginsPlain o t
+            → parts o (q ++ t) ≡ found w t
+        part_found {w = w} k t plain =
+            and_found w (Quoted-read k t) (parts_end t (opens_none t plain)) (sym (append-nil w))
 
         finds : {s r v : List ℕ} → Line o first s r v → line o first (s ++ r) ≡ found v r
         finds {r = r} (Line.line {q} {w} {p} {v} {quoted} k plain str) =
-            rw (append_assoc q, part_found k (p ++ r) plain, Quoted-opens k (p ++ r) plain, plain-reads.finds str)
+            rw (
+              append_assoc q,
+              part_found k (p ++ r) plain,
+              Quoted-opens k (p ++ r) plain,
+              plain-reads.finds str,
+            )
 
-        stops : {s r : List ℕ} {kind : ParseKind} → LineStops o s r kind → line o first (s ++ r) ≡ stopped r kind
+        stops : {s r : List ℕ} {kind : ParseKind} → LineStops o s r kind
+            → line o first (s ++ r) ≡ stopped r kind
         stops (LineStops.in_quotes {q} {w} {s} {r} {m = m} k on mark str) =
             let opens : quote_at o (m ∷ (s ++ r)) ≡ Some (quote_ends m, s ++ r) = rw (on, mark) refl in
-            let stop = part-turn (m ∷ (s ++ r)) w opens ∙ ap (and_then (λ x. parts o (drop 1 x))) ((quote-reads m mark).stops str) in
+            let stop =
+            part-turn (m ∷ (s ++ r)) w opens
+            ∙ ap (and_then (λ x. parts o (drop 1 x))) ((quote-reads m mark).stops str) in
             rw (append_assoc q, and_stopped w (Quoted-read k (m ∷ (s ++ r))) stop)
         stops (LineStops.in_plain {q} {s} {r} k plain str) =
             rw (append_assoc q, part_found k (s ++ r) plain, plain-reads.stops str)
@@ -186,13 +223,15 @@ module _ (o : ParseOption) where
     line-parts : (quoted : Bool)
         → prepend old (and_then (plain_part o first quoted) (parts o t))
         ≡ prepend out (plain_part o first quoted rest)
-    line-parts quoted = then_found _ old _ (read ∙ ap (prepend out) (parts_end rest none)) ∙ rw (append-nil out)
+    line-parts quoted =
+        then_found _ old _ (read ∙ ap (prepend out) (parts_end rest none)) ∙ rw (append-nil out)
 
     pub line_stops : {r : List ℕ} {k : ParseKind}
         → prepend out (string o.enabled_escape plain_ends rest) ≡ stopped r k
         → prepend old (line o first t) ≡ stopped r k
     unfolding line
-    line_stops h = line-parts (opens_quote o t) ∙ rw (stopped_behind out (string o.enabled_escape plain_ends rest) h)
+    line_stops h =
+        line-parts (opens_quote o t) ∙ rw (stopped_behind out (string o.enabled_escape plain_ends rest) h)
 
     pub line_read : {new end v : List ℕ} (quoted : Bool) → opens_quote o t ≡ (quoted || opens_quote o rest)
         → string o.enabled_escape plain_ends rest ≡ found v end

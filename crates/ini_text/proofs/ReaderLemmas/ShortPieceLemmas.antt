@@ -28,15 +28,19 @@ pub record BeginsWithTwo (t : List ℕ) (a b : ℕ) : Type 0 where
   pub read : chars t ≡ a ∷ b ∷ chars (drop 2 t)
   pub cut : IsCharBoundary t 2
 
-past_ascii : (t rest : List ℕ) (c : ℕ) → IsUtf8 t → t ≡ c ∷ rest → c < 128 → (chars t ≡ c ∷ chars rest) × IsUtf8 rest
+past_ascii : (t rest : List ℕ) (c : ℕ) → IsUtf8 t → t ≡ c ∷ rest → c < 128
+    → (chars t ≡ c ∷ chars rest) × IsUtf8 rest
 past_ascii t rest c u is low =
-    let whole = is ∙ ap (λ x. x ++ rest) (sym (encode_ascii c low)) in (chars_past_char t rest c u whole, IsUtf8-past_char t rest c u whole)
+    let whole = is ∙ ap (λ x. x ++ rest) (sym (encode_ascii c low)) in
+    (chars_past_char t rest c u whole, IsUtf8-past_char t rest c u whole)
 
 pub begins_with_two : (t bytes : List ℕ) (a b : ℕ) → bytes ≡ t → IsUtf8 t → 2 ≤ length bytes
     → get_or bytes 0 0 ≡ a → get_or bytes 1 0 ≡ b → a < 128 → b < 128 → BeginsWithTwo t a b
 begins_with_two t bytes a b same u long first second low-a low-b =
     let text : IsUtf8 bytes = subst IsUtf8 (sym same) u in
-    let begins = past_ascii bytes (drop 1 bytes) a text (drop-cons bytes 0 0 (omega arith) ∙ ap (λ x. x ∷ drop 1 bytes) first) low-a in
+    let begins =
+    past_ascii bytes (drop 1 bytes) a
+    text (drop-cons bytes 0 0 (omega arith) ∙ ap (λ x. x ∷ drop 1 bytes) first) low-a in
     let next = past_ascii (drop 1 bytes) (drop 2 bytes) b begins.1 (drop-cons bytes 1 0 (omega arith)
     ∙ ap (λ x. x ∷ drop 2 bytes) second) low-b in
     let two : BeginsWithTwo bytes a b =
@@ -50,7 +54,8 @@ begins_with_two t bytes a b same u long first second low-a low-b =
 -- and one whose first four are
 pub begins_with_four : (t bytes : List ℕ) (a b c d : ℕ) → bytes ≡ t → IsUtf8 t → 4 ≤ length bytes
     → get_or bytes 0 0 ≡ a → get_or bytes 1 0 ≡ b → get_or bytes 2 0 ≡ c → get_or bytes 3 0 ≡ d
-    → a < 128 → b < 128 → c < 128 → d < 128 → (chars t ≡ a ∷ b ∷ c ∷ d ∷ chars (drop 4 t)) × IsCharBoundary t 4
+    → a < 128 → b < 128 → c < 128 → d < 128
+    → (chars t ≡ a ∷ b ∷ c ∷ d ∷ chars (drop 4 t)) × IsCharBoundary t 4
 begins_with_four t bytes a b c d same u long first second third fourth low-a low-b low-c low-d =
     let text : IsUtf8 bytes = subst IsUtf8 (sym same) u in
     let two = begins_with_two bytes bytes a b refl text (omega arith) first second low-a low-b in
@@ -71,7 +76,8 @@ four_spell t (Some v) four is = (coded_digits four.0 refl refl refl (sym is), fo
 
 module _ (to : Ends) where
   -- a backslash and the character behind it
-  pub pair_read : {t rest : List ℕ} {d v : ℕ} → t ≡ backslash ∷ d ∷ rest → d ≢ line_feed → d ≢ letter_x → v ≡ unwrap_or (control d) d
+  pub pair_read : {t rest : List ℕ} {d v : ℕ} → t ≡ backslash ∷ d ∷ rest → d ≢ line_feed → d ≢ letter_x
+      → v ≡ unwrap_or (control d) d
       → string true to t ≡ prepend (v ∷ []) (string true to rest)
   pair_read {rest = rest} {d} two n m is =
       string_pair true to two refl refl (rw (ne_eqb d 120 m) refl) ∙ rw (ne_eqb d 10 n, is) refl
@@ -81,8 +87,10 @@ module _ (to : Ends) where
       → coded ds ≡ found (v ∷ []) rest → string true to t ≡ prepend (v ∷ []) (string true to rest)
   coded_read two is = string_coded true to two refl refl refl refl ∙ ap (and_then (string true to)) is
 
-pub coded_shorter : {t ds rest v : List ℕ} → t ≡ backslash ∷ letter_x ∷ ds → coded ds ≡ found v rest → length rest < length t
-coded_shorter {ds = ds} two is = coded_shortens true plain_ends [] two refl refl refl refl (prepend-nil (coded ds) ∙ is)
+pub coded_shorter : {t ds rest v : List ℕ} → t ≡ backslash ∷ letter_x ∷ ds → coded ds ≡ found v rest
+    → length rest < length t
+coded_shorter {ds = ds} two is =
+    coded_shortens true plain_ends [] two refl refl refl refl (prepend-nil (coded ds) ∙ is)
 
 pub letter_escape : {t : List ℕ} {d v : ℕ} → BeginsWithTwo t 92 d → d ≢ line_feed → d ≢ letter_x
     → v ≡ unwrap_or (control d) d → IsEscape t v 2
@@ -94,10 +102,12 @@ letter_escape two n m is = record {
 }
 
 pub coded_escape : {t behind : List ℕ} {v : ℕ} → BeginsWithTwo t 92 120 → 2 ≤ length t → behind ≡ drop 2 t
-    → coded (chars behind) ≡ found (v ∷ []) (chars (drop 4 behind)) → IsCharBoundary behind 4 → IsEscape t v 6
+    → coded (chars behind) ≡ found (v ∷ []) (chars (drop 4 behind)) → IsCharBoundary behind 4
+    → IsEscape t v 6
 coded_escape {t} {behind} {v} two long is_behind is cut =
     let codes : coded (chars (drop 2 t)) ≡ found (v ∷ []) (chars (drop 6 t)) =
-    ap (λ x. coded (chars x)) (sym is_behind) ∙ is ∙ ap (λ x. found (v ∷ []) (chars x)) (ap (drop 4) is_behind ∙ drop-drop 4 2 t) in
+    ap (λ x. coded (chars x)) (sym is_behind) ∙ is
+    ∙ ap (λ x. found (v ∷ []) (chars x)) (ap (drop 4) is_behind ∙ drop-drop 4 2 t) in
     record {
       few = omega arith;
       cut = IsCharBoundary-from_rest t 2 4 long (subst (λ x. IsCharBoundary x 4) is_behind cut);
@@ -110,7 +120,8 @@ twice true = refl
 twice false = refl
 
 -- bits of the bytes at which a string stops
-to_marks : (ends : Endpoints) (three : Three) → ((c : ℕ) → is_plain (ends_of ends) c ≡ not (is_one_of three.0 three.1 three.2 c)) → (c : ℕ)
+to_marks : (ends : Endpoints) (three : Three)
+    → ((c : ℕ) → is_plain (ends_of ends) c ≡ not (is_one_of three.0 three.1 three.2 c)) → (c : ℕ)
     → not (is_plain (ends_of ends) c) ≡ is_one_of three.0 three.1 three.2 c
 to_marks ends three same c = ap not (same c) ∙ sym (twice (is_one_of three.0 three.1 three.2 c))
 
@@ -148,16 +159,26 @@ short_piece ends t stop n v k u long within is behind escape =
     let run = take n t in
     let parts = split_chars t run stop n u cut refl behind in
     let rest : drop k stop ≡ drop (n + k) t = ap (drop k) behind ∙ drop-drop k n t in
-    let read = escape.read (ends_of ends) ∙ ap (λ x. prepend (v ∷ []) (string true (ends_of ends) (chars x))) rest in
+    let read =
+    escape.read (ends_of ends) ∙ ap (λ x. prepend (v ∷ []) (string true (ends_of ends) (chars x))) rest in
     record {
       within = within;
       few = escape.few;
       long = long;
       run = IsUtf8-take t n u cut;
       cut = IsCharBoundary-from_rest t n k (omega arith) (subst (λ x. IsCharBoundary x k) behind escape.cut);
-      read = string_run true (ends_of ends) (chars run) (chars stop) parts (run_chars plain t run n (plain_wide ends) u is refl)
-          ∙ ap (prepend (chars run)) read ∙ prepend-prepend (chars run) (v ∷ []) (string true (ends_of ends) (chars (drop (n + k) t)));
-      shorter = omega (arith, escape.shorter, ap (λ x. length (chars x)) rest, length-append (chars run) (chars stop), ap length parts);
+      read =
+          string_run true (ends_of ends) (chars run) (chars stop) parts
+          (run_chars plain t run n (plain_wide ends) u is refl)
+          ∙ ap (prepend (chars run)) read
+          ∙ prepend-prepend (chars run) (v ∷ []) (string true (ends_of ends) (chars (drop (n + k) t)));
+      shorter = omega (
+        arith,
+        escape.shorter,
+        ap (λ x. length (chars x)) rest,
+        length-append (chars run) (chars stop),
+        ap length parts,
+      );
     }
 
 -- what is gathered grows by a run and a character
@@ -165,10 +186,13 @@ pub gathered : {mid new : List ℕ} (old run : List ℕ) (v : ℕ) → IsUtf8 ol
     → mid ≡ old ++ run → new ≡ mid ++ encode_utf8 v
     → (chars new ≡ chars old ++ (chars run ++ v ∷ [])) × IsUtf8 new
 gathered old run v u w is first second =
-    let one : chars (encode_utf8 v) ≡ v ∷ [] = ap chars (sym (append-nil (encode_utf8 v))) ∙ chars-encodes (v ∷ []) (and-true _ ∙ is) in
+    let one : chars (encode_utf8 v) ≡ v ∷ [] =
+    ap chars (sym (append-nil (encode_utf8 v))) ∙ chars-encodes (v ∷ []) (and-true _ ∙ is) in
     let whole = second ∙ ap (λ x. x ++ encode_utf8 v) first in
     let both = IsUtf8-append old run u w in (
-      ap chars whole ∙ chars-append (old ++ run) (encode_utf8 v) both ∙ ap (λ x. x ++ chars (encode_utf8 v)) (chars-append old run u)
-          ∙ append_assoc (chars old) (chars run) (chars (encode_utf8 v)) ∙ ap (λ x. chars old ++ (chars run ++ x)) one,
+      ap chars whole ∙ chars-append (old ++ run) (encode_utf8 v) both
+          ∙ ap (λ x. x ++ chars (encode_utf8 v)) (chars-append old run u)
+          ∙ append_assoc (chars old) (chars run) (chars (encode_utf8 v))
+          ∙ ap (λ x. chars old ++ (chars run ++ x)) one,
       subst IsUtf8 (sym whole) (IsUtf8-append (old ++ run) (encode_utf8 v) both (IsUtf8-encode v is)),
     )

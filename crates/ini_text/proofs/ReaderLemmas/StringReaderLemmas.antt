@@ -1,4 +1,5 @@
--- Reading a string by steps that each take a piece: the reader finds what the grammar says, and the code gives it.
+-- Reading a string by steps that each take a piece: the reader finds what the grammar says, and the code
+-- gives it.
 use Rattle.std.proofs.Common.{◌≡◌, ◌≢◌, ℕ, zero, suc, ◌+◌, ◌-◌, ◌<◌, Bool, true, false, not, ◌&&◌, ◌||◌, ◌==◌, if◌then◌else◌, List, [], ◌∷◌, ◌++◌, length, Option, Some, None, inl, inr, unwrap_or, refl, sym, ap, ◌∙◌, subst, subst₂, append_assoc, append-nil, length-append, arith, ne_eqb, eq-eqb, eqb-true, true≢false}
 use Rattle.std.proofs.lemmas.Bool.{cases_Bool, cond_both, eqb-false, and_parts, not-true, not-false}
 use Rattle.std.proofs.Math.Bool.{and-false}
@@ -22,7 +23,8 @@ first_digit-apart : (c : ℕ) → (is_digit c 16 || c == plus) ≡ true → c �
 first_digit-apart c h q = let z = subst (λ x. (is_digit x 16 || x == plus) ≡ true) q h in cc
 
 -- four digits that spell a character are units
-spelled-Units : (a b c d v : ℕ) → spelled a b c d ≡ Some v → Units (a ∷ b ∷ c ∷ d ∷ []) (Some a ∷ Some b ∷ Some c ∷ Some d ∷ [])
+spelled-Units : (a b c d v : ℕ) → spelled a b c d ≡ Some v
+    → Units (a ∷ b ∷ c ∷ d ∷ []) (Some a ∷ Some b ∷ Some c ∷ Some d ∷ [])
 unfolding spelled
 spelled-Units a b c d v h =
     let all_d = and_parts _ _ (and_parts _ _ (cond_some _ _ v h).0).0 in
@@ -43,7 +45,8 @@ units-found (Units.character n u) zero j r h = absurd (omega arith)
 units-found (Units.character {c} {us = us} n u) (suc k) j r h =
     rw (ne_eqb c 92 n, units-found u k j r (omega arith)) (prepend-prepend (Some c ∷ []) us (units j r))
 units-found (Units.folded u) zero j r h = absurd (omega arith)
-units-found (Units.folded {us = us} u) (suc k) j r h = rw (units-found u k j r (omega arith)) (prepend-prepend (None ∷ []) us (units j r))
+units-found (Units.folded {us = us} u) (suc k) j r h =
+    rw (units-found u k j r (omega arith)) (prepend-prepend (None ∷ []) us (units j r))
 
 abbrev UnitsSay : List ℕ → Answer (Option ℕ) → Type 0
 UnitsSay t (found us r) = (u : List ℕ) × Units u us × (length us ≡ 4) × (u ++ r ≡ t)
@@ -57,7 +60,8 @@ one-more u p t us o a h = subst₂ UnitsSay (append_assoc u p t) (sym (prepend-p
 mutual
   units-sound : (k : ℕ) {u : List ℕ} {us : List (Option ℕ)} → Units u us → length us + k ≡ 4 → (t : List ℕ)
       → UnitsSay (u ++ t) (prepend us (units k t))
-  units-sound zero {u} {us} x four t = (u, subst (Units u) (sym (append-nil us)) x, omega (arith, length-append us []), refl)
+  units-sound zero {u} {us} x four t =
+      (u, subst (Units u) (sym (append-nil us)) x, omega (arith, length-append us []), refl)
   units-sound (suc k) {u} {us} x four [] = (u, EscapeStops.cut_short x (omega arith), refl)
   units-sound (suc k) {u} {us} x four (c ∷ cs) = elim (cases_Bool (c == backslash)) [
     | inl q ↦ rw (eqb-true c 92 q) (folded-sound k x four cs)
@@ -67,15 +71,22 @@ mutual
         (units-sound k (units-append x one) (omega (arith, length-append us (Some c ∷ []))) cs))
   ]
 
-  folded-sound : (k : ℕ) {u : List ℕ} {us : List (Option ℕ)} → Units u us → length us + suc k ≡ 4 → (t : List ℕ)
+  folded-sound : (k : ℕ) {u : List ℕ} {us : List (Option ℕ)} → Units u us → length us + suc k ≡ 4
+      → (t : List ℕ)
       → UnitsSay (u ++ backslash ∷ t) (prepend us (and_then (units k) (folded_unit t)))
-  folded-sound k {u} {us} x four [] = (u ++ backslash ∷ [], EscapeStops.cut_in_unit x (omega arith), append-nil (u ++ backslash ∷ []))
+  folded-sound k {u} {us} x four [] =
+      (u ++ backslash ∷ [], EscapeStops.cut_in_unit x (omega arith), append-nil (u ++ backslash ∷ []))
   folded-sound k {u} {us} x four (c ∷ cs) = elim (cases_Bool (c == line_feed)) [
     | inl q ↦
         let one : Units (backslash ∷ line_feed ∷ []) (None ∷ []) = Units.folded Units.none in
         rw (eqb-true c 10 q) (one-more u (backslash ∷ line_feed ∷ []) cs us None (units k cs)
         (units-sound k (units-append x one) (omega (arith, length-append us (None ∷ []))) cs))
-    | inr n ↦ rw n (u ++ backslash ∷ c ∷ [], EscapeStops.broken x (omega arith) (eqb-false c 10 n), append_assoc u (backslash ∷ c ∷ []) cs)
+    | inr n ↦
+        rw n (
+          u ++ backslash ∷ c ∷ [],
+          EscapeStops.broken x (omega arith) (eqb-false c 10 n),
+          append_assoc u (backslash ∷ c ∷ []) cs,
+        )
   ]
 
 spelled-EscapeSequence : {u : List ℕ} {us : List (Option ℕ)} → Units u us → (v : ℕ)
@@ -97,7 +108,8 @@ value_of c (Some v) h a b = EscapeSequence.named refl h
 value_of c None h a b = EscapeSequence.itself refl a b h
 
 -- a backslash and one character
-escape_of : (e : Bool) (c : ℕ) → (c == letter_x && e) ≡ false → EscapeSequence e (backslash ∷ c ∷ []) (value_behind_backslash e c)
+escape_of : (e : Bool) (c : ℕ) → (c == letter_x && e) ≡ false
+    → EscapeSequence e (backslash ∷ c ∷ []) (value_behind_backslash e c)
 escape_of e c other = elim (cases_Bool (c == line_feed)) [
   | inl q ↦ rw (eqb-true c 10 q) EscapeSequence.folded
   | inr n ↦ rw n (by e (eqb-false c 10 n) other)
@@ -106,7 +118,8 @@ escape_of e c other = elim (cases_Bool (c == line_feed)) [
     by : (e : Bool) → c ≢ line_feed → (c == letter_x && e) ≡ false
         → EscapeSequence e (backslash ∷ c ∷ [])
         (if e then unwrap_or (control c) c ∷ [] else backslash ∷ c ∷ [])
-    by true n other = value_of c (control c) refl n (λ same. let z : true ≡ false = rw (eq-eqb c 120 same) at other in cc)
+    by true n other =
+        value_of c (control c) refl n (λ same. let z : true ≡ false = rw (eq-eqb c 120 same) at other in cc)
     by false n other = EscapeSequence.kept refl n
 
 abbrev pub StringSays : Bool → Ends → List ℕ → Answer ℕ → Type 0
@@ -125,18 +138,27 @@ module _ (e : Bool) (to : Ends) where
   piece-escape EscapeSequence.folded t = refl
   piece-escape (EscapeSequence.named {c} {v} on h) t =
       rw (ne_eqb c 120 (no_control c 120 v refl h), ne_eqb c 10 (no_control c 10 v refl h), on, h)
-  piece-escape (EscapeSequence.coded {a} {b} {c} {d} {v} on h) t = rw (on, units-found (spelled-Units a b c d v h) 4 0 t (omega arith), h)
+  piece-escape (EscapeSequence.coded {a} {b} {c} {d} {v} on h) t =
+      rw (on, units-found (spelled-Units a b c d v h) 4 0 t (omega arith), h)
   piece-escape (EscapeSequence.itself {c} on n m h) t = rw (ne_eqb c 120 m, ne_eqb c 10 n, on, h)
   piece-escape (EscapeSequence.kept {c} off n) t = rw (ne_eqb c 10 n, off, and-false)
 
-  piece-stops : {p r : List ℕ} {k : ParseKind} → e ≡ true → EscapeStops p r k → piece e to (p ++ r) ≡ ends (stopped r k)
+  piece-stops : {p r : List ℕ} {k : ParseKind} → e ≡ true → EscapeStops p r k
+      → piece e to (p ++ r) ≡ ends (stopped r k)
   unfolding coded
-  piece-stops on (EscapeStops.cut_short {us = us} x l) = rw (on, units-found x 4 (suc (3 - length us)) [] (omega arith))
+  piece-stops on (EscapeStops.cut_short {us = us} x l) =
+      rw (on, units-found x 4 (suc (3 - length us)) [] (omega arith))
   piece-stops on (EscapeStops.cut_in_unit {u} {us} x l) =
       rw (append_assoc u, on, units-found x 4 (suc (3 - length us)) (backslash ∷ []) (omega arith))
   piece-stops on (EscapeStops.broken {u} {r} {us} {c} x l n) =
-      rw (append_assoc u, on, units-found x 4 (suc (3 - length us)) (backslash ∷ c ∷ r) (omega arith), ne_eqb c 10 n)
-  piece-stops on (EscapeStops.unknown {u} {r} {us} x four h) = rw (on, units-found x 4 0 r (omega arith), append-nil us, h)
+      rw (
+        append_assoc u,
+        on,
+        units-found x 4 (suc (3 - length us)) (backslash ∷ c ∷ r) (omega arith),
+        ne_eqb c 10 n,
+      )
+  piece-stops on (EscapeStops.unknown {u} {r} {us} x four h) =
+      rw (on, units-found x 4 0 r (omega arith), append-nil us, h)
 
   abbrev PieceSays : List ℕ → Step ℕ → Type 0
   PieceSays t x = StepSays (Str e to) (StrStops e to) t x
@@ -145,25 +167,33 @@ module _ (e : Bool) (to : Ends) where
   row-append Row.none other = other
   row-append (Row.raw n inside rest) other = Row.raw n inside (row-append rest other)
   row-append {t = t} {w = w} (Row.escape {p = p} {w = q} {s = s} {v = v} k rest) other =
-      subst₂ (Row e to) (sym (append_assoc p s t)) (sym (append_assoc q v w)) (Row.escape k (row-append rest other))
+      subst₂ (Row e to) (sym (append_assoc p s t)) (sym (append_assoc q v w))
+      (Row.escape k (row-append rest other))
 
   Str-append : {p w s r v : List ℕ} → Row e to p w → Str e to s r v → Str e to (p ++ s) r (w ++ v)
   Str-append k (Str.closed x h) = Str.closed (row-append k x) h
   Str-append {p} {w} k (Str.lone {s} {v} x h) =
-      subst₂ (λ y z. Str e to y [] z) (append_assoc p s (backslash ∷ [])) (append_assoc w v (backslash ∷ [])) (Str.lone (row-append k x) h)
+      subst₂ (λ y z. Str e to y [] z) (append_assoc p s (backslash ∷ [])) (append_assoc w v (backslash ∷ []))
+      (Str.lone (row-append k x) h)
 
-  StrStops-append : {p w s r : List ℕ} {k : ParseKind} → Row e to p w → StrStops e to s r k → StrStops e to (p ++ s) r k
+  StrStops-append : {p w s r : List ℕ} {k : ParseKind} → Row e to p w → StrStops e to s r k
+      → StrStops e to (p ++ s) r k
   StrStops-append k (StrStops.at_end x h) = StrStops.at_end (row-append k x) h
   StrStops-append {p} k (StrStops.after_backslash {s} x h) =
-      subst (λ y. StrStops e to y [] EndOfText) (append_assoc p s (backslash ∷ [])) (StrStops.after_backslash (row-append k x) h)
+      subst (λ y. StrStops e to y [] EndOfText) (append_assoc p s (backslash ∷ []))
+      (StrStops.after_backslash (row-append k x) h)
   StrStops-append {p} k (StrStops.in_escape {s} {p = q} {r} {kind} x on h) =
       subst (λ y. StrStops e to y r kind) (append_assoc p s q) (StrStops.in_escape (row-append k x) on h)
 
-  behind : {p w : List ℕ} → Row e to p w → (r : List ℕ) (a : Answer ℕ) → StringSays e to r a → StringSays e to (p ++ r) (prepend w a)
-  behind {p} {w} k r = prefixed p w r (λ s x v str. Str-append k str) (λ s x kind stops. StrStops-append k stops)
+  behind : {p w : List ℕ} → Row e to p w → (r : List ℕ) (a : Answer ℕ) → StringSays e to r a
+      → StringSays e to (p ++ r) (prepend w a)
+  behind {p} {w} k r =
+      prefixed p w r (λ s x v str. Str-append k str) (λ s x kind stops. StrStops-append k stops)
 
-  escaped : {p w : List ℕ} (r : List ℕ) → EscapeSequence e p w → length r < length (p ++ r) → PieceSays (p ++ r) (more w r)
-  escaped {p} {w} r k l = (l, behind (subst₂ (Row e to) (append-nil p) (append-nil w) (Row.escape k Row.none)) r)
+  escaped : {p w : List ℕ} (r : List ℕ) → EscapeSequence e p w → length r < length (p ++ r)
+      → PieceSays (p ++ r) (more w r)
+  escaped {p} {w} r k l =
+      (l, behind (subst₂ (Row e to) (append-nil p) (append-nil w) (Row.escape k Row.none)) r)
 
   character-sound : {u : List ℕ} {us : List (Option ℕ)} (r : List ℕ) → e ≡ true → Units u us
       → length us ≡ 4 → (o : Option ℕ) → spelled_by us ≡ o
@@ -171,11 +201,14 @@ module _ (e : Bool) (to : Ends) where
   character-sound {u} r on x four (Some v) q =
       escaped r (subst (λ b. EscapeSequence b (backslash ∷ letter_x ∷ u) (v ∷ [])) (sym on)
       (spelled-EscapeSequence x v q)) (omega (arith, length-append u r))
-  character-sound {u} r on x four None q = (backslash ∷ letter_x ∷ u, StrStops.in_escape Row.none on (EscapeStops.unknown x four q), refl)
+  character-sound {u} r on x four None q =
+      (backslash ∷ letter_x ∷ u, StrStops.in_escape Row.none on (EscapeStops.unknown x four q), refl)
 
-  spelt-sound : e ≡ true → (t : List ℕ) (a : Answer (Option ℕ)) → UnitsSay t a → PieceSays (backslash ∷ letter_x ∷ t) (as_step (spelt a))
+  spelt-sound : e ≡ true → (t : List ℕ) (a : Answer (Option ℕ)) → UnitsSay t a
+      → PieceSays (backslash ∷ letter_x ∷ t) (as_step (spelt a))
   spelt-sound on t (found us r) (u, x, four, h) =
-      subst (λ y. PieceSays (backslash ∷ letter_x ∷ y) (as_step (spelt (found us r)))) h (character-sound r on x four (spelled_by us) refl)
+      subst (λ y. PieceSays (backslash ∷ letter_x ∷ y) (as_step (spelt (found us r)))) h
+      (character-sound r on x four (spelled_by us) refl)
   spelt-sound on t (stopped r k) (u, x, h) =
       (backslash ∷ letter_x ∷ u, StrStops.in_escape Row.none on x, ap (λ y. backslash ∷ letter_x ∷ y) h)
 
@@ -214,9 +247,12 @@ module _ (e : Bool) (to : Ends) where
   Row-read : {s v : List ℕ} → Row e to s v → (r : List ℕ) → string e to (s ++ r) ≡ prepend v (string e to r)
   Row-read Row.none r = sym (prepend-nil (string e to r))
   Row-read (Row.raw {c} {s} {v} n h x) r =
-      string-turn (c ∷ (s ++ r)) ∙ rw (ne_eqb c 92 n, h) (ap (prepend (c ∷ [])) (Row-read x r) ∙ prepend-prepend (c ∷ []) v (string e to r))
+      string-turn (c ∷ (s ++ r))
+      ∙ rw (ne_eqb c 92 n, h)
+      (ap (prepend (c ∷ [])) (Row-read x r) ∙ prepend-prepend (c ∷ []) v (string e to r))
   Row-read (Row.escape {p} {w} {s} {v} k x) r =
-      ap (string e to) (append_assoc p s r) ∙ string-turn (p ++ (s ++ r)) ∙ ap (go_on (string e to)) (piece-escape k (s ++ r))
+      ap (string e to) (append_assoc p s r) ∙ string-turn (p ++ (s ++ r))
+      ∙ ap (go_on (string e to)) (piece-escape k (s ++ r))
       ∙ ap (prepend w) (Row-read x r) ∙ prepend-prepend w v (string e to r)
 
   run_row : (run : List ℕ) → list_all (is_plain to) run ≡ true → Row e to run run
@@ -234,29 +270,37 @@ module _ (e : Bool) (to : Ends) where
       → string e to t ≡ (if text then found [] t else stopped t EndOfText)
   string_at_end none is = rw (none, is) (string-turn [])
 
-  pub string_at_endpoint : {t cs : List ℕ} {c : ℕ} → t ≡ c ∷ cs → c ≢ backslash → BeginsWithNo (is_plain to) t → string e to t ≡ found [] t
+  pub string_at_endpoint : {t cs : List ℕ} {c : ℕ} → t ≡ c ∷ cs → c ≢ backslash
+      → BeginsWithNo (is_plain to) t → string e to t ≡ found [] t
   string_at_endpoint {cs = cs} {c} is n closes =
-      let other : is_endpoint to c ≡ true = not-false (is_endpoint to c) (rw (is, ne_eqb c 92 n) at closes) in
+      let other : is_endpoint to c ≡ true =
+      not-false (is_endpoint to c) (rw (is, ne_eqb c 92 n) at closes) in
       rw is (string-turn (c ∷ cs) ∙ rw (ne_eqb c 92 n, other))
 
-  pub string_at_backslash : {t cs : List ℕ} {c : ℕ} {text : Bool} → t ≡ c ∷ cs → c ≡ backslash → cs ≡ [] → text ≡ to.text
+  pub string_at_backslash : {t cs : List ℕ} {c : ℕ} {text : Bool} → t ≡ c ∷ cs → c ≡ backslash → cs ≡ []
+      → text ≡ to.text
       → string e to t ≡ (if text then found (backslash ∷ []) cs else stopped cs EndOfText)
   string_at_backslash first b none is = rw (first, b, none, is) (string-turn (backslash ∷ []))
 
   -- a backslash and the character behind it
-  pub string_pair : {t cs ds : List ℕ} {c d : ℕ} → t ≡ c ∷ cs → c ≡ backslash → cs ≡ d ∷ ds → (d == letter_x && e) ≡ false
+  pub string_pair : {t cs ds : List ℕ} {c d : ℕ} → t ≡ c ∷ cs → c ≡ backslash → cs ≡ d ∷ ds
+      → (d == letter_x && e) ≡ false
       → string e to t ≡ prepend (value_behind_backslash e d) (string e to ds)
-  string_pair {ds = ds} {d = d} first b next other = rw (first, b, next) (string-turn (backslash ∷ d ∷ ds) ∙ rw other)
+  string_pair {ds = ds} {d = d} first b next other =
+      rw (first, b, next) (string-turn (backslash ∷ d ∷ ds) ∙ rw other)
 
-  pub string_coded : {t cs ds : List ℕ} {c d : ℕ} → t ≡ c ∷ cs → c ≡ backslash → cs ≡ d ∷ ds → e ≡ true → d ≡ letter_x
+  pub string_coded : {t cs ds : List ℕ} {c d : ℕ} → t ≡ c ∷ cs → c ≡ backslash → cs ≡ d ∷ ds → e ≡ true
+      → d ≡ letter_x
       → string e to t ≡ and_then (string e to) (coded ds)
-  string_coded {ds = ds} first b next on x = rw (first, b, next, x) (string-turn (backslash ∷ letter_x ∷ ds) ∙ rw on (goes_on (coded ds)))
+  string_coded {ds = ds} first b next on x =
+      rw (first, b, next, x) (string-turn (backslash ∷ letter_x ∷ ds) ∙ rw on (goes_on (coded ds)))
     where
       goes_on : (a : Answer ℕ) → go_on (string true to) (as_step a) ≡ and_then (string true to) a
       goes_on (found v r) = refl
       goes_on (stopped r k) = refl
 
-  pub coded_shortens : {t cs ds v r : List ℕ} {c d : ℕ} (w : List ℕ) → t ≡ c ∷ cs → c ≡ backslash → cs ≡ d ∷ ds → e ≡ true → d ≡ letter_x
+  pub coded_shortens : {t cs ds v r : List ℕ} {c d : ℕ} (w : List ℕ) → t ≡ c ∷ cs → c ≡ backslash
+      → cs ≡ d ∷ ds → e ≡ true → d ≡ letter_x
       → prepend w (coded ds) ≡ found v r → length r < length t
   coded_shortens {t} {ds = ds} {r = r} w first b next on x h =
       let (u, read, grown) = read_behind w (coded ds) h in
@@ -267,11 +311,19 @@ module _ (e : Bool) (to : Ends) where
     closed : (r : List ℕ) → Closes to r → string e to r ≡ found [] r
     closed [] h = string_at_end refl (sym h)
     closed (c ∷ r) h =
-        string-turn (c ∷ r) ∙ rw (ne_eqb c 92 (λ q. let z = subst (λ y. is_endpoint to y ≡ true) q h in true≢false (sym z ∙ apart)), h)
+        string-turn (c ∷ r)
+        ∙ rw (
+          ne_eqb c 92 (λ q. let z = subst (λ y. is_endpoint to y ≡ true) q h in true≢false (sym z ∙ apart)),
+          h,
+        )
 
     pub string-reads : IsReader (Str e to) (StrStops e to) (string e to)
     unfolding string
-    string-reads = record { sound = reads (Str e to) (StrStops e to) (piece e to) piece-sound; finds = finds; stops = stops }
+    string-reads = record {
+      sound = reads (Str e to) (StrStops e to) (piece e to) piece-sound;
+      finds = finds;
+      stops = stops;
+    }
       where
         finds : {s r v : List ℕ} → Str e to s r v → string e to (s ++ r) ≡ found v r
         finds {r = r} (Str.closed {v = v} x h) = and_found v (Row-read x r) (closed r h) (sym (append-nil v))
@@ -285,4 +337,5 @@ module _ (e : Bool) (to : Ends) where
             rw (append_assoc s) (and_stopped v (Row-read x (backslash ∷ []))
             (string_at_backslash refl refl refl (sym h)))
         stops (StrStops.in_escape {s} {v} {p} {r} x on h) =
-            rw (append_assoc s) (and_stopped v (Row-read x (p ++ r)) (string-turn (p ++ r) ∙ ap (go_on (string e to)) (piece-stops on h)))
+            rw (append_assoc s) (and_stopped v (Row-read x (p ++ r))
+            (string-turn (p ++ r) ∙ ap (go_on (string e to)) (piece-stops on h)))

@@ -42,7 +42,8 @@ module _ (b : List ℕ) where
   BeginsNone t = (o : ParseOption) → BeginsWithNoTrivia o b t
 
   -- no such stands before a character that is neither white nor a comment's mark in column one
-  no_first : (c : ℕ) (cs s r : List ℕ) → is_whitespace c ≡ false → (is_comment_mark c && is_column_one b) ≡ false
+  no_first : (c : ℕ) (cs s r : List ℕ) → is_whitespace c ≡ false
+      → (is_comment_mark c && is_column_one b) ≡ false
       → Kind s → c ∷ cs ≡ s ++ r → ⊥
   no_first c cs s r n m (blank_line {w = []} e ind h) q = let none = ind.some in cc
   no_first c cs s r n m (blank_line {w = d ∷ w} e ind h) q =
@@ -52,7 +53,8 @@ module _ (b : List ℕ) where
       let same : c ≡ d = cc in false≢true (sym m ∙ rw (same, mark, one) refl)
 
   -- nor where blanks begin a line that isn't empty
-  no_blank_line : (w rest s r : List ℕ) → Indentation b w → BeginsWithNo is_blank rest → BeginsWithNo is_line_end rest
+  no_blank_line : (w rest s r : List ℕ) → Indentation b w → BeginsWithNo is_blank rest
+      → BeginsWithNo is_line_end rest
       → Kind s → w ++ rest ≡ s ++ r → ⊥
   no_blank_line [] rest s r ind other filled k q = let none = ind.some in cc
   no_blank_line (x ∷ w) rest s r ind other filled (blank_line {w = v} c i h) q =
@@ -77,7 +79,8 @@ module _ (b : List ℕ) where
       let tails : w ++ [] ≡ (t ++ line_feed ∷ []) ++ r = cc in
       let left = (run-finds is_comment_part w [] all tt).1 in
       let right = (run-finds is_comment_part t (line_feed ∷ r) parts refl).1 in
-      let same : [] ≡ line_feed ∷ r = sym left ∙ ap (skipped is_comment_part) (tails ∙ append_assoc t (line_feed ∷ []) r) ∙ right in
+      let same : [] ≡ line_feed ∷ r =
+      sym left ∙ ap (skipped is_comment_part) (tails ∙ append_assoc t (line_feed ∷ []) r) ∙ right in
       cc
 
   blanks-say : (w rest : List ℕ) → Indentation b w → BeginsWithNo is_blank rest
@@ -94,10 +97,13 @@ module _ (b : List ℕ) where
     | inr n ↦ rw n (λ o s r q t. no_blank_line w (c ∷ cs) s r ind other n (kind (t (0x61 ∷ []))) q)
   ]
 
-  comment-says : (c : ℕ) (w rest : List ℕ) → is_column_one b ≡ true → is_comment_mark c ≡ true → list_all is_comment_part w ≡ true
+  comment-says : (c : ℕ) (w rest : List ℕ) → is_column_one b ≡ true → is_comment_mark c ≡ true
+      → list_all is_comment_part w ≡ true
       → BeginsWithNo is_comment_part rest
-      → MatchOption (behind_line_feed rest) (BeginsNone (c ∷ (w ++ rest))) (λ after. IsBehind (c ∷ (w ++ rest)) after)
-  comment-says c w [] one mark all other = λ o s r q t. no_line_feed c w s r mark all (kind (t (0x61 ∷ []))) q
+      → MatchOption (behind_line_feed rest) (BeginsNone (c ∷ (w ++ rest)))
+      (λ after. IsBehind (c ∷ (w ++ rest)) after)
+  comment-says c w [] one mark all other =
+      λ o s r q t. no_line_feed c w s r mark all (kind (t (0x61 ∷ []))) q
   comment-says c w (l ∷ rest) one mark all other =
       let feed : l ≡ line_feed = eqb-true l 10 (not-false (l == line_feed) other) in
       rw feed (record {
@@ -115,8 +121,12 @@ module _ (b : List ℕ) where
         let split = run-sound is_blank cs in
         let w = c ∷ run_of is_blank cs in
         let rest = skipped is_blank cs in
-        let ind : Indentation b w = record { at_line_start = two.1; some = two.0; blank = rw (two.0, split.all) refl } in
-        rw h (subst (λ y. MatchOption (behind_line_end rest) (BeginsNone (c ∷ y)) (λ after. IsBehind (c ∷ y) after)) split.whole
+        let ind : Indentation b w =
+        record { at_line_start = two.1; some = two.0; blank = rw (two.0, split.all) refl } in
+        rw h
+        (subst
+        (λ y. MatchOption (behind_line_end rest) (BeginsNone (c ∷ y)) (λ after. IsBehind (c ∷ y) after))
+        split.whole
         (blanks-say w rest ind split.ends))
     | inr n ↦ elim (cases_Bool (is_whitespace c)) [
       | inl w ↦ rw (n, w) (record {
@@ -140,7 +150,8 @@ module _ (b : List ℕ) where
   ]
 
   -- by what the code finds
-  pub first-is : (t : List ℕ) {r : Option (List ℕ)} → behind_first b t ≡ r → MatchOption r (BeginsNone t) (λ after. IsBehind t after)
+  pub first-is : (t : List ℕ) {r : Option (List ℕ)} → behind_first b t ≡ r
+      → MatchOption r (BeginsNone t) (λ after. IsBehind t after)
   first-is t e = subst (λ r. MatchOption r (BeginsNone t) (λ after. IsBehind t after)) e (first-says t)
 
 module _ {o : ParseOption} where
@@ -155,7 +166,8 @@ pub record SkipsOne (T b rest after : List ℕ) : Type 0 where
   pub skipped : (o : ParseOption) → AreTrivia o b (front_of T after)
   pub shorter : length after < length rest
 
-module _ {T b front : List ℕ} (rest : List ℕ) (within : IsRest T rest) (skipped : (o : ParseOption) → AreTrivia o b (front_of T rest))
+module _ {T b front : List ℕ} (rest : List ℕ) (within : IsRest T rest)
+    (skipped : (o : ParseOption) → AreTrivia o b (front_of T rest))
     (at : front ≡ front_of T rest) where
   pub skips_one : {after : List ℕ} → behind_first front rest ≡ Some after → SkipsOne T b rest after
   skips_one {after} e =

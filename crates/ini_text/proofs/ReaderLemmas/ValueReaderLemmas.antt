@@ -1,4 +1,5 @@
--- Reading a value by its first line and the lines with which it goes on: the reader finds what the grammar says, and the code gives it.
+-- Reading a value by its first line and the lines with which it goes on: the reader finds what the grammar
+-- says, and the code gives it.
 use Rattle.std.proofs.Common.{◌≡◌, ◌≢◌, ◌≤◌, ℕ, ◌<◌, Bool, true, false, ◌==◌, List, [], ◌∷◌, ◌++◌, length, Option, Some, None, inl, inr, refl, sym, ap, ◌∙◌, subst, append_assoc, append-nil, length-append, arith, ne_eqb, eqb-true}
 use Rattle.std.proofs.Math.Bool.{or-false}
 use Rattle.std.proofs.lemmas.Bool.{cases_Bool, cond-true, cond_both, and_parts, or_parts}
@@ -35,7 +36,9 @@ pub after_end-sound : (t : List ℕ) → EndSays t (after_end t)
 after_end-sound [] = tt
 after_end-sound (c ∷ cs) = elim (cases_Bool (c == line_feed)) [
   | inl q ↦ rw (eqb-true c 10 q) (line_feed ∷ [], LineEnd.lf, refl)
-  | inr n ↦ elim (cases_Bool (c == carriage_return)) [ inl q ↦ rw (eqb-true c 13 q) (at_cr cs) | inr m ↦ rw (n, m) (rw (n, m) refl) ]
+  | inr n ↦
+      elim (cases_Bool (c == carriage_return))
+      [ inl q ↦ rw (eqb-true c 13 q) (at_cr cs) | inr m ↦ rw (n, m) (rw (n, m) refl) ]
 ]
   where
     at_cr : (cs : List ℕ) → EndSays (carriage_return ∷ cs) (Some (behind_cr cs))
@@ -54,7 +57,8 @@ Str-closes : {e : Bool} {s r v : List ℕ} → Str e plain_ends s r v → Closes
 Str-closes (Str.closed k h) = h
 Str-closes (Str.lone k h) = h
 
-pub Line-closes : {o : ParseOption} {first : Bool} {s r v : List ℕ} → Line o first s r v → Closes plain_ends r
+pub Line-closes : {o : ParseOption} {first : Bool} {s r v : List ℕ} → Line o first s r v
+    → Closes plain_ends r
 Line-closes (Line.line k plain str) = Str-closes str
 
 -- a line of lead w and source l, with the value u, before its line end e and then r
@@ -64,7 +68,8 @@ pub record EndedLine (o : ParseOption) (first : Bool) (w l e r u : List ℕ) : T
   pub end : LineEnd e r
 
 -- where a line is read and the text goes on, stands a line end
-ended : {o : ParseOption} {first : Bool} {w x u : List ℕ} (c : ℕ) (r : List ℕ) → Lead w x → LineSays o first x (found u (c ∷ r))
+ended : {o : ParseOption} {first : Bool} {w x u : List ℕ} (c : ℕ) (r : List ℕ) → Lead w x
+    → LineSays o first x (found u (c ∷ r))
     → (n : List ℕ) × (after_end (c ∷ r) ≡ Some n) × (l : List ℕ) × (e : List ℕ) × EndedLine o first w l e n
     u × (w ++ (l ++ (e ++ n)) ≡ w ++ x)
 ended {o} {first} {w} {x} {u} c r lead (l, ln, h) = by (after_end (c ∷ r)) refl (after_end-sound (c ∷ r))
@@ -97,7 +102,8 @@ module _ (o : ParseOption) where
   abbrev RowSays : List ℕ → Step ℕ → Type 0
   RowSays t x = StepSays (MoreLines o) (MoreLinesStop o) t x
 
-  continued : {w l e n u : List ℕ} → BeginsWith is_blank w → EndedLine o false w l e n u → (a : Answer ℕ) → LinesSay n a
+  continued : {w l e n u : List ℕ} → BeginsWith is_blank w → EndedLine o false w l e n u → (a : Answer ℕ)
+      → LinesSay n a
       → LinesSay (w ++ (l ++ (e ++ n))) (prepend (line_feed ∷ u) a)
   continued {w} {l} {e} {u = u} b ln (found v r) (s, m, h) =
       let x = subst (λ y. EndedLine o false w l e y u) (sym h) ln in
@@ -109,9 +115,13 @@ module _ (o : ParseOption) where
   abbrev goes_on : Answer ℕ → Step ℕ
   goes_on a = behind_line (prepend (line_feed ∷ []) a)
 
-  goes_on-sound : (w x : List ℕ) → BeginsWith is_blank w → Lead w x → (a : Answer ℕ) → LineSays o false x a → RowSays (w ++ x) (goes_on a)
-  goes_on-sound w x b lead (found u []) (l, ln, h) =
-      (w ++ l, MoreLines.last b (subst (Lead w) (sym h ∙ append-nil l) lead) ln, append_assoc w l [] ∙ ap (λ y. w ++ y) h)
+  goes_on-sound : (w x : List ℕ) → BeginsWith is_blank w → Lead w x → (a : Answer ℕ) → LineSays o false x a
+      → RowSays (w ++ x) (goes_on a)
+  goes_on-sound w x b lead (found u []) (l, ln, h) = (
+    w ++ l,
+    MoreLines.last b (subst (Lead w) (sym h ∙ append-nil l) lead) ln,
+    append_assoc w l [] ∙ ap (λ y. w ++ y) h,
+  )
   goes_on-sound w x b lead (found u (c ∷ r)) said =
       let (n, is, l, e, ln, whole) = ended c r lead said in
       rw (is, ← whole) (
@@ -124,15 +134,21 @@ module _ (o : ParseOption) where
         ),
         continued b ln,
       )
-  goes_on-sound w x b lead (stopped r k) (l, stops, h) =
-      (w ++ l, MoreLinesStop.in_line b (subst (Lead w) (sym h) lead) stops, append_assoc w l r ∙ ap (λ y. w ++ y) h)
+  goes_on-sound w x b lead (stopped r k) (l, stops, h) = (
+    w ++ l,
+    MoreLinesStop.in_line b (subst (Lead w) (sym h) lead) stops,
+    append_assoc w l r ∙ ap (λ y. w ++ y) h,
+  )
 
   row-sound : (t : List ℕ) → RowSays t (row o t)
   row-sound [] = ([], MoreLines.done tt tt, refl)
   row-sound (c ∷ cs) = elim (cases_Bool (c == line_feed)) [
     | inl q ↦
         let lf = line_feed ∷ [] in
-        rw (eqb-true c 10 q) (omega arith, prefixed lf lf cs (λ s r v m. MoreLines.empty_lf m) (λ s r k m. MoreLinesStop.empty_lf m))
+        rw (eqb-true c 10 q) (
+          omega arith,
+          prefixed lf lf cs (λ s r v m. MoreLines.empty_lf m) (λ s r k m. MoreLinesStop.empty_lf m),
+        )
     | inr n ↦ elim (cases_Bool (c == carriage_return)) [
       | inl q ↦ rw (eqb-true c 13 q) (at_cr cs)
       | inr m ↦ elim (cases_Bool (is_blank c)) [
@@ -142,7 +158,8 @@ module _ (o : ParseOption) where
     ]
   ]
     where
-      at_cr : (cs : List ℕ) → RowSays (carriage_return ∷ cs) (as_step (prepend (line_feed ∷ []) (empty_cr cs)))
+      at_cr : (cs : List ℕ)
+          → RowSays (carriage_return ∷ cs) (as_step (prepend (line_feed ∷ []) (empty_cr cs)))
       at_cr [] = (carriage_return ∷ [], MoreLinesStop.cr_at_end, refl)
       at_cr (d ∷ ds) = elim (cases_Bool (d == line_feed)) [
         | inl q ↦
@@ -163,7 +180,8 @@ module _ (o : ParseOption) where
           let lead : Lead (c ∷ run_of is_inline_white cs) rest =
           record { white = rw (blank_inline c b, split.all) refl; ends = split.ends } in
           subst (λ y. RowSays (c ∷ y) (goes_on (line o false rest))) split.whole
-          (goes_on-sound (c ∷ run_of is_inline_white cs) rest b lead (line o false rest) ((line-reads o false).sound rest))
+          (goes_on-sound (c ∷ run_of is_inline_white cs) rest b lead (line o false rest)
+          ((line-reads o false).sound rest))
 
   lines-turn : (t : List ℕ) → more_lines o t ≡ go_on (more_lines o) (row o t)
   unfolding more_lines
@@ -172,7 +190,8 @@ module _ (o : ParseOption) where
   last : {a : Answer ℕ} (t : List ℕ) → row o t ≡ ends a → more_lines o t ≡ a
   last t e = lines-turn t ∙ ap (go_on (more_lines o)) e
 
-  then : {r w : List ℕ} {a : Answer ℕ} (t : List ℕ) → row o t ≡ more w r → more_lines o r ≡ a → more_lines o t ≡ prepend w a
+  then : {r w : List ℕ} {a : Answer ℕ} (t : List ℕ) → row o t ≡ more w r → more_lines o r ≡ a
+      → more_lines o t ≡ prepend w a
   then {w = w} t e rest = lines-turn t ∙ ap (go_on (more_lines o)) e ∙ ap (prepend w) rest
 
   row-blank : {w x : List ℕ} → BeginsWith is_blank w → Lead w x → row o (w ++ x) ≡ goes_on (line o false x)
@@ -191,25 +210,33 @@ module _ (o : ParseOption) where
       → row o (w ++ (l ++ (e ++ n))) ≡ more (line_feed ∷ u) n
   row-continued b ln = rw (row-blank b ln.lead, (line-reads o false).finds ln.line, after_end-finds ln.end)
 
-  row-done : (r : List ℕ) → BeginsWithNo is_blank r → BeginsWithNo is_line_end r → row o r ≡ ends (found [] r)
+  row-done : (r : List ℕ) → BeginsWithNo is_blank r → BeginsWithNo is_line_end r
+      → row o r ≡ ends (found [] r)
   row-done [] n m = refl
-  row-done (c ∷ r) n m = let other = or_parts (c == line_feed) (c == carriage_return) m in rw (other.0, other.1, n)
+  row-done (c ∷ r) n m =
+      let other = or_parts (c == line_feed) (c == carriage_return) m in rw (other.0, other.1, n)
 
   pub MoreLines-finds : (s r v : List ℕ) → MoreLines o s r v → more_lines o (s ++ r) ≡ found v r
   MoreLines-finds _ r _ (MoreLines.done n m) = last _ (row-done r n m)
   MoreLines-finds _ r _ (MoreLines.empty_lf {t} {v = v} m) = then _ refl (MoreLines-finds t r v m)
   MoreLines-finds _ r _ (MoreLines.empty_cr_lf {t} {v = v} m) = then _ refl (MoreLines-finds t r v m)
   MoreLines-finds _ r _ (MoreLines.continued {t = t} {v = v} b lead ln end m) =
-      simp append_assoc (then _ (row-continued b (record { lead = lead; line = ln; end = end })) (MoreLines-finds t r v m))
+      simp append_assoc
+      (then _ (row-continued b (record { lead = lead; line = ln; end = end })) (MoreLines-finds t r v m))
   MoreLines-finds _ _ _ (MoreLines.last {w} {l} {u} b lead ln) =
       let reads : line o false l ≡ found u [] = rw (append-nil l) at ((line-reads o false).finds ln) in
-      let step : row o (w ++ l) ≡ ends (found (line_feed ∷ u) []) = rw (row-blank b lead, reads) in rw (append-nil (w ++ l)) (last _ step)
+      let step : row o (w ++ l) ≡ ends (found (line_feed ∷ u) []) = rw (row-blank b lead, reads) in
+      rw (append-nil (w ++ l)) (last _ step)
 
-  MoreLinesStop-finds : (s r : List ℕ) (k : ParseKind) → MoreLinesStop o s r k → more_lines o (s ++ r) ≡ stopped r k
-  MoreLinesStop-finds _ r k (MoreLinesStop.empty_lf {t} m) = then {w = line_feed ∷ []} _ refl (MoreLinesStop-finds t r k m)
-  MoreLinesStop-finds _ r k (MoreLinesStop.empty_cr_lf {t} m) = then {w = line_feed ∷ []} _ refl (MoreLinesStop-finds t r k m)
+  MoreLinesStop-finds : (s r : List ℕ) (k : ParseKind) → MoreLinesStop o s r k
+      → more_lines o (s ++ r) ≡ stopped r k
+  MoreLinesStop-finds _ r k (MoreLinesStop.empty_lf {t} m) =
+      then {w = line_feed ∷ []} _ refl (MoreLinesStop-finds t r k m)
+  MoreLinesStop-finds _ r k (MoreLinesStop.empty_cr_lf {t} m) =
+      then {w = line_feed ∷ []} _ refl (MoreLinesStop-finds t r k m)
   MoreLinesStop-finds _ r k (MoreLinesStop.continued {t = t} b lead ln end m) =
-      simp append_assoc (then _ (row-continued b (record { lead = lead; line = ln; end = end })) (MoreLinesStop-finds t r k m))
+      simp append_assoc (then _ (row-continued b (record { lead = lead; line = ln; end = end }))
+      (MoreLinesStop-finds t r k m))
   MoreLinesStop-finds _ r k (MoreLinesStop.in_line {w} {s} b lead stops) =
       let step : row o (w ++ (s ++ r)) ≡ ends (stopped r k) =
       rw (row-blank b lead, (line-reads o false).stops stops) in rw (append_assoc w s r) (last _ step)
@@ -240,7 +267,8 @@ module _ (o : ParseOption) where
       let x = subst (λ y. EndedLine o true w l e y u) (sym h) ln in
       (w ++ (l ++ (e ++ s)), ValueStops.later_line on x.lead x.line x.end m, simp (append_assoc, h))
 
-  first_line-stops : {w x r : List ℕ} {k : ParseKind} → Lead w x → LineSays o true x (stopped r k) → ValueSays (w ++ x) (stopped r k)
+  first_line-stops : {w x r : List ℕ} {k : ParseKind} → Lead w x → LineSays o true x (stopped r k)
+      → ValueSays (w ++ x) (stopped r k)
   first_line-stops {w} {r = r} lead (l, stops, h) = (
     w ++ l,
     ValueStops.first_line (subst (Lead w) (sym h) lead) stops,
@@ -254,10 +282,14 @@ module _ (o : ParseOption) where
       (w ++ l, Value.one_line off (subst (Lead w) (sym h) lead) ln, append_assoc w l r ∙ ap (λ y. w ++ y) h)
   one_line-sound off lead (stopped r k) said = first_line-stops lead said
 
-  multiline-sound : {w x : List ℕ} → o.enabled_indented_mutiline_value ≡ true → Lead w x → (a : Answer ℕ) → LineSays o true x a
+  multiline-sound : {w x : List ℕ} → o.enabled_indented_mutiline_value ≡ true → Lead w x → (a : Answer ℕ)
+      → LineSays o true x a
       → ValueSays (w ++ x) (multiline o a)
-  multiline-sound {w} on lead (found u []) (l, ln, h) =
-      (w ++ l, Value.to_end on (subst (Lead w) (sym h ∙ append-nil l) lead) ln, append_assoc w l [] ∙ ap (λ y. w ++ y) h)
+  multiline-sound {w} on lead (found u []) (l, ln, h) = (
+    w ++ l,
+    Value.to_end on (subst (Lead w) (sym h ∙ append-nil l) lead) ln,
+    append_assoc w l [] ∙ ap (λ y. w ++ y) h,
+  )
   multiline-sound on lead (found u (c ∷ r)) said =
       let (n, is, l, e, ln, whole) = ended c r lead said in
       rw (is, ← whole) (joined-sound on ln (more_lines o n) (more_lines-reads.sound n))
@@ -277,28 +309,34 @@ module _ (o : ParseOption) where
       sound t =
           let split = run-sound is_inline_white t in
           let rest = skipped is_inline_white t in
-          let lead : Lead (run_of is_inline_white t) rest = record { white = split.all; ends = split.ends } in
+          let lead : Lead (run_of is_inline_white t) rest =
+          record { white = split.all; ends = split.ends } in
           let said = (line-reads o true).sound rest in
-          let multi = λ (on : o.enabled_indented_mutiline_value ≡ true). multiline-sound on lead (line o true rest) said in
-          let one = λ (off : o.enabled_indented_mutiline_value ≡ false). one_line-sound off lead (line o true rest) said in
+          let multi = λ (on : o.enabled_indented_mutiline_value ≡ true).
+          multiline-sound on lead (line o true rest) said in
+          let one = λ (off : o.enabled_indented_mutiline_value ≡ false).
+          one_line-sound off lead (line o true rest) said in
           subst (λ y. ValueSays y (value o t)) split.whole
           (cond_both o.enabled_indented_mutiline_value _ _
           (ValueSays (run_of is_inline_white t ++ rest)) multi one)
 
       finds : {s r v : List ℕ} → Value o s r v → value o (s ++ r) ≡ found v r
-      finds {r = r} (Value.one_line {w} {l} off lead ln) = rw (append_assoc w l r, behind_lead lead, (line-reads o true).finds ln, off)
+      finds {r = r} (Value.one_line {w} {l} off lead ln) =
+          rw (append_assoc w l r, behind_lead lead, (line-reads o true).finds ln, off)
       finds (Value.to_end {w} {l} {v} on lead ln) =
           let reads : line o true l ≡ found v [] = rw (append-nil l) at ((line-reads o true).finds ln) in
           rw (append-nil (w ++ l), behind_lead lead, reads, on)
       finds (Value.lines {u = u} on lead ln end m) =
-          simp append_assoc (value-lines on (record { lead = lead; line = ln; end = end }) ∙ ap (joined u) (more_lines-reads.finds m))
+          simp append_assoc (value-lines on (record { lead = lead; line = ln; end = end })
+          ∙ ap (joined u) (more_lines-reads.finds m))
 
       stops : {s r : List ℕ} {k : ParseKind} → ValueStops o s r k → value o (s ++ r) ≡ stopped r k
       stops {r = r} {k} (ValueStops.first_line {w} {s} lead x) =
           rw (append_assoc w s r, behind_lead lead, (line-reads o true).stops x)
           (cond_both o.enabled_indented_mutiline_value _ _ (λ a. a ≡ stopped r k) (λ on. refl) (λ off. refl))
       stops (ValueStops.later_line {u = u} on lead ln end m) =
-          simp append_assoc (value-lines on (record { lead = lead; line = ln; end = end }) ∙ ap (joined u) (more_lines-reads.stops m))
+          simp append_assoc (value-lines on (record { lead = lead; line = ln; end = end })
+          ∙ ap (joined u) (more_lines-reads.stops m))
 
   -- the lines that go on, line by line
   pub no_lines : {t : List ℕ} → t ≡ [] → more_lines o t ≡ found [] t
@@ -308,7 +346,8 @@ module _ (o : ParseOption) where
       → is_blank c ≡ false → more_lines o t ≡ found [] t
   no_more_lines {cs = cs} {c} is n m b = rw is (lines-turn (c ∷ cs) ∙ rw (ne_eqb c 10 n, ne_eqb c 13 m, b))
 
-  pub empty_line : {t cs : List ℕ} {c : ℕ} → t ≡ c ∷ cs → c ≡ line_feed → more_lines o t ≡ prepend (line_feed ∷ []) (more_lines o cs)
+  pub empty_line : {t cs : List ℕ} {c : ℕ} → t ≡ c ∷ cs → c ≡ line_feed
+      → more_lines o t ≡ prepend (line_feed ∷ []) (more_lines o cs)
   empty_line {cs = cs} is q = rw (is, q) (lines-turn (line_feed ∷ cs))
 
   pub empty_cr_line : {t cs r : List ℕ} {c : ℕ} → t ≡ c ∷ cs → c ≡ carriage_return
@@ -326,7 +365,8 @@ module _ (o : ParseOption) where
     row-at =
         let behind : start ≡ skipped is_inline_white cs = skips ∙ ap (skipped is_inline_white) is
         ∙ cond-true (is_inline_white c) _ _ (blank_inline c b) in
-        rw (behind, is) (rw (ne_eqb c 10 (blank-apart c 10 refl b), ne_eqb c 13 (blank-apart c 13 refl b), b))
+        rw (behind, is)
+        (rw (ne_eqb c 10 (blank-apart c 10 refl b), ne_eqb c 13 (blank-apart c 13 refl b), b))
 
     line-turn : more_lines o t ≡ go_on (more_lines o) (goes_on (line o false start))
     line-turn = lines-turn t ∙ ap (go_on (more_lines o)) row-at
@@ -334,12 +374,15 @@ module _ (o : ParseOption) where
     grown-by : {new : List ℕ} (u : List ℕ) → new ≡ pushed ++ u → new ≡ old ++ (line_feed ∷ u)
     grown-by u grown = grown ∙ ap (λ x. x ++ u) feed ∙ append_assoc old (line_feed ∷ []) u
 
-    pub line_goes_on : {new end next : List ℕ} → prepend pushed (line o false start) ≡ found new end → after_end end ≡ Some next
+    pub line_goes_on : {new end next : List ℕ} → prepend pushed (line o false start) ≡ found new end
+        → after_end end ≡ Some next
         → (prepend old (more_lines o t) ≡ prepend new (more_lines o next)) × (length next < length t)
     line_goes_on {end = end} {next} h e =
         let (u, read, grown) = read_behind pushed (line o false start) h in
-        let step : row o t ≡ more (line_feed ∷ u) next = row-at ∙ ap goes_on read ∙ ap (before_end (line_feed ∷ u) end) e in (
-          and_more old (line_feed ∷ u) (more_lines o next) refl (lines-turn t ∙ ap (go_on (more_lines o)) step) (grown-by u grown),
+        let step : row o t ≡ more (line_feed ∷ u) next =
+        row-at ∙ ap goes_on read ∙ ap (before_end (line_feed ∷ u) end) e in (
+          and_more old (line_feed ∷ u) (more_lines o next) refl
+              (lines-turn t ∙ ap (go_on (more_lines o)) step) (grown-by u grown),
           shortens (MoreLines o) (MoreLinesStop o) (row o) row-sound step,
         )
 
@@ -347,12 +390,15 @@ module _ (o : ParseOption) where
         → after_end end ≡ None → prepend old (more_lines o t) ≡ found new end
     line_ends {end = end} h e =
         let (u, read, grown) = read_behind pushed (line o false start) h in
-        let step : row o t ≡ ends (found (line_feed ∷ u) end) = row-at ∙ ap goes_on read ∙ ap (before_end (line_feed ∷ u) end) e in
+        let step : row o t ≡ ends (found (line_feed ∷ u) end) =
+        row-at ∙ ap goes_on read ∙ ap (before_end (line_feed ∷ u) end) e in
         and_found old refl (lines-turn t ∙ ap (go_on (more_lines o)) step) (grown-by u grown)
 
     pub line_stops : {r : List ℕ} {k : ParseKind} → prepend pushed (line o false start) ≡ stopped r k
         → prepend old (more_lines o t) ≡ stopped r k
-    line_stops h = ap (prepend old) (line-turn ∙ ap (λ a. go_on (more_lines o) (goes_on a)) (stopped_behind pushed (line o false start) h))
+    line_stops h =
+        ap (prepend old) (line-turn
+        ∙ ap (λ a. go_on (more_lines o) (goes_on a)) (stopped_behind pushed (line o false start) h))
 
   -- a value, behind its lead
   module _ {start : List ℕ} (t : List ℕ) (skips : start ≡ skipped is_inline_white t) where
@@ -364,7 +410,8 @@ module _ (o : ParseOption) where
     unfolding value
     value_multiline on = rw (skips, on)
 
-    pub value_stops : {r : List ℕ} {k : ParseKind} → line o true start ≡ stopped r k → value o t ≡ stopped r k
+    pub value_stops : {r : List ℕ} {k : ParseKind} → line o true start ≡ stopped r k
+        → value o t ≡ stopped r k
     value_stops h = elim (cases_Bool o.enabled_indented_mutiline_value)
         [ inl on ↦ value_multiline on ∙ ap (multiline o) h | inr off ↦ value_line off ∙ h ]
 

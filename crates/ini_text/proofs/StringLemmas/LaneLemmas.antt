@@ -32,28 +32,37 @@ map_same f g same [] = refl
 map_same f g same (x ∷ xs) = ap₂ (λ y ys. y ∷ ys) (same x) (map_same f g same xs)
 
 -- the lanes that pass one of two tests
-pub either : (p q : ℕ → Bool) (v : List ℕ) {a b : List ℕ} → a ≡ map (λ x. full (p x)) v → b ≡ map (λ x. full (q x)) v
+pub either : (p q : ℕ → Bool) (v : List ℕ) {a b : List ℕ} → a ≡ map (λ x. full (p x)) v
+    → b ≡ map (λ x. full (q x)) v
     → zip2 bit_or a b ≡ map (λ x. full (p x || q x)) v
-either p q v is_a is_b = zip2_of_maps bit_or (λ x. full (p x)) (λ x. full (q x)) v is_a is_b ∙ map_same _ _ (λ x. full_or (p x) (q x)) v
+either p q v is_a is_b =
+    zip2_of_maps bit_or (λ x. full (p x)) (λ x. full (q x)) v is_a is_b
+    ∙ map_same _ _ (λ x. full_or (p x) (q x)) v
 
 -- the bits of the lanes that pass a test
 pub bits : (p : ℕ → Bool) (v : List ℕ) {a : List ℕ} → length v ≡ 16 → a ≡ map (λ x. full (p x)) v
     → mask_l (map (top 7) a) % 2 ^ 64 ≡ mask_l (map p v)
 bits p v long is =
-    ap (λ l. mask_l l % 2 ^ 64) (ap (map (top 7)) is ∙ map-map (top 7) (λ x. full (p x)) v ∙ map_same _ _ (λ x. full_top (p x)) v)
+    ap (λ l. mask_l l % 2 ^ 64)
+    (ap (map (top 7)) is ∙ map-map (top 7) (λ x. full (p x)) v ∙ map_same _ _ (λ x. full_top (p x)) v)
     ∙ mask_l-mod (map p v) 64 (omega (arith, length-map v p))
 
-pub equal : (y : ℕ) (v : List ℕ) → length v ≡ 16 → zip2 (λ a b. full (eqb a b)) v (replicate 16 y) ≡ map (λ x. full (eqb x y)) v
+pub equal : (y : ℕ) (v : List ℕ) → length v ≡ 16
+    → zip2 (λ a b. full (eqb a b)) v (replicate 16 y) ≡ map (λ x. full (eqb x y)) v
 equal y v long = zip2_splat (λ a b. full (eqb a b)) v 16 y long
 
-pub below : (y : ℕ) (v : List ℕ) → length v ≡ 16 → zip2 (λ a b. full (ltb a b)) v (replicate 16 y) ≡ map (λ x. full (ltb x y)) v
+pub below : (y : ℕ) (v : List ℕ) → length v ≡ 16
+    → zip2 (λ a b. full (ltb a b)) v (replicate 16 y) ≡ map (λ x. full (ltb x y)) v
 below y v long = zip2_splat (λ a b. full (ltb a b)) v 16 y long
 
 -- A run of bytes up to the first that passes the test p.
-pub run_within : (p : ℕ → Bool) (bytes : List ℕ) (at : ℕ) → at ≤ length bytes → at + position_or_len p (drop at bytes) ≤ length bytes
-run_within p bytes at h = omega (arith, prefix_len-le-length (λ x. not (p x)) (drop at bytes), length-drop at bytes)
+pub run_within : (p : ℕ → Bool) (bytes : List ℕ) (at : ℕ) → at ≤ length bytes
+    → at + position_or_len p (drop at bytes) ≤ length bytes
+run_within p bytes at h =
+    omega (arith, prefix_len-le-length (λ x. not (p x)) (drop at bytes), length-drop at bytes)
 
-none_fails : (b : Bool) (n l m : ℕ) → n ≤ l → cond (not b) (1 + n) 0 ≡ 1 + l → (n ≡ l → m ≡ 0) → cond b 1 0 + 2 * m ≡ 0
+none_fails : (b : Bool) (n l m : ℕ) → n ≤ l → cond (not b) (1 + n) 0 ≡ 1 + l → (n ≡ l → m ≡ 0)
+    → cond b 1 0 + 2 * m ≡ 0
 none_fails true n l m le e more = let no : ⊥ = omega arith in absurd no
 none_fails false n l m le e more = let z = more (omega arith) in omega arith
 
@@ -64,7 +73,8 @@ same_run p q same (x ∷ xs) = ap₂ (λ b n. cond b (1 + n) 0) (same x) (same_r
 module _ (p : ℕ → Bool) where
   pub no_bits : (xs : List ℕ) → position_or_len p xs ≡ length xs → mask_l (map p xs) ≡ 0
   no_bits [] e = refl
-  no_bits (x ∷ xs) e = none_fails (p x) _ (length xs) _ (prefix_len-le-length (λ y. not (p y)) xs) (omega arith) (no_bits xs)
+  no_bits (x ∷ xs) e =
+      none_fails (p x) _ (length xs) _ (prefix_len-le-length (λ y. not (p y)) xs) (omega arith) (no_bits xs)
 
   split : (bytes : List ℕ) (at n : ℕ) → position_or_len p (drop at bytes)
       ≡ cond (eqb (position_or_len p (chunk at n bytes)) (length (chunk at n bytes)))
@@ -83,7 +93,8 @@ module _ (p : ℕ → Bool) where
       (eq-eqb _ _ (leading_from_mask_l p c none)) ∙ ap (λ k. k + rest) (length-chunk at n bytes room)
 
   -- in a block with marks the lowest ends the run
-  pub stopped : (bytes : List ℕ) (at n : ℕ) → at + n ≤ length bytes → n ≤ 64 → 0 < mask_l (map p (chunk at n bytes))
+  pub stopped : (bytes : List ℕ) (at n : ℕ) → at + n ≤ length bytes → n ≤ 64
+      → 0 < mask_l (map p (chunk at n bytes))
       → position_or_len p (drop at bytes) ≡ count_trailing_zeros 64 (mask_l (map p (chunk at n bytes)))
   stopped bytes at n room short some =
       let c = chunk at n bytes in
@@ -104,7 +115,8 @@ pub not_three : (a : Bool) → not (a || a || a) ≡ not a
 not_three true = refl
 not_three false = refl
 
-none_marked : (p : ℕ → Bool) (v : List ℕ) → mask_l (map p v) ≡ 0 → (k : ℕ) → k < length v → p (get_or v k 0) ≡ false
+none_marked : (p : ℕ → Bool) (v : List ℕ) → mask_l (map p v) ≡ 0 → (k : ℕ) → k < length v
+    → p (get_or v k 0) ≡ false
 none_marked p v none k within =
     not-true (p (get_or v k 0))
     (prefix_len_passes (λ x. not (p x)) v k 0 (omega (arith, leading_from_mask_l p v none)))
@@ -144,12 +156,14 @@ halved true n = omega arith
 halved false n = omega arith
 
 -- the bits of the first k, past the first j of them
-pub bits_past : (p : ℕ → Bool) (j k : ℕ) (xs : List ℕ) → mask_l (map p (take k xs)) / 2 ^ j ≡ mask_l (map p (take (k - j) (drop j xs)))
+pub bits_past : (p : ℕ → Bool) (j k : ℕ) (xs : List ℕ)
+    → mask_l (map p (take k xs)) / 2 ^ j ≡ mask_l (map p (take (k - j) (drop j xs)))
 bits_past p zero k xs = div-one (mask_l (map p (take k xs)))
     ∙ ap (λ n. mask_l (map p (take n xs))) (let same : k ≡ k - 0 = omega arith in same)
 bits_past p (suc j) zero xs = zero-div (2 ^ suc j)
     ∙ ap (λ n. mask_l (map p (take n (drop (suc j) xs)))) (let same : 0 ≡ 0 - suc j = omega arith in same)
-bits_past p (suc j) (suc k) [] = zero-div (2 ^ suc j) ∙ ap (λ l. mask_l (map p l)) (sym (take_all (suc k - suc j) [] (omega arith)))
+bits_past p (suc j) (suc k) [] =
+    zero-div (2 ^ suc j) ∙ ap (λ l. mask_l (map p l)) (sym (take_all (suc k - suc j) [] (omega arith)))
 bits_past p (suc j) (suc k) (x ∷ xs) =
     let bits = mask_l (map p (take k xs)) in
     ap (λ n. (cond (p x) 1 0 + 2 * bits) / n) (pow-suc 2 j ∙ mul_comm (2 ^ j) 2)
@@ -190,14 +204,21 @@ module _ (p : ℕ → Bool) where
   stops_at {more} bytes {bits} tells some =
       let few = tells.few in
       let are = tells.are in
-      let within : tells.lanes + more ≤ length bytes = tells.within (some_lanes tells.lanes bytes (omega arith)) in
+      let within : tells.lanes + more ≤ length bytes =
+      tells.within (some_lanes tells.lanes bytes (omega arith)) in
       let lanes = chunk 0 tells.lanes bytes in
       let many = length-chunk 0 tells.lanes bytes (omega arith) in
-      let first = stopped p bytes 0 tells.lanes (omega arith) (omega arith) (omega arith) ∙ ap (count_trailing_zeros 64) (sym are) in
-      let place = ap (count_trailing_zeros 64) are ∙ trailing_mask_l p 64 lanes (omega arith) (omega arith) in
-      let below : count_trailing_zeros 64 bits < tells.lanes = elim (cases_lt (position_or_len p lanes) (length lanes)) [
+      let first =
+      stopped p bytes 0 tells.lanes (omega arith) (omega arith) (omega arith)
+      ∙ ap (count_trailing_zeros 64) (sym are) in
+      let place =
+      ap (count_trailing_zeros 64) are ∙ trailing_mask_l p 64 lanes (omega arith) (omega arith) in
+      let below : count_trailing_zeros 64 bits
+      < tells.lanes = elim (cases_lt (position_or_len p lanes) (length lanes)) [
         | inl below ↦ omega arith
-        | inr above ↦ absurd (omega (arith, no_bits p lanes (omega (arith, prefix_len-le-length (λ x. not (p x)) lanes))))
+        | inr above ↦
+            absurd
+            (omega (arith, no_bits p lanes (omega (arith, prefix_len-le-length (λ x. not (p x)) lanes))))
       ] in
       record { position = sym first; below = omega arith; within = omega arith }
 
@@ -219,4 +240,5 @@ placed len n bytes lanes room some =
     ap (take (len + n)) (put_chunk_is len bytes lanes room)
     ∙ ap (λ k. take (k + n) (take len bytes ++ (lanes ++ rest)))
     (sym (length-take-le len bytes (omega arith)))
-    ∙ take-append-add (take len bytes) (lanes ++ rest) n ∙ ap (λ l. take len bytes ++ l) (take-append-le n lanes rest some)
+    ∙ take-append-add (take len bytes) (lanes ++ rest) n
+    ∙ ap (λ l. take len bytes ++ l) (take-append-le n lanes rest some)

@@ -9,14 +9,16 @@ skipped_feeds : (t : List ℕ) → skipped is_line_feed t ≡ skip_line_feeds t
 skipped_feeds [] = refl
 skipped_feeds (c ∷ cs) = ap (λ x. cond (eqb c 10) x (c ∷ cs)) (skipped_feeds cs)
 
-pub feeds_skipped : (t rest : List ℕ) → rest ≡ skipped is_line_feed t → drop_line_feeds rest ≡ without_outer_line_feeds t
+pub feeds_skipped : (t rest : List ℕ) → rest ≡ skipped is_line_feed t
+    → drop_line_feeds rest ≡ without_outer_line_feeds t
 feeds_skipped t rest h = ap drop_line_feeds (h ∙ skipped_feeds t)
 
 feed_dropped : (xs : List ℕ) → drop_line_feeds (xs ++ line_feed ∷ []) ≡ drop_line_feeds xs
 feed_dropped [] = refl
 feed_dropped (x ∷ xs) = ap (λ y. cond (eqb x 10 && (length y == 0)) [] (x ∷ y)) (feed_dropped xs)
 
-pub one_feed : (t before : List ℕ) (c : ℕ) → t ≡ before ++ c ∷ [] → c ≡ line_feed → drop_line_feeds before ≡ drop_line_feeds t
+pub one_feed : (t before : List ℕ) (c : ℕ) → t ≡ before ++ c ∷ [] → c ≡ line_feed
+    → drop_line_feeds before ≡ drop_line_feeds t
 one_feed t before c h e = sym (ap drop_line_feeds (h ∙ ap (λ x. before ++ x ∷ []) e) ∙ feed_dropped before)
 
 kept_length : (xs : List ℕ) (c : ℕ) → (length (xs ++ c ∷ []) == 0) ≡ false

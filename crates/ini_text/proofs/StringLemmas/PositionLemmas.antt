@@ -23,19 +23,26 @@ pub column-front : (cs : List ℕ) → column_from 1 cs ≡ column_of cs
 column-front cs = sym (at_start (list_any is_line_feed cs) cs refl)
 
 pub column-feed : (n c : ℕ) (t cs : List ℕ) → t ≡ c ∷ cs → c ≡ line_feed → column_from n t ≡ column_from 1 cs
-column-feed n c t cs h d = ap (column_from n) (h ∙ ap (λ x. x ∷ cs) d) ∙ at_start (list_any is_line_feed cs) cs refl
+column-feed n c t cs h d =
+    ap (column_from n) (h ∙ ap (λ x. x ∷ cs) d) ∙ at_start (list_any is_line_feed cs) cs refl
 
-count-from : (a : ℕ) (cs : List ℕ) → fold (λ n x. n + cond (is_line_feed x) 1 0) a cs ≡ a + count_by is_line_feed cs
+count-from : (a : ℕ) (cs : List ℕ)
+    → fold (λ n x. n + cond (is_line_feed x) 1 0) a cs ≡ a + count_by is_line_feed cs
 count-from a [] = omega arith
-count-from a (c ∷ cs) = count-from (a + cond (is_line_feed c) 1 0) cs ∙ omega (arith, count-from (0 + cond (is_line_feed c) 1 0) cs)
+count-from a (c ∷ cs) =
+    count-from (a + cond (is_line_feed c) 1 0) cs
+    ∙ omega (arith, count-from (0 + cond (is_line_feed c) 1 0) cs)
 
-count-cons : (c : ℕ) (cs : List ℕ) → count_by is_line_feed (c ∷ cs) ≡ cond (eqb c 10) 1 0 + count_by is_line_feed cs
+count-cons : (c : ℕ) (cs : List ℕ)
+    → count_by is_line_feed (c ∷ cs) ≡ cond (eqb c 10) 1 0 + count_by is_line_feed cs
 count-cons c cs = count-from (0 + cond (eqb c 10) 1 0) cs ∙ omega arith
 
-pub line-feed : (n c : ℕ) (t cs : List ℕ) → t ≡ c ∷ cs → c ≡ line_feed → n + count_by is_line_feed t ≡ n + 1 + count_by is_line_feed cs
+pub line-feed : (n c : ℕ) (t cs : List ℕ) → t ≡ c ∷ cs → c ≡ line_feed
+    → n + count_by is_line_feed t ≡ n + 1 + count_by is_line_feed cs
 line-feed n c t cs h d = ap (λ x. n + count_by is_line_feed x) h ∙ ap (λ x. n + x) (count-cons c cs)
     ∙ ap (λ b. n + (cond b 1 0 + count_by is_line_feed cs)) (eq-eqb c 10 d) ∙ omega arith
 
 -- a text has no more characters than bytes
 pub characters_fit : (bs : List ℕ) → IsUtf8 bs → length (chars bs) ≤ length bs
-characters_fit bs u = subst (λ n. length (chars bs) ≤ n) (ap length (encodes-chars bs u)) (length-le-encodes (chars bs))
+characters_fit bs u =
+    subst (λ n. length (chars bs) ≤ n) (ap length (encodes-chars bs u)) (length-le-encodes (chars bs))

@@ -19,7 +19,8 @@ pub pushed : (r : Result (Unit {0}) AllocError) (new old : List ℕ) (c : ℕ) �
     → OnOk r (chars new ≡ chars old ++ c ∷ [])
 pushed (Ok x) new old c u h e =
     ap chars e ∙ chars-append old (encode_utf8 c) u
-    ∙ ap (λ l. chars old ++ l) (ap chars (sym (append-nil (encode_utf8 c))) ∙ chars-encodes (c ∷ []) (and-true _ ∙ h))
+    ∙ ap (λ l. chars old ++ l)
+    (ap chars (sym (append-nil (encode_utf8 c))) ∙ chars-encodes (c ∷ []) (and-true _ ∙ h))
 pushed (Err x) new old c u h e = tt
 
 scalars-back : (a b : List ℕ) → all_scalars (a ++ b) ≡ true → all_scalars b ≡ true
@@ -37,10 +38,13 @@ grown old new v u w e =
     let bytes : new ≡ old ++ encode_utf8_all v =
     sym (encodes-chars new w) ∙ ap encode_utf8_all e ∙ encodes-append (chars old) v
     ∙ ap (λ x. x ++ encode_utf8_all v) (encodes-chars old u) in
-    let are_scalars : all_scalars v ≡ true = scalars-back (chars old) v (ap all_scalars (sym e) ∙ scalars-chars new w) in
+    let are_scalars : all_scalars v ≡ true =
+    scalars-back (chars old) v (ap all_scalars (sym e) ∙ scalars-chars new w) in
     record {
       front = ap chars (ap (take (length old)) bytes ∙ take-append_seam old (encode_utf8_all v));
-      back = ap chars (ap (drop (length old)) bytes ∙ drop-append_seam old (encode_utf8_all v)) ∙ chars-encodes v are_scalars;
+      back =
+          ap chars (ap (drop (length old)) bytes ∙ drop-append_seam old (encode_utf8_all v))
+          ∙ chars-encodes v are_scalars;
       cut = IsCharBoundary-at_seam new old (encode_utf8_all v) bytes (v, (are_scalars, refl));
     }
 
@@ -53,8 +57,10 @@ pub some_characters : (bs : List ℕ) → IsUtf8 bs → (length bs ≡ 0 → ⊥
 some_characters bs u some none = some (ap length (sym (encodes-chars bs u) ∙ ap encode_utf8_all none))
 
 -- a text of one byte below 0x80
-pub one_character : (bs : List ℕ) → IsUtf8 bs → length bs ≡ 1 → get_or bs 0 0 < 128 → chars bs ≡ get_or bs 0 0 ∷ []
+pub one_character : (bs : List ℕ) → IsUtf8 bs → length bs ≡ 1 → get_or bs 0 0 < 128
+    → chars bs ≡ get_or bs 0 0 ∷ []
 one_character [] u one low = absurd (omega arith)
 one_character (b ∷ []) u one low =
-    chars_past_char (b ∷ []) [] b u (sym (ap (λ x. x ++ []) (encode_ascii b low))) ∙ ap (λ x. b ∷ x) chars-nil
+    chars_past_char (b ∷ []) [] b u (sym (ap (λ x. x ++ []) (encode_ascii b low)))
+    ∙ ap (λ x. b ∷ x) chars-nil
 one_character (b ∷ c ∷ bs) u one low = absurd (omega arith)

@@ -29,20 +29,24 @@ chars_pass p wide (c ∷ cs) h =
 
 run_step : (p : ℕ → Bool) (b : Bool) (n x : ℕ) (xs : List ℕ) → p x ≡ b → list_all p (take n xs) ≡ true
     → list_all p (take (cond b (1 + n) 0) (x ∷ xs)) ≡ true
-run_step p true n x xs e h = subst (λ k. list_all p (take k (x ∷ xs)) ≡ true) (sym (one-add n)) (rw (e, h) refl)
+run_step p true n x xs e h =
+    subst (λ k. list_all p (take k (x ∷ xs)) ≡ true) (sym (one-add n)) (rw (e, h) refl)
 run_step p false n x xs e h = refl
 
 run_passes : (p : ℕ → Bool) (xs : List ℕ) → list_all p (take (prefix_len p xs) xs) ≡ true
 run_passes p [] = refl
 run_passes p (x ∷ xs) = run_step p (p x) (prefix_len p xs) x xs refl (run_passes p xs)
 
-pub boundary : (p : ℕ → Bool) (bs : List ℕ) → ((c : ℕ) → 128 ≤ c → p c ≡ true) → IsCharBoundary bs (prefix_len p bs)
+pub boundary : (p : ℕ → Bool) (bs : List ℕ) → ((c : ℕ) → 128 ≤ c → p c ≡ true)
+    → IsCharBoundary bs (prefix_len p bs)
 boundary p bs wide = elim (cases_lt (prefix_len p bs) (length bs)) [
-  | inl within ↦ IsCharBoundary-before_ascii bs (prefix_len p bs) within (elim (cases_lt (get_or bs (prefix_len p bs) 0) 128) [
-    | inl low ↦ low
-    | inr high ↦ let z = prefix_len_stops p bs 0 within in let y =
-        wide (get_or bs (prefix_len p bs) 0) high in absurd (true≢false (sym y ∙ z))
-  ])
+  | inl within ↦
+      IsCharBoundary-before_ascii bs (prefix_len p bs) within
+      (elim (cases_lt (get_or bs (prefix_len p bs) 0) 128) [
+        | inl low ↦ low
+        | inr high ↦ let z = prefix_len_stops p bs 0 within in let y =
+            wide (get_or bs (prefix_len p bs) 0) high in absurd (true≢false (sym y ∙ z))
+      ])
   | inr past ↦ subst (IsCharBoundary bs) (omega (arith, prefix_len-le-length p bs)) (IsCharBoundary-end bs)
 ]
 
@@ -58,7 +62,8 @@ run_chars p bs front n wide u e f =
     let text : IsUtf8 front =
     subst IsUtf8 (ap (λ k. take k bs) (sym e) ∙ sym f)
     (IsUtf8-take bs (prefix_len p bs) u (boundary p bs wide)) in
-    chars_pass p wide (chars front) (ap (list_all p) (encodes-chars front text ∙ f ∙ ap (λ k. take k bs) e) ∙ run_passes p bs)
+    chars_pass p wide (chars front)
+    (ap (list_all p) (encodes-chars front text ∙ f ∙ ap (λ k. take k bs) e) ∙ run_passes p bs)
 
 -- what follows the run doesn't begin with such a character
 pub run_stops : (p : ℕ → Bool) (bs back : List ℕ) (n : ℕ) → ((c : ℕ) → 128 ≤ c → p c ≡ true) → IsUtf8 bs
@@ -69,13 +74,17 @@ run_stops p bs back n wide u e k =
       | inl within ↦
           let b = get_or bs (prefix_len p bs) 0 in
           let no : p b ≡ false = prefix_len_stops p bs 0 within in
-          let low : b < 128 = elim (cases_lt b 128) [ inl low ↦ low | inr high ↦ absurd (true≢false (sym (wide b high) ∙ no)) ] in
-          let cut : drop (prefix_len p bs) bs ≡ b ∷ drop (suc (prefix_len p bs)) bs = drop-cons bs (prefix_len p bs) 0 within in
+          let low : b
+          < 128 = elim (cases_lt b 128)
+          [ inl low ↦ low | inr high ↦ absurd (true≢false (sym (wide b high) ∙ no)) ] in
+          let cut : drop (prefix_len p bs) bs ≡ b ∷ drop (suc (prefix_len p bs)) bs =
+          drop-cons bs (prefix_len p bs) 0 within in
           let first = chars_past_char (drop (prefix_len p bs) bs) (drop (suc (prefix_len p bs)) bs) b
           (IsUtf8-drop bs (prefix_len p bs) u (boundary p bs wide))
           (cut ∙ ap (λ x. x ++ drop (suc (prefix_len p bs)) bs) (sym (encode_ascii b low))) in
           subst (BeginsWithNo p) (sym (ap chars k' ∙ first)) no
-      | inr past ↦ subst (BeginsWithNo p) (sym (ap chars (k' ∙ drop_all (prefix_len p bs) bs past) ∙ chars-nil)) tt
+      | inr past ↦
+          subst (BeginsWithNo p) (sym (ap chars (k' ∙ drop_all (prefix_len p bs) bs past) ∙ chars-nil)) tt
     ]
 
 pub plain_wide : (ends : Endpoints) (c : ℕ) → 128 ≤ c → is_plain (ends_of ends) c ≡ true

@@ -20,9 +20,11 @@ pub front_bytes : (t r : List ℕ) → IsUtf8 t → IsUtf8 r → IsRest (chars t
     → encode_utf8_all (front_of (chars t) (chars r)) ++ r ≡ t
 front_bytes t r u v h =
     ap (λ l. encode_utf8_all (front_of (chars t) (chars r)) ++ l) (sym (encodes-chars r v))
-    ∙ sym (encodes-append (front_of (chars t) (chars r)) (chars r)) ∙ ap encode_utf8_all h ∙ encodes-chars t u
+    ∙ sym (encodes-append (front_of (chars t) (chars r)) (chars r)) ∙ ap encode_utf8_all h
+    ∙ encodes-chars t u
 
-pub front_boundary : (t r : List ℕ) → IsUtf8 t → IsUtf8 r → IsRest (chars t) (chars r) → IsCharBoundary t (length t - length r)
+pub front_boundary : (t r : List ℕ) → IsUtf8 t → IsUtf8 r → IsRest (chars t) (chars r)
+    → IsCharBoundary t (length t - length r)
 front_boundary t r u v h =
     let f = encode_utf8_all (front_of (chars t) (chars r)) in
     let e : f ++ r ≡ t = front_bytes t r u v h in
@@ -57,7 +59,8 @@ none_left : (c : ℕ) (es : List ℕ) → encode_utf8_all es ≡ [] → c ∷ es
 none_left c [] h = refl
 none_left c (e ∷ es) h = absurd (omega (arith, length-le-encodes (e ∷ es), ap length h))
 
-pub last_chars : (t front : List ℕ) (c : ℕ) → IsUtf8 t → IsUtf8 front → t ≡ front ++ encode_utf8 c → chars t ≡ chars front ++ c ∷ []
+pub last_chars : (t front : List ℕ) (c : ℕ) → IsUtf8 t → IsUtf8 front → t ≡ front ++ encode_utf8 c
+    → chars t ≡ chars front ++ c ∷ []
 last_chars t front c ut u h =
     let ds = chars (encode_utf8 c) in
     let split : chars t ≡ chars front ++ ds = ap chars h ∙ chars-append front (encode_utf8 c) u in

@@ -10,7 +10,8 @@ use Rattle.ini_text.specs.Grammar.EscapeSequences.{control}
 pub tested : (test : ℕ → ℕ → Bool) (table : List ℕ) (n b e : ℕ)
     → agree_below (λ k. test (get_or table k 0) k) (λ k. true) n ≡ true → b < n → e ≡ get_or table b 0
     → test e b ≡ true
-tested test table n b e all within is = ap (λ x. test x b) is ∙ agree_below_at (λ k. test (get_or table k 0) k) (λ k. true) n b all within
+tested test table n b e all within is =
+    ap (λ x. test x b) is ∙ agree_below_at (λ k. test (get_or table k 0) k) (λ k. true) n b all within
 
 pub past_not : (x y : Bool) → (not x || y) ≡ true → x ≡ true → y ≡ true
 past_not true y h q = h
@@ -26,10 +27,16 @@ digit_found b e within is small =
     (eqb-true e (digit_value b) both.0, grind (arith, nat_tests))
 
 abbrev is_letter_of : ℕ → ℕ → Bool
-is_letter_of e b = not (nat_lt e 128) || (nat_eq e (unwrap_or (control b) b) && (nat_lt b 128 && (not (nat_eq b 120) && not (nat_eq b 10))))
+is_letter_of e b =
+    not (nat_lt e 128)
+    || (nat_eq e (unwrap_or (control b) b) && (nat_lt b 128 && (not (nat_eq b 120) && not (nat_eq b 10))))
 
 pub letter_found : (b e : ℕ) → b < 256 → e ≡ get_or LETTERS b 0 → e < 128
     → (e ≡ unwrap_or (control b) b) × ((b < 128) × (b ≢ 120) × (b ≢ 10))
 letter_found b e within is small =
-    let both = and_parts _ _ (past_not _ _ (tested is_letter_of LETTERS 256 b e refl within is) (lt-ltb e 128 small)) in
-    (eqb-true e (unwrap_or (control b) b) both.0, (grind (arith, nat_tests), grind (arith, nat_tests), grind (arith, nat_tests)))
+    let both =
+    and_parts _ _
+    (past_not _ _ (tested is_letter_of LETTERS 256 b e refl within is) (lt-ltb e 128 small)) in (
+      eqb-true e (unwrap_or (control b) b) both.0,
+      (grind (arith, nat_tests), grind (arith, nat_tests), grind (arith, nat_tests)),
+    )

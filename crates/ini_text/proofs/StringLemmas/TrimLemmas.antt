@@ -34,11 +34,13 @@ chars_trim bs u =
     let s = scalars-skip (chars bs) (scalars-chars bs u) in
     ap (λ x. chars (Rattle.std.specs.Str.encode_utf8_all (drop_trailing_whitespace x)))
     (chars-encodes (skip_leading_whitespace (chars bs)) s)
-    ∙ chars-encodes (drop_trailing_whitespace (skip_leading_whitespace (chars bs))) (scalars-drop (skip_leading_whitespace (chars bs)) s)
+    ∙ chars-encodes (drop_trailing_whitespace (skip_leading_whitespace (chars bs)))
+    (scalars-drop (skip_leading_whitespace (chars bs)) s)
 
 pub chars_trim_end : (bs : List ℕ) → IsUtf8 bs → chars (trim_end bs) ≡ end_trimmed (chars bs)
 unfolding trim_start trim_end
-chars_trim_end bs u = chars-encodes (drop_trailing_whitespace (chars bs)) (scalars-drop (chars bs) (scalars-chars bs u))
+chars_trim_end bs u =
+    chars-encodes (drop_trailing_whitespace (chars bs)) (scalars-drop (chars bs) (scalars-chars bs u))
 
 -- a text as its first n bytes, what k takes of the rest, and what is left
 cut-taken : (t k : List ℕ) (n x : ℕ) → k ≡ take x (drop n t) → t ≡ take n t ++ (k ++ drop x (drop n t))
@@ -47,7 +49,8 @@ cut-taken t k n x begins =
     ∙ ap (λ l. take n t ++ l) (sym (take-append-drop x (drop n t))
     ∙ ap (λ l. l ++ drop x (drop n t)) (sym begins))
 
-take-cut : (t k : List ℕ) (n x : ℕ) → n ≤ length t → k ≡ take x (drop n t) → take (n + length k) t ≡ take n t ++ k
+take-cut : (t k : List ℕ) (n x : ℕ) → n ≤ length t → k ≡ take x (drop n t)
+    → take (n + length k) t ≡ take n t ++ k
 take-cut t k n x within begins =
     let z = drop x (drop n t) in
     ap (take (n + length k)) (cut-taken t k n x begins)
@@ -72,24 +75,30 @@ trimmed_boundary t part k n x u v cut is_part begins =
     (subst IsUtf8 (sym (take-cut t k n x cut.0 begins'))
     (IsUtf8-append (take n t) k (IsUtf8-take t n u cut) v))
 
-pub begins-end_trimmed : (both : Bool) (cs : List ℕ) → (both ≡ false) ⊎ (begins_white cs ≡ false) → trimmed_at both cs ≡ end_trimmed cs
+pub begins-end_trimmed : (both : Bool) (cs : List ℕ) → (both ≡ false) ⊎ (begins_white cs ≡ false)
+    → trimmed_at both cs ≡ end_trimmed cs
 begins-end_trimmed true cs (inl h) = cc
 begins-end_trimmed false cs h = refl
 begins-end_trimmed true [] (inr h) = refl
 begins-end_trimmed true (c ∷ cs) (inr h) = ap drop_trailing_whitespace (cond-false (is_whitespace c) _ _ h)
 
 pub end_trimmed_from : (t part k new : List ℕ) (n x : ℕ) (both : Bool) → IsUtf8 t → IsUtf8 part
-    → IsCharBoundary t n → part ≡ drop n t → k ≡ take x part → k ≡ trim_end part → new ≡ take (n + length k) t
-    → (both ≡ false) ⊎ (begins_white (chars part) ≡ false) → chars new ≡ chars (take n t) ++ trimmed_at both (chars (drop n t))
+    → IsCharBoundary t n → part ≡ drop n t → k ≡ take x part → k ≡ trim_end part
+    → new ≡ take (n + length k) t
+    → (both ≡ false) ⊎ (begins_white (chars part) ≡ false)
+    → chars new ≡ chars (take n t) ++ trimmed_at both (chars (drop n t))
 end_trimmed_from t part k new n x both u v cut is_part begins trimmed kept ends =
-    ap chars (kept ∙ take-cut t k n x cut.0 (begins ∙ ap (take x) is_part)) ∙ chars-append (take n t) k (IsUtf8-take t n u cut)
+    ap chars (kept ∙ take-cut t k n x cut.0 (begins ∙ ap (take x) is_part))
+    ∙ chars-append (take n t) k (IsUtf8-take t n u cut)
     ∙ ap (λ l. chars (take n t) ++ l) (ap chars trimmed ∙ chars_trim_end part v
     ∙ sym (begins-end_trimmed both (chars part) ends) ∙ ap (λ l. trimmed_at both (chars l)) is_part)
 
 pub all_trimmed_from : (r : Result (Unit {0}) AllocError) (t part cut copy new : List ℕ) (n : ℕ)
     (both : Bool) → IsUtf8 part → part ≡ drop n t → cut ≡ take n t → copy ≡ trim part → both ≡ true
-    → OnOk r (chars new ≡ chars cut ++ chars copy) → OnOk r (chars new ≡ chars (take n t) ++ trimmed_at both (chars (drop n t)))
+    → OnOk r (chars new ≡ chars cut ++ chars copy)
+    → OnOk r (chars new ≡ chars (take n t) ++ trimmed_at both (chars (drop n t)))
 all_trimmed_from (Ok x) t part cut copy new n both v is_part is_cut is_copy all pushed =
     pushed ∙ ap (λ l. chars l ++ chars copy) is_cut ∙ ap (λ l. chars (take n t) ++ l)
-    (ap chars is_copy ∙ chars_trim part v ∙ ap (λ l. trimmed (chars l)) is_part ∙ sym (cond-true both _ _ all))
+    (ap chars is_copy ∙ chars_trim part v ∙ ap (λ l. trimmed (chars l)) is_part
+    ∙ sym (cond-true both _ _ all))
 all_trimmed_from (Err x) t part cut copy new n both v is_part is_cut is_copy all pushed = tt

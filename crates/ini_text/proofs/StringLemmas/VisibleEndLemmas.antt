@@ -25,12 +25,15 @@ one_kept c h = rw h refl
 visible_last : (t : List ℕ) (n c : ℕ) → IsUtf8 t → length t ≡ suc n → get_or t n 0 ≡ c
     → is_visible c ≡ true → end_trimmed (chars t) ≡ chars t
 visible_last t n c u long last sees =
-    let at : IsCharBoundary t n = IsCharBoundary-before_ascii t n (omega arith) (omega (arith, visible-low c sees)) in
+    let at : IsCharBoundary t n =
+    IsCharBoundary-before_ascii t n (omega arith) (omega (arith, visible-low c sees)) in
     let back : drop n t ≡ get_or t n 0 ∷ drop (suc n) t = drop-cons t n 0 (omega arith) in
-    let one : drop n t ≡ c ∷ [] = back ∙ ap (λ x. get_or t n 0 ∷ x) (drop_all (suc n) t (omega arith)) ∙ ap (λ x. x ∷ []) last in
+    let one : drop n t ≡ c ∷ [] =
+    back ∙ ap (λ x. get_or t n 0 ∷ x) (drop_all (suc n) t (omega arith)) ∙ ap (λ x. x ∷ []) last in
     let text : IsUtf8 (c ∷ []) = subst IsUtf8 one (IsUtf8-drop t n u at) in
     let parts : chars t ≡ chars (take n t) ++ c ∷ [] = split_chars t (take n t) (drop n t) n u at refl refl
-    ∙ ap (λ x. chars (take n t) ++ x) (ap chars one ∙ one_character (c ∷ []) text refl (visible-low c sees)) in
+    ∙ ap (λ x. chars (take n t) ++ x)
+    (ap chars one ∙ one_character (c ∷ []) text refl (visible-low c sees)) in
     subst (λ x. end_trimmed x ≡ x) (sym parts)
     (end_trimmed-behind (chars (take n t)) (c ∷ []) (λ e. cc) (one_kept c (visible-black c sees)))
 
@@ -38,14 +41,17 @@ visible_first : (t : List ℕ) (c : ℕ) → IsUtf8 t → 0 < length t → get_o
     → BeginsWithNo is_whitespace (chars t)
 visible_first t c u some first sees =
     let front : t ≡ c ∷ drop 1 t = drop-cons t 0 0 some ∙ ap (λ x. x ∷ drop 1 t) first in
-    let begins = chars_past_char t (drop 1 t) c u (front ∙ ap (λ x. x ++ drop 1 t) (sym (encode_ascii c (visible-low c sees)))) in
+    let begins =
+    chars_past_char t (drop 1 t) c
+    u (front ∙ ap (λ x. x ++ drop 1 t) (sym (encode_ascii c (visible-low c sees)))) in
     subst (BeginsWithNo is_whitespace) (sym begins) (visible-black c sees)
 
 pub visible_ends : (t : List ℕ) (n first last : ℕ) → IsUtf8 t → length t ≡ suc n → get_or t 0 0 ≡ first
     → is_visible first ≡ true → get_or t n 0 ≡ last → is_visible last ≡ true
     → (both : Bool) → trimmed_at both (chars t) ≡ chars t
 visible_ends t n first last u long begins sees ends sees' true =
-    ap end_trimmed (skip_none (chars t) (visible_first t first u (omega arith) begins sees)) ∙ visible_last t n last u long ends sees'
+    ap end_trimmed (skip_none (chars t) (visible_first t first u (omega arith) begins sees))
+    ∙ visible_last t n last u long ends sees'
 visible_ends t n first last u long begins sees ends sees' false = visible_last t n last u long ends sees'
 
 -- a space at the end is trimmed

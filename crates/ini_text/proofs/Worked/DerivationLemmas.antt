@@ -1,5 +1,5 @@
--- Derivations of written-out texts, put together from the front to the end. What the grammar asks of a plain part of a
--- text, one without backslashes and quotes, is one test here, which computes.
+-- Derivations of written-out texts, put together from the front to the end. What the grammar asks of a plain
+-- part of a text, one without backslashes and quotes, is one test here, which computes.
 use Rattle.std.proofs.Common.{◌≡◌, ◌≢◌, inl, inr, ℕ, Bool, true, false, not, ◌&&◌, List, [], ◌∷◌, ◌++◌, refl, sym, ◌∙◌, append_assoc, subst}
 use Rattle.std.specs.Prelude.{◌==◌, if◌then◌else◌, Option, Some, map}
 use Rattle.std.specs.Char.{is_whitespace}
@@ -24,22 +24,29 @@ use Rattle.ini_text.proofs.GrammarLemmas.ItemLemmas.{reads-append}
 -- behind the front b, the rest t of a text gives the items
 pub data RestGives (o : ParseOption) : List ℕ → List ℕ → List Given → Type 0 where
   whole : {b : List ℕ} → RestGives o b [] []
-  skip : {b s r : List ℕ} {items : List Given} → Element o b s r [] → RestGives o (b ++ s) r items → RestGives o b (s ++ r) items
+  skip : {b s r : List ℕ} {items : List Given} → Element o b s r [] → RestGives o (b ++ s) r items
+      → RestGives o b (s ++ r) items
   give : {b s r : List ℕ} {item : Given} {items : List Given} → Element o b s r (item ∷ [])
       → RestGives o (b ++ s) r items → RestGives o b (s ++ r) (item ∷ items)
 
 -- behind the front b, reading the rest t of a text stops at the end of the front f
 pub data RestStops (o : ParseOption) : List ℕ → List ℕ → ParseKind → List ℕ → Type 0 where
-  stop : {b s r : List ℕ} {kind : ParseKind} → ElementStops o b s r kind → RestStops o b (s ++ r) kind (b ++ s)
+  stop : {b s r : List ℕ} {kind : ParseKind} → ElementStops o b s r kind
+      → RestStops o b (s ++ r) kind (b ++ s)
   past : {b s r f : List ℕ} {kind : ParseKind} {gives : List Given} → Element o b s r gives
       → RestStops o (b ++ s) r kind f → RestStops o b (s ++ r) kind f
 
-rest_reads : {o : ParseOption} {T b t : List ℕ} {items : List Given} → T ≡ b ++ t → RestGives o b t items → Reads o T b items T
-rest_reads {o} {T} {b} e RestGives.whole = subst (λ c. Reads o T b [] c) (sym (e ∙ append-nil b)) (Reads.stay [] e)
-rest_reads {b = b} e (RestGives.skip {s = s} {r = r} x rest) = Reads.step e x (rest_reads (e ∙ sym (append_assoc b s r)) rest)
-rest_reads {b = b} e (RestGives.give {s = s} {r = r} x rest) = Reads.step e x (rest_reads (e ∙ sym (append_assoc b s r)) rest)
+rest_reads : {o : ParseOption} {T b t : List ℕ} {items : List Given} → T ≡ b ++ t → RestGives o b t items
+    → Reads o T b items T
+rest_reads {o} {T} {b} e RestGives.whole =
+    subst (λ c. Reads o T b [] c) (sym (e ∙ append-nil b)) (Reads.stay [] e)
+rest_reads {b = b} e (RestGives.skip {s = s} {r = r} x rest) =
+    Reads.step e x (rest_reads (e ∙ sym (append_assoc b s r)) rest)
+rest_reads {b = b} e (RestGives.give {s = s} {r = r} x rest) =
+    Reads.step e x (rest_reads (e ∙ sym (append_assoc b s r)) rest)
 
-pub derives : {o : ParseOption} {T : List ℕ} {items : List Given} → RestGives o [] T items → Derives o T items
+pub derives : {o : ParseOption} {T : List ℕ} {items : List Given} → RestGives o [] T items
+    → Derives o T items
 derives rest = rest_reads refl rest
 
 rest_stops : {o : ParseOption} {T b t f : List ℕ} {items : List Given} {kind : ParseKind}
@@ -92,16 +99,20 @@ raws_before [] h row = row
 raws_before {ends = ends} (c ∷ s) h row =
     let parts = and_parts (is_raw ends c) (list_all (is_raw ends) s) h in
     let raw = and_parts (not (c == backslash)) (not (is_endpoint ends c)) parts.0 in
-    Row.raw (eqb-false c backslash (not-true (c == backslash) raw.0)) (not-true (is_endpoint ends c) raw.1) (raws_before s parts.1 row)
+    Row.raw (eqb-false c backslash (not-true (c == backslash) raw.0)) (not-true (is_endpoint ends c) raw.1)
+    (raws_before s parts.1 row)
 
-pub raws : {escapes : Bool} {ends : Ends} (s : List ℕ) → list_all (is_raw ends) s ≡ true → Row escapes ends s s
-raws {escapes} {ends} s h = let row : Row escapes ends (s ++ []) (s ++ []) = raws_before s h Row.none in rw append-nil at row
+pub raws : {escapes : Bool} {ends : Ends} (s : List ℕ) → list_all (is_raw ends) s ≡ true
+    → Row escapes ends s s
+raws {escapes} {ends} s h =
+    let row : Row escapes ends (s ++ []) (s ++ []) = raws_before s h Row.none in rw append-nil at row
 
 -- a string of raw characters
 abbrev pub is_raw_string : Ends → List ℕ → List ℕ → Bool
 is_raw_string ends s r = list_all (is_raw ends) s && closes ends r
 
-pub raw_string : {escapes : Bool} {ends : Ends} {r : List ℕ} (s : List ℕ) → is_raw_string ends s r ≡ true → Str escapes ends s r s
+pub raw_string : {escapes : Bool} {ends : Ends} {r : List ℕ} (s : List ℕ) → is_raw_string ends s r ≡ true
+    → Str escapes ends s r s
 raw_string {ends = ends} {r = r} s h = let parts = and_parts (list_all (is_raw ends) s) (closes ends r) h
     in Str.closed (raws s parts.0) (closed_by ends r parts.1)
 
@@ -171,27 +182,32 @@ abbrev pub is_any : ℕ → Bool
 is_any c = true
 
 pub not_empty : {key : List ℕ} → begins is_any key ≡ true → key ≢ []
-not_empty {key} h e = let P : List ℕ → Type 0 = λ k. begins is_any k ≡ true in absurd (false≢true (subst P e h))
+not_empty {key} h e =
+    let P : List ℕ → Type 0 = λ k. begins is_any k ≡ true in absurd (false≢true (subst P e h))
 
 -- a key before r that isn't indented
 abbrev pub is_plain_key : List ℕ → List ℕ → Bool
 is_plain_key k r = begins begins_key (k ++ r) && is_raw_string key_ends k r
 
-pub plain_key : {o : ParseOption} {b r : List ℕ} (k : List ℕ) → is_plain_key k r ≡ true → KeyFront o b k r (key_of o [] k)
+pub plain_key : {o : ParseOption} {b r : List ℕ} (k : List ℕ) → is_plain_key k r ≡ true
+    → KeyFront o b k r (key_of o [] k)
 plain_key {r = r} k h =
     let parts = and_parts (begins begins_key (k ++ r)) (is_raw_string key_ends k r) h in
     KeyFront.unindented (begins_with begins_key (k ++ r) parts.0) (raw_string k parts.1)
 
 -- a key before r behind the blanks w
 abbrev pub is_indented_key : List ℕ → List ℕ → List ℕ → List ℕ → Bool
-is_indented_key b w k r = is_indentation b w && (begins begins_indented_key (k ++ r) && is_raw_string key_ends k r)
+is_indented_key b w k r =
+    is_indentation b w && (begins begins_indented_key (k ++ r) && is_raw_string key_ends k r)
 
 pub key_behind_blanks : {o : ParseOption} {b r : List ℕ} (w k : List ℕ) → is_indented_key b w k r ≡ true
     → KeyFront o b (w ++ k) r (key_of o w k)
 key_behind_blanks {b = b} {r = r} w k h =
-    let blanks = and_parts (is_indentation b w) (begins begins_indented_key (k ++ r) && is_raw_string key_ends k r) h in
+    let blanks =
+    and_parts (is_indentation b w) (begins begins_indented_key (k ++ r) && is_raw_string key_ends k r) h in
     let parts = and_parts (begins begins_indented_key (k ++ r)) (is_raw_string key_ends k r) blanks.1 in
-    KeyFront.indented (indentation b w blanks.0) (begins_with begins_indented_key (k ++ r) parts.0) (raw_string k parts.1)
+    KeyFront.indented (indentation b w blanks.0) (begins_with begins_indented_key (k ++ r) parts.0)
+    (raw_string k parts.1)
 
 -- a pair whose key has no backslashes, not indented and indented
 pub pair_of : {o : ParseOption} {b s r v : List ℕ} (k : List ℕ) → is_plain_key k (equals ∷ (s ++ r)) ≡ true
@@ -221,34 +237,43 @@ pub plain_pair : {o : ParseOption} {b r : List ℕ} (k s : List ℕ) → is_plai
 plain_pair {o} {r = r} k s h =
     let key = is_plain_key k (equals ∷ (s ++ r)) in
     let value = is_lead [] (s ++ r) && is_plain_line s r in
-    let one = and_parts (not o.enabled_indented_mutiline_value) (begins is_any (key_of o [] k) && (key && value)) h in
+    let one =
+    and_parts (not o.enabled_indented_mutiline_value) (begins is_any (key_of o [] k) && (key && value)) h in
     let some = and_parts (begins is_any (key_of o [] k)) (key && value) one.1 in
     let both = and_parts key value some.1 in
     let parts = and_parts (is_lead [] (s ++ r)) (is_plain_line s r) both.1 in
-    pair_of k both.0 some.0 (one_line (not-true o.enabled_indented_mutiline_value one.0) parts.0 (plain_line s parts.1))
+    pair_of k both.0
+    some.0 (one_line (not-true o.enabled_indented_mutiline_value one.0) parts.0 (plain_line s parts.1))
 
 -- a header without backslashes
 abbrev pub is_plain_header : ParseOption → List ℕ → List ℕ → Bool
-is_plain_header o n r = not o.enabled_brackets_in_section_names && is_raw_string name_ends n (close_bracket ∷ r)
+is_plain_header o n r =
+    not o.enabled_brackets_in_section_names && is_raw_string name_ends n (close_bracket ∷ r)
 
 pub plain_header : {o : ParseOption} {b r : List ℕ} (n : List ℕ) → is_plain_header o n r ≡ true
     → Element o b (open_bracket ∷ (n ++ close_bracket ∷ [])) r (Header (trimmed n) ∷ [])
 plain_header {o} {r = r} n h =
-    let parts = and_parts (not o.enabled_brackets_in_section_names) (is_raw_string name_ends n (close_bracket ∷ r)) h in
+    let parts =
+    and_parts (not o.enabled_brackets_in_section_names) (is_raw_string name_ends n (close_bracket ∷ r)) h in
     Element.header (not-true o.enabled_brackets_in_section_names parts.0) (raw_string n parts.1)
 
 -- such a header with brackets in names, and the blanks w behind its last bracket
 abbrev pub is_bracketed_header : ParseOption → List ℕ → List ℕ → List ℕ → Bool
 is_bracketed_header o n w r =
-    o.enabled_brackets_in_section_names && (list_all is_blank w && is_raw_string bracketed_name_ends (n ++ close_bracket ∷ w) r)
+    o.enabled_brackets_in_section_names
+    && (list_all is_blank w && is_raw_string bracketed_name_ends (n ++ close_bracket ∷ w) r)
 
-pub plain_bracketed_header : {o : ParseOption} {b r : List ℕ} (n w : List ℕ) → is_bracketed_header o n w r ≡ true
+pub plain_bracketed_header : {o : ParseOption} {b r : List ℕ} (n w : List ℕ)
+    → is_bracketed_header o n w r ≡ true
     → Element o b (open_bracket ∷ (n ++ close_bracket ∷ w)) r (Header (trimmed n) ∷ [])
 plain_bracketed_header {o} {r = r} n w h =
     let line = n ++ close_bracket ∷ w in
-    let on = and_parts o.enabled_brackets_in_section_names (list_all is_blank w && is_raw_string bracketed_name_ends line r) h in
+    let on =
+    and_parts o.enabled_brackets_in_section_names
+    (list_all is_blank w && is_raw_string bracketed_name_ends line r) h in
     let parts = and_parts (list_all is_blank w) (is_raw_string bracketed_name_ends line r) on.1 in
-    Element.bracketed_header on.0 (raw_string line parts.1) (record { blanks = w; blank = parts.0; whole = refl })
+    Element.bracketed_header on.0 (raw_string line parts.1)
+    (record { blanks = w; blank = parts.0; whole = refl })
 
 -- one white character as a gap
 abbrev pub is_white_gap : List ℕ → ℕ → Bool
@@ -257,7 +282,8 @@ is_white_gap b c = is_whitespace c && not (is_blank c && starts_line b)
 pub white : {o : ParseOption} {b r : List ℕ} {c : ℕ} → is_white_gap b c ≡ true → Element o b (c ∷ []) r []
 white {b = b} {c = c} h =
     let parts = and_parts (is_whitespace c) (not (is_blank c && starts_line b)) h in
-    Element.gap (Gap.white parts.0 (λ e. elim (and_cases (is_blank c) (starts_line b) (not-true (is_blank c && starts_line b) parts.1)) [
+    Element.gap (Gap.white parts.0
+    (λ e. elim (and_cases (is_blank c) (starts_line b) (not-true (is_blank c && starts_line b) parts.1)) [
       | inl n ↦ absurd (both_ways (is_blank c) n e)
       | inr n ↦ n
     ]))

@@ -4,7 +4,8 @@ use Rattle.std.specs.Prelude.{codes}
 use Rattle.ini_text.specs.Escaping.EscapedTexts.{escape, escaped}
 use Rattle.ini_text.specs.declared.write.policy.EscapePolicy.TheVariants.{Nothing, Basics, BasicsUnicode, BasicsUnicodeExtended, Reserved, ReservedUnicode, ReservedUnicodeExtended}
 
-controls : escaped Basics (0x7C ∷ 0x07 ∷ 0x7C ∷ 0x08 ∷ 0x7C ∷ 0x7F ∷ 0x7C ∷ 0x1B ∷ 0x7C ∷ []) ≡ codes "|\\a|\\b|\\x007f|\\x001b|"
+controls : escaped Basics (0x7C ∷ 0x07 ∷ 0x7C ∷ 0x08 ∷ 0x7C ∷ 0x7F ∷ 0x7C ∷ 0x1B ∷ 0x7C ∷ [])
+    ≡ codes "|\\a|\\b|\\x007f|\\x001b|"
 unfolding escape
 controls = refl
 
@@ -24,7 +25,8 @@ reserved : escaped Reserved (codes ":=;#") ≡ codes "\\:\\=\\;\\#"
 unfolding escape
 reserved = refl
 
-unicode : escaped BasicsUnicode (0xE9 ∷ 0xA3 ∷ 0x2233 ∷ 0x5B57 ∷ 0x2728 ∷ []) ≡ codes "\\x00e9\\x00a3\\x2233\\x5b57\\x2728"
+unicode : escaped BasicsUnicode (0xE9 ∷ 0xA3 ∷ 0x2233 ∷ 0x5B57 ∷ 0x2728 ∷ [])
+    ≡ codes "\\x00e9\\x00a3\\x2233\\x5b57\\x2728"
 unfolding escape
 unicode = refl
 

@@ -11,8 +11,8 @@ use Rattle.ini_text.specs.declared.write.policy.EscapePolicy.{EscapePolicy}
 use Rattle.ini_text.specs.declared.write.policy.EscapePolicy.TheVariants.{Nothing, Basics, Reserved, Everything}
 use Rattle.ini_text.proofs.PlainLemmas.EscapedTextLemmas.{basic-escaped}
 
--- Where escapes are on and the policy isn't `Nothing`, a text that has no escapes and needs none is one whose
--- escapes are read: so the two ways to be read back never mix in one document.
+-- Where escapes are on and the policy isn't `Nothing`, a text that has no escapes and needs none is one
+-- whose escapes are read: so the two ways to be read back never mix in one document.
 all_so : (p q : ℕ → Bool) → ((c : ℕ) → p c ≡ true → q c ≡ true) → (text : List ℕ) → list_all p text ≡ true
     → list_all q text ≡ true
 all_so p q so [] h = refl
@@ -83,7 +83,8 @@ emoji r = elim r.is_read [
 ]
 
 raw_emoji : IsReadBack default_parse_option Basics (codes "🐱")
-raw_emoji = record { of_characters = refl; is_read = inr (record { no_escaped = refl; no_backslash = refl }) }
+raw_emoji =
+    record { of_characters = refl; is_read = inr (record { no_escaped = refl; no_backslash = refl }) }
 
 -- a surrogate is no character: its digits, which spell none, would be refused
 surrogate : (o : ParseOption) (policy : EscapePolicy) → ¬ IsReadBack o policy (0xD800 ∷ [])
@@ -102,7 +103,8 @@ closing_bracket : (o : ParseOption) (policy : EscapePolicy) → o.enabled_bracke
     → ¬ IsPlainName o policy (codes "]")
 closing_bracket o policy off n = false≢true (n.no_bracket off)
 
-bracketed_name : IsPlainName (record default_parse_option { enabled_brackets_in_section_names = true }) Basics (codes "a]")
+bracketed_name : IsPlainName (record default_parse_option { enabled_brackets_in_section_names = true })
+    Basics (codes "a]")
 bracketed_name = record {
   is_trimmed = refl;
   no_bracket = λ off. absurd (true≢false off);

@@ -17,7 +17,8 @@ abbrev pub with_brackets : ParseOption
 with_brackets = record default_parse_option { enabled_brackets_in_section_names = true }
 
 -- The last bracket of the line ends the name.
-pub last_bracket_ends_a_name : Derives with_brackets (codes "[a]]\nk=v\n") (Header (codes "a]") ∷ Pair (codes "k") (codes "v") ∷ [])
+pub last_bracket_ends_a_name : Derives with_brackets (codes "[a]]\nk=v\n")
+    (Header (codes "a]") ∷ Pair (codes "k") (codes "v") ∷ [])
 last_bracket_ends_a_name = derives (give (plain_bracketed_header (codes "a]") [] refl) (skip (white refl) (
     give (plain_pair (codes "k") (codes "v") refl) (skip (white refl) whole))))
 

@@ -28,7 +28,8 @@ abbrev pub without_quotes : ParseOption
 without_quotes = record default_parse_option { enabled_quote = false }
 
 -- an escape before a row, named in the grammar or standing for its character
-named : {ends : Ends} {c v : ℕ} {s w : List ℕ} → control c ≡ Some v → Row true ends s w → Row true ends (backslash ∷ c ∷ s) (v ∷ w)
+named : {ends : Ends} {c v : ℕ} {s w : List ℕ} → control c ≡ Some v → Row true ends s w
+    → Row true ends (backslash ∷ c ∷ s) (v ∷ w)
 named e row = Row.escape (EscapeSequence.named refl e) row
 
 itself : {ends : Ends} {c : ℕ} {s w : List ℕ} → (c == line_feed || c == letter_x) ≡ false
@@ -59,22 +60,28 @@ two_sections = derives (
     give (plain_header (codes "sec2") refl) (
     give (plain_pair (codes "foo") (codes "bar") refl) (skip (white refl) whole)))))))))
 
--- White space round keys and values goes, a colon separates as well, and a comment may stand between the items.
+-- White space round keys and values goes, a colon separates as well, and a comment may stand between the
+-- items.
 pub trimmed_keys_and_values : Derives default_parse_option (codes "k = v\n; c\n[a]\nx: y")
     (Pair (codes "k") (codes "v") ∷ Header (codes "a") ∷ Pair (codes "x") (codes "y") ∷ [])
 trimmed_keys_and_values = derives (
-    give (pair_of (codes "k ") refl refl (Value.one_line {w = codes " "} refl (lead _ _ refl) (plain_line (codes "v") refl))) (
+    give (pair_of (codes "k ") refl
+    refl (Value.one_line {w = codes " "} refl (lead _ _ refl) (plain_line (codes "v") refl))) (
     skip (white refl) (skip (Element.comment (codes " c") refl refl refl) (
     give (plain_header (codes "a") refl) (skip (white refl) (
     give (Element.pair {k = codes "x"} {s = codes " y"} (plain_key (codes "x") refl) (not_empty refl) refl
     (Value.one_line {w = codes " "} refl (lead _ _ refl) (plain_line (codes "y") refl))) whole))))))
 
--- Quoted parts and the plain part behind them join. The plain part then keeps the white space that it begins with.
-pub quoted_and_plain_parts : Derives default_parse_option (codes "k=\"a\"\"b\" c") (Pair (codes "k") (codes "ab c") ∷ [])
+-- Quoted parts and the plain part behind them join. The plain part then keeps the white space that it begins
+-- with.
+pub quoted_and_plain_parts : Derives default_parse_option (codes "k=\"a\"\"b\" c")
+    (Pair (codes "k") (codes "ab c") ∷ [])
 quoted_and_plain_parts = derives (give (pair_of (codes "k") refl refl (one_line refl refl (Line.line
-    (quoted (codes "a") refl refl (quoted (codes "b") refl refl Quoted.none)) (λ _. refl) (raw_string (codes " c") refl)))) whole)
+    (quoted (codes "a") refl refl (quoted (codes "b") refl refl Quoted.none)) (λ _. refl)
+    (raw_string (codes " c") refl)))) whole)
 
--- The six escapes of one letter or digit. Before any other character the backslash goes, and before another backslash one stays.
+-- The six escapes of one letter or digit. Before any other character the backslash goes, and before another
+-- backslash one stays.
 pub escapes_by_name : Derives default_parse_option (codes "k=\\0\\a\\b\\t\\r\\n\\f\\v\\\\")
     (Pair (codes "k") (0x00 ∷ 0x07 ∷ 0x08 ∷ 0x09 ∷ 0x0D ∷ 0x0A ∷ codes "fv\\") ∷ [])
 escapes_by_name = derives (give (pair_of (codes "k") refl refl (one_line refl refl (unquoted_line refl
@@ -85,12 +92,15 @@ escapes_by_name = derives (give (pair_of (codes "k") refl refl (one_line refl re
 -- A backslash before LF goes with it, escapes on or off, and the value goes on.
 pub continued_line : Derives without_escapes (codes "k=a\\\nb") (Pair (codes "k") (codes "ab") ∷ [])
 continued_line = derives (give (pair_of (codes "k") refl refl (one_line refl refl
-    (unquoted_line refl (raws_before (codes "a") refl (Row.escape EscapeSequence.folded (raws (codes "b") refl))) refl))) whole)
+    (unquoted_line refl (raws_before (codes "a") refl
+    (Row.escape EscapeSequence.folded (raws (codes "b") refl))) refl))) whole)
 
 -- Kept, the indentation of a key belongs to it.
-pub key_with_kept_indentation : Derives with_kept_indentation (codes "# c\n  k=v") (Pair (codes "  k") (codes "v") ∷ [])
+pub key_with_kept_indentation : Derives with_kept_indentation (codes "# c\n  k=v")
+    (Pair (codes "  k") (codes "v") ∷ [])
 key_with_kept_indentation = derives (skip (Element.comment (codes " c") refl refl refl) (
-    give (pair_behind_blanks (codes "  ") (codes "k") refl refl (one_line refl refl (plain_line (codes "v") refl))) whole))
+    give (pair_behind_blanks (codes "  ") (codes "k") refl refl
+    (one_line refl refl (plain_line (codes "v") refl))) whole))
 
 -- An indented key without a separator is dropped.
 pub dropped_key : Derives default_parse_option (codes "  k") []
@@ -99,11 +109,13 @@ dropped_key = derives (skip
     (StrStops.at_end (raws (codes "k") refl) refl)) whole)
 
 -- In a multiline value CR LF is one line end.
-pub cr_lf_in_a_value : Derives with_multiline_values (codes "k=v\r\n  w\r\n") (Pair (codes "k") (codes "v\nw") ∷ [])
+pub cr_lf_in_a_value : Derives with_multiline_values (codes "k=v\r\n  w\r\n")
+    (Pair (codes "k") (codes "v\nw") ∷ [])
 cr_lf_in_a_value = derives
     (give (pair_of (codes "k") refl refl
     (Value.lines {w = []} refl (lead _ _ refl) (plain_line (codes "v") refl) LineEnd.cr_lf
-    (MoreLines.continued {w = codes "  "} refl (lead _ _ refl) (plain_line (codes "w") refl) LineEnd.cr_lf (MoreLines.done tt tt)))) whole)
+    (MoreLines.continued {w = codes "  "} refl (lead _ _ refl) (plain_line (codes "w") refl) LineEnd.cr_lf
+    (MoreLines.done tt tt)))) whole)
 
 -- CR doesn't end a comment, and the text's end does.
 pub comment_past_cr : Derives default_parse_option (codes "# c\rk=v") []
@@ -114,24 +126,29 @@ pub marks_without_quotes : Derives without_quotes (codes "k=\"a\"") (Pair (codes
 marks_without_quotes = derives (give (pair_of (codes "k") refl refl (one_line refl refl
     (Line.line Quoted.none (λ on. absurd (false≢true on)) (raw_string (codes "\"a\"") refl)))) whole)
 
--- Multiline values among other items. The lines are trimmed. Empty lines stay within a value, and go at its ends.
+-- Multiline values among other items. The lines are trimmed. Empty lines stay within a value, and go at its
+-- ends.
 pub multiline_values : Derives with_multiline_values
-    (codes "\n[Foo]\nbar =\n    u\n    v\n\nbaz = w\n  x # intentional trailing whitespace below\n   y \n\n z #2\nbla = a\n")
+    (codes
+    "\n[Foo]\nbar =\n    u\n    v\n\nbaz = w\n  x # intentional trailing whitespace below\n   y \n\n z #2\nbla = a\n")
     (Header (codes "Foo") ∷ Pair (codes "bar") (codes "u\nv") ∷ Pair (codes "baz")
     (codes "w\nx # intentional trailing whitespace below\ny\n\nz #2") ∷ Pair (codes "bla") (codes "a")
     ∷ [])
 multiline_values = derives (
     skip (white refl) (give (plain_header (codes "Foo") refl) (skip (white refl) (
-    give (pair_of (codes "bar ") refl refl (Value.lines {w = []} refl (lead _ _ refl) (plain_line [] refl) LineEnd.lf
+    give (pair_of (codes "bar ") refl
+    refl (Value.lines {w = []} refl (lead _ _ refl) (plain_line [] refl) LineEnd.lf
     (MoreLines.continued {w = codes "    "} refl (lead _ _ refl) (plain_line (codes "u") refl) LineEnd.lf (
     MoreLines.continued {w = codes "    "} refl (lead _ _ refl) (plain_line (codes "v") refl) LineEnd.lf (
     MoreLines.empty_lf (MoreLines.done refl refl)))))) (
-    give (pair_of (codes "baz ") refl refl (Value.lines {w = codes " "} refl (lead _ _ refl) (plain_line (codes "w") refl) LineEnd.lf
+    give (pair_of (codes "baz ") refl
+    refl (Value.lines {w = codes " "} refl (lead _ _ refl) (plain_line (codes "w") refl) LineEnd.lf
     (MoreLines.continued {w = codes "  "} refl (lead _ _ refl)
     (plain_line (codes "x # intentional trailing whitespace below") refl) LineEnd.lf (
     MoreLines.continued {w = codes "   "} refl (lead _ _ refl) (plain_line (codes "y ") refl) LineEnd.lf (
     MoreLines.empty_lf (
-    MoreLines.continued {w = codes " "} refl (lead _ _ refl) (plain_line (codes "z #2") refl) LineEnd.lf (MoreLines.done refl refl))))))) (
+    MoreLines.continued {w = codes " "} refl (lead _ _ refl) (plain_line (codes "z #2") refl) LineEnd.lf
+    (MoreLines.done refl refl))))))) (
     give (pair_of (codes "bla ") refl refl
     (Value.lines {w = codes " "} refl (lead _ _ refl) (plain_line (codes "a") refl) LineEnd.lf
     (MoreLines.done tt tt))) whole))))))

@@ -38,7 +38,8 @@ escape_by None c = backslash ∷ letter_x ∷ hex_digits (digit_count c) c
 unfoldable pub escape : ℕ → List ℕ
 escape c = escape_by (letter_of c) c
 
--- what is written for a text: the characters that the policy escapes as their escapes, the others as they are
+-- what is written for a text: the characters that the policy escapes as their escapes, the others as they
+-- are
 abbrev pub escaped : EscapePolicy → List ℕ → List ℕ
 escaped policy text = flat_map (λ c. if is_escaped policy c then escape c else c ∷ []) text
 

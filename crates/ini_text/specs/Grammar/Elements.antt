@@ -71,7 +71,8 @@ pub data ElementStops (o : ParseOption) (b : List ℕ) : List ℕ → List ℕ �
   -- no bracket ends the name, which is told at the line end's first character
   no_header_end : {s r v : List ℕ} {c : ℕ} → o.enabled_brackets_in_section_names ≡ true
       → Str o.enabled_escape bracketed_name_ends s (c ∷ r) v
-      → ((name : List ℕ) → ¬ IsBracketed v name) → ElementStops o b (open_bracket ∷ (s ++ c ∷ [])) r HeaderEnd
+      → ((name : List ℕ) → ¬ IsBracketed v name)
+      → ElementStops o b (open_bracket ∷ (s ++ c ∷ [])) r HeaderEnd
   in_key : {s r : List ℕ} {kind : ParseKind} → BeginsWith begins_key (s ++ r)
       → StrStops o.enabled_escape key_ends s r kind → ElementStops o b s r kind
   -- the text's end is no fault in an indented key

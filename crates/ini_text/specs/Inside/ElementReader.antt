@@ -105,9 +105,11 @@ is_comment_part c = not (is_line_feed c)
 unfoldable pub element : ParseOption → List ℕ → List ℕ → Answer Given
 element o b [] = found [] []
 element o b (c ∷ cs) =
-    if is_blank c && starts_line b then behind_blanks o (run_of is_blank (c ∷ cs)) (skipped is_blank (c ∷ cs))
+    if is_blank c && starts_line b
+    then behind_blanks o (run_of is_blank (c ∷ cs)) (skipped is_blank (c ∷ cs))
     else if is_whitespace c then found [] cs
     else if is_comment_mark c
-    then (if is_column_one b then found [] (drop 1 (skipped is_comment_part cs)) else stopped cs InlineComment)
+    then (if is_column_one b then found [] (drop 1 (skipped is_comment_part cs))
+    else stopped cs InlineComment)
     else if c == open_bracket then behind_bracket o cs
     else unindented o (c ∷ cs)

@@ -52,7 +52,8 @@ as_step (stopped r k) = ends (stopped r k)
 -- behind a backslash
 abbrev pub escape : Bool → Ends → List ℕ → Step ℕ
 escape e to [] = ends (at_end to (backslash ∷ []))
-escape e to (c ∷ cs) = if c == letter_x && e then as_step (coded cs) else more (value_behind_backslash e c) cs
+escape e to (c ∷ cs) =
+    if c == letter_x && e then as_step (coded cs) else more (value_behind_backslash e c) cs
 
 abbrev pub piece : Bool → Ends → List ℕ → Step ℕ
 piece e to [] = ends (at_end to [])

@@ -42,7 +42,8 @@ row o [] = ends (found [] [])
 row o (c ∷ cs) =
     if c == line_feed then more (line_feed ∷ []) cs
     else if c == carriage_return then as_step (prepend (line_feed ∷ []) (empty_cr cs))
-    else if is_blank c then behind_line (prepend (line_feed ∷ []) (line o false (skipped is_inline_white cs)))
+    else if is_blank c
+    then behind_line (prepend (line_feed ∷ []) (line o false (skipped is_inline_white cs)))
     else ends (found [] (c ∷ cs))
 
 unfoldable pub more_lines : ParseOption → List ℕ → Answer ℕ

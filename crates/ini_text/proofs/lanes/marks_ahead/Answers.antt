@@ -3,10 +3,13 @@ use Rattle.ini_text.proofs.StringLemmas.LaneLemmas.{Tells-found, Tells-none, pas
 use Rattle.ini_text.proofs.lanes.marks_ahead.Goals as goal
 
 pub returns-then-bytes-more-clause-tells : goal.returns-then-bytes-more-clause-tells
-returns-then-bytes-more-clause-tells g c = Tells-none (g.M.Marks.is_marked c.args.marks.now) c.args.more c.args.bytes.now
+returns-then-bytes-more-clause-tells g c =
+    Tells-none (g.M.Marks.is_marked c.args.marks.now) c.args.more c.args.bytes.now
 
 pub returns-clause-tells : goal.returns-clause-tells
-returns-clause-tells g c = Tells-found (g.M.Marks.is_marked c.args.marks.now) c.args.more c.args.bytes.now (omega arith) c.find.ensures
+returns-clause-tells g c =
+    Tells-found (g.M.Marks.is_marked c.args.marks.now) c.args.more c.args.bytes.now
+    (omega arith) c.find.ensures
 
 pub returns-clause-none : goal.returns-clause-none
 returns-clause-none g c =

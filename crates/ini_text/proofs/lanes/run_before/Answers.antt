@@ -15,7 +15,11 @@ returns-then-found-ne0-clause-within g c =
     let found = c.find-found in
     let run = stopped (g.M.Marks.is_marked c.args.marks.now) c.args.bytes.now c.lanes.at 16 (omega arith)
     (omega arith) (omega (arith, found.ensures)) ∙ ap (count_trailing_zeros 64) (sym found.ensures) in
-    omega (arith, run, run_within (g.M.Marks.is_marked c.args.marks.now) c.args.bytes.now c.lanes.at c.lanes.invariant.within)
+    omega (
+      arith,
+      run,
+      run_within (g.M.Marks.is_marked c.args.marks.now) c.args.bytes.now c.lanes.at c.lanes.invariant.within,
+    )
 
 pub lanes-preserved : goal.lanes-preserved
 lanes-preserved g c =

@@ -7,4 +7,5 @@ use Rattle.ini_text.proofs.plain.is_end_trimmed.Goals as goal
 pub returns : goal.returns
 returns c =
     c.eq.ensures ∙ same_text c.trim_end.result.now c.args.text.now c.trim_end.utf8 c.utf8.text
-    ∙ ap (λ cs. bytes_eq cs (chars c.args.text.now)) (ap chars c.trim_end.ensures.trim ∙ chars_trim_end c.args.text.now c.utf8.text)
+    ∙ ap (λ cs. bytes_eq cs (chars c.args.text.now))
+    (ap chars c.trim_end.ensures.trim ∙ chars_trim_end c.args.text.now c.utf8.text)

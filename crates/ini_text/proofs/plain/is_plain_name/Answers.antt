@@ -8,5 +8,7 @@ use Rattle.ini_text.proofs.plain.is_plain_name.Goals as goal
 
 pub returns-then-has_no_close_bracket : goal.returns-then-has_no_close_bracket
 returns-then-has_no_close_bracket c =
-    let tested : c.is_read_back.result ≡ is_plain_name c.args.read c.args.policy (chars c.args.name.now) = grind (arith, common_steps) in
-    Decides-at _ _ tested (name_decides c.args.read c.args.policy (chars c.args.name.now) (scalars-chars _ c.utf8.name))
+    let tested : c.is_read_back.result ≡ is_plain_name c.args.read c.args.policy (chars c.args.name.now) =
+    grind (arith, common_steps) in
+    Decides-at _ _
+    tested (name_decides c.args.read c.args.policy (chars c.args.name.now) (scalars-chars _ c.utf8.name))

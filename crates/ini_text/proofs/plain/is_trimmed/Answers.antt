@@ -7,4 +7,5 @@ use Rattle.ini_text.proofs.plain.is_trimmed.Goals as goal
 pub returns : goal.returns
 returns c =
     c.eq.ensures ∙ same_text c.trim.result.now c.args.text.now c.trim.utf8 c.utf8.text
-    ∙ ap (λ cs. bytes_eq cs (chars c.args.text.now)) (ap chars c.trim.ensures.trim ∙ chars_trim c.args.text.now c.utf8.text)
+    ∙ ap (λ cs. bytes_eq cs (chars c.args.text.now))
+    (ap chars c.trim.ensures.trim ∙ chars_trim c.args.text.now c.utf8.text)

@@ -8,4 +8,6 @@ pub split_at-requires : goal.split_at-requires
 split_at-requires c = front_boundary c.args.text.now c.args.rest.now c.utf8.text c.utf8.rest c.requires
 
 pub returns : goal.returns
-returns c = front_chars c.args.text.now c.args.rest.now c.split_at.result.0.now c.utf8.text c.utf8.rest c.requires c.split_at.ensures.front
+returns c =
+    front_chars c.args.text.now c.args.rest.now c.split_at.result.0.now c.utf8.text c.utf8.rest c.requires
+    c.split_at.ensures.front

@@ -10,4 +10,5 @@ returns-in_err-last c = rw c.from_residual.ensures
 
 pub returns : goal.returns
 returns c = last_chars c.args.text.now c.as_str.result.now c.in_ok-last.last c.utf8.text c.as_str.utf8
-    (sym c.chars-characters.ensures.rest ∙ c.in_ok-last.ensures.steps ∙ ap (λ x. x ++ encode_utf8 c.in_ok-last.last) (sym c.as_str.ensures))
+    (sym c.chars-characters.ensures.rest ∙ c.in_ok-last.ensures.steps
+    ∙ ap (λ x. x ++ encode_utf8 c.in_ok-last.last) (sym c.as_str.ensures))

@@ -9,8 +9,10 @@ pub returns-then-begins_white : goal.returns-then-begins_white
 returns-then-begins_white c =
     all_trimmed_from c.push_text.result (string_bytes c.args.out.now) c.range_from-part.result.now _
     c.as_str-then-begins_white.result.now _ c.args.start c.args.both c.range_from-part.utf8
-    (c.range_from-part.ensures.value ∙ ap (drop c.args.start) c.as_str.ensures.value) c.truncate.ensures.bytes
-    (c.as_str-then-begins_white.ensures.value ∙ c.in_ok-trimmed.ensures.ok ∙ c.trim.ensures.trim) c.if-both.true c.push_text.ensures
+    (c.range_from-part.ensures.value ∙ ap (drop c.args.start) c.as_str.ensures.value)
+    c.truncate.ensures.bytes
+    (c.as_str-then-begins_white.ensures.value ∙ c.in_ok-trimmed.ensures.ok ∙ c.trim.ensures.trim)
+    c.if-both.true c.push_text.ensures
 
 pub truncate-requires-2 : goal.truncate-requires-2
 truncate-requires-2 c =
@@ -25,7 +27,8 @@ pub returns : goal.returns
 returns c =
     let ends : (c.args.both ≡ false) ⊎ (begins_white (chars c.range_from-part.result.now) ≡ false) =
     elim c.else-both.branch [
-      | else-both-via-then-both+else-begins_white w ↦ inr (sym w.begins_white.ensures ∙ w.if-begins_white.false)
+      | else-both-via-then-both+else-begins_white w ↦
+          inr (sym w.begins_white.ensures ∙ w.if-begins_white.false)
       | else-both-via-else-both w ↦ inl w.if-both.false
     ] in
     end_trimmed_from (string_bytes c.args.out.now) c.range_from-part.result.now c.trim_end-kept.result.now

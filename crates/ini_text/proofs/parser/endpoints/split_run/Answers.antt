@@ -10,7 +10,8 @@ split_at-requires c =
     (boundary (is_plain (ends_of c.args.ends)) c.args.text.now (plain_wide c.args.ends))
 
 pub returns-clause-parts : goal.returns-clause-parts
-returns-clause-parts c = split_chars c.args.text.now c.split_at.result.0.now c.split_at.result.1.now c.run_len.result c.utf8.text
+returns-clause-parts c =
+    split_chars c.args.text.now c.split_at.result.0.now c.split_at.result.1.now c.run_len.result c.utf8.text
     (rw (c.run_len.ensures.len, c.as_bytes.ensures.value)
     (boundary (is_plain (ends_of c.args.ends)) c.args.text.now (plain_wide c.args.ends)))
     c.split_at.ensures.front c.split_at.ensures.back

@@ -4,16 +4,20 @@ use Rattle.ini_text.proofs.GrammarLemmas.BracketedNameLemmas.{name_before_blank,
 use Rattle.ini_text.proofs.parser.header.before_bracket.Goals as goal
 
 pub returns-then-c-eq93 : goal.returns-then-c-eq93
-returns-then-c-eq93 c = sym c.blanks.invariant.name ∙ ap name_in c.in-Some.ensures ∙ name_before_bracket _ _ c.if-c-eq93.true
+returns-then-c-eq93 c =
+    sym c.blanks.invariant.name ∙ ap name_in c.in-Some.ensures ∙ name_before_bracket _ _ c.if-c-eq93.true
 
 pub returns-then-not-contain : goal.returns-then-not-contain
 returns-then-not-contain c =
     sym c.blanks.invariant.name ∙ ap name_in c.in-Some.ensures
-    ∙ no_name_before (chars c.in-Some.before.now) c.in-Some.c (sym c.contain.ensures ∙ c.if-not-contain.true) c.if-c-eq93.false
+    ∙ no_name_before (chars c.in-Some.before.now) c.in-Some.c
+    (sym c.contain.ensures ∙ c.if-not-contain.true) c.if-c-eq93.false
 
 pub blanks-preserved : goal.blanks-preserved
 blanks-preserved c = record {
   text = search rules;
-  name = sym (name_before_blank (chars c.in-Some.before.now) c.in-Some.c (sym c.contain.ensures ∙ c.if-not-contain.false))
+  name =
+      sym (name_before_blank (chars c.in-Some.before.now) c.in-Some.c
+      (sym c.contain.ensures ∙ c.if-not-contain.false))
       ∙ ap name_in (sym c.in-Some.ensures) ∙ c.blanks.invariant.name;
 }

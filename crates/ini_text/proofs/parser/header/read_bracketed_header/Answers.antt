@@ -13,13 +13,16 @@ returns-in_err-rest c = passed _ _ _ c.from_residual.ensures.1 c.in_err-rest.ens
 
 pub returns-in_default : goal.returns-in_default
 returns-in_default c =
-    rw c.new.ensures (ap bracketed_header (sym (from_nothing _ c.new-line.ensures.bytes) ∙ c.in_ok-rest.ensures)
-    ∙ ap (λ n. named n (chars c.in_ok-rest.rest.now)) (ap (λ x. name_in (chars x)) (sym c.as_str.ensures.value) ∙ c.in_default.ensures)
+    rw c.new.ensures
+    (ap bracketed_header (sym (from_nothing _ c.new-line.ensures.bytes) ∙ c.in_ok-rest.ensures)
+    ∙ ap (λ n. named n (chars c.in_ok-rest.rest.now))
+    (ap (λ x. name_in (chars x)) (sym c.as_str.ensures.value) ∙ c.in_default.ensures)
     ∙ ap (λ x. stopped x HeaderEnd) (sym c.after_first.ensures))
 
 pub returns : goal.returns
 returns c =
     ap bracketed_header (sym (from_nothing _ c.new-line.ensures.bytes) ∙ c.in_ok-rest.ensures)
-    ∙ ap (λ n. named n (chars c.in_ok-rest.rest.now)) (ap (λ x. name_in (chars x)) (sym c.as_str.ensures.value) ∙ c.in-Some.ensures)
+    ∙ ap (λ n. named n (chars c.in_ok-rest.rest.now))
+    (ap (λ x. name_in (chars x)) (sym c.as_str.ensures.value) ∙ c.in-Some.ensures)
     ∙ ap (λ x. found (Header x ∷ []) (chars c.in_ok-rest.rest.now))
     (sym (c.in_ok-name.ensures ∙ ap (λ x. trimmed (chars x)) c.in_ok-from_str.ensures.ok))

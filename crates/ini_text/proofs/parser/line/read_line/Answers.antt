@@ -21,12 +21,15 @@ returns-in_err-end c =
     (c.parts.invariant.read ∙ part_stops c.args.option _ _ c.in-Some.ensures h))
 
 pub parts-smaller : goal.parts-smaller
-parts-smaller c = rw c.after_first-rest.ensures (part_shortens c.args.option _ _ c.in-Some.ensures c.in_ok-end.ensures)
+parts-smaller c =
+    rw c.after_first-rest.ensures (part_shortens c.args.option _ _ c.in-Some.ensures c.in_ok-end.ensures)
 
 pub parts-preserved : goal.parts-preserved
 parts-preserved c = record {
   text = search rules;
-  read = c.parts.invariant.read ∙ one_part c.args.option _ _ c.in-Some.ensures c.in_ok-end.ensures ∙ rw c.after_first-rest.ensures;
+  read =
+      c.parts.invariant.read ∙ one_part c.args.option _ _ c.in-Some.ensures c.in_ok-end.ensures
+      ∙ rw c.after_first-rest.ensures;
   quoted = c.parts.invariant.quoted ∙ rw (c.in-Some.ensures, or-true);
 }
 
@@ -40,7 +43,8 @@ trim_from-requires c =
     let g = grown (string_bytes c.parts.out) (string_bytes c.read_string-2.new.out) _
     (IsUtf8-string_bytes c.parts.out) (IsUtf8-string_bytes c.read_string-2.new.out)
     (read_behind _ _ c.in_ok-end-2.ensures).2 in
-    subst (IsCharBoundary (string_bytes c.read_string-2.new.out)) (sym (c.len-start.ensures ∙ c.parts.out.bytes.ok.0)) g.cut
+    subst (IsCharBoundary (string_bytes c.read_string-2.new.out))
+    (sym (c.len-start.ensures ∙ c.parts.out.bytes.ok.0)) g.cut
 
 pub returns : goal.returns
 returns c =

@@ -17,20 +17,25 @@ returns-in-Ok c =
     let o = c.args.option in
     let w = run_of is_blank (chars c.args.text.now) in
     let start = chars c.skip-start.result.now in
-    let read = key_at o w c.in-Some.ensures.characters (sym c.is_line_end.ensures ∙ c.if-is_line_end.false) c.if-c-eq91.false
+    let read =
+    key_at o w c.in-Some.ensures.characters (sym c.is_line_end.ensures ∙ c.if-is_line_end.false)
+    c.if-c-eq91.false
     ∙ ap (λ k. indented_keyed o (trimmed_key o (prepend k (string o.enabled_escape key_ends start))))
     (sym (c.in_ok-key.ensures
     ∙ ap (kept_blanks o) (c.front_before.ensures ∙ (blanks_front c.skip-start.ensures).0)))
     ∙ ap (λ a. indented_keyed o (trimmed_key o a)) c.in-Ok.ensures
     ∙ ap (λ k. behind_separator o k (drop 1 (chars c.in-Ok.rest.now))) (sym c.in_ok-key-in-Ok.ensures) in
-    subst (Gives given c.read_pair.result) (sym (ap (behind_blanks o w) (sym c.skip-start.ensures) ∙ read)) c.read_pair.ensures
+    subst (Gives given c.read_pair.result) (sym (ap (behind_blanks o w) (sym c.skip-start.ensures) ∙ read))
+    c.read_pair.ensures
 
 pub returns : goal.returns
 returns c =
     let o = c.args.option in
     let w = run_of is_blank (chars c.args.text.now) in
     let start = chars c.skip-start.result.now in
-    let read = key_at o w c.in-Some.ensures.characters (sym c.is_line_end.ensures ∙ c.if-is_line_end.false) c.if-c-eq91.false
+    let read =
+    key_at o w c.in-Some.ensures.characters (sym c.is_line_end.ensures ∙ c.if-is_line_end.false)
+    c.if-c-eq91.false
     ∙ ap (λ k. indented_keyed o (trimmed_key o (prepend k (string o.enabled_escape key_ends start))))
     (sym (c.in_ok-key.ensures
     ∙ ap (kept_blanks o) (c.front_before.ensures ∙ (blanks_front c.skip-start.ensures).0))) in

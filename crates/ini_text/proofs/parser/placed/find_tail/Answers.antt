@@ -34,7 +34,9 @@ pub lines-preserved-then-c-eq10 : goal.lines-preserved-then-c-eq10
 lines-preserved-then-c-eq10 c = record {
   tail_text = search rules;
   text = search rules;
-  known = tail_lf c.args.option c.skip-start.ensures c.lines.invariant.known c.in-Some-split_first.ensures.characters c.if-c-eq10.true;
+  known =
+      tail_lf c.args.option c.skip-start.ensures c.lines.invariant.known
+      c.in-Some-split_first.ensures.characters c.if-c-eq10.true;
 }
 
 pub returns-in_err-rest : goal.returns-in_err-rest
@@ -61,7 +63,8 @@ returns-in_err-end c =
 pub returns-in_default-after_line_end : goal.returns-in_default-after_line_end
 returns-in_default-after_line_end c =
     let read = sym (from_nothing _ c.clear.ensures.bytes) ∙ c.in_ok-end.ensures in
-    let feeds = sym (c.skip-then-contain.ensures ∙ ap (λ b. skipped is_line_feed (chars b)) c.as_str.ensures.value) in
+    let feeds =
+    sym (c.skip-then-contain.ensures ∙ ap (λ b. skipped is_line_feed (chars b)) c.as_str.ensures.value) in
     elim c.match-split_first-2.branch [
       | in-Some-split_first-2 w ↦
           rw w.tail-is (last_line-own c.args.option c.skip-start.ensures
@@ -91,7 +94,8 @@ lines-smaller c =
 pub lines-preserved : goal.lines-preserved
 lines-preserved c =
     let read = sym (from_nothing _ c.clear.ensures.bytes) ∙ c.in_ok-end.ensures in
-    let feeds = sym (c.skip-then-contain.ensures ∙ ap (λ b. skipped is_line_feed (chars b)) c.as_str.ensures.value) in
+    let feeds =
+    sym (c.skip-then-contain.ensures ∙ ap (λ b. skipped is_line_feed (chars b)) c.as_str.ensures.value) in
     elim c.match-split_first-2.branch [
       | in-Some-split_first-2 w ↦
           rw w.tail-is record {

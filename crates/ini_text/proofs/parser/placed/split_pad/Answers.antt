@@ -2,7 +2,9 @@ use Rattle.ini_text.proofs.PlaceLemmas.PadLemmas.{pad_boundary, pad_whole, padde
 use Rattle.ini_text.proofs.parser.placed.split_pad.Goals as goal
 
 pub split_at-requires : goal.split_at-requires
-split_at-requires c = pad_boundary c.args.lines.now c.without_pad.result.now c.utf8.lines c.without_pad.utf8 c.without_pad.ensures
+split_at-requires c =
+    pad_boundary c.args.lines.now c.without_pad.result.now c.utf8.lines c.without_pad.utf8
+    c.without_pad.ensures
 
 pub returns-clause-whole : goal.returns-clause-whole
 returns-clause-whole c = pad_whole c.args.lines.now c.without_pad.result.now c.split_at.result.0.now

@@ -6,7 +6,9 @@ pub white-init : goal.white-init
 white-init c = record { text = search rules; pad = pad_none (chars c.args.lines.now) }
 
 pub returns-then-c-eq92 : goal.returns-then-c-eq92
-returns-then-c-eq92 c = pad_escaped (chars c.in-Some.before.now) c.in-Some.c c.white.invariant.pad c.in-Some.ensures c.if-c-eq92.true
+returns-then-c-eq92 c =
+    pad_escaped (chars c.in-Some.before.now) c.in-Some.c c.white.invariant.pad c.in-Some.ensures
+    c.if-c-eq92.true
 
 pub returns-then-not-contain : goal.returns-then-not-contain
 returns-then-not-contain c =
@@ -19,7 +21,9 @@ white-smaller c = shorter_before (chars c.in-Some.before.now) c.in-Some.c c.in-S
 pub white-preserved : goal.white-preserved
 white-preserved c = record {
   text = search rules;
-  pad = pad_more c.in-Some.c c.white.invariant.pad c.in-Some.ensures (sym c.contain.ensures ∙ c.if-not-contain.false);
+  pad =
+      pad_more c.in-Some.c c.white.invariant.pad c.in-Some.ensures
+      (sym c.contain.ensures ∙ c.if-not-contain.false);
 }
 
 pub returns : goal.returns

@@ -10,8 +10,11 @@ returns c =
     let b : c.digit-b.result < 16 = omega arith in
     let d : c.digit-c.result < 16 = omega arith in
     let e : c.digit-d.result < 16 = omega arith in
-    let four = begins_with_four c.args.text.now bytes _ _ _ _ c.as_bytes-bytes.ensures.value c.utf8.text (omega arith) refl refl refl refl
-    (c.digit-a.ensures.ascii a) (c.digit-b.ensures.ascii b) (c.digit-c.ensures.ascii d) (c.digit-d.ensures.ascii e) in
+    let four =
+    begins_with_four c.args.text.now bytes _ _ _ _ c.as_bytes-bytes.ensures.value c.utf8.text
+    (omega arith) refl refl refl refl
+    (c.digit-a.ensures.ascii a) (c.digit-b.ensures.ascii b) (c.digit-c.ensures.ascii d)
+    (c.digit-d.ensures.ascii e) in
     let spells = digits_spell (get_or bytes 0 0) (get_or bytes 1 0) (get_or bytes 2 0) (get_or bytes 3 0) _
     _ _ _ c.from_u32.result (a, c.digit-a.ensures.value a) (b, c.digit-b.ensures.value b)
     (d, c.digit-c.ensures.value d) (e, c.digit-d.ensures.value e) c.from_u32.ensures.value in

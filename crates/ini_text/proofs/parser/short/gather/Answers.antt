@@ -34,8 +34,11 @@ pieces-preserved c =
     let piece = c.in-Some.ensures.piece in
     let scalar : IsScalar c.in-Some.value = search rules in
     let front = c.place_lanes.ensures.placed c.in-Some.plain piece.within
-    ∙ ap (λ x. old ++ x) (take-take c.in-Some.plain 16 _ piece.within ∙ ap (take c.in-Some.plain) c.as_bytes.ensures.value) in
-    let grown = gathered old run c.in-Some.value c.pieces.invariant.values piece.run scalar front c.place-len.ensures.placed in
+    ∙ ap (λ x. old ++ x)
+    (take-take c.in-Some.plain 16 _ piece.within ∙ ap (take c.in-Some.plain) c.as_bytes.ensures.value) in
+    let grown =
+    gathered old run c.in-Some.value c.pieces.invariant.values piece.run scalar front
+    c.place-len.ensures.placed in
     record {
       text = search rules;
       within = c.place-len.ensures.within;

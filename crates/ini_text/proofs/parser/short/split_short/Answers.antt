@@ -13,7 +13,8 @@ split_at-requires c =
     let run = run_seen (ends_of c.args.ends)
     (seen c.args.ends c.marks.result c.marks.ensures
     (subst (Tells _ 16 _) c.as_bytes.ensures.value c.marks_ahead-marks.ensures.tells)) (omega arith) in
-    subst (IsCharBoundary text) (sym run.0) (boundary (is_plain (ends_of c.args.ends)) text (plain_wide c.args.ends))
+    subst (IsCharBoundary text) (sym run.0)
+    (boundary (is_plain (ends_of c.args.ends)) text (plain_wide c.args.ends))
 
 pub split_escape-requires : goal.split_escape-requires
 split_escape-requires c =

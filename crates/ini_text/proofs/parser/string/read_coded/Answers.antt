@@ -8,7 +8,8 @@ returns-in_err-a c = passed _ _ _ c.from_residual-in_err-a.ensures.1 c.in_err-a.
 
 pub returns-in_err-b : goal.returns-in_err-b
 unfolding coded
-returns-in_err-b c = passed _ _ _ c.from_residual-in_err-b.ensures.1 c.in_err-b.ensures (λ r k h. rw (c.in_ok-a.ensures, h))
+returns-in_err-b c =
+    passed _ _ _ c.from_residual-in_err-b.ensures.1 c.in_err-b.ensures (λ r k h. rw (c.in_ok-a.ensures, h))
 
 pub returns-in_err-c : goal.returns-in_err-c
 unfolding coded

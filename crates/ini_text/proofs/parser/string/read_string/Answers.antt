@@ -17,40 +17,47 @@ pub returns-then-contain_text_end : goal.returns-then-contain_text_end
 returns-then-contain_text_end c =
     and_found _ (and_more _ _ _ c.pieces.invariant.read
     (string_run _ _ _ _ c.split_run.ensures.parts c.split_run.ensures.run) c.in_ok-push_text.ensures)
-    (string_at_end _ _ c.in_default.ensures.characters (sym c.if-contain_text_end.true ∙ c.contain_text_end.ensures)) (sym (append-nil _))
+    (string_at_end _ _ c.in_default.ensures.characters
+    (sym c.if-contain_text_end.true ∙ c.contain_text_end.ensures)) (sym (append-nil _))
 
 pub returns-in_default : goal.returns-in_default
 returns-in_default c =
     rw c.new.ensures (and_stopped _
     (and_more _ _ _ c.pieces.invariant.read
     (string_run _ _ _ _ c.split_run.ensures.parts c.split_run.ensures.run) c.in_ok-push_text.ensures)
-    (string_at_end _ _ c.in_default.ensures.characters (sym c.if-contain_text_end.false ∙ c.contain_text_end.ensures)))
+    (string_at_end _ _ c.in_default.ensures.characters
+    (sym c.if-contain_text_end.false ∙ c.contain_text_end.ensures)))
 
 pub returns-then-c-ne92 : goal.returns-then-c-ne92
 returns-then-c-ne92 c =
     and_found _ (and_more _ _ _ c.pieces.invariant.read
     (string_run _ _ _ _ c.split_run.ensures.parts c.split_run.ensures.run) c.in_ok-push_text.ensures)
-    (string_at_endpoint _ _ c.in-Some.ensures.characters c.if-c-ne92.true c.split_run.ensures.stops) (sym (append-nil _))
+    (string_at_endpoint _ _ c.in-Some.ensures.characters c.if-c-ne92.true c.split_run.ensures.stops)
+    (sym (append-nil _))
 
 pub returns-then-not-contain_text_end : goal.returns-then-not-contain_text_end
 returns-then-not-contain_text_end c =
     rw c.new-then-not-contain_text_end.ensures
     (and_stopped _ (and_more _ _ _ c.pieces.invariant.read
     (string_run _ _ _ _ c.split_run.ensures.parts c.split_run.ensures.run) c.in_ok-push_text.ensures)
-    (string_at_backslash _ _ c.in-Some.ensures.characters c.if-c-ne92.false c.in_default-split_first.ensures.characters
+    (string_at_backslash _ _ c.in-Some.ensures.characters c.if-c-ne92.false
+    c.in_default-split_first.ensures.characters
     (sym c.if-not-contain_text_end.true ∙ c.contain_text_end-in_default-split_first.ensures)))
 
 pub returns-in_default-split_first : goal.returns-in_default-split_first
 returns-in_default-split_first c =
     and_found _ (and_more _ _ _ c.pieces.invariant.read
     (string_run _ _ _ _ c.split_run.ensures.parts c.split_run.ensures.run) c.in_ok-push_text.ensures)
-    (string_at_backslash _ _ c.in-Some.ensures.characters c.if-c-ne92.false c.in_default-split_first.ensures.characters
-    (sym c.if-not-contain_text_end.false ∙ c.contain_text_end-in_default-split_first.ensures)) c.in_ok-push.ensures
+    (string_at_backslash _ _ c.in-Some.ensures.characters c.if-c-ne92.false
+    c.in_default-split_first.ensures.characters
+    (sym c.if-not-contain_text_end.false ∙ c.contain_text_end-in_default-split_first.ensures))
+    c.in_ok-push.ensures
 
 pub returns-in_err-rest : goal.returns-in_err-rest
 returns-in_err-rest c =
     passed _ _ _ c.from_residual-in_err-rest.ensures.1 c.in_err-rest.ensures λ r k h.
-    and_more _ _ _ c.pieces.invariant.read (string_run _ _ _ _ c.split_run.ensures.parts c.split_run.ensures.run) c.in_ok-push_text.ensures
+    and_more _ _ _ c.pieces.invariant.read
+    (string_run _ _ _ _ c.split_run.ensures.parts c.split_run.ensures.run) c.in_ok-push_text.ensures
     ∙ ap (prepend (string_text c.push_text.new.out))
     (string_coded _ _ c.in-Some.ensures.characters c.if-c-ne92.false
     c.in-Some-split_first.ensures.characters c.if-escapes.true c.if-d-eq120.true)
@@ -71,7 +78,8 @@ pieces-preserved c =
           c.in-Some-split_first.ensures.characters w.if-escapes.true w.if-d-eq120.true)
           ∙ then_found _ _ _ w.in_ok-rest.ensures)
       | else-escapes+in_ok-push_escaped w ↦
-          let other : (c.in-Some-split_first.d == letter_x && c.args.escapes) ≡ false = elim w.else-escapes.branch [
+          let other : (c.in-Some-split_first.d == letter_x && c.args.escapes)
+          ≡ false = elim w.else-escapes.branch [
             | else-escapes-via-then-escapes+else-d-eq120 x ↦ rw (ne_eqb _ 120 x.if-d-eq120.false) refl
             | else-escapes-via-else-escapes x ↦ rw (x.if-escapes.false, and-false) refl
           ] in
@@ -86,7 +94,8 @@ pieces-smaller c =
     let parts = ap length c.split_run.ensures.parts in
     let first = ap length c.in-Some.ensures.characters in
     let second = ap length c.in-Some-split_first.ensures.characters in
-    let shorter : length (chars c.if-escapes.rest.now) < length (chars c.split_run.result.1.now) = elim c.if-escapes.branch [
+    let shorter : length (chars c.if-escapes.rest.now)
+    < length (chars c.split_run.result.1.now) = elim c.if-escapes.branch [
       | then-escapes+then-d-eq120+in_ok-rest w ↦
           rw w.rest-is (coded_shortens _ (ends_of c.args.ends) _ c.in-Some.ensures.characters
           c.if-c-ne92.false c.in-Some-split_first.ensures.characters w.if-escapes.true

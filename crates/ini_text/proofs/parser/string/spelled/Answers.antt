@@ -8,7 +8,8 @@ use Rattle.ini_text.proofs.parser.string.spelled.Goals.{then-a-eq43, else-a-eq43
 
 pub returns : goal.returns
 returns c =
-    let first : ((is_digit c.args.a 16 || eqb c.args.a plus) ≡ true) × (c.if-a-eq43.first ≡ first_digit c.args.a) =
+    let first : ((is_digit c.args.a 16 || eqb c.args.a plus) ≡ true)
+    × (c.if-a-eq43.first ≡ first_digit c.args.a) =
     elim c.if-a-eq43.branch [
       | then-a-eq43 w ↦ first_plus c.args.a c.if-a-eq43.first w.if-a-eq43.true w.first-is
       | else-a-eq43+in_ok-first w ↦

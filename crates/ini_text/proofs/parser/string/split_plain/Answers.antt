@@ -12,9 +12,11 @@ returns c = λ e.
     let to = ends_of c.args.ends in
     let rest = chars c.split_run.result.1.now in
     let ends : string e to rest ≡ found [] rest = elim c.match-split_first.branch [
-      | in-Some+else-c-eq92 w ↦ string_at_endpoint e to w.in-Some.ensures.characters w.if-c-eq92.false c.split_run.ensures.stops
+      | in-Some+else-c-eq92 w ↦
+          string_at_endpoint e to w.in-Some.ensures.characters w.if-c-eq92.false c.split_run.ensures.stops
       | in-None+else-not-contain_text_end w ↦
           string_at_end e to w.in-None.ensures.characters (sym w.if-not-contain_text_end.false
           ∙ w.contain_text_end.ensures)
     ] in
-    and_found _ (string_run e to _ _ c.split_run.ensures.parts c.split_run.ensures.run) ends (sym (append-nil _))
+    and_found _ (string_run e to _ _ c.split_run.ensures.parts c.split_run.ensures.run) ends
+    (sym (append-nil _))

@@ -13,5 +13,7 @@ abbrev pub invariant-trivia : goal.invariant-trivia
 invariant-trivia l = record {
   text : shadow (Utf8 l.rest);
   within : IsRest (chars l.fn.text) (chars l.rest);
-  skipped : (o : ParseOption) → AreTrivia o (front_of (chars l.fn.text) (chars l.fn.start)) (front_of (chars l.fn.text) (chars l.rest));
+  skipped : (o : ParseOption)
+      → AreTrivia o (front_of (chars l.fn.text) (chars l.fn.start))
+      (front_of (chars l.fn.text) (chars l.rest));
 }

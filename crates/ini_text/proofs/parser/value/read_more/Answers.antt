@@ -16,7 +16,8 @@ lines-preserved-then-c-eq10 c = record {
 pub returns-in_err-rest : goal.returns-in_err-rest
 returns-in_err-rest c =
     passed _ _ _ c.from_residual-in_err-rest.ensures.1 c.in_err-rest.ensures
-    (λ r k h. and_stopped _ c.lines.invariant.read (empty_cr_stops c.args.option c.in-Some.ensures.characters c.if-c-eq13.true h))
+    (λ r k h. and_stopped _ c.lines.invariant.read
+    (empty_cr_stops c.args.option c.in-Some.ensures.characters c.if-c-eq13.true h))
 
 pub lines-preserved-in-Continue-branch-3 : goal.lines-preserved-in-Continue-branch-3
 lines-preserved-in-Continue-branch-3 c = record {
@@ -62,4 +63,6 @@ returns-else-contain c =
     (sym (append-nil _))
 
 pub returns : goal.returns
-returns c = and_found _ c.lines.invariant.read (no_lines c.args.option c.in_default.ensures.characters) (sym (append-nil _))
+returns c =
+    and_found _ c.lines.invariant.read (no_lines c.args.option c.in_default.ensures.characters)
+    (sym (append-nil _))

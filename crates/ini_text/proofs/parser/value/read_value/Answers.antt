@@ -12,7 +12,8 @@ returns-in_err-value c =
 
 pub returns-in_default : goal.returns-in_default
 returns-in_default c =
-    value_ends c.args.option _ c.skip-start.ensures c.if-not-option.false c.in_ok-value.ensures c.in_default.ensures
+    value_ends c.args.option _ c.skip-start.ensures c.if-not-option.false c.in_ok-value.ensures
+    c.in_default.ensures
     (c.in_ok-trim_line_feeds.ensures ∙ ap (λ b. without_outer_line_feeds (chars b)) c.as_str.ensures.value)
 
 pub returns-in_err-rest : goal.returns-in_err-rest
@@ -23,7 +24,8 @@ returns-in_err-rest c =
 
 pub returns : goal.returns
 returns c =
-    value_goes_on c.args.option _ c.skip-start.ensures c.if-not-option.false c.in_ok-value.ensures c.in-Some.ensures
+    value_goes_on c.args.option _ c.skip-start.ensures c.if-not-option.false c.in_ok-value.ensures
+    c.in-Some.ensures
     ∙ ap (altered without_outer_line_feeds) c.in_ok-rest.ensures
     ∙ ap (λ v. found v (chars c.in_ok-rest.rest.now))
     (sym (c.in_ok-trim_line_feeds-2.ensures

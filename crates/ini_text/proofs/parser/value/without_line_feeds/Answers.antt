@@ -14,7 +14,8 @@ returns-then-c-ne10 c = feeds_done (chars c.ends.rest.now) (chars c.in-Some.befo
     c.in-Some.ensures c.if-c-ne10.true ∙ c.ends.invariant.value
 
 pub ends-smaller : goal.ends-smaller
-ends-smaller c = shorter_before (chars c.ends.rest.now) (chars c.in-Some.before.now) c.in-Some.c c.in-Some.ensures
+ends-smaller c =
+    shorter_before (chars c.ends.rest.now) (chars c.in-Some.before.now) c.in-Some.c c.in-Some.ensures
 
 pub ends-preserved : goal.ends-preserved
 ends-preserved c = record {
