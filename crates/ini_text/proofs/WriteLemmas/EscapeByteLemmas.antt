@@ -33,7 +33,8 @@ nonzero (suc n) some = refl
 
 letter_found : (c e : ℕ) → c < 128 → e ≡ get_or LETTERS c 0 → unless_zero e ≡ letter_of c
 letter_found c e within is = same_code (unless_zero e) (letter_of c)
-    (eqb-true _ _ (tested (λ x k. nat_eq (code (unless_zero x)) (code (letter_of k))) LETTERS 128 c e refl within is))
+    (eqb-true _ _
+    (tested (λ x k. nat_eq (code (unless_zero x)) (code (letter_of k))) LETTERS 128 c e refl within is))
 
 pub letter_is : (c e : ℕ) → c < 128 → e ≡ get_or LETTERS c 0 → e ≢ 0 → Some e ≡ letter_of c
 letter_is c e within is some = sym (nonzero e some) ∙ letter_found c e within is
@@ -47,7 +48,8 @@ letter_of-ascii c letter is = grind (arith, nat_tests)
 
 IsAscii-escape_by : (letter : Option ℕ) (c : ℕ) → letter_of c ≡ letter → IsAscii (escape_by letter c)
 IsAscii-escape_by (Some letter) c is =
-    IsAscii-cons backslash (letter ∷ []) (omega arith) (IsAscii-cons letter [] (letter_of-ascii c letter is) IsAscii-nil)
+    IsAscii-cons backslash (letter ∷ []) (omega arith)
+    (IsAscii-cons letter [] (letter_of-ascii c letter is) IsAscii-nil)
 IsAscii-escape_by None c is =
     let digits = hex_digits (digit_count c) c in
     IsAscii-cons backslash (letter_x ∷ digits) (omega arith)
@@ -58,7 +60,8 @@ unfolding escape
 IsAscii-escape c = IsAscii-escape_by (letter_of c) c refl
 
 -- a text that begins with a character that is escaped
-pub escaped-next : (policy : EscapePolicy) (c : ℕ) (text rest : List ℕ) → text ≡ c ∷ rest → is_escaped policy c ≡ true
+pub escaped-next : (policy : EscapePolicy) (c : ℕ) (text rest : List ℕ) → text ≡ c ∷ rest
+    → is_escaped policy c ≡ true
     → encode_utf8_all (escaped policy text) ≡ escape c ++ encode_utf8_all (escaped policy rest)
 escaped-next policy c text rest parts is =
     let first : escaped policy (c ∷ rest) ≡ escape c ++ escaped policy rest =
@@ -69,10 +72,12 @@ escaped-next policy c text rest parts is =
 pub escaped-first : (policy : EscapePolicy) (c : ℕ) (text rest : List ℕ) → text ≡ c ∷ rest
     → BeginsWithNo (λ d. not (is_escaped policy d)) text → is_escaped policy c ≡ true
 escaped-first policy c text rest parts begins =
-    let first : not (is_escaped policy c) ≡ false = subst (BeginsWithNo (λ d. not (is_escaped policy d))) parts begins in
+    let first : not (is_escaped policy c) ≡ false =
+    subst (BeginsWithNo (λ d. not (is_escaped policy d))) parts begins in
     grind arith
 
 -- nothing goes out for nothing
-pub escaped_bytes-nil : (policy : EscapePolicy) (bytes : List ℕ) → length bytes ≡ 0 → escaped_bytes policy bytes ≡ []
+pub escaped_bytes-nil : (policy : EscapePolicy) (bytes : List ℕ) → length bytes ≡ 0
+    → escaped_bytes policy bytes ≡ []
 escaped_bytes-nil policy [] none = ap (λ cs. encode_utf8_all (escaped policy cs)) chars-nil
 escaped_bytes-nil policy (b ∷ bytes) none = absurd (omega arith)

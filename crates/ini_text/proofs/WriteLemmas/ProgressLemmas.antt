@@ -23,7 +23,8 @@ under_way_more {a} {b} {c} {whole} {rest} {ys} xs before next more = record {
 }
 
 -- the first n bytes of the rest are appended, and the slice `&rest[n..]` is to come
-pub under_way_past : {a b c : Option (List ℕ)} {whole rest : List ℕ} (n : ℕ) → IsUnderWay a b whole rest → Appends b c (take n rest)
+pub under_way_past : {a b c : Option (List ℕ)} {whole rest : List ℕ} (n : ℕ) → IsUnderWay a b whole rest
+    → Appends b c (take n rest)
     → IsUnderWay a c whole (take (length rest - n) (drop n rest))
 under_way_past {a} {b} {c} {whole} {rest} n before more =
     let slice = take_all (length rest - n) (drop n rest) (omega (arith, length-drop n rest)) in
@@ -37,7 +38,8 @@ under_way_front {a} {b} {whole} {rest} c xs ys before next (n, within, more) =
     let done = before.done in
     let all : whole ≡ done ++ (xs ++ ys) = before.parts ∙ ap (λ l. done ++ l) next in
     let front : take (length done + n) whole ≡ done ++ take n xs =
-    ap (take (length done + n)) all ∙ take-append-add done (xs ++ ys) n ∙ ap (λ l. done ++ l) (take-append-le n xs ys within) in (
+    ap (take (length done + n)) all ∙ take-append-add done (xs ++ ys) n
+    ∙ ap (λ l. done ++ l) (take-append-le n xs ys within) in (
       length done + n,
       omega (arith, ap length all, length-append done (xs ++ ys), length-append xs ys),
       subst (Appends a c) (sym front) (Appends-trans a b c done (take n xs) before.appended more),
@@ -46,4 +48,5 @@ under_way_front {a} {b} {whole} {rest} c xs ys before next (n, within, more) =
 -- a write that appends nothing leaves a front of the whole
 pub under_way_kept : {a b : Option (List ℕ)} {whole rest : List ℕ} (c : Option (List ℕ))
     → IsUnderWay a b whole rest → Keeps b c → AppendsFront a c whole
-under_way_kept {a} {b} {whole} {rest} c before kept = under_way_front c [] rest before refl (0, omega arith, Appends-kept b c kept)
+under_way_kept {a} {b} {whole} {rest} c before kept =
+    under_way_front c [] rest before refl (0, omega arith, Appends-kept b c kept)

@@ -24,7 +24,8 @@ under_way-then : {a b c : Option (List ℕ)} {whole rest after : List ℕ} → I
 under_way-then {a} {b} {c} {whole} {rest} {after} first second = record {
   done = first.done ++ second.done;
   appended = Appends-trans a b c first.done second.done first.appended second.appended;
-  parts = first.parts ∙ ap (λ l. first.done ++ l) second.parts ∙ sym (append_assoc first.done second.done after);
+  parts =
+      first.parts ∙ ap (λ l. first.done ++ l) second.parts ∙ sym (append_assoc first.done second.done after);
 }
 
 -- a front of the first part is one of both
@@ -74,7 +75,8 @@ module _ {W : Type 0} {contents : W → Option (List ℕ)} where
       at (Ok x) all = record { done = xs; appended = all; parts = rw empty (sym (append-nil xs)) }
       at (Err e) all = tt
 
-      stopped : (r : Result (Unit {0}) Error) → OnErr r (AppendsFront (contents a.device.now) (contents b.device.now) (h ++ xs))
+      stopped : (r : Result (Unit {0}) Error)
+          → OnErr r (AppendsFront (contents a.device.now) (contents b.device.now) (h ++ xs))
       stopped (Ok x) = tt
       stopped (Err e) = rw empty all.front
 
@@ -91,30 +93,36 @@ module _ {W : Type 0} {contents : W → Option (List ℕ)} where
     only = second.only;
   }
     where
-      at : (r : Result (Unit {0}) Error) → OnOk r (IsUnderWay (contents b.device.now) (contents c.device.now) (between ++ ys) after)
+      at : (r : Result (Unit {0}) Error)
+          → OnOk r (IsUnderWay (contents b.device.now) (contents c.device.now) (between ++ ys) after)
           → OnOk r (IsUnderWay (contents a.device.now) (contents c.device.now) (before ++ (xs ++ ys)) after)
       at (Ok y) more = under_way-then (under_way-behind before xs ys first.sent) more
       at (Err e) more = tt
 
-      stopped : (r : Result (Unit {0}) Error) → OnErr r (AppendsFront (contents b.device.now) (contents c.device.now) (between ++ ys))
+      stopped : (r : Result (Unit {0}) Error)
+          → OnErr r (AppendsFront (contents b.device.now) (contents c.device.now) (between ++ ys))
           → OnErr r (AppendsFront (contents a.device.now) (contents c.device.now) (before ++ (xs ++ ys)))
       stopped (Ok y) more = tt
       stopped (Err e) more =
-          under_way_front _ (between ++ ys) [] (under_way-behind before xs ys first.sent) (sym (append-nil (between ++ ys))) more
+          under_way_front _ (between ++ ys) [] (under_way-behind before xs ys first.sent)
+          (sym (append-nil (between ++ ys))) more
 
   -- whether or not all was sent, a front of it went out
-  pub Sends-front : {a b : Watched W} {before after xs : List ℕ} (r : Result (Unit {0}) Error) → Sends contents a b before after r xs
+  pub Sends-front : {a b : Watched W} {before after xs : List ℕ} (r : Result (Unit {0}) Error)
+      → Sends contents a b before after r xs
       → AppendsFront (contents a.device.now) (contents b.device.now) (before ++ xs)
   Sends-front {a} {b} {before} {after} {xs} (Ok x) sends =
       let done = sends.sent.done in (
         length done,
         omega (arith, ap length sends.sent.parts, length-append done after),
-        subst (Appends _ _) (sym (ap (take (length done)) sends.sent.parts ∙ take-append_seam done after)) sends.sent.appended,
+        subst (Appends _ _) (sym (ap (take (length done)) sends.sent.parts ∙ take-append_seam done after))
+            sends.sent.appended,
       )
   Sends-front (Err e) sends = sends.front
 
   -- by way of a gatherer that held nothing before, and after `Ok` holds nothing
-  pub Sends-all : {a b : Watched W} {before after xs : List ℕ} {r : Result (Unit {0}) Error} → IsClear a → before ≡ []
+  pub Sends-all : {a b : Watched W} {before after xs : List ℕ} {r : Result (Unit {0}) Error} → IsClear a
+      → before ≡ []
       → Sends contents a b before after r xs → OnOk r (after ≡ []) → WritesBytes contents a b r xs
   Sends-all {a} {b} {before} {after} {xs} {r} clear none sends empty = record {
     same_device = sends.same_device;
@@ -137,11 +145,13 @@ module _ {W : Type 0} {contents : W → Option (List ℕ)} where
       at (Err e) sent end = tt
 
   -- the same, once it is flushed
-  pub Sends-flushed : {a b c : Watched W} {before between after xs : List ℕ} {r : Result (Unit {0}) Error} → IsClear a → before ≡ []
+  pub Sends-flushed : {a b c : Watched W} {before between after xs : List ℕ} {r : Result (Unit {0}) Error}
+      → IsClear a → before ≡ []
       → Sends contents a b before between (Ok (tt {0})) xs → Sends contents b c between after r []
       → OnOk r (after ≡ []) → WritesBytes contents a c r xs
   Sends-flushed {a} {b} {c} {xs = xs} {r = r} clear none first second empty =
-      subst (WritesBytes contents a c r) (append-nil xs) (Sends-all clear none (Sends-then first second) empty)
+      subst (WritesBytes contents a c r) (append-nil xs)
+      (Sends-all clear none (Sends-then first second) empty)
 
   -- a text that was cut short, and what should have followed
   pub Sends-cut : {a b : Watched W} {before after xs : List ℕ} {e : Error} (ys : List ℕ)
@@ -149,20 +159,23 @@ module _ {W : Type 0} {contents : W → Option (List ℕ)} where
   Sends-cut {a} {b} {before} {after} {xs} {e} ys cut = record {
     same_device = cut.same_device;
     sent = tt;
-    front = subst (AppendsFront _ _) (append_assoc before xs ys) (front-more _ _ (before ++ xs) ys cut.front);
+    front =
+        subst (AppendsFront _ _) (append_assoc before xs ys) (front-more _ _ (before ++ xs) ys cut.front);
     failures = cut.failures;
     stalls = cut.stalls;
     only = cut.only;
   }
 
 -- a part of the whole was sent, and the rest is left
-pub record Sending {W : Type 0} (contents : W → Option (List ℕ)) (a b : Watched W) (before held whole rest : List ℕ) : Type 0 where
+pub record Sending {W : Type 0} (contents : W → Option (List ℕ)) (a b : Watched W)
+    (before held whole rest : List ℕ) : Type 0 where
   pub so_far : List ℕ
   pub joined : so_far ++ rest ≡ whole
   pub sent : Sends contents a b before held (Ok (tt {0})) so_far
 
 module _ {W : Type 0} {contents : W → Option (List ℕ)} where
-  pub Sending-starts : {a : Watched W} (h : List ℕ) {whole : List ℕ} → IsClear a → Sending contents a a h h whole whole
+  pub Sending-starts : {a : Watched W} (h : List ℕ) {whole : List ℕ} → IsClear a
+      → Sending contents a a h h whole whole
   Sending-starts h clear = record { so_far = []; joined = refl; sent = Sends-nil h clear }
 
   -- nothing more is held
@@ -180,20 +193,24 @@ module _ {W : Type 0} {contents : W → Option (List ℕ)} where
   -- a call that was to send the front xs of the rest
   module _ {a b c : Watched W} {before held after whole rest xs : List ℕ} (more : List ℕ)
       (front : rest ≡ xs ++ more) (left : Sending contents a b before held whole rest) where
-    pub Sending-goes_on : Sends contents b c held after (Ok (tt {0})) xs → Sending contents a c before after whole more
+    pub Sending-goes_on : Sends contents b c held after (Ok (tt {0})) xs
+        → Sending contents a c before after whole more
     Sending-goes_on step = record {
       so_far = left.so_far ++ xs;
       joined = append_assoc left.so_far xs more ∙ ap (λ l. left.so_far ++ l) (sym front) ∙ left.joined;
       sent = Sends-then left.sent step;
     }
 
-    pub Sending-stops : {e : Error} → Sends contents b c held after (Err e) xs → Sends contents a c before after (Err e) whole
+    pub Sending-stops : {e : Error} → Sends contents b c held after (Err e) xs
+        → Sends contents a c before after (Err e) whole
     Sending-stops {e} cut =
-        subst (Sends contents a c before after (Err e)) (ap (λ l. left.so_far ++ l) (sym front) ∙ left.joined)
+        subst (Sends contents a c before after (Err e))
+        (ap (λ l. left.so_far ++ l) (sym front) ∙ left.joined)
         (Sends-then left.sent (Sends-cut more cut))
 
 -- a part of the whole went out, and the rest is held back or is to come
-pub record Leaving {W : Type 0} (contents : W → Option (List ℕ)) (a b : Watched W) (whole left : List ℕ) : Type 0 where
+pub record Leaving {W : Type 0} (contents : W → Option (List ℕ)) (a b : Watched W) (whole left : List ℕ)
+    : Type 0 where
   pub clear : IsClear b
   pub same_device : SameDevice a b
   pub under_way : IsUnderWay (contents a.device.now) (contents b.device.now) whole left
@@ -222,7 +239,8 @@ module _ {W : Type 0} {contents : W → Option (List ℕ)} where
   -- a call that was to send the bytes xs behind what is held
   module _ {a b c : Watched W} {held after whole left : List ℕ} (xs more : List ℕ)
       (front : left ≡ held ++ (xs ++ more)) (so_far : Leaving contents a b whole left) where
-    pub Leaving-goes_on : Sends contents b c held after (Ok (tt {0})) xs → Leaving contents a c whole (after ++ more)
+    pub Leaving-goes_on : Sends contents b c held after (Ok (tt {0})) xs
+        → Leaving contents a c whole (after ++ more)
     Leaving-goes_on step = record {
       clear = (step.failures, step.stalls);
       same_device = step.same_device ∙ so_far.same_device;

@@ -12,5 +12,6 @@ pieces-preserved g c = record {
   clear = search rules;
   same_device = search rules;
   under_way = under_way_past c.in_ok-taken.taken c.pieces.invariant.under_way c.in_ok-taken.ensures.bytes;
-  nothing = λ e. absurd (omega (arith, c.in_ok-taken.ensures.bound, ap length (c.pieces.invariant.nothing e).1));
+  nothing =
+      λ e. absurd (omega (arith, c.in_ok-taken.ensures.bound, ap length (c.pieces.invariant.nothing e).1));
 }

@@ -7,7 +7,8 @@ abbrev pub invariant-pieces : goal.invariant-pieces
 invariant-pieces g l = record {
   clear : IsClear l.out;
   same_device : SameDevice l.fn.out l.out;
-  under_way : IsUnderWay (g.W.Write.contents (device_now l.fn.out)) (g.W.Write.contents (device_now l.out)) l.fn.bytes l.rest;
+  under_way : IsUnderWay (g.W.Write.contents (device_now l.fn.out))
+      (g.W.Write.contents (device_now l.out)) l.fn.bytes l.rest;
   nothing : l.fn.bytes ≡ [] → (l.out ≡ l.fn.out) × (l.rest ≡ []);
 }
 

@@ -15,7 +15,8 @@ nothing_escaped policy = refl
 pub returns-then-is_empty-clause-written : goal.returns-then-is_empty-clause-written
 returns-then-is_empty-clause-written g c =
     let nothing : c.args.text.now ≡ [] = nil_from_length _ (grind (arith)) in
-    subst (WritesBytes _ _ _ _) (sym (ap (escaped_bytes c.args.policy) nothing ∙ nothing_escaped c.args.policy))
+    subst (WritesBytes _ _ _ _)
+    (sym (ap (escaped_bytes c.args.policy) nothing ∙ nothing_escaped c.args.policy))
     (Sends-all c.requires refl (Sends-nil [] c.requires) refl)
 
 pub returns-in_err-put_escaped-clause-written : goal.returns-in_err-put_escaped-clause-written
@@ -25,4 +26,5 @@ returns-in_err-put_escaped-clause-written g c =
 
 pub returns-clause-written : goal.returns-clause-written
 returns-clause-written g c =
-    Sends-flushed c.requires c.new-gatherer.ensures c.in_ok-put_escaped.ensures c.flush.ensures.sends c.flush.ensures.empty
+    Sends-flushed c.requires c.new-gatherer.ensures c.in_ok-put_escaped.ensures c.flush.ensures.sends
+    c.flush.ensures.empty

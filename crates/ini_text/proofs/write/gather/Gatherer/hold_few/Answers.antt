@@ -32,7 +32,9 @@ few-preserved-in-Some g c =
     record {
       held = held_more p _ piece rest _ c.place_escape.ensures.placed
           (next ∙ ap (λ l. piece ++ marked_escaped p l) (sym left)) c.few.invariant.held;
-      front = kept_front c.args.self.now.len c.few.len _ _ c.few.invariant.longer c.place_escape.ensures.kept ∙ c.few.invariant.front;
+      front =
+          kept_front c.args.self.now.len c.few.len _ _ c.few.invariant.longer c.place_escape.ensures.kept
+          ∙ c.few.invariant.front;
       longer = omega (arith, c.few.invariant.longer);
       within = omega (arith, ap length left, length-drop 1 rest, c.few.invariant.within);
       shorter = omega (arith, ap length left, length-drop 1 rest, c.few.invariant.shorter);

@@ -14,12 +14,17 @@ lanes-preserved-then-known-eq0 g c =
     let p = g.M.Marks.is_marked c.args.marks.now in
     let rest = c.lanes.rest.now in
     let left = take_rest rest 16 in
-    let next = marked_escaped-run p 16 rest (c.marks_ahead-known.ensures.none c.if-known-eq0.true (omega arith)) in
+    let next =
+    marked_escaped-run p 16 rest (c.marks_ahead-known.ensures.none c.if-known-eq0.true (omega arith)) in
     let grown = c.place_lanes.ensures.placed 16 (omega arith)
     ∙ ap (λ l. take c.lanes.len c.lanes.self.bytes ++ l) (take-take 16 16 rest (omega arith)) in
-    let kept = placed_none c.lanes.len c.lanes.self.bytes c.place_lanes.new.bytes (c.place_lanes.ensures.placed 0 (omega arith)) in
+    let kept =
+    placed_none c.lanes.len c.lanes.self.bytes c.place_lanes.new.bytes
+    (c.place_lanes.ensures.placed 0 (omega arith)) in
     record {
-      front = kept_front c.args.self.now.len c.lanes.len _ _ c.lanes.invariant.longer kept ∙ c.lanes.invariant.front;
+      front =
+          kept_front c.args.self.now.len c.lanes.len _ _ c.lanes.invariant.longer kept
+          ∙ c.lanes.invariant.front;
       longer = omega (arith, c.lanes.invariant.longer);
       held = held_more p _ (take 16 rest) rest _ grown
           (next ∙ ap (λ l. take 16 rest ++ marked_escaped p l) (sym left)) c.lanes.invariant.held;
@@ -66,10 +71,14 @@ lanes-preserved g c =
     let grown = placed_short c.lanes.len run c.in-Some.letter c.lanes.self.bytes rest
     c.place_lanes.new.bytes c.place_escape.new.bytes (omega (arith, stops.below))
     (c.place_lanes.ensures.placed run (omega (arith, stops.below))) c.place_escape.ensures.placed in
-    let kept = placed_none c.lanes.len c.lanes.self.bytes c.place_lanes.new.bytes (c.place_lanes.ensures.placed 0 (omega arith)) in
+    let kept =
+    placed_none c.lanes.len c.lanes.self.bytes c.place_lanes.new.bytes
+    (c.place_lanes.ensures.placed 0 (omega arith)) in
     let start = c.args.self.now.len in
     record {
-      held = held_more p _ piece rest _ grown (next ∙ ap (λ l. piece ++ marked_escaped p l) (sym left)) c.lanes.invariant.held;
+      held =
+          held_more p _ piece rest _ grown (next ∙ ap (λ l. piece ++ marked_escaped p l) (sym left))
+          c.lanes.invariant.held;
       front = kept_front start (c.lanes.len + run) _ _ (omega (arith, c.lanes.invariant.longer))
           c.place_escape.ensures.kept ∙ kept_front start c.lanes.len _ _ c.lanes.invariant.longer kept
           ∙ c.lanes.invariant.front;
@@ -85,8 +94,12 @@ returns-clause-held g c =
       | then-lanes-test+else-len w ↦ rw w.self-is c.lanes.invariant.held
       | else-lanes-test w ↦ rw w.self-is c.lanes.invariant.held
       | then-lanes-test+then-len+else-known-eq0+in_default w ↦
-          let kept = placed_none c.lanes.len c.lanes.self.bytes w.place_lanes.new.bytes (w.place_lanes.ensures.placed 0 (omega arith)) in
-          rw w.self-is (ap (λ l. l ++ marked_escaped (g.M.Marks.is_marked c.args.marks.now) c.lanes.rest.now) kept ∙ c.lanes.invariant.held)
+          let kept =
+          placed_none c.lanes.len c.lanes.self.bytes w.place_lanes.new.bytes
+          (w.place_lanes.ensures.placed 0 (omega arith)) in
+          rw w.self-is
+          (ap (λ l. l ++ marked_escaped (g.M.Marks.is_marked c.args.marks.now) c.lanes.rest.now) kept
+          ∙ c.lanes.invariant.held)
     ]
 
 pub returns-clause-front : goal.returns-clause-front
@@ -95,6 +108,9 @@ returns-clause-front g c =
       | then-lanes-test+else-len w ↦ rw w.self-is c.lanes.invariant.front
       | else-lanes-test w ↦ rw w.self-is c.lanes.invariant.front
       | then-lanes-test+then-len+else-known-eq0+in_default w ↦
-          let kept = placed_none c.lanes.len c.lanes.self.bytes w.place_lanes.new.bytes (w.place_lanes.ensures.placed 0 (omega arith)) in
-          rw w.self-is (kept_front c.args.self.now.len c.lanes.len _ _ c.lanes.invariant.longer kept ∙ c.lanes.invariant.front)
+          let kept =
+          placed_none c.lanes.len c.lanes.self.bytes w.place_lanes.new.bytes
+          (w.place_lanes.ensures.placed 0 (omega arith)) in
+          rw w.self-is (kept_front c.args.self.now.len c.lanes.len _ _ c.lanes.invariant.longer kept
+          ∙ c.lanes.invariant.front)
     ]

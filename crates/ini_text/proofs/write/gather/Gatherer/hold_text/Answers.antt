@@ -23,7 +23,9 @@ returns-in-Reserved-clause-all c all =
     let bytes = ap (marked_escaped (begins_escaped Reserved)) c.as_bytes-in-Reserved.ensures.value
     ∙ sym (escaped_bytes-reserved text c.utf8.text)
     ∙ ap (λ policy. escaped_bytes policy text) (sym c.in-Reserved.is) in
-    let none = nil_from_length c.hold_marked-in-Reserved.result.now (eqb-true _ 0 (sym c.is_empty-in-Reserved.ensures ∙ all)) in
+    let none =
+    nil_from_length c.hold_marked-in-Reserved.result.now
+    (eqb-true _ 0 (sym c.is_empty-in-Reserved.ensures ∙ all)) in
     held_all (begins_escaped Reserved) (held c.hold_marked-in-Reserved.new.self)
     c.hold_marked-in-Reserved.result.now none c.hold_marked-in-Reserved.ensures.held
     ∙ ap (λ l. held c.args.self.now ++ l) bytes

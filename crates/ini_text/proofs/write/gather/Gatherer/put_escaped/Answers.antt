@@ -9,7 +9,9 @@ use Rattle.ini_text.proofs.write.gather.Gatherer.put_escaped.Goals as goal
 pub returns-in-Basics : goal.returns-in-Basics
 returns-in-Basics g c =
     let text = c.args.text.now in
-    let bytes = ap (marked_escaped (begins_escaped Basics)) c.as_bytes.ensures.value ∙ sym (escaped_bytes-basics text c.utf8.text)
+    let bytes =
+    ap (marked_escaped (begins_escaped Basics)) c.as_bytes.ensures.value
+    ∙ sym (escaped_bytes-basics text c.utf8.text)
     ∙ ap (λ policy. escaped_bytes policy text) (sym c.in-Basics.is) in
     subst (Sends _ _ _ _ _ _) bytes c.put_marked.ensures
 

@@ -11,13 +11,16 @@ use Rattle.ini_text.proofs.write.gather.Gatherer.put_pieces.Goals as goal
 use Rattle.ini_text.proofs.write.gather.Gatherer.put_pieces.Goals.{In_ok-put_bytes}
 
 -- the run was sent, and what is marked is left
-after_run : (g : given.Over) (c : In_ok-put_bytes g) → Leaving g.W.Write.contents c.args.out.now c.put_bytes.new.out
+after_run : (g : given.Over) (c : In_ok-put_bytes g)
+    → Leaving g.W.Write.contents c.args.out.now c.put_bytes.new.out
     (held c.args.self.now ++ marked_escaped (g.M.Marks.is_marked c.args.marks.now) c.args.bytes.now)
-    (held c.put_bytes.new.self ++ marked_escaped (g.M.Marks.is_marked c.args.marks.now) c.split_at.result.1.now)
+    (held c.put_bytes.new.self
+    ++ marked_escaped (g.M.Marks.is_marked c.args.marks.now) c.split_at.result.1.now)
 after_run g c =
     let parts = marked_escaped-split (g.M.Marks.is_marked c.args.marks.now) c.pieces.rest.now _ _ _
     c.run_before.ensures.len c.split_at.ensures.front c.split_at.ensures.back in
-    Leaving-goes_on _ _ (ap (λ l. held c.pieces.self ++ l) parts) c.pieces.invariant.leaving c.in_ok-put_bytes.ensures
+    Leaving-goes_on _ _ (ap (λ l. held c.pieces.self ++ l) parts) c.pieces.invariant.leaving
+    c.in_ok-put_bytes.ensures
 
 pub returns-in_err-put_bytes : goal.returns-in_err-put_bytes
 returns-in_err-put_bytes g c =
@@ -38,7 +41,9 @@ returns-in_default g c =
 
 pub returns-in_err-put_escape : goal.returns-in_err-put_escape
 returns-in_err-put_escape g c =
-    let p = err_from_is_err_and c.from_residual-in_err-put_escape.result c.from_residual-in_err-put_escape.ensures.1 in
+    let p =
+    err_from_is_err_and c.from_residual-in_err-put_escape.result
+    c.from_residual-in_err-put_escape.ensures.1 in
     let marks = g.M.Marks.is_marked c.args.marks.now in
     let back = c.split_at.result.1.now in
     let next = marked_escaped-at marks c.pieces.rest.now back _ c.run_before.ensures.len
@@ -57,5 +62,7 @@ pieces-preserved g c =
     ∙ ap (λ b. escape b ++ marked_escaped marks (drop 1 back)) (sym c.from.ensures) in
     let left = Leaving-goes_on _ _ (ap (λ l. held c.put_bytes.new.self ++ l) next)
     (after_run g (goal.at.pieces-preserved g c).In_ok-put_bytes) c.in_ok-put_escape.ensures in
-    let same = c.hold_marked-rest.ensures.held ∙ ap (λ l. held c.put_escape.new.self ++ marked_escaped marks l) (take_rest back 1) in
+    let same =
+    c.hold_marked-rest.ensures.held
+    ∙ ap (λ l. held c.put_escape.new.self ++ marked_escaped marks l) (take_rest back 1) in
     record { leaving = subst (Leaving _ _ _ _) (sym same) left }

@@ -6,7 +6,8 @@ use Rattle.ini_text.proofs.write.gather.Gatherer.put_pieces.Given as goal
 
 abbrev pub invariant-pieces : goal.invariant-pieces
 invariant-pieces g l = record {
-  leaving : Leaving g.W.Write.contents l.fn.out l.out (held l.fn.self ++ marked_escaped (g.M.Marks.is_marked l.fn.marks) l.fn.bytes)
+  leaving : Leaving g.W.Write.contents l.fn.out l.out
+      (held l.fn.self ++ marked_escaped (g.M.Marks.is_marked l.fn.marks) l.fn.bytes)
       (held l.self ++ marked_escaped (g.M.Marks.is_marked l.marks) l.rest);
 }
 

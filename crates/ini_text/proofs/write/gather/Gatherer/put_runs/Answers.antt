@@ -19,7 +19,8 @@ after_run g c = Sending-goes_on _ c.split_verbatim.ensures.bytes
     c.in_ok-put.ensures
 
 pub runs-init : goal.runs-init
-runs-init g c = record { is_text = search rules; clear = search rules; sending = Sending-starts _ c.requires }
+runs-init g c =
+    record { is_text = search rules; clear = search rules; sending = Sending-starts _ c.requires }
 
 pub returns-in_err-put : goal.returns-in_err-put
 returns-in_err-put g c =
@@ -44,7 +45,9 @@ runs-preserved-then-hold_escaped g c =
     let parts = c.in-Some.ensures.characters in
     let next = escaped-next c.args.policy c.in-Some.c _ _ parts
     (escaped-first c.args.policy c.in-Some.c _ _ parts c.split_verbatim.ensures.next) in
-    let whole = c.split_verbatim.ensures.bytes ∙ ap (λ x. run ++ x) next ∙ sym (append_assoc run (escape c.in-Some.c) _) in
+    let whole =
+    c.split_verbatim.ensures.bytes ∙ ap (λ x. run ++ x) next
+    ∙ sym (append_assoc run (escape c.in-Some.c) _) in
     let grown = rw c.if-hold_escaped.true at c.hold_escaped.ensures in
     record {
       is_text = search rules;
@@ -55,11 +58,14 @@ runs-preserved-then-hold_escaped g c =
 
 pub returns-in_err-put_escape : goal.returns-in_err-put_escape
 returns-in_err-put_escape g c =
-    let p = err_from_is_err_and c.from_residual-in_err-put_escape.result c.from_residual-in_err-put_escape.ensures.1 in
+    let p =
+    err_from_is_err_and c.from_residual-in_err-put_escape.result
+    c.from_residual-in_err-put_escape.ensures.1 in
     let parts = c.in-Some.ensures.characters in
     let next = escaped-next c.args.policy c.in-Some.c _ _ parts
     (escaped-first c.args.policy c.in-Some.c _ _ parts c.split_verbatim.ensures.next) in
-    rw (p.1, p.2) (Sending-stops _ next (after_run g (goal.at.returns-in_err-put_escape g c).In_ok-put) c.in_err-put_escape.ensures)
+    rw (p.1, p.2) (Sending-stops _ next (after_run g (goal.at.returns-in_err-put_escape g c).In_ok-put)
+    c.in_err-put_escape.ensures)
 
 pub runs-preserved : goal.runs-preserved
 runs-preserved g c =
@@ -69,5 +75,7 @@ runs-preserved g c =
     record {
       is_text = search rules;
       clear = search rules;
-      sending = Sending-goes_on _ next (after_run g (goal.at.runs-preserved g c).In_ok-put) c.in_ok-put_escape.ensures;
+      sending =
+          Sending-goes_on _ next (after_run g (goal.at.runs-preserved g c).In_ok-put)
+          c.in_ok-put_escape.ensures;
     }

@@ -3,4 +3,5 @@ use Rattle.ini_text.proofs.StringLemmas.LaneLemmas.{placed}
 use Rattle.ini_text.proofs.write.gather.marked.place_half.Goals as goal
 
 pub returns-clause-placed : goal.returns-clause-placed
-returns-clause-placed c = λ n few. placed c.args.len n c.args.bytes.now c.args.half (omega arith) (omega arith)
+returns-clause-placed c =
+    λ n few. placed c.args.len n c.args.bytes.now c.args.half (omega arith) (omega arith)

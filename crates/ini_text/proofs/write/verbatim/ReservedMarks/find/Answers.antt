@@ -15,4 +15,5 @@ returns c =
     let reserved = either _ _ v (either _ _ v (equal 0x3B v long) (equal 0x23 v long))
     (either _ _ v (equal 0x3D v long) (equal 0x3A v long)) in
     bits (λ byte. is_basic byte || is_reserved byte) v long (either _ _ v basic reserved)
-    ∙ ap mask_l (map_same (λ byte. is_basic byte || is_reserved byte) (begins_escaped Reserved) (λ byte. sym (begins-reserved byte)) v)
+    ∙ ap mask_l (map_same (λ byte. is_basic byte || is_reserved byte) (begins_escaped Reserved)
+    (λ byte. sym (begins-reserved byte)) v)
