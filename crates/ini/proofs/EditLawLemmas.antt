@@ -39,16 +39,21 @@ module _ (name : Option Text) (key value : Text) where
   add-names other d apart = first-edited name (push key value) one other (grind (arith, apart)) apart d
 
   pub set-sections : KeepsOtherSections name (set_in name key value)
-  set-sections other d apart = named-edited name (inserted key value) one other (grind (arith, apart)) apart d
+  set-sections other d apart =
+      named-edited name (inserted key value) one other (grind (arith, apart)) apart d
 
   pub add-sections : KeepsOtherSections name (add_in name key value)
   add-sections other d apart = named-edited name (push key value) one other (grind (arith, apart)) apart d
 
   pub set-keys : KeepsOtherKeysIn name key (set_in name key value)
-  set-keys other d apart = value-edited name (inserted key value) one other (grind (arith, apart)) (first-inserted key other apart value) d
+  set-keys other d apart =
+      value-edited name (inserted key value) one other (grind (arith, apart))
+      (first-inserted key other apart value) d
 
   pub add-keys : KeepsOtherKeysIn name key (add_in name key value)
-  add-keys other d apart = value-edited name (push key value) one other (grind (arith, apart)) (first-appended key other apart value) d
+  add-keys other d apart =
+      value-edited name (push key value) one other (grind (arith, apart))
+      (first-appended key other apart value) d
 
   pub set-there_still : KeepsNames (set_in name key value)
   set-there_still = there-edited name (inserted key value) one
@@ -101,7 +106,8 @@ module _ (name : Option Text) (key : Text) where
   delete_from-sections other d apart = named-edited name (removed key) [] other refl apart d
 
   pub delete_from-keys : KeepsOtherKeysIn name key (delete_in name key)
-  delete_from-keys other d apart = value-edited name (removed key) [] other refl (first-removed key other apart) d
+  delete_from-keys other d apart =
+      value-edited name (removed key) [] other refl (first-removed key other apart) d
 
   pub delete_from-there_still : KeepsNames (delete_in name key)
   delete_from-there_still = there-edited name (removed key) []
@@ -117,10 +123,12 @@ module _ (name : Option Text) (key : Text) where
 
 module _ (name : Option Text) (pairs : Pairs) where
   pub entry-names : KeepsOtherNames name (section_put name pairs)
-  entry-names other d apart = first-edited name (λ _. pairs) ((name, pairs) ∷ []) other (grind (arith, apart)) apart d
+  entry-names other d apart =
+      first-edited name (λ _. pairs) ((name, pairs) ∷ []) other (grind (arith, apart)) apart d
 
   pub entry-sections : KeepsOtherSections name (section_put name pairs)
-  entry-sections other d apart = named-edited name (λ _. pairs) ((name, pairs) ∷ []) other (grind (arith, apart)) apart d
+  entry-sections other d apart =
+      named-edited name (λ _. pairs) ((name, pairs) ∷ []) other (grind (arith, apart)) apart d
 
   pub entry-there_still : KeepsNames (section_put name pairs)
   entry-there_still = there-edited name (λ _. pairs) ((name, pairs) ∷ [])

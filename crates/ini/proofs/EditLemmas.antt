@@ -17,7 +17,8 @@ module _ (name : Option Text) (f : Pairs → Pairs) (last : Document) where
   edit_section-there (s ∷ d) pairs e = grind (arith, edit_section-there d pairs)
 
   -- where it isn't
-  pub edit_section-last : (d : Document) → first_section name d ≡ None → edit_section name f last d ≡ d ++ last
+  pub edit_section-last : (d : Document) → first_section name d ≡ None
+      → edit_section name f last d ≡ d ++ last
   edit_section-last [] e = refl
   edit_section-last (s ∷ d) e = grind (arith, edit_section-last d)
 
@@ -33,13 +34,16 @@ pub set_section-none : (name : Option Text) (d : Document) (pairs : Pairs) → f
 set_section-none name [] pairs e = refl
 set_section-none name (s ∷ d) pairs e = grind (arith, set_section-none name d pairs)
 
-set_value-none : (key value : Text) (ps : Pairs) → first_value key ps ≡ None → set_value (is_text key) ps value ≡ ps
+set_value-none : (key value : Text) (ps : Pairs) → first_value key ps ≡ None
+    → set_value (is_text key) ps value ≡ ps
 set_value-none key value [] e = refl
 set_value-none key value (p ∷ ps) e = grind (arith, set_value-none key value ps)
 
-pub replace_in-none : (name : Option Text) (key value : Text) (d : Document) → value_in name key d ≡ None → replace_in name key value d ≡ d
+pub replace_in-none : (name : Option Text) (key value : Text) (d : Document) → value_in name key d ≡ None
+    → replace_in name key value d ≡ d
 replace_in-none name key value [] e = refl
-replace_in-none name key value (s ∷ d) e = grind (arith, replace_in-none name key value d, set_value-none key value s.1)
+replace_in-none name key value (s ∷ d) e =
+    grind (arith, replace_in-none name key value d, set_value-none key value s.1)
 
 -- what holds where nothing was lent
 pub if_none : {A P : Type 0} (lent : Option A) → (lent ≡ None → P) → IfNone lent P
@@ -47,17 +51,23 @@ if_none None holds = holds refl
 if_none (Some a) holds = tt
 
 -- what each edit makes of the first section of the name
-module _ (name : Option Text) (key value : Text) (d : Document) (pairs : Pairs) (there : first_section name d ≡ Some pairs) where
+module _ (name : Option Text) (key value : Text) (d : Document) (pairs : Pairs)
+    (there : first_section name d ≡ Some pairs) where
   pub set_in-there : set_value (is_name name) d (inserted key value pairs) ≡ set_in name key value d
-  set_in-there = sym (edit_section-there name (inserted key value) ((name, (key, value) ∷ []) ∷ []) d pairs there)
+  set_in-there =
+      sym (edit_section-there name (inserted key value) ((name, (key, value) ∷ []) ∷ []) d pairs there)
 
   pub add_in-there : set_value (is_name name) d (pairs ++ (key, value) ∷ []) ≡ add_in name key value d
-  add_in-there = sym (edit_section-there name (λ ps. ps ++ (key, value) ∷ []) ((name, (key, value) ∷ []) ∷ []) d pairs there)
+  add_in-there =
+      sym (edit_section-there name (λ ps. ps ++ (key, value) ∷ [])
+      ((name, (key, value) ∷ []) ∷ []) d pairs there)
 
-  pub replace_in-there : set_value (is_name name) d (set_value (is_text key) pairs value) ≡ replace_in name key value d
+  pub replace_in-there : set_value (is_name name) d (set_value (is_text key) pairs value)
+      ≡ replace_in name key value d
   replace_in-there = sym (edit_section-there name (λ ps. set_value (is_text key) ps value) [] d pairs there)
 
-pub delete_in-there : (name : Option Text) (key : Text) (d : Document) (pairs : Pairs) → first_section name d ≡ Some pairs
+pub delete_in-there : (name : Option Text) (key : Text) (d : Document) (pairs : Pairs)
+    → first_section name d ≡ Some pairs
     → set_value (is_name name) d (removed key pairs) ≡ delete_in name key d
 delete_in-there name key d pairs there = sym (edit_section-there name (removed key) [] d pairs there)
 
@@ -78,7 +88,8 @@ pub stays_there : {X E : Type 0} (r : Result X E) (name : Option Text) (d e new 
     → IsSome (first_section name new)
 stays_there (Ok x) name d e new appended unchanged there =
     subst (λ l. IsSome (first_section name l)) (sym appended) (first_section-append name d e there)
-stays_there (Err x) name d e new appended unchanged there = subst (λ l. IsSome (first_section name l)) (sym unchanged) there
+stays_there (Err x) name d e new appended unchanged there =
+    subst (λ l. IsSome (first_section name l)) (sym unchanged) there
 
 pub ruleset edits = (
   set_in-there,

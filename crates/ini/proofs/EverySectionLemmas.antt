@@ -36,7 +36,8 @@ module _ {K V : Type 0} (test : K → Bool) (f : V → V) where
   edited-more (suc n) (p ∷ ps) v e = grind (arith, edited-more n ps v, edited-more (suc n) ps v)
 
   -- no more are there
-  pub edited-all : (n : ℕ) (ps : List (K × V)) → slice_get (values_at test (edited n ps)) n ≡ None → edited n ps ≡ all_edited ps
+  pub edited-all : (n : ℕ) (ps : List (K × V)) → slice_get (values_at test (edited n ps)) n ≡ None
+      → edited n ps ≡ all_edited ps
   edited-all n [] e = refl
   edited-all zero (p ∷ ps) e = grind (arith, edited-all zero ps, edited-zero ps)
   edited-all (suc n) (p ∷ ps) e = grind (arith, edited-all n ps, edited-all (suc n) ps)
@@ -81,7 +82,11 @@ module _ (name : Option Text) where
 pub ruleset all_removed = (removed_all-removed, fewer-removed)
 
 -- what it makes of the document
-pub all_edited-sections : {Z : Type 0} (name : Option (Bor (List ℕ))) (key : Text) (ss : List (Option (String Z) × Pairs)) → IsTextName name
-    → sections_of (all_edited (name_fits name) (removed key) ss) ≡ delete_in_all (str_name name) key (sections_of ss)
+pub all_edited-sections : {Z : Type 0} (name : Option (Bor (List ℕ))) (key : Text)
+    (ss : List (Option (String Z) × Pairs))
+    → IsTextName name
+    → sections_of (all_edited (name_fits name) (removed key) ss)
+    ≡ delete_in_all (str_name name) key (sections_of ss)
 all_edited-sections name key [] text = refl
-all_edited-sections name key (s ∷ ss) text = grind (arith, same_name name text s.0, all_edited-sections name key ss text)
+all_edited-sections name key (s ∷ ss) text =
+    grind (arith, same_name name text s.0, all_edited-sections name key ss text)

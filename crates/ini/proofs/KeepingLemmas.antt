@@ -43,13 +43,16 @@ module _ (key other : Text) (apart : is_text other key ≡ false) where
   first-removed [] = refl
   first-removed (p ∷ ps) = grind (arith, first-removed ps, texts_equal key p.0, apart)
 
-  pub first-appended : (value : Text) (ps : Pairs) → first_value other (ps ++ (key, value) ∷ []) ≡ first_value other ps
+  pub first-appended : (value : Text) (ps : Pairs)
+      → first_value other (ps ++ (key, value) ∷ []) ≡ first_value other ps
   first-appended value [] = grind (arith, apart)
   first-appended value (p ∷ ps) = grind (arith, first-appended value ps)
 
-  pub first-inserted : (value : Text) (ps : Pairs) → first_value other (inserted key value ps) ≡ first_value other ps
+  pub first-inserted : (value : Text) (ps : Pairs)
+      → first_value other (inserted key value ps) ≡ first_value other ps
   first-inserted value [] = grind (arith, apart)
-  first-inserted value (p ∷ ps) = grind (arith, first-inserted value ps, first-all_removed ps, texts_equal key p.0, apart)
+  first-inserted value (p ∷ ps) =
+      grind (arith, first-inserted value ps, first-all_removed ps, texts_equal key p.0, apart)
 
   pub values-all_removed : (ps : Pairs) → values other (all_removed key ps) ≡ values other ps
   values-all_removed [] = refl
@@ -59,13 +62,15 @@ module _ (key other : Text) (apart : is_text other key ≡ false) where
   values-removed [] = refl
   values-removed (p ∷ ps) = grind (arith, values-removed ps, texts_equal key p.0, apart)
 
-  pub values-appended : (value : Text) (ps : Pairs) → values other (ps ++ (key, value) ∷ []) ≡ values other ps
+  pub values-appended : (value : Text) (ps : Pairs)
+      → values other (ps ++ (key, value) ∷ []) ≡ values other ps
   values-appended value [] = grind (arith, apart)
   values-appended value (p ∷ ps) = grind (arith, values-appended value ps)
 
   pub values-inserted : (value : Text) (ps : Pairs) → values other (inserted key value ps) ≡ values other ps
   values-inserted value [] = grind (arith, apart)
-  values-inserted value (p ∷ ps) = grind (arith, values-inserted value ps, values-all_removed ps, texts_equal key p.0, apart)
+  values-inserted value (p ∷ ps) =
+      grind (arith, values-inserted value ps, values-all_removed ps, texts_equal key p.0, apart)
 
   pub first-replaced : (value : Text) (ps : Pairs)
       → first_value other (set_value (is_text key) ps value) ≡ first_value other ps
@@ -77,15 +82,18 @@ pub others-removed : (key : Text) (ps : Pairs) → all_removed key (removed key 
 others-removed key [] = refl
 others-removed key (p ∷ ps) = grind (arith, others-removed key ps)
 
-pub others-all_removed : (key : Text) (ps : Pairs) → all_removed key (all_removed key ps) ≡ all_removed key ps
+pub others-all_removed : (key : Text) (ps : Pairs)
+    → all_removed key (all_removed key ps) ≡ all_removed key ps
 others-all_removed key [] = refl
 others-all_removed key (p ∷ ps) = grind (arith, others-all_removed key ps)
 
-pub others-appended : (key value : Text) (ps : Pairs) → all_removed key (ps ++ (key, value) ∷ []) ≡ all_removed key ps
+pub others-appended : (key value : Text) (ps : Pairs)
+    → all_removed key (ps ++ (key, value) ∷ []) ≡ all_removed key ps
 others-appended key value [] = grind (arith, text_refl key)
 others-appended key value (p ∷ ps) = grind (arith, others-appended key value ps)
 
-pub others-inserted : (key value : Text) (ps : Pairs) → all_removed key (inserted key value ps) ≡ all_removed key ps
+pub others-inserted : (key value : Text) (ps : Pairs)
+    → all_removed key (inserted key value ps) ≡ all_removed key ps
 others-inserted key value [] = grind (arith, text_refl key)
 others-inserted key value (p ∷ ps) = grind (arith, others-inserted key value ps, others-all_removed key ps)
 
@@ -99,12 +107,14 @@ module _ (name : Option Text) (f : Pairs → Pairs) (last : Document) where
   pub first-edited : (other : Option Text) → first_section other last ≡ None → is_name other name ≡ false
       → (d : Document) → first_section other (edit_section name f last d) ≡ first_section other d
   first-edited other none apart [] = none
-  first-edited other none apart (s ∷ d) = grind (arith, first-edited other none apart d, names_equal name s.0, apart)
+  first-edited other none apart (s ∷ d) =
+      grind (arith, first-edited other none apart d, names_equal name s.0, apart)
 
   pub named-edited : (other : Option Text) → sections_named other last ≡ [] → is_name other name ≡ false
       → (d : Document) → sections_named other (edit_section name f last d) ≡ sections_named other d
   named-edited other none apart [] = none
-  named-edited other none apart (s ∷ d) = grind (arith, named-edited other none apart d, names_equal name s.0, apart)
+  named-edited other none apart (s ∷ d) =
+      grind (arith, named-edited other none apart d, names_equal name s.0, apart)
 
   pub there-edited : (other : Option Text) (d : Document) → IsSome (first_section other d)
       → IsSome (first_section other (edit_section name f last d))
@@ -148,7 +158,8 @@ module _ (name : Option Text) (key : Text) where
   pub value-deleted : (other : Text) → is_text other key ≡ false → (d : Document)
       → value_in name other (delete_in_all name key d) ≡ value_in name other d
   value-deleted other apart [] = refl
-  value-deleted other apart (s ∷ d) = grind (arith, value-deleted other apart d, first-removed key other apart s.1)
+  value-deleted other apart (s ∷ d) =
+      grind (arith, value-deleted other apart d, first-removed key other apart s.1)
 
   pub rest-deleted : (d : Document) → apart_from name key (delete_in_all name key d) ≡ apart_from name key d
   rest-deleted [] = refl
@@ -156,11 +167,13 @@ module _ (name : Option Text) (key : Text) where
 
 -- the first section of a name goes, or is another one
 module _ (name other : Option Text) (apart : is_name other name ≡ false) where
-  pub first-section_removed : (d : Document) → first_section other (section_removed name d) ≡ first_section other d
+  pub first-section_removed : (d : Document)
+      → first_section other (section_removed name d) ≡ first_section other d
   first-section_removed [] = refl
   first-section_removed (s ∷ d) = grind (arith, first-section_removed d, names_equal name s.0, apart)
 
-  pub named-section_removed : (d : Document) → sections_named other (section_removed name d) ≡ sections_named other d
+  pub named-section_removed : (d : Document)
+      → sections_named other (section_removed name d) ≡ sections_named other d
   named-section_removed [] = refl
   named-section_removed (s ∷ d) = grind (arith, named-section_removed d, names_equal name s.0, apart)
 
@@ -184,11 +197,13 @@ module _ (name other : Option Text) (apart : is_name other name ≡ false) where
     apart,
   )
 
-  pub first-section_set : (pairs : Pairs) (d : Document) → first_section other (section_set name pairs d) ≡ first_section other d
+  pub first-section_set : (pairs : Pairs) (d : Document)
+      → first_section other (section_set name pairs d) ≡ first_section other d
   first-section_set pairs [] = refl
   first-section_set pairs (s ∷ d) = grind (arith, first-section_set pairs d, names_equal name s.0, apart)
 
-  pub named-section_set : (pairs : Pairs) (d : Document) → sections_named other (section_set name pairs d) ≡ sections_named other d
+  pub named-section_set : (pairs : Pairs) (d : Document)
+      → sections_named other (section_set name pairs d) ≡ sections_named other d
   named-section_set pairs [] = refl
   named-section_set pairs (s ∷ d) = grind (arith, named-section_set pairs d, names_equal name s.0, apart)
 
@@ -198,7 +213,8 @@ there-section_set name other pairs [] there = absurd (false≢true there)
 there-section_set name other pairs (s ∷ d) there = grind (arith, there-section_set name other pairs d)
 
 -- what is there afterwards
-pub set-there : (name : Option Text) (key value : Text) (d : Document) → value_in name key (set_in name key value d) ≡ Some value
+pub set-there : (name : Option Text) (key value : Text) (d : Document)
+    → value_in name key (set_in name key value d) ≡ Some value
 set-there name key value [] = grind (arith, name_refl name, text_refl key)
 set-there name key value (s ∷ d) = grind (arith, set-there name key value d, inserted-there key value s.1)
 
@@ -207,7 +223,8 @@ pub lent-there : (name : Option Text) (pairs : Pairs) (d : Document) → IsSome 
 lent-there name pairs [] there = absurd (false≢true there)
 lent-there name pairs (s ∷ d) there = grind (arith, lent-there name pairs d)
 
-pub entry-there : (name : Option Text) (pairs : Pairs) (d : Document) → first_section name (with_section name d pairs) ≡ Some pairs
+pub entry-there : (name : Option Text) (pairs : Pairs) (d : Document)
+    → first_section name (with_section name d pairs) ≡ Some pairs
 entry-there name pairs [] = grind (arith, name_refl name)
 entry-there name pairs (s ∷ d) = grind (arith, entry-there name pairs d)
 
@@ -230,7 +247,8 @@ none-of : (key : Text) (ps : Pairs) → length (values key ps) ≡ 0 → first_v
 none-of key [] e = refl
 none-of key (p ∷ ps) e = grind (arith, none-of key ps)
 
-removed-last : (key : Text) (ps : Pairs) → length (values key ps) ≤ 1 → first_value key (removed key ps) ≡ None
+removed-last : (key : Text) (ps : Pairs) → length (values key ps) ≤ 1
+    → first_value key (removed key ps) ≡ None
 removed-last key [] h = refl
 removed-last key (p ∷ ps) h = grind (arith, removed-last key ps, none-of key ps)
 

@@ -12,7 +12,8 @@ less_one n = omega arith
 
 -- the value of the last pair, where the keys are read by f
 module _ {K L V : Type 0} (f : K → L) where
-  with_value_at-both : (ps : List (K × V)) (i : ℕ) (v : V) → both f (λ w. w) (with_value_at ps i v) ≡ with_value_at (both f (λ w. w) ps) i v
+  with_value_at-both : (ps : List (K × V)) (i : ℕ) (v : V)
+      → both f (λ w. w) (with_value_at ps i v) ≡ with_value_at (both f (λ w. w) ps) i v
   with_value_at-both [] i v = refl
   with_value_at-both (p ∷ ps) zero v = refl
   with_value_at-both (p ∷ ps) (suc i) v = ap (λ l. (f p.0, p.1) ∷ l) (with_value_at-both ps i v)
@@ -25,11 +26,14 @@ module _ {K L V : Type 0} (f : K → L) where
     as_long : length ps ≡ length qs
     as_long = sym (length-map ps (λ p. (f p.0, p.1))) ∙ ap length shown
 
-    pub last_set : (v : V) → both f (λ w. w) (with_value_at ps (length ps - 1) v) ≡ with_value_at qs (length qs - 1) v
+    pub last_set : (v : V)
+        → both f (λ w. w) (with_value_at ps (length ps - 1) v) ≡ with_value_at qs (length qs - 1) v
     last_set v = with_value_at-both ps (length ps - 1) v ∙ (λ i. with_value_at (shown i) (as_long i - 1) v)
 
     pub last_got : slice_get (values_of ps) (length ps - 1) ≡ slice_get (values_of qs) (length qs - 1)
-    last_got = ap (λ vs. slice_get vs (length ps - 1)) (sym (values_of-both ps)) ∙ (λ i. slice_get (values_of (shown i)) (as_long i - 1))
+    last_got =
+        ap (λ vs. slice_get vs (length ps - 1)) (sym (values_of-both ps))
+        ∙ (λ i. slice_get (values_of (shown i)) (as_long i - 1))
 
 module _ {K V : Type 0} where
   pub last_is_there : (ps : List (K × V)) → 0 < length ps → IsSome (slice_get (values_of ps) (length ps - 1))
@@ -44,7 +48,8 @@ module _ {K V : Type 0} where
   with_value_at-last v (p ∷ []) h =
       let same : p.1 ≡ v = cc in
       ap (λ w. (p.0, w) ∷ []) (sym same)
-  with_value_at-last v (p ∷ q ∷ ps) h = rw less_one (ap (λ l. p ∷ l) (with_value_at-last v (q ∷ ps) (rw less_one at h)))
+  with_value_at-last v (p ∷ q ∷ ps) h =
+      rw less_one (ap (λ l. p ∷ l) (with_value_at-last v (q ∷ ps) (rw less_one at h)))
 
   -- the pair that was pushed
   set_pushed : (k : K) (v w : V) (ps : List (K × V))
@@ -53,7 +58,8 @@ module _ {K V : Type 0} where
   set_pushed k v w (p ∷ []) = refl
   set_pushed k v w (p ∷ q ∷ ps) = rw less_one (ap (λ l. p ∷ l) (set_pushed k v w (q ∷ ps)))
 
-  got_pushed : (k : K) (v : V) (ps : List (K × V)) → slice_get (values_of (ps ++ (k, v) ∷ [])) (length (ps ++ (k, v) ∷ []) - 1) ≡ Some v
+  got_pushed : (k : K) (v : V) (ps : List (K × V))
+      → slice_get (values_of (ps ++ (k, v) ∷ [])) (length (ps ++ (k, v) ∷ []) - 1) ≡ Some v
   got_pushed k v [] = refl
   got_pushed k v (p ∷ []) = refl
   got_pushed k v (p ∷ q ∷ ps) = rw less_one (got_pushed k v (q ∷ ps))
@@ -64,14 +70,17 @@ module _ {K V : Type 0} where
 
     pub value_pushed : (x : V) → slice_get (values_of new) (length new - 1) ≡ Some x → x ≡ v
     value_pushed x got =
-        let same : Some x ≡ Some v = sym got ∙ ap (λ l. slice_get (values_of l) (length l - 1)) pushed ∙ got_pushed k v ps in
+        let same : Some x ≡ Some v =
+        sym got ∙ ap (λ l. slice_get (values_of l) (length l - 1)) pushed ∙ got_pushed k v ps in
         cc
 
 -- a pair put behind those of the last section
-pub with_pair-last : (key value : Text) (ps : Pairs) (d : Document) → slice_get (values_of d) (length d - 1) ≡ Some ps
+pub with_pair-last : (key value : Text) (ps : Pairs) (d : Document)
+    → slice_get (values_of d) (length d - 1) ≡ Some ps
     → with_value_at d (length d - 1) (ps ++ (key, value) ∷ []) ≡ with_pair key value d
 with_pair-last key value ps [] h = refl
 with_pair-last key value ps (s ∷ []) h =
     let same : s.1 ≡ ps = cc in
     ap (λ qs. (s.0, qs ++ (key, value) ∷ []) ∷ []) (sym same)
-with_pair-last key value ps (s ∷ t ∷ d) h = rw less_one (ap (λ l. s ∷ l) (with_pair-last key value ps (t ∷ d) (rw less_one at h)))
+with_pair-last key value ps (s ∷ t ∷ d) h =
+    rw less_one (ap (λ l. s ∷ l) (with_pair-last key value ps (t ∷ d) (rw less_one at h)))

@@ -6,7 +6,8 @@ use Rattle.std.specs.Map.{lookup, remove_entry, set_value}
 use Rattle.ini_multimap.specs.Pairs.{insert_pair, without, values_at, fresh, distinct_keys}
 use Rattle.ini.specs.Properties.{both}
 
-module _ {K L V W : Type 0} (f : K → L) (g : V → W) (p : K → Bool) (q : L → Bool) (same : (k : K) → p k ≡ q (f k)) where
+module _ {K L V W : Type 0} (f : K → L) (g : V → W) (p : K → Bool) (q : L → Bool)
+    (same : (k : K) → p k ≡ q (f k)) where
   pub lookup-both : (ps : List (K × V)) → lookup q (both f g ps) ≡ option_map g (lookup p ps)
   lookup-both [] = refl
   lookup-both (e ∷ ps) = grind (arith, lookup-both ps, same e.0)
@@ -15,7 +16,8 @@ module _ {K L V W : Type 0} (f : K → L) (g : V → W) (p : K → Bool) (q : L 
   remove_entry-both [] = refl
   remove_entry-both (e ∷ ps) = grind (arith, remove_entry-both ps, same e.0)
 
-  pub set_value-both : (ps : List (K × V)) (v : V) → set_value q (both f g ps) (g v) ≡ both f g (set_value p ps v)
+  pub set_value-both : (ps : List (K × V)) (v : V)
+      → set_value q (both f g ps) (g v) ≡ both f g (set_value p ps v)
   set_value-both [] v = refl
   set_value-both (e ∷ ps) v = grind (arith, set_value-both ps v, same e.0)
 
@@ -27,12 +29,15 @@ module _ {K L V W : Type 0} (f : K → L) (g : V → W) (p : K → Bool) (q : L 
   values_at-both [] = refl
   values_at-both (e ∷ ps) = grind (arith, values_at-both ps, same e.0)
 
-  pub insert_pair-both : (k : K) (v : V) (ps : List (K × V)) → insert_pair q (f k) (g v) (both f g ps) ≡ both f g (insert_pair p k v ps)
+  pub insert_pair-both : (k : K) (v : V) (ps : List (K × V))
+      → insert_pair q (f k) (g v) (both f g ps) ≡ both f g (insert_pair p k v ps)
   insert_pair-both k v [] = refl
   insert_pair-both k v (e ∷ ps) = grind (arith, insert_pair-both k v ps, same e.0, without-both ps)
 
-module _ {K L V W : Type 0} (f : K → L) (g : V → W) (p : K → K → Bool) (q : L → L → Bool) (same : (j k : K) → p j k ≡ q (f j) (f k)) where
-  list_any-both : (k : K) (ps : List (K × V)) → list_any (λ e. q e.0 (f k)) (both f g ps) ≡ list_any (λ e. p e.0 k) ps
+module _ {K L V W : Type 0} (f : K → L) (g : V → W) (p : K → K → Bool) (q : L → L → Bool)
+    (same : (j k : K) → p j k ≡ q (f j) (f k)) where
+  list_any-both : (k : K) (ps : List (K × V))
+      → list_any (λ e. q e.0 (f k)) (both f g ps) ≡ list_any (λ e. p e.0 k) ps
   list_any-both k [] = refl
   list_any-both k (e ∷ ps) = grind (arith, same e.0 k, list_any-both k ps)
 
@@ -42,7 +47,8 @@ module _ {K L V W : Type 0} (f : K → L) (g : V → W) (p : K → K → Bool) (
 
   fresh-both : (seen ps : List (K × V)) → fresh q (both f g seen) (both f g ps) ≡ map f (fresh p seen ps)
   fresh-both seen [] = refl
-  fresh-both seen (e ∷ ps) = grind (arith, list_any-both e.0 seen, both-push seen e, fresh-both (seen ++ e ∷ []) ps)
+  fresh-both seen (e ∷ ps) =
+      grind (arith, list_any-both e.0 seen, both-push seen e, fresh-both (seen ++ e ∷ []) ps)
 
   pub distinct_keys-both : (ps : List (K × V)) → distinct_keys q (both f g ps) ≡ map f (distinct_keys p ps)
   distinct_keys-both ps = fresh-both [] ps

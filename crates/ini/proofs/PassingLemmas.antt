@@ -21,7 +21,8 @@ use Rattle.ini.proofs.ReadingLemmas.{IsStopOf-behind, Reads-append, with_items-a
 use lib.Utf8.{encodes}
 
 -- a text that is cut behind n bytes
-pub front_cut : (t : List ℕ) (n : ℕ) → IsUtf8 (take n t) → front_of (chars t) (chars (drop n t)) ≡ chars (take n t)
+pub front_cut : (t : List ℕ) (n : ℕ) → IsUtf8 (take n t)
+    → front_of (chars t) (chars (drop n t)) ≡ chars (take n t)
 front_cut t n utf8 = front_is (chars (take n t)) (chars (drop n t)) (chars t)
     (sym (chars-append (take n t) (drop n t) utf8) ∙ ap chars (take-append-drop n t))
 
@@ -30,7 +31,8 @@ rest_cut t n utf8 = ap (λ f. f ++ chars (drop n t)) (front_cut t n utf8)
     ∙ sym (chars-append (take n t) (drop n t) utf8) ∙ ap chars (take-append-drop n t)
 
 -- texts whose characters are those of a third, one behind the other, are its bytes
-pub text_parts : (t f r : List ℕ) → IsUtf8 t → IsUtf8 f → IsUtf8 r → chars t ≡ chars f ++ chars r → t ≡ f ++ r
+pub text_parts : (t f r : List ℕ) → IsUtf8 t → IsUtf8 f → IsUtf8 r → chars t ≡ chars f ++ chars r
+    → t ≡ f ++ r
 text_parts t f r ut uf ur e =
     sym (encodes-chars t ut) ∙ ap encodes e ∙ encodes-append (chars f) (chars r)
     ∙ ap (λ x. x ++ encodes (chars r)) (encodes-chars f uf) ∙ ap (λ x. f ++ x) (encodes-chars r ur)
@@ -39,12 +41,19 @@ text_parts t f r ut uf ur e =
 pub IsUtf8-behind : (x y : List ℕ) → IsUtf8 x → IsUtf8 (x ++ y) → IsUtf8 y
 IsUtf8-behind x y ux u =
     let front : take (length x) (x ++ y) ≡ x = take-append_seam x y in
-    let cut = IsCharBoundary-from_take (x ++ y) (length x) u (omega (arith, length-append x y)) (subst IsUtf8 (sym front) ux) in
+    let cut =
+    IsCharBoundary-from_take (x ++ y) (length x) u (omega (arith, length-append x y))
+    (subst IsUtf8 (sym front) ux) in
     subst IsUtf8 (drop-append_seam x y) (IsUtf8-drop (x ++ y) (length x) u cut)
 
 -- a text has no more line feeds than bytes
 pub feeds_fit : (t : List ℕ) → IsUtf8 t → count_by is_line_feed (chars t) ≤ length t
-feeds_fit t utf8 = omega (arith, count_by-le-length is_line_feed (chars t), length-le-encodes (chars t), ap length (encodes-chars t utf8))
+feeds_fit t utf8 = omega (
+  arith,
+  count_by-le-length is_line_feed (chars t),
+  length-le-encodes (chars t),
+  ap length (encodes-chars t utf8),
+)
 
 -- the line at which a text of some bytes stops
 pub line_fits : {o : ParseOption} {b : Text} {e : ParseError} (t : List ℕ) (gone : ℕ) → IsUtf8 t
@@ -52,7 +61,8 @@ pub line_fits : {o : ParseOption} {b : Text} {e : ParseError} (t : List ℕ) (go
 line_fits t gone utf8 stops =
     let stop = stops.stop in
     let front = stop.front ++ stop.source in
-    let whole : chars t ≡ front ++ stop.rest = stop.whole ∙ sym (append_assoc stop.front stop.source stop.rest) in
+    let whole : chars t ≡ front ++ stop.rest =
+    stop.whole ∙ sym (append_assoc stop.front stop.source stop.rest) in
     omega (
       arith,
       stops.moved,
@@ -114,10 +124,12 @@ module _ (whole line left tail : List ℕ) (uw : IsUtf8 whole) (ul : IsUtf8 line
   GoesBy-lines old new one lines front utf8 within settles =
       let n = old.front in
       let ut : IsUtf8 (whole ++ line) = IsUtf8-append whole line uw ul in
-      let line_is : take new.front kept ≡ line = ap (λ k. take k kept) front ∙ take-append_seam line (left ++ tail) in
+      let line_is : take new.front kept ≡ line =
+      ap (λ k. take k kept) front ∙ take-append_seam line (left ++ tail) in
       let begins : chars (whole ++ line) ≡ chars whole ++ chars line = chars-append whole line uw in
       let ends : front_of (chars text) (chars left) ≡ chars (whole ++ line) =
-      front_is (chars (whole ++ line)) (chars left) (chars text) (sym (chars-append (whole ++ line) left ut)) in
+      front_is (chars (whole ++ line)) (chars left) (chars text)
+      (sym (chars-append (whole ++ line) left ut)) in
       record {
         gone = whole;
         items = settles.items;
@@ -125,10 +137,18 @@ module _ (whole line left tail : List ℕ) (uw : IsUtf8 whole) (ul : IsUtf8 line
         utf8 = uw;
         line_start = one;
         lines = lines;
-        front = record { within = omega (arith, front, length-append line (left ++ tail)); utf8 = subst IsUtf8 (sym line_is) ul };
+        front = record {
+          within = omega (
+            arith,
+            front,
+            length-append line (left ++ tail),
+          );
+          utf8 = subst IsUtf8 (sym line_is) ul;
+        };
         reads = λ more.
             let longer : chars ((text ++ tail) ++ more) ≡ chars text ++ chars (tail ++ more) =
-            ap chars (append_assoc text tail more) ∙ chars-append text (tail ++ more) (IsUtf8-append (whole ++ line) left ut ur) in
+            ap chars (append_assoc text tail more)
+            ∙ chars-append text (tail ++ more) (IsUtf8-append (whole ++ line) left ut ur) in
             let start : chars (take n (text ++ tail)) ≡ front_of (chars text) (chars (drop n text)) =
             ap chars (take-append-le n text tail within) ∙ sym (front_cut text n utf8) in
             let end : chars whole ++ chars (take new.front kept) ≡ front_of (chars text) (chars left) =
@@ -138,7 +158,8 @@ module _ (whole line left tail : List ℕ) (uw : IsUtf8 whole) (ul : IsUtf8 line
       }
 
 -- a text at the front of bytes begins as they do
-pub front_text : (b text : List ℕ) (n : ℕ) → text ≡ take (length text) b → n ≤ length text → take n b ≡ take n text
+pub front_text : (b text : List ℕ) (n : ℕ) → text ≡ take (length text) b → n ≤ length text
+    → take n b ≡ take n text
 front_text b text n at within =
     ap (take n) (sym (take-append-drop (length text) b) ∙ ap (λ x. x ++ drop (length text) b) (sym at))
     ∙ take-append-le n text (drop (length text) b) within
@@ -177,13 +198,17 @@ module _ (b text left front whole : List ℕ) (at : text ≡ take (length text) 
       → GoesBy o old new b (drop (length whole) b)
   GoesBy-cut {o} old new one lines new_front utf8 within settles =
       let n = old.front in
-      let begun : take n b ≡ take n ((whole ++ line) ++ left) = front_text b text n at within ∙ ap (take n) text_is_cut in
+      let begun : take n b ≡ take n ((whole ++ line) ++ left) =
+      front_text b text n at within ∙ ap (take n) text_is_cut in
       let dropped : drop (length whole) b ≡ line ++ (left ++ tail) = ap (drop (length whole)) kept_are
       ∙ drop-append_seam whole (line ++ (left ++ tail)) in
-      let size : new.front ≡ length line = omega (arith, new_front, ap length front_is_cut, length-append whole line) in
-      let by = GoesBy-lines whole line left tail uw (IsUtf8-behind whole line uw (subst IsUtf8 front_is_cut uf)) ul
+      let size : new.front ≡ length line =
+      omega (arith, new_front, ap length front_is_cut, length-append whole line) in
+      let by =
+      GoesBy-lines whole line left tail uw (IsUtf8-behind whole line uw (subst IsUtf8 front_is_cut uf)) ul
       old new one lines size (subst IsUtf8 begun utf8) (omega (arith, within, ap length text_is_cut))
-      (subst (λ t. Settles o (chars t) (chars (drop n t)) (chars left) old.document new.document) text_is_cut settles) in
+      (subst (λ t. Settles o (chars t) (chars (drop n t)) (chars left) old.document new.document) text_is_cut
+      settles) in
       rw dropped (subst (λ x. GoesBy o old new x (line ++ (left ++ tail))) (sym bytes_are_cut) by)
 
 -- nothing was read yet
@@ -208,7 +233,8 @@ module _ {o : ParseOption} {all b : List ℕ} {p : Passing} (passing : IsPassing
   -- further bytes are read
   pub IsPassing-reads : (read : List ℕ) → IsPassing o (all ++ read) (b ++ read) p
   IsPassing-reads read =
-      let same : take p.front (b ++ read) ≡ take p.front b = take-append-le p.front b read passing.front.within in
+      let same : take p.front (b ++ read) ≡ take p.front b =
+      take-append-le p.front b read passing.front.within in
       record {
         gone = gone;
         items = passing.items;
@@ -228,13 +254,15 @@ module _ {o : ParseOption} {all b : List ℕ} {p : Passing} (passing : IsPassing
   -- whole lines go by
   pub IsPassing-goes_by : {q : Passing} {c : List ℕ} → GoesBy o p q b c → IsPassing o all c q
   IsPassing-goes_by {q} {c} by =
-      let both : chars (gone ++ by.gone) ≡ chars gone ++ chars by.gone = chars-append gone by.gone passing.utf8 in
+      let both : chars (gone ++ by.gone) ≡ chars gone ++ chars by.gone =
+      chars-append gone by.gone passing.utf8 in
       record {
         gone = gone ++ by.gone;
         items = passing.items ++ by.items;
         whole = passing.whole ∙ ap (λ x. gone ++ x) by.bytes ∙ sym (append_assoc gone by.gone c);
         utf8 = IsUtf8-append gone by.gone passing.utf8 by.utf8;
-        line_start = rw both (is_column_one-behind (chars gone) passing.line_start (chars by.gone) ∙ by.line_start);
+        line_start =
+            rw both (is_column_one-behind (chars gone) passing.line_start (chars by.gone) ∙ by.line_start);
         lines = rw both (omega (
           arith,
           by.lines,
@@ -245,14 +273,18 @@ module _ {o : ParseOption} {all b : List ℕ} {p : Passing} (passing : IsPassing
         front = by.front;
         reads = λ more.
             let kept : chars (b ++ more) ≡ chars by.gone ++ chars (c ++ more) =
-            ap (λ x. chars (x ++ more)) by.bytes ∙ ap chars (append_assoc by.gone c more) ∙ chars-append by.gone (c ++ more) by.utf8 in
+            ap (λ x. chars (x ++ more)) by.bytes ∙ ap chars (append_assoc by.gone c more)
+            ∙ chars-append by.gone (c ++ more) by.utf8 in
             let text : chars (gone ++ by.gone) ++ chars (c ++ more) ≡ chars gone ++ chars (b ++ more) =
             ap (λ x. x ++ chars (c ++ more)) both
             ∙ append_assoc (chars gone) (chars by.gone) (chars (c ++ more))
             ∙ ap (λ x. chars gone ++ x) (sym kept) in
-            let end : chars (gone ++ by.gone) ++ chars (take q.front c) ≡ chars gone ++ (chars by.gone ++ chars (take q.front c)) =
-            ap (λ x. x ++ chars (take q.front c)) both ∙ append_assoc (chars gone) (chars by.gone) (chars (take q.front c)) in
-            rw (text, end) (Reads-append (passing.reads more) (Reads-behind (chars gone) passing.line_start (by.reads more)));
+            let end : chars (gone ++ by.gone) ++ chars (take q.front c)
+            ≡ chars gone ++ (chars by.gone ++ chars (take q.front c)) =
+            ap (λ x. x ++ chars (take q.front c)) both
+            ∙ append_assoc (chars gone) (chars by.gone) (chars (take q.front c)) in
+            rw (text, end) (Reads-append (passing.reads more)
+            (Reads-behind (chars gone) passing.line_start (by.reads more)));
         document = by.document ∙ ap (λ d. with_items d by.items) passing.document
             ∙ sym (with_items-append ((None, []) ∷ []) passing.items by.items);
       }
@@ -271,7 +303,8 @@ module _ {o : ParseOption} {all b : List ℕ} {p : Passing} (passing : IsPassing
   pub IsUtf8-kept : IsUtf8 all → IsUtf8 b
   IsUtf8-kept u = IsUtf8-behind gone b passing.utf8 (subst IsUtf8 passing.whole u)
 
-  pub IsDocumentOf-all : {d : Document} → Makes o (chars b) (chars (take p.front b)) (chars b) p.document d → IsDocumentOf o (chars all) d
+  pub IsDocumentOf-all : {d : Document} → Makes o (chars b) (chars (take p.front b)) (chars b) p.document d
+      → IsDocumentOf o (chars all) d
   IsDocumentOf-all made = record {
     items = passing.items ++ made.items;
     derives = rw all_chars (Reads-append so_far (Reads-behind (chars gone) passing.line_start made.reads));
@@ -279,10 +312,13 @@ module _ {o : ParseOption} {all b : List ℕ} {p : Passing} (passing : IsPassing
         ∙ sym (with_items-append ((None, []) ∷ []) passing.items made.items);
   }
 
-  pub IsStopOf-all : {e : ParseError} → StopsLater o (chars b) (chars (take p.front b)) p.lines e → IsStopOf o (chars all) e
+  pub IsStopOf-all : {e : ParseError} → StopsLater o (chars b) (chars (take p.front b)) p.lines e
+      → IsStopOf o (chars all) e
   IsStopOf-all {e} stops =
       let one = passing.line_start in
-      let line : e.line ≡ stops.line + count_by is_line_feed (chars gone) = stops.moved ∙ ap (λ n. stops.line + n) passing.lines in
+      let line : e.line ≡ stops.line + count_by is_line_feed (chars gone) =
+      stops.moved ∙ ap (λ n. stops.line + n) passing.lines in
       let stop : StopsBehind o (chars gone ++ chars b) (chars gone ++ stops.front) e.kind e.line e.col =
       rw line (StopsBehind-behind (chars gone) one stops.stop) in
-      rw all_chars (IsStopOf-behind e (Reads-append so_far (Reads-behind (chars gone) one stops.reads)) stop stops.message)
+      rw all_chars (IsStopOf-behind e (Reads-append so_far (Reads-behind (chars gone) one stops.reads)) stop
+      stops.message)

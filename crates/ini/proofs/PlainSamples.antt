@@ -26,7 +26,8 @@ by_escapes : (t : Text) → all_scalars t ≡ true → list_all (λ c. not (has_
     → list_all (λ c. not (is_extended c && is_escaped Basics c)) t ≡ true → IsRead t
 by_escapes t characters letters low = record {
   of_characters = characters;
-  is_read = inl (record { escapes = refl; escaping = λ e. cc; no_unread_letter = letters; no_extended = low });
+  is_read =
+      inl (record { escapes = refl; escaping = λ e. cc; no_unread_letter = letters; no_extended = low });
 }
 
 reads_nothing : IsRead []

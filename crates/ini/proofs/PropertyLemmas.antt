@@ -14,25 +14,33 @@ use Rattle.ini.proofs.TextLemmas.{same_key, same_keys}
 
 module _ {Z : Type 0} (ps : List (String Z × String Z)) where
   pub length-distinct-pairs : length (distinct (pairs_of ps)) ≡ length (distinct_keys string_eq ps)
-  length-distinct-pairs = ap length (distinct_keys-both text_of text_of string_eq is_text same_keys ps) ∙ simp length-map
+  length-distinct-pairs =
+      ap length (distinct_keys-both text_of text_of string_eq is_text same_keys ps) ∙ simp length-map
 
-  pub inserted-pairs : (k v : String Z) → inserted (text_of k) (text_of v) (pairs_of ps) ≡ pairs_of (insert_pair (string_eq k) k v ps)
-  inserted-pairs k v = insert_pair-both text_of text_of (string_eq k) (is_text (text_of k)) (same_keys k) k v ps
+  pub inserted-pairs : (k v : String Z)
+      → inserted (text_of k) (text_of v) (pairs_of ps) ≡ pairs_of (insert_pair (string_eq k) k v ps)
+  inserted-pairs k v =
+      insert_pair-both text_of text_of (string_eq k) (is_text (text_of k)) (same_keys k) k v ps
 
-  pub first_value-owned : (k : String Z) → first_value (text_of k) (pairs_of ps) ≡ option_map text_of (lookup (string_eq k) ps)
+  pub first_value-owned : (k : String Z)
+      → first_value (text_of k) (pairs_of ps) ≡ option_map text_of (lookup (string_eq k) ps)
   first_value-owned k = lookup-both text_of text_of (string_eq k) (is_text (text_of k)) (same_keys k) ps
 
   module _ (u : List ℕ) (utf8 : IsUtf8 u) where
-    pub first_value-pairs : first_value (chars u) (pairs_of ps) ≡ option_map text_of (lookup (λ k. bytes_eq u (string_bytes k)) ps)
+    pub first_value-pairs : first_value (chars u) (pairs_of ps)
+        ≡ option_map text_of (lookup (λ k. bytes_eq u (string_bytes k)) ps)
     first_value-pairs = lookup-both text_of text_of _ (is_text (chars u)) (same_key u utf8) ps
 
-    pub values-pairs : values (chars u) (pairs_of ps) ≡ map text_of (values_at (λ k. bytes_eq u (string_bytes k)) ps)
+    pub values-pairs : values (chars u) (pairs_of ps)
+        ≡ map text_of (values_at (λ k. bytes_eq u (string_bytes k)) ps)
     values-pairs = values_at-both text_of text_of _ (is_text (chars u)) (same_key u utf8) ps
 
-    pub removed-pairs : removed (chars u) (pairs_of ps) ≡ pairs_of (remove_entry (λ k. bytes_eq u (string_bytes k)) ps)
+    pub removed-pairs : removed (chars u) (pairs_of ps)
+        ≡ pairs_of (remove_entry (λ k. bytes_eq u (string_bytes k)) ps)
     removed-pairs = remove_entry-both text_of text_of _ (is_text (chars u)) (same_key u utf8) ps
 
-    pub all_removed-pairs : all_removed (chars u) (pairs_of ps) ≡ pairs_of (without (λ k. bytes_eq u (string_bytes k)) ps)
+    pub all_removed-pairs : all_removed (chars u) (pairs_of ps)
+        ≡ pairs_of (without (λ k. bytes_eq u (string_bytes k)) ps)
     all_removed-pairs = without-both text_of text_of _ (is_text (chars u)) (same_key u utf8) ps
 
     pub set-pairs : (v : String Z)

@@ -24,10 +24,12 @@ use Rattle.ini.specs.Inside.Passing.{Makes, Settles, StopsLater, with_items}
 
 module _ {o : ParseOption} {T : Text} where
   -- two rows of elements joined
-  pub Reads-append : {b c d : Text} {xs ys : List Given} → Reads o T b xs c → Reads o T c ys d → Reads o T b (xs ++ ys) d
+  pub Reads-append : {b c d : Text} {xs ys : List Given} → Reads o T b xs c → Reads o T c ys d
+      → Reads o T b (xs ++ ys) d
   Reads-append (Reads.stay r e) more = more
   Reads-append {d = d} {ys = ys} (Reads.step {b = b} {gives = gives} {items = items} e x rest) more =
-      subst (λ l. Reads o T b l d) (sym (append_assoc gives items ys)) (Reads.step e x (Reads-append rest more))
+      subst (λ l. Reads o T b l d) (sym (append_assoc gives items ys))
+      (Reads.step e x (Reads-append rest more))
 
   -- what is read is a front of the text
   pub Reads-within : {b c : Text} {items : List Given} → Reads o T b items c → length c ≤ length T
@@ -49,7 +51,8 @@ module _ {o : ParseOption} {T : Text} where
 pub IsStopOf-first : (o : ParseOption) (T : Text) {b : Text} (e : Error) → b ≡ []
     → IfParse {X = Document} (Err e) (StopsLater o T b 0) → IfParse {X = Document} (Err e) (IsStopOf o T)
 IsStopOf-first o T (Parse e) first stops =
-    let stop : StopsBehind o T stops.front e.kind e.line e.col = rw (stops.moved, add-zero stops.line) stops.stop in
+    let stop : StopsBehind o T stops.front e.kind e.line e.col =
+    rw (stops.moved, add-zero stops.line) stops.stop in
     IsStopOf-behind e (subst (λ x. Reads o T x stops.items stops.front) first stops.reads) stop stops.message
 IsStopOf-first o T _ first stops = tt
 
@@ -66,7 +69,8 @@ with_items-push : (d : Document) (items : List Given) (item : Given)
     → with_items d (items ++ item ∷ []) ≡ with_item (with_items d items) item
 with_items-push d items item = fold-append with_item d items (item ∷ [])
 
-pub with_items-append : (d : Document) (xs ys : List Given) → with_items d (xs ++ ys) ≡ with_items (with_items d xs) ys
+pub with_items-append : (d : Document) (xs ys : List Given)
+    → with_items d (xs ++ ys) ≡ with_items (with_items d xs) ys
 with_items-append d xs ys = fold-append with_item d xs ys
 
 length-with_pair : (key value : Text) (d : Document) → length (with_pair key value d) ≡ length d
@@ -99,7 +103,11 @@ pub Loaded-starts : {o : ParseOption} {T b : Text} {p : Place} {d : Document} (r
     → IsReading o T p → p.front ≡ b → 0 < length d → Loaded o T b p d d
 Loaded-starts {o} {T} {b} r whole reading front some = record {
   reading = reading;
-  made = record { items = []; reads = subst (Reads o T b []) (sym front) (Reads.stay r (sym whole)); document = refl };
+  made = record {
+    items = [];
+    reads = subst (Reads o T b []) (sym front) (Reads.stay r (sym whole));
+    document = refl;
+  };
   some = some;
 }
 
@@ -117,7 +125,9 @@ Settling-starts {o} {T} {rest} whole reading front some = record {
   front = front;
   settles = record {
     items = [];
-    reads = λ more. Reads.stay (rest ++ more) (ap (λ t. t ++ more) (sym whole) ∙ append_assoc (front_of T rest) rest more);
+    reads = λ more.
+        Reads.stay (rest ++ more)
+        (ap (λ t. t ++ more) (sym whole) ∙ append_assoc (front_of T rest) rest more);
     document = refl;
     is_rest = whole;
   };
@@ -125,7 +135,8 @@ Settling-starts {o} {T} {rest} whole reading front some = record {
 }
 
 -- one call of the parser, from the place p to the place q
-module _ {o : ParseOption} {T : Text} {p : Place} (reading : IsReading o T p) (q : Place) (answer : Result (Option Item) Error)
+module _ {o : ParseOption} {T : Text} {p : Place} (reading : IsReading o T p) (q : Place)
+    (answer : Result (Option Item) Error)
     (answers : p.refusal ≡ None → AnswersItem p.option p.text p.front q.front answer) where
   answered : (r : Result (Option Item) Error) → answer ≡ r → AnswersItem o T p.front q.front r
   answered r is =
@@ -134,7 +145,8 @@ module _ {o : ParseOption} {T : Text} {p : Place} (reading : IsReading o T p) (q
       (subst (λ x. AnswersItem p.option x p.front q.front answer) reading.text (answers reading.refusal)))
 
   -- an item makes the front longer, within the text
-  pub front_grows : {item : Item} → answer ≡ Ok (Some item) → length T - length q.front < length T - length p.front
+  pub front_grows : {item : Item} → answer ≡ Ok (Some item)
+      → length T - length q.front < length T - length p.front
   front_grows {item} is =
       let one = answered (Ok (Some item)) is in
       omega (arith, one.0, Reads-within one.1)
@@ -144,7 +156,9 @@ module _ {o : ParseOption} {T : Text} {p : Place} (reading : IsReading o T p) (q
   IsReading-goes_on option text refusal is = record {
     option = option ∙ reading.option;
     text = text ∙ reading.text;
-    refusal = subst (KeepsRefusal None q.refusal) is (subst (λ x. KeepsRefusal x q.refusal answer) reading.refusal refusal);
+    refusal =
+        subst (KeepsRefusal None q.refusal)
+        is (subst (λ x. KeepsRefusal x q.refusal answer) reading.refusal refusal);
   }
 
   -- with the item the document is one item longer
@@ -157,7 +171,9 @@ module _ {o : ParseOption} {T : Text} {p : Place} (reading : IsReading o T p) (q
         made = record {
           items = made.items ++ item_of item ∷ [];
           reads = Reads-append made.reads (answered (Ok (Some item)) is).1;
-          document = with ∙ ap (λ x. with_item x (item_of item)) made.document ∙ sym (with_items-push d made.items (item_of item));
+          document =
+              with ∙ ap (λ x. with_item x (item_of item)) made.document
+              ∙ sym (with_items-push d made.items (item_of item));
         };
         some = subst (λ x. 0 < length x) (sym with) (with_item-some e (item_of item) loaded.some);
       }
@@ -168,7 +184,9 @@ module _ {o : ParseOption} {T : Text} {p : Place} (reading : IsReading o T p) (q
       let made = loaded.made in
       record {
         items = made.items;
-        reads = subst (λ l. Reads o T b l T) (append-nil made.items) (Reads-append made.reads (answered (Ok None) is).1);
+        reads =
+            subst (λ l. Reads o T b l T) (append-nil made.items)
+            (Reads-append made.reads (answered (Ok None) is).1);
         document = made.document;
       }
 
@@ -190,7 +208,8 @@ module _ {o : ParseOption} {T : Text} {p : Place} (reading : IsReading o T p) (q
       at _ refuses = tt
 
   -- an item that something follows is settled
-  pub Settling-item : {rest left behind : Text} {item : Item} {d e f : Document} → Settling o T rest left p d e → IsReading o T q
+  pub Settling-item : {rest left behind : Text} {item : Item} {d e f : Document}
+      → Settling o T rest left p d e → IsReading o T q
       → answer ≡ Ok (Some item) → 0 < length behind → q.front ++ behind ≡ T
       → f ≡ with_item e (item_of item) → Settling o T rest behind q d f
   Settling-item {behind = []} settling goes_on is some whole with = absurd (omega arith)
@@ -199,16 +218,20 @@ module _ {o : ParseOption} {T : Text} {p : Place} (reading : IsReading o T p) (q
       let settles = settling.settles in
       let one : Reads o (q.front ++ c ∷ r) (front_of T left) (item_of item ∷ []) q.front =
       subst (λ t. Reads o t (front_of T left) (item_of item ∷ []) q.front) (sym whole)
-      (subst (λ x. Reads o T x (item_of item ∷ []) q.front) settling.front (answered (Ok (Some item)) is).1) in
+      (subst (λ x. Reads o T x (item_of item ∷ []) q.front) settling.front
+      (answered (Ok (Some item)) is).1) in
       record {
         reading = goes_on;
         front = sym front;
         settles = record {
           items = settles.items ++ item_of item ∷ [];
           reads = λ more.
-              let longer : T ++ more ≡ q.front ++ c ∷ (r ++ more) = ap (λ t. t ++ more) (sym whole) ∙ append_assoc q.front (c ∷ r) more in
+              let longer : T ++ more ≡ q.front ++ c ∷ (r ++ more) =
+              ap (λ t. t ++ more) (sym whole) ∙ append_assoc q.front (c ∷ r) more in
               Reads-append (settles.reads more) (rw (front, longer) (Reads-before c r (r ++ more) one));
-          document = with ∙ ap (λ x. with_item x (item_of item)) settles.document ∙ sym (with_items-push d settles.items (item_of item));
+          document =
+              with ∙ ap (λ x. with_item x (item_of item)) settles.document
+              ∙ sym (with_items-push d settles.items (item_of item));
           is_rest = ap (λ x. x ++ c ∷ r) front ∙ whole;
         };
         some = subst (λ x. 0 < length x) (sym with) (with_item-some e (item_of item) settling.some);
@@ -218,13 +241,15 @@ module _ {o : ParseOption} {T : Text} {p : Place} (reading : IsReading o T p) (q
 module _ {o : ParseOption} where
   AreTrivia-front : {b c : Text} → AreTrivia o b c → (m : Text) × (b ++ m ≡ c)
   AreTrivia-front {b} AreTrivia.none = ([], append-nil b)
-  AreTrivia-front {b} (AreTrivia.more {s = s} t row) = let x = AreTrivia-front row in (s ++ x.0, sym (append_assoc b s x.0) ∙ x.1)
+  AreTrivia-front {b} (AreTrivia.more {s = s} t row) =
+      let x = AreTrivia-front row in (s ++ x.0, sym (append_assoc b s x.0) ∙ x.1)
 
   AreTrivia-read : {T b c : Text} (r : Text) → AreTrivia o b c → T ≡ c ++ r → Reads o T b [] c
   AreTrivia-read r AreTrivia.none whole = Reads.stay r whole
   AreTrivia-read r (AreTrivia.more {b} {s} t row) whole =
       let m = AreTrivia-front row in
-      let at = whole ∙ ap (λ y. y ++ r) (sym m.1) ∙ append_assoc (b ++ s) m.0 r ∙ append_assoc b s (m.0 ++ r) in
+      let at =
+      whole ∙ ap (λ y. y ++ r) (sym m.1) ∙ append_assoc (b ++ s) m.0 r ∙ append_assoc b s (m.0 ++ r) in
       Reads.step at (t (m.0 ++ r)) (AreTrivia-read r row whole)
 
   pub Settles-trivia : {T rest left behind : Text} {d e : Document} → Settles o T rest left d e

@@ -10,13 +10,16 @@ use Rattle.ini.specs.Loading.{IsStopOf}
 use Rattle.ini.specs.Refusals.{IsRefusedAtCharacter}
 
 -- the text goes on behind the front where reading it stops
-stops_within : {o : ParseOption} {T front : Text} {kind : ParseKind} → Stops o T kind front → (r : Text) × (T ≡ front ++ r)
+stops_within : {o : ParseOption} {T front : Text} {kind : ParseKind} → Stops o T kind front
+    → (r : Text) × (T ≡ front ++ r)
 stops_within (Stops.stops {b} {s} {r} reads whole element) = (r, whole ∙ sym (append_assoc b s r))
 
 -- by the law of fronts
-pub stands : (law : (o : ParseOption) (front follows other : Text) (kind : ParseKind) → Stops o (front ++ follows) kind front
+pub stands : (law : (o : ParseOption) (front follows other : Text) (kind : ParseKind)
+    → Stops o (front ++ follows) kind front
     → IsAtCharacter o front follows kind → Stops o (front ++ other) kind front)
-    → (o : ParseOption) (T more : Text) (e : ParseError) → IsRefusedAtCharacter o T e → IsStopOf o (T ++ more) e
+    → (o : ParseOption) (T more : Text) (e : ParseError) → IsRefusedAtCharacter o T e
+    → IsStopOf o (T ++ more) e
 stands law o T more e at =
     let stop = at.refused in
     let x = stops_within stop.stops in
@@ -31,7 +34,8 @@ stands law o T more e at =
     let longer = ap (λ t. t ++ more) x.1 ∙ append_assoc front x.0 more in
     record {
       front = front;
-      stops = subst (λ t. Stops o t e.kind front) (sym longer) (law o front x.0 (x.0 ++ more) e.kind here seen);
+      stops =
+          subst (λ t. Stops o t e.kind front) (sym longer) (law o front x.0 (x.0 ++ more) e.kind here seen);
       line = stop.line;
       column = stop.column;
       message = stop.message;

@@ -21,23 +21,30 @@ module _ {Z : Type 0} (ss : List (Option (String Z) × Pairs)) where
   pub names-sections : names (sections_of ss) ≡ names_of (distinct_keys (option_eq string_eq) ss)
   names-sections = distinct_keys-both name_of (λ ps. ps) (option_eq string_eq) is_name same_names ss
 
-  pub length-names-sections : length (names (sections_of ss)) ≡ length (distinct_keys (option_eq string_eq) ss)
+  pub length-names-sections : length (names (sections_of ss))
+      ≡ length (distinct_keys (option_eq string_eq) ss)
   length-names-sections = ap length names-sections ∙ simp length-map
 
   module _ (name : Option (Bor (List ℕ))) (text : IsTextName name) where
     pub first_section-sections : first_section (str_name name) (sections_of ss) ≡ lookup (name_fits name) ss
-    first_section-sections = lookup-both name_of (λ ps. ps) _ (is_name (str_name name)) (same_name name text) ss ∙ option_map_id _
+    first_section-sections =
+        lookup-both name_of (λ ps. ps) _ (is_name (str_name name)) (same_name name text) ss ∙ option_map_id _
 
-    pub section_removed-sections : section_removed (str_name name) (sections_of ss) ≡ sections_of (remove_entry (name_fits name) ss)
-    section_removed-sections = remove_entry-both name_of (λ ps. ps) _ (is_name (str_name name)) (same_name name text) ss
+    pub section_removed-sections : section_removed (str_name name) (sections_of ss)
+        ≡ sections_of (remove_entry (name_fits name) ss)
+    section_removed-sections =
+        remove_entry-both name_of (λ ps. ps) _ (is_name (str_name name)) (same_name name text) ss
 
-    pub sections_named-sections : sections_named (str_name name) (sections_of ss) ≡ values_at (name_fits name) ss
-    sections_named-sections = values_at-both name_of (λ ps. ps) _ (is_name (str_name name)) (same_name name text) ss ∙ map-id _
+    pub sections_named-sections : sections_named (str_name name) (sections_of ss)
+        ≡ values_at (name_fits name) ss
+    sections_named-sections =
+        values_at-both name_of (λ ps. ps) _ (is_name (str_name name)) (same_name name text) ss ∙ map-id _
 
     pub set-sections : (ps : Pairs)
         → set_value (is_name (str_name name)) (sections_of ss) ps
         ≡ sections_of (set_value (name_fits name) ss ps)
-    set-sections ps = set_value-both name_of (λ qs. qs) _ (is_name (str_name name)) (same_name name text) ss ps
+    set-sections ps =
+        set_value-both name_of (λ qs. qs) _ (is_name (str_name name)) (same_name name text) ss ps
 
 -- clones show the same
 module _ {Z : Type 0} (IsClone : Option (String Z) → Option (String Z) → Type 0)
@@ -54,6 +61,13 @@ module _ {Z : Type 0} (IsClone : Option (String Z) → Option (String Z) → Typ
   sections_of-clones [] [] e = refl
   sections_of-clones [] (t ∷ ts) e = absurd e
   sections_of-clones (s ∷ ss) [] e = absurd e
-  sections_of-clones (s ∷ ss) (t ∷ ts) e = λ i. (name_of-clone s.0 t.0 e.0.0 i, e.0.1 i) ∷ sections_of-clones ss ts e.1 i
+  sections_of-clones (s ∷ ss) (t ∷ ts) e =
+      λ i. (name_of-clone s.0 t.0 e.0.0 i, e.0.1 i) ∷ sections_of-clones ss ts e.1 i
 
-pub ruleset sections = (length-names-sections, names-sections, sections_named-sections, first_section-sections, section_removed-sections)
+pub ruleset sections = (
+  length-names-sections,
+  names-sections,
+  sections_named-sections,
+  first_section-sections,
+  section_removed-sections,
+)

@@ -24,7 +24,8 @@ text_bytes-append true (a ∷ []) left long = absurd (omega arith)
 text_bytes-append true (a ∷ b ∷ []) left long = absurd (omega arith)
 text_bytes-append true (a ∷ b ∷ c ∷ r) left long = at (starts_with nat_eq (a ∷ b ∷ c ∷ r) mark)
   where
-    at : (found : Bool) → cond found (r ++ left) (a ∷ b ∷ c ∷ (r ++ left)) ≡ cond found r (a ∷ b ∷ c ∷ r) ++ left
+    at : (found : Bool)
+        → cond found (r ++ left) (a ∷ b ∷ c ∷ (r ++ left)) ≡ cond found r (a ∷ b ∷ c ∷ r) ++ left
     at true = refl
     at false = refl
 
@@ -79,8 +80,10 @@ ended_if wanted bytes after false filled is = absurd (false≢true is)
 
 pub IsStreamed-starts : {o : ParseOption} {drop_mark : Bool} {before after : Option (List ℕ)}
     {read bytes : List ℕ} {p : Passing} {last_line : ℕ} {is_all : Bool} (wanted : ℕ) → 3 ≤ wanted
-    → HasRead before after [] read → IsFilled wanted read after is_all → bytes ≡ text_bytes drop_mark read → last_line ≡ 1 + length bytes
-    → p.document ≡ (None, []) ∷ [] → p.front ≡ 0 → p.lines ≡ 0 → IsStreamed o drop_mark before after bytes p last_line is_all
+    → HasRead before after [] read → IsFilled wanted read after is_all → bytes ≡ text_bytes drop_mark read
+    → last_line ≡ 1 + length bytes
+    → p.document ≡ (None, []) ∷ [] → p.front ≡ 0 → p.lines ≡ 0
+    → IsStreamed o drop_mark before after bytes p last_line is_all
 IsStreamed-starts {o} {drop_mark} {before} {after} {read} {bytes} {p} {is_all = is_all} wanted long has
     filled cut lines document front line =
     let consumed : Consumes before after read = subst (Consumes before after) (sym has.bytes) has.consumed in
@@ -93,7 +96,8 @@ IsStreamed-starts {o} {drop_mark} {before} {after} {read} {bytes} {p} {is_all = 
       ended = ended_if wanted read after is_all filled;
     }
 
-module _ {o : ParseOption} {drop_mark : Bool} {before mid : Option (List ℕ)} {bytes : List ℕ} {p : Passing} {last_line : ℕ} {was_all : Bool}
+module _ {o : ParseOption} {drop_mark : Bool} {before mid : Option (List ℕ)} {bytes : List ℕ} {p : Passing}
+    {last_line : ℕ} {was_all : Bool}
     (streamed : IsStreamed o drop_mark before mid bytes p last_line was_all) where
   -- there are fewer lines than bytes
   pub IsStreamed-fits : p.lines + length bytes + 1 ≤ last_line
@@ -126,14 +130,22 @@ module _ {o : ParseOption} {drop_mark : Bool} {before mid : Option (List ℕ)} {
         follows = Follows-reads drop_mark before mid after all has.read streamed.follows has.consumed;
         passing = subst (λ b. IsPassing o (all ++ has.read) b q) (sym has.bytes)
             (IsPassing-reads (IsPassing-goes_by streamed.passing by) has.read);
-        countable = omega (arith, next, streamed.countable, ap length has.bytes, length-append c has.read, length-append all has.read);
+        countable = omega (
+          arith,
+          next,
+          streamed.countable,
+          ap length has.bytes,
+          length-append c has.read,
+          length-append all has.read,
+        );
         ended = ended_if wanted new after is_all filled;
       }
 
   -- the document of all bytes, or their refusal
   pub IsStreamed-ends : {R : Type 0} {remaining : R → Option (List ℕ)} (old new : R)
       → remaining old ≡ before → remaining new ≡ mid → was_all ≡ true
-      → (result : Result Document Error) → Ends o p bytes result → (IsNotUtf8 result → ¬ (IsUtf8 bytes)) → IfErr result IsTextRefusal
+      → (result : Result Document Error) → Ends o p bytes result → (IsNotUtf8 result → ¬ (IsUtf8 bytes))
+      → IfErr result IsTextRefusal
       → ReadsDocument remaining old new o drop_mark result
   IsStreamed-ends {remaining = remaining} old new from to is (Ok d) ends refused only =
       let passing = streamed.passing in

@@ -17,14 +17,16 @@ same_characters u v a b = ((λ e. sym (encodes-chars u a) ∙ ap encodes e ∙ e
 
 module _ {Z : Type 0} where
   -- a key by a `&str`, and by a `String`
-  pub same_key : (u : List ℕ) → IsUtf8 u → (k : String Z) → bytes_eq u (string_bytes k) ≡ is_text (chars u) (text_of k)
+  pub same_key : (u : List ℕ) → IsUtf8 u → (k : String Z)
+      → bytes_eq u (string_bytes k) ≡ is_text (chars u) (text_of k)
   same_key u a k = same_text u (string_bytes k) a (IsUtf8-string_bytes k)
 
   pub same_keys : (j k : String Z) → string_eq j k ≡ is_text (text_of j) (text_of k)
   same_keys j k = same_key (string_bytes j) (IsUtf8-string_bytes j) k
 
   -- a name by an `Option<&str>`, and by an `Option<String>`
-  pub same_name : (n : Option (Bor (List ℕ))) → IsTextName n → (m : Option (String Z)) → name_fits n m ≡ is_name (str_name n) (name_of m)
+  pub same_name : (n : Option (Bor (List ℕ))) → IsTextName n → (m : Option (String Z))
+      → name_fits n m ≡ is_name (str_name n) (name_of m)
   same_name None v None = refl
   same_name None v (Some t) = refl
   same_name (Some s) v None = refl

@@ -64,7 +64,8 @@ pub record GoesBy (o : ParseOption) (old new : Passing) (b c : List ℕ) : Type 
   pub document : new.document ≡ with_items old.document items
 
 -- what the last bytes make of the document
-pub record Ends (o : ParseOption) (p : Passing) (bytes : List ℕ) (result : Result Document Error) : Type 0 where
+pub record Ends (o : ParseOption) (p : Passing) (bytes : List ℕ) (result : Result Document Error)
+    : Type 0 where
   pub utf8 : IfOk result (λ d. IsUtf8 bytes)
   pub document : IfOk result
       (Makes o (chars bytes) (chars (take p.front bytes)) (chars bytes) p.document)

@@ -13,9 +13,12 @@ items-preserved c =
     let next = c.in_ok-item.ensures in
     let reading = c.items.invariant.reading in
     let is = ap Ok c.in-Some.is in
-    let goes_on = IsReading-goes_on reading c.next_item.new.self _ next.item next.option next.text next.refusal is in
-    Loaded-item reading c.next_item.new.self _ next.item c.items.invariant goes_on is c.in_ok-push_item.ensures.pushed
+    let goes_on =
+    IsReading-goes_on reading c.next_item.new.self _ next.item next.option next.text next.refusal is in
+    Loaded-item reading c.next_item.new.self _ next.item c.items.invariant goes_on is
+    c.in_ok-push_item.ensures.pushed
 
 pub returns-clause-document : goal.returns-clause-document
 returns-clause-document c =
-    Loaded-ends c.items.invariant.reading c.next_item.new.self _ c.in_ok-item.ensures.item c.items.invariant (ap Ok c.in_default.is)
+    Loaded-ends c.items.invariant.reading c.next_item.new.self _ c.in_ok-item.ensures.item c.items.invariant
+    (ap Ok c.in_default.is)

@@ -16,8 +16,11 @@ items-preserved c =
     let settling = c.items.invariant.1 in
     let reading = settling.reading in
     let is = c.in-Ok-Some.is ∙ ap Ok c.in-Ok-Some.field-0-is in
-    let goes_on = IsReading-goes_on reading c.next_item.new.self _ next.item next.option next.text next.refusal is in
-    let some = chars-some c.rest-behind.result.now c.rest-behind.utf8 (grind (arith, c.is_empty.ensures, c.if-is_empty.false)) in (
+    let goes_on =
+    IsReading-goes_on reading c.next_item.new.self _ next.item next.option next.text next.refusal is in
+    let some =
+    chars-some c.rest-behind.result.now c.rest-behind.utf8
+    (grind (arith, c.is_empty.ensures, c.if-is_empty.false)) in (
       c.rest-behind.utf8,
       Settling-item reading c.next_item.new.self _ next.item settling goes_on is some
           (c.rest-behind.ensures ∙ goes_on.text) c.in_ok-push_item.ensures.pushed,
@@ -25,8 +28,10 @@ items-preserved c =
 
 pub returns-in-Ok-None-clause-settled : goal.returns-in-Ok-None-clause-settled
 returns-in-Ok-None-clause-settled c =
-    let skipped = c.behind_trivia.ensures in Settles-trivia c.items.invariant.1.settles skipped.skipped skipped.is_rest
+    let skipped = c.behind_trivia.ensures in
+    Settles-trivia c.items.invariant.1.settles skipped.skipped skipped.is_rest
 
 pub returns-then-is_empty-clause-settled : goal.returns-then-is_empty-clause-settled
 returns-then-is_empty-clause-settled c =
-    let skipped = c.behind_trivia-then-is_empty.ensures in Settles-trivia c.items.invariant.1.settles skipped.skipped skipped.is_rest
+    let skipped = c.behind_trivia-then-is_empty.ensures in
+    Settles-trivia c.items.invariant.1.settles skipped.skipped skipped.is_rest

@@ -6,7 +6,8 @@ use Rattle.ini.proofs.items.push_settled.Given as goal
 
 abbrev pub invariant-items : goal.invariant-items
 invariant-items l =
-    shadow (Utf8 l.left) × Settling l.fn.opt (chars l.fn.text) (chars l.fn.rest) (chars l.left) l.parser l.fn.document l.document
+    shadow (Utf8 l.left)
+    × Settling l.fn.opt (chars l.fn.text) (chars l.fn.rest) (chars l.left) l.parser l.fn.document l.document
 
 abbrev pub decreases-items : goal.decreases-items
 decreases-items l = length (chars l.fn.text) - length l.parser.front

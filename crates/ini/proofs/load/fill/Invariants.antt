@@ -6,7 +6,8 @@ use Rattle.ini.proofs.load.fill.Given as goal
 abbrev pub invariant-pieces : goal.invariant-pieces
 invariant-pieces g l =
     IsClear l.reader × SameDevice l.fn.reader l.reader
-    × HasRead (g.R.Read.remaining (device_now l.fn.reader)) (g.R.Read.remaining (device_now l.reader)) l.fn.bytes.items l.bytes.items
+    × HasRead (g.R.Read.remaining (device_now l.fn.reader))
+    (g.R.Read.remaining (device_now l.reader)) l.fn.bytes.items l.bytes.items
 
 abbrev pub decreases-pieces : goal.decreases-pieces
 decreases-pieces g l = l.fn.wanted - vec_len l.bytes

@@ -13,7 +13,8 @@ returns-in_err-put g c =
 
 pub returns-in_err-put_part : goal.returns-in_err-put_part
 returns-in_err-put_part g c =
-    let p = err_from_is_err_and c.from_residual-in_err-put_part.result c.from_residual-in_err-put_part.ensures.1 in
+    let p =
+    err_from_is_err_and c.from_residual-in_err-put_part.result c.from_residual-in_err-put_part.ensures.1 in
     let parts = header_parts c.args.option.now (chars c.args.name.now) in
     rw (p.1, p.2) (subst (SendsText _ _ _ _ _ _) parts
     (SendsText-cut _ (SendsText-then (SendsText-one open_bracket (omega arith) c.in_ok-put.ensures)

@@ -5,11 +5,13 @@ use Rattle.ini.proofs.WritingLemmas.{Writing-goes_on, Writing-starts, Writing-st
 use Rattle.ini.proofs.write.write_pairs.Goals as goal
 
 pub loop-key-init : goal.loop-key-init
-loop-key-init g c = rw c.into_iter-key-iterator.ensures.into_iter_gives (Writing-starts c.args.out.now _ c.requires)
+loop-key-init g c =
+    rw c.into_iter-key-iterator.ensures.into_iter_gives (Writing-starts c.args.out.now _ c.requires)
 
 pub loop-key-preserved : goal.loop-key-preserved
 loop-key-preserved g c =
-    Writing-goes_on _ (ap (written_pairs c.args.option.now) c.in-Some.ensures.steps) c.loop-key.invariant c.in_ok-write_pair.ensures
+    Writing-goes_on _ (ap (written_pairs c.args.option.now) c.in-Some.ensures.steps) c.loop-key.invariant
+    c.in_ok-write_pair.ensures
 
 pub returns-in_err-write_pair : goal.returns-in_err-write_pair
 returns-in_err-write_pair g c =

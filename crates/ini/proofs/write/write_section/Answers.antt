@@ -9,8 +9,12 @@ returns-in_err-write_gap g c =
 
 pub returns-in_err-write_name : goal.returns-in_err-write_name
 returns-in_err-write_name g c =
-    let p = err_from_is_err_and c.from_residual-in_err-write_name.result c.from_residual-in_err-write_name.ensures.1 in
+    let p =
+    err_from_is_err_and c.from_residual-in_err-write_name.result
+    c.from_residual-in_err-write_name.ensures.1 in
     rw (p.1, p.2) (SendsText-cut _ (SendsText-then c.in_ok-write_gap.ensures c.in_err-write_name.ensures))
 
 pub returns : goal.returns
-returns g c = SendsText-then (SendsText-then c.in_ok-write_gap.ensures c.in_ok-write_name.ensures) c.write_pairs.ensures
+returns g c =
+    SendsText-then (SendsText-then c.in_ok-write_gap.ensures c.in_ok-write_name.ensures)
+    c.write_pairs.ensures

@@ -5,7 +5,8 @@ use Rattle.ini.proofs.WritingLemmas.{Writing-goes_on, Writing-starts, Writing-st
 use Rattle.ini.proofs.write.write_sections.Goals as goal
 
 pub loop-name-init : goal.loop-name-init
-loop-name-init g c = rw c.into_iter-name-iterator.ensures.into_iter_gives (Writing-starts c.args.out.now _ c.requires)
+loop-name-init g c =
+    rw c.into_iter-name-iterator.ensures.into_iter_gives (Writing-starts c.args.out.now _ c.requires)
 
 pub loop-name-preserved : goal.loop-name-preserved
 loop-name-preserved g c =

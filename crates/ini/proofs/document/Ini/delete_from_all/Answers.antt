@@ -10,14 +10,16 @@ use Rattle.ini.proofs.EverySectionLemmas.{all_edited-sections, edited, edited-al
 use Rattle.ini.proofs.document.Ini.delete_from_all.Goals as goal
 
 pub loop-n-init : goal.loop-n-init
-loop-n-init c = sym (edited-zero (name_fits c.args.name) (removed (chars c.args.key.now)) c.self.inside.sections)
+loop-n-init c =
+    sym (edited-zero (name_fits c.args.name) (removed (chars c.args.key.now)) c.self.inside.sections)
 
 pub loop-n-preserved : goal.loop-n-preserved
 loop-n-preserved c =
     let fits = name_fits c.args.name in
     let edit = removed (chars c.args.key.now) in
     let n = c.loop-n.n in
-    let one = ap (λ ss. slice_get (values_at fits ss) n) (sym c.loop-n.invariant) ∙ sym c.in-Some.ensures.value in
+    let one =
+    ap (λ ss. slice_get (values_at fits ss) n) (sym c.loop-n.invariant) ∙ sym c.in-Some.ensures.value in
     ap (set_nth_value fits c.loop-n.self-inside.sections n) c.remove.ensures.removed
     ∙ ap (λ ss. set_nth_value fits ss n (edit c.in-Some.section.now)) c.loop-n.invariant
     ∙ edited-more fits edit n c.self.inside.sections c.in-Some.section.now one
@@ -39,6 +41,7 @@ returns c =
     let fits = name_fits c.args.name in
     let key = chars c.args.key.now in
     let long : length c.self.inside.sections ≤ c.loop-n.n = omega arith in
-    ap sections_of (c.loop-n.invariant ∙ edited-long fits (removed key) c.loop-n.n c.self.inside.sections long)
+    ap sections_of
+    (c.loop-n.invariant ∙ edited-long fits (removed key) c.loop-n.n c.self.inside.sections long)
     ∙ all_edited-sections c.args.name key c.self.inside.sections c.name_is_text.ensures
     ∙ ap (delete_in_all (str_name c.args.name) key) c.self.view_is

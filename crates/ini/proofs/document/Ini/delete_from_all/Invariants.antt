@@ -5,4 +5,6 @@ use Rattle.ini.proofs.EverySectionLemmas.{edited}
 use Rattle.ini.proofs.document.Ini.delete_from_all.Given as goal
 
 abbrev pub invariant-loop-n : goal.invariant-loop-n
-invariant-loop-n l = l.self-inside.sections ≡ edited (name_fits l.fn.name) (removed (chars l.fn.key)) l.n l.initial.self-inside.sections
+invariant-loop-n l =
+    l.self-inside.sections
+    ≡ edited (name_fits l.fn.name) (removed (chars l.fn.key)) l.n l.initial.self-inside.sections

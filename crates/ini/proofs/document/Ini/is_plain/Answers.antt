@@ -16,8 +16,10 @@ returns-then-are_plain_pairs c =
       | then-is_plain_separator w ↦ (
         λ e. plain_from_parts c.args.self.now c.args.write.now c.args.read general rest sections
             (c.is_plain_separator.ensures.0 w.if-is_plain_separator.true)
-            (w.are_plain_pairs.ensures.0 (sym w.value-is ∙ c.if-are_plain_pairs.true)) (c.are_plain_sections.ensures.0 e),
-        λ p. c.are_plain_sections.ensures.1 (others_of c.args.self.now c.args.write.now c.args.read general rest sections p),
+            (w.are_plain_pairs.ensures.0 (sym w.value-is ∙ c.if-are_plain_pairs.true))
+            (c.are_plain_sections.ensures.0 e),
+        λ p. c.are_plain_sections.ensures.1
+            (others_of c.args.self.now c.args.write.now c.args.read general rest sections p),
       )
       | else-is_plain_separator w ↦
           absurd (both_ways c.if-is_plain_separator.value (w.value-is ∙ w.if-is_plain_separator.false)

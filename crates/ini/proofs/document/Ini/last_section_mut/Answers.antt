@@ -6,7 +6,8 @@ use Rattle.ini.proofs.document.Ini.last_section_mut.Goals as goal
 
 pub unwrap-requires : goal.unwrap-requires
 unwrap-requires c =
-    let same = c.get_last_mut.ensures.value ∙ last_got name_of c.self.inside.sections c.args.self.now c.self.view_is in
+    let same =
+    c.get_last_mut.ensures.value ∙ last_got name_of c.self.inside.sections c.args.self.now c.self.view_is in
     let there = subst IsSome (sym same) (last_is_there c.args.self.now c.requires) in
     grind arith
 

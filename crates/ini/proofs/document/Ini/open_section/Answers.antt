@@ -8,7 +8,11 @@ returns-in-Ok c =
     let d = c.args.self.now in
     let name = name_of c.args.name in
     let pushed = c.in-Ok.ensures.appended in (
-      (λ j. inl (c.last_section_mut.result.ghost_name, λ w. last_pushed name c.args.section d c.append_section.new.self pushed w j)),
+      (λ j.
+          inl (
+            c.last_section_mut.result.ghost_name,
+            λ w. last_pushed name c.args.section d c.append_section.new.self pushed w j,
+          )),
       record {
         writes_back = tt;
         value = value_pushed name c.args.section d c.append_section.new.self pushed

@@ -9,7 +9,8 @@ pub returns-clause-pushed : goal.returns-clause-pushed
 returns-clause-pushed c =
     let d = c.args.self.now in
     let last = c.last_section_mut.ensures.section in
-    let pushed = with_pair-last (text_of c.args.key) (text_of c.args.value) c.last_section_mut.result.now d last in
+    let pushed =
+    with_pair-last (text_of c.args.key) (text_of c.args.value) c.last_section_mut.result.now d last in
     on_ok_weaker c.push.result (λ e. ap (with_value_at d (length d - 1)) e ∙ pushed) c.push.ensures.appended
 
 pub returns-clause-unchanged : goal.returns-clause-unchanged

@@ -13,22 +13,28 @@ pieces-init g c =
       IsStreamed-starts 65536 (omega arith)
           (rw c.new-bytes.ensures.items at filled.bytes) filled.filled c.drop_front_mark.ensures lines
           new.document new.front new.lines,
-      omega
-          (arith, c.len-last_line.ensures, c.drop_front_mark.new.bytes.ok.1, c.drop_front_mark.new.bytes.small),
+      omega (
+        arith,
+        c.len-last_line.ensures,
+        c.drop_front_mark.new.bytes.ok.1,
+        c.drop_front_mark.new.bytes.small,
+      ),
     )
 
 pub take_items-requires-clause-some : goal.take_items-requires-clause-some
 take_items-requires-clause-some g c = IsStreamed-some c.pieces.invariant.2
 
 pub take_items-requires-clause-countable : goal.take_items-requires-clause-countable
-take_items-requires-clause-countable g c = omega (arith, c.pieces.bytes.ok, IsStreamed-fits c.pieces.invariant.2, c.pieces.invariant.3)
+take_items-requires-clause-countable g c =
+    omega (arith, c.pieces.bytes.ok, IsStreamed-fits c.pieces.invariant.2, c.pieces.invariant.3)
 
 pub pieces-preserved : goal.pieces-preserved
 pieces-preserved g c =
     let filled = c.in_ok-is_all-2.ensures in
     let kept = c.len-kept.ensures ∙ c.take_items.new.bytes.ok.0 in
     let read = c.len.ensures ∙ c.fill-in-pieces.new.bytes.ok.0 in
-    let next : c.in-Some.next_line ≡ c.pieces.last_line + (length c.fill-in-pieces.new.bytes.items - length c.take_items.new.bytes.items) =
+    let next : c.in-Some.next_line
+    ≡ c.pieces.last_line + (length c.fill-in-pieces.new.bytes.items - length c.take_items.new.bytes.items) =
     omega (arith, c.in-Some.ensures.1, kept, read) in (
       search rules,
       search rules,
@@ -43,7 +49,12 @@ finish-requires-clause-some g c = IsStreamed-some c.pieces.invariant.2
 
 pub finish-requires-clause-countable : goal.finish-requires-clause-countable
 finish-requires-clause-countable g c =
-    omega (arith, IsStreamed-fits c.pieces.invariant.2, c.pieces.invariant.3, ap length c.as_slice.ensures.value)
+    omega (
+      arith,
+      IsStreamed-fits c.pieces.invariant.2,
+      c.pieces.invariant.3,
+      ap length c.as_slice.ensures.value,
+    )
 
 pub returns-clause-reads : goal.returns-clause-reads
 returns-clause-reads g c =

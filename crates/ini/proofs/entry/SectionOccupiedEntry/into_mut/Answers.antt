@@ -7,6 +7,11 @@ pub returns : goal.returns
 returns c =
     let name = name_of c.args.self.name in
     let section = c.first_section_mut.ensures.section in (
-      (refl, λ w. sym (edit_section-there name (λ _. w) ((name, w) ∷ []) c.args.self.ini.now c.first_section_mut.result.now section)),
+      (
+        refl,
+        λ w.
+            sym (edit_section-there name (λ _. w) ((name, w) ∷ []) c.args.self.ini.now
+            c.first_section_mut.result.now section),
+      ),
       record { writes_back = tt; section = section },
     )

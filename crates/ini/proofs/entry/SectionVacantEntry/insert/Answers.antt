@@ -11,5 +11,9 @@ returns c =
     let d = c.args.self.ini.now in (
       (λ j. read_of (name_if_ok (λ x. x.ghost_name) c.open_section.result)
           (λ w. sym (edit_section-last name (λ _. w) ((name, w) ∷ []) d c.args.self.absent) j) d),
-      record { writes_back = tt; value = c.open_section.ensures.value; handed_back = c.open_section.ensures.handed_back },
+      record {
+        writes_back = tt;
+        value = c.open_section.ensures.value;
+        handed_back = c.open_section.ensures.handed_back;
+      },
     )

@@ -7,11 +7,13 @@ use Rattle.ini.proofs.passing.Passing.finish.Goals as goal
 pub split_at-requires : goal.split_at-requires
 split_at-requires c =
     let text = c.in-Ok.ensures.cases in
-    rw text.0 (IsCharBoundary-from_take c.args.bytes.now c.args.self.front text.1 c.requires.front.within c.requires.front.utf8)
+    rw text.0 (IsCharBoundary-from_take c.args.bytes.now c.args.self.front text.1 c.requires.front.within
+    c.requires.front.utf8)
 
 pub push_items-requires-clause-is_rest : goal.push_items-requires-clause-is_rest
 push_items-requires-clause-is_rest c =
-    rw (c.split_at.ensures.back, c.in-Ok.ensures.cases.0) (rest_cut c.args.bytes.now c.args.self.front c.requires.front.utf8)
+    rw (c.split_at.ensures.back, c.in-Ok.ensures.cases.0)
+    (rest_cut c.args.bytes.now c.args.self.front c.requires.front.utf8)
 
 pub returns-in-Ok-push_items-clause-ends : goal.returns-in-Ok-push_items-clause-ends
 returns-in-Ok-push_items-clause-ends c =
@@ -38,11 +40,19 @@ moved_down-requires c =
 
 pub returns-in-Err-Parse-clause-ends : goal.returns-in-Err-Parse-clause-ends
 returns-in-Err-Parse-clause-ends c =
-    let stops = rw (c.split_at.ensures.back, c.in-Ok.ensures.cases.0, front_cut c.args.bytes.now c.args.self.front c.requires.front.utf8) at
+    let stops =
+    rw (
+      c.split_at.ensures.back,
+      c.in-Ok.ensures.cases.0,
+      front_cut c.args.bytes.now c.args.self.front c.requires.front.utf8,
+    ) at
     (rw c.in-Err-Parse.field-0-is at c.in-Err-Parse.ensures.fault) in
     let moved = rw c.in-Err-Parse.fault-is at c.moved_down.ensures in
     record {
       utf8 = tt;
       document = tt;
-      fault = (c.in-Ok.ensures.cases.1, StopsLater-down c.args.self.lines stops moved.line moved.column moved.message moved.kind);
+      fault = (
+        c.in-Ok.ensures.cases.1,
+        StopsLater-down c.args.self.lines stops moved.line moved.column moved.message moved.kind,
+      );
     }

@@ -5,7 +5,8 @@ use Rattle.ini.proofs.PassingLemmas.{GoesBy-cut, GoesBy-nothing, feeds_fit, fron
 use Rattle.ini.proofs.passing.Passing.take_items.Goals as goal
 
 pub returns-in_default-clause-goes_by : goal.returns-in_default-clause-goes_by
-returns-in_default-clause-goes_by c = GoesBy-nothing c.args.opt c.args.self.now c.args.bytes.now.items c.requires.front
+returns-in_default-clause-goes_by c =
+    GoesBy-nothing c.args.opt c.args.self.now c.args.bytes.now.items c.requires.front
 
 pub push_settled-requires-clause-is_rest : goal.push_settled-requires-clause-is_rest
 push_settled-requires-clause-is_rest c =
@@ -13,7 +14,9 @@ push_settled-requires-clause-is_rest c =
     let n = c.args.self.now.front in
     let rest = c.in-Some.ensures.cases in
     let at = c.text_front-text.ensures ∙ ap (take (length text)) c.as_slice.ensures.value in
-    let utf8 = subst IsUtf8 (front_text c.args.bytes.now.items text n at (omega (arith, rest.1))) c.requires.front.utf8 in
+    let utf8 =
+    subst IsUtf8 (front_text c.args.bytes.now.items text n at (omega (arith, rest.1)))
+    c.requires.front.utf8 in
     rw (rest.0, take_rest text n) (rest_cut text n utf8)
 
 pub overflow_add-self : goal.overflow_add-self
