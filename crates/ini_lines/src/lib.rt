@@ -1,7 +1,7 @@
 //! The lines that the programs write of a document. This crate knows no word and no reader.
 //!
-//! Each call answers whether what it writes is there, and its errors are these: `Io` where the writer answers a
-//! fault, `NoProgress` where it takes no bytes. A front was written then.
+//! Each call answers whether what it writes is there, and its errors are these: `Io` where the writer answers
+//! a fault, `NoProgress` where it takes no bytes. A front was written then.
 #![tactic(auto)]
 
 ghost use Rattle.std.specs.Prelude.{Some, chars, encode_utf8_all, flat_map};
@@ -171,7 +171,8 @@ fn put_name<W: Write>(
     }
 }
 
-/// Writes the key of each pair in the first section of the name. Where there is no such section, the answer is
+/// Writes the key of each pair in the first section of the name. Where there is no such section, the answer
+/// is
 /// `false`, and nothing is written.
 pub fn keys<W: Write>(
     document: &Ini,

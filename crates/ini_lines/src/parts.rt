@@ -1,5 +1,5 @@
-//! What an entry is put together from: texts in their form, each behind one that is written as it is. This file
-//! knows no document.
+//! What an entry is put together from: texts in their form, each behind one that is written as it is. This
+//! file knows no document.
 ghost use Rattle.std.specs.Prelude.{◌++◌, chars, flat_map};
 ghost use Rattle.ini_text.specs.Device.HeldBack.{held};
 ghost use Rattle.ini_text.specs.Device.Watched.{IsClear};

@@ -8,4 +8,5 @@ use Rattle.ini_lines.proofs.list_pairs.Given as goal
 abbrev pub invariant-loop-key : goal.invariant-loop-key
 invariant-loop-key g l =
     Writing g.W.Write.contents l.fn.out l.out (held l.fn.lines) (held l.lines)
-    (flat_map (listed_pair l.form (str_name l.name)) l.pairs) (flat_map (listed_pair l.form (str_name l.name)) l.key-iterator)
+    (flat_map (listed_pair l.form (str_name l.name)) l.pairs)
+    (flat_map (listed_pair l.form (str_name l.name)) l.key-iterator)
