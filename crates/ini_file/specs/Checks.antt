@@ -32,8 +32,8 @@ abbrev pub some_files : List Word → Option (List Word)
 some_files [] = None
 some_files (file ∷ files) = Some (file ∷ files)
 
--- the files that words name: all words, or those behind `--`; None where there is no file, or where the first
--- word begins with `--` and is another
+-- the files that words name: all words, or those behind `--`; None where there is no file, or where the
+-- first word begins with `--` and is another
 abbrev pub files_named : List Word → Option (List Word)
 files_named [] = None
 files_named (word ∷ words) =

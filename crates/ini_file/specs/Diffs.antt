@@ -35,8 +35,8 @@ pub record IsChange (old new : List Line) (first gone come : List Line) : Type 0
   pub longest_first : DifferFirst (gone ++ last) (come ++ last)
   pub longest_last : DifferLast gone come
 
--- so many lines behind the first ones: the number of the first of them, or of the line before where there are
--- none; a comma; and how many they are
+-- so many lines behind the first ones: the number of the first of them, or of the line before where there
+-- are none; a comma; and how many they are
 abbrev pub range : ℕ → ℕ → List ℕ
 range first count = decimal (if count == 0 then first else first + 1) ++ codes "," ++ decimal count
 

@@ -11,8 +11,8 @@ use ini_edit::{Edit, EditError, make_edit};
 use ini_options::Options;
 use std::alloc::Global;
 
-/// The bytes of a mark and of the text with the edit made in it; `None` where what it is about isn't there. The
-/// separator stands between key and value of a new line.
+/// The bytes of a mark and of the text with the edit made in it; `None` where what it is about isn't there.
+/// The separator stands between key and value of a new line.
 ///
 /// # Errors
 ///

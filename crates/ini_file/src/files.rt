@@ -1,6 +1,6 @@
-//! The bytes of files and streams: those that are read, and where those go that a command makes: into the file's
-//! place, into another file, to standard output, or nowhere, where what would change is shown. This file knows
-//! no word of the program and no document.
+//! The bytes of files and streams: those that are read, and where those go that a command makes: into the
+//! file's place, into another file, to standard output, or nowhere, where what would change is shown. This
+//! file knows no word of the program and no document.
 //!
 //! No contract says what a disk gets; `tests/files.sh` tests it.
 use crate::diff::diff;

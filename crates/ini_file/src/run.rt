@@ -66,9 +66,9 @@ pub fn status(outcome: &Outcome) -> u8
 /// What the words' command makes of a file's bytes: what it asks of their document, or they themselves with
 /// its edit made in their text. A mark (EF BB BF) at their front is no part of the text; an edit keeps it.
 ///
-/// Words that are no command over one file are `Usage`, whatever the bytes are: a check and a merge, which are
-/// over several, have functions of their own. `NotUtf8` is told before any fault of the words or of the text.
-/// Nothing but `Done` has anything to be written.
+/// Words that are no command over one file are `Usage`, whatever the bytes are: a check and a merge, which
+/// are over several, have functions of their own. `NotUtf8` is told before any fault of the words or of the
+/// text. Nothing but `Done` has anything to be written.
 pub fn run(alloc: Global, words: &[String], input: &[u8]) -> Outcome
     ensures usage { IsUsage result ↔ (asked_by words.now ≡ None) }
     ensures outcome { HasOutcome words.now input.now result }
