@@ -60,7 +60,8 @@ LineEnd-before [] x y h (LineEnd.cr n) = LineEnd.cr (no_line_feed x h)
 LineEnd-before (c ∷ t) x y h (LineEnd.cr n) = LineEnd.cr n
 
 -- no text that closes a line begins so
-closes_no_line : {X : Type 0} (y : List ℕ) → BeginsWith (λ c. not (is_line_end c)) y → Closes plain_ends y → X
+closes_no_line : {X : Type 0} (y : List ℕ) → BeginsWith (λ c. not (is_line_end c)) y → Closes plain_ends y
+    → X
 closes_no_line [] begins h = absurd (false≢true (sym begins))
 closes_no_line (c ∷ y) begins h =
     absurd (both_ways (is_line_end c) (not-true (is_line_end c) begins) (closes_line_end c h))
@@ -68,7 +69,8 @@ closes_no_line (c ∷ y) begins h =
 module _ {o : ParseOption} {x : List ℕ} (follows : Follows o x) where
   module _ (on : o.enabled_indented_mutiline_value ≡ true) where
     MoreLines-before : {t y v : List ℕ} → y ≢ [] → MoreLines o t y v → MoreLines o t x v
-    MoreLines-before some (MoreLines.done n m) = MoreLines.done (follows.no_blank on) (follows.no_line_end on)
+    MoreLines-before some (MoreLines.done n m) =
+        MoreLines.done (follows.no_blank on) (follows.no_line_end on)
     MoreLines-before some (MoreLines.empty_lf m) = MoreLines.empty_lf (MoreLines-before some m)
     MoreLines-before some (MoreLines.empty_cr_lf m) = MoreLines.empty_cr_lf (MoreLines-before some m)
     MoreLines-before some (MoreLines.continued {t = t} b lead ln le m) =

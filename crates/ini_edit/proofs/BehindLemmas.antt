@@ -166,7 +166,8 @@ pub Reads-line_end : {o : ParseOption} {items : List Given} (W V : List ℕ) (c 
     → Reads o (W ++ c ∷ Y) W items (W ++ c ∷ Y) → Reads o (V ++ c ∷ Y) V items (V ++ c ∷ Y)
 Reads-line_end {o} {items} W V c Y ends reads = at reads refl refl refl
   where
-    at : {T b d : List ℕ} {items : List Given} → Reads o T b items d → T ≡ W ++ c ∷ Y → b ≡ W → d ≡ W ++ c ∷ Y
+    at : {T b d : List ℕ} {items : List Given} → Reads o T b items d → T ≡ W ++ c ∷ Y → b ≡ W
+        → d ≡ W ++ c ∷ Y
         → Reads o (V ++ c ∷ Y) V items (V ++ c ∷ Y)
     at (Reads.stay {b = b} r h) whole first last =
         let same : length (W ++ c ∷ Y) ≡ length W = ap length (sym last ∙ first) in

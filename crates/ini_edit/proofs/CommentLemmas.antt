@@ -54,7 +54,8 @@ pub data IsComment (b : Text) : Text → Text → List Given → Type 0 where
       → list_all (λ c. not (is_line_feed c)) s ≡ true → IsComment b (m ∷ s) [] []
 
 module _ {o : ParseOption} {b : Text} where
-  is_comment : {s r : Text} {gives : List Given} → BeginsWith is_comment_mark (s ++ r) → Element o b s r gives
+  is_comment : {s r : Text} {gives : List Given} → BeginsWith is_comment_mark (s ++ r)
+      → Element o b s r gives
       → IsComment b s r gives
   is_comment {r = r} m (Element.gap (Gap.blank_line {w = w} d i q)) =
       no_indent (d ∷ r) i (subst (BeginsWith is_comment_mark) (append_assoc w (d ∷ []) r) m)

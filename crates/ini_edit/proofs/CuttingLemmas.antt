@@ -88,7 +88,8 @@ module _ {o : ParseOption} (p : Stretches) where
         ap (λ z. is_column_one (X ++ z)) n.whole
         ∙ ap is_column_one (sym (append_assoc X n.before (n.last ∷ [])))
         ∙ ap is_line_feed (last_or-behind line_feed n.last (X ++ n.before) [])
-        ∙ ap is_line_feed (sym (last_or-behind line_feed n.last n.before [])) ∙ ap is_column_one (sym n.whole)
+        ∙ ap is_line_feed (sym (last_or-behind line_feed n.last n.before []))
+        ∙ ap is_column_one (sym n.whole)
 
     column : is_column_one (up_to_end p) ≡ is_column_one p.tail
     column = ap is_column_one at_tail ∙ column_behind B ends

@@ -81,7 +81,8 @@ nothing_no_key (Element.dropped_key i begins stops) some none key = some refl
 element_end : {o : ParseOption} {T a s r b c x : Text} {before gives more : List Given} → x ≢ [] → T ≡ c ++ x
     → Reads o T [] before a → T ≡ a ++ (s ++ r) → Element o a s r gives → b ≡ a ++ s → Reads o T b more c
     → IsElementEnd o T c (before ++ (gives ++ more))
-element_end {o} {T} {a} {s} {r} {x = x} {before} {gives} some last reads whole e at (Reads.stay {b = b} z h) =
+element_end {o} {T} {a} {s} {r} {x = x} {before} {gives} some last reads whole e at
+    (Reads.stay {b = b} z h) =
     let rest : r ≡ x =
     append_cancel_left (a ++ s) r x (append_assoc a s r ∙ sym whole ∙ last ∙ ap (λ z. z ++ x) at) in
     subst (λ z. IsElementEnd o T z (before ++ (gives ++ []))) (sym at)

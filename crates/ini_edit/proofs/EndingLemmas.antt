@@ -108,7 +108,8 @@ ending-quoted z (Quoted.part {m = m} {s = s} {q = q} on mark str rest) =
     ∙ ending-behind Ending.inside (m ∷ s) m (q ++ z) (mark_inner m mark) ∙ ending-quoted z rest
 
 -- behind a line that something follows
-pub ending-line : {o : ParseOption} {first : Bool} {l r v : List ℕ} (z : List ℕ) → r ≢ [] → Line o first l r v
+pub ending-line : {o : ParseOption} {first : Bool} {l r v : List ℕ} (z : List ℕ) → r ≢ []
+    → Line o first l r v
     → ending_from Ending.inside (l ++ z) ≡ ending_from Ending.inside z
 ending-line z some (Line.line {q = q} {p = p} quoted plain (Str.closed row h)) =
     ap (ending_from Ending.inside) (append_assoc q p z) ∙ ending-quoted (p ++ z) quoted

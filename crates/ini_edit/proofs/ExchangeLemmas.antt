@@ -85,7 +85,8 @@ abbrev edit_of : Option Text → Text → Option Text → Document → Document
 edit_of name key (Some value) d = set_in name key value d
 edit_of name key None d = delete_in name key d
 
-pairs_change : (key other : Text) (value other_value : Option Text) → is_text key other ≡ false → (ps : Pairs)
+pairs_change : (key other : Text) (value other_value : Option Text) → is_text key other ≡ false
+    → (ps : Pairs)
     → IsSome (first_value key ps)
     → pairs_with key value (pairs_with other other_value ps) ≡ pairs_with other other_value
     (pairs_with key value ps)
@@ -218,7 +219,8 @@ module _ {o : ParseOption} {T : Text} {name : Option Text} {key : Text} {p : Str
       ∙ first_behind key value target.earlier target.later target.lacks
 
 -- a text has one document
-one_document : {o : ParseOption} {T : Text} {d e : Document} → IsDocumentOf o T d → IsDocumentOf o T e → d ≡ e
+one_document : {o : ParseOption} {T : Text} {d e : Document} → IsDocumentOf o T d → IsDocumentOf o T e
+    → d ≡ e
 one_document is also = is.document ∙ ap document_of (derives_one is.derives also.derives) ∙ sym also.document
 
 module _ {o : ParseOption} (policy : EscapePolicy) {T : Text} (name : Option Text) (key : Text)

@@ -364,7 +364,8 @@ module _ {o : ParseOption} {T : Text} {p : Place} {name : Option Text} (key : Te
   reached_within : (q : Place) (found : Option FoundPair)
       → MatchOption found (ReachesEnd o T p.front q key) (ReachesPair o T p.front q key) → StandsWithin q
   reached_within q None h =
-      stands_within h.is_reading (reads-append opens.reads (reads-append h.passes.reads (end_reads h.ends).1))
+      stands_within
+      h.is_reading (reads-append opens.reads (reads-append h.passes.reads (end_reads h.ends).1))
   reached_within q (Some x) h =
       stands_within h.is_reading (reads-append opens.reads (reads-append h.passes.reads (pair_reads h)))
 
@@ -374,7 +375,8 @@ module _ {o : ParseOption} {T : Text} {p : Place} {name : Option Text} (key : Te
   reached_reading q (Some x) h = h.is_reading
 
   found_answers : (q : Place) (found : Option FoundPair)
-      → MatchOption found (ReachesEnd o T p.front q key) (ReachesPair o T p.front q key) → ReadsOn o T q.front
+      → MatchOption found (ReachesEnd o T p.front q key) (ReachesPair o T p.front q key)
+      → ReadsOn o T q.front
       → MatchOption found (LacksPair o T name key)
       (λ pair. IsFirstPair o T name key (stretches_of pair) (string_text pair.value))
   found_answers q None h on = lacks_first h on

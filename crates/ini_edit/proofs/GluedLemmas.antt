@@ -128,7 +128,8 @@ module _ {o : ParseOption} {c : List ℕ} (y : List ℕ) (closes : Closes plain_
       → Line o first (l ++ c) y v
   line_glued {first} {v = u} (Line.line {q = q} {p = p} {r = r} quoted plain (Str.closed row h)) k =
       let is : ending_from Ending.inside (q ++ p) ≡ Ending.inside =
-      ending-quoted p quoted ∙ ap (ending_from Ending.inside) (sym (append-nil p)) ∙ ending-row [] refl row in
+      ending-quoted p quoted ∙ ap (ending_from Ending.inside) (sym (append-nil p))
+      ∙ ending-row [] refl row in
       let none : c ≡ [] = closing_inside (subst (λ e. Closing o e c) is k) in
       subst (λ z. Line o first z y u) (sym (append-nil (q ++ p)) ∙ ap (λ z. (q ++ p) ++ z) (sym none))
       (Line.line quoted (λ on. no_mark_before p r y (plain on) closes) (Str.closed row closes))
@@ -151,7 +152,8 @@ module _ {o : ParseOption} {c : List ℕ} (y : List ℕ) (closes : Closes plain_
             (Line.line quoted (λ q. no_mark_behind s (backslash ∷ []) y (plain q))
             (Str.closed (row-append row (Row.escape slash Row.none)) closes)))
         | inr (off, same) ↦
-            let kept : EscapeSequence o.enabled_escape (backslash ∷ (space ∷ [])) (backslash ∷ (space ∷ [])) =
+            let kept : EscapeSequence o.enabled_escape (backslash ∷ (space ∷ []))
+            (backslash ∷ (space ∷ [])) =
             EscapeSequence.kept off (eqb-false space line_feed refl) in
             subst (λ z. Line o first ((q ++ p) ++ z) y (w ++ plain_value first some (v ++ backslash ∷ [])))
             (sym same)
@@ -390,7 +392,8 @@ module _ {o : ParseOption} (sep : LineSeparator) {x : List ℕ} (follows : Follo
               (seam_lines w l (n.end ++ n.lines) (e ++ t) n.whole)
               (MoreLines.continued b (Lead-alike (Alike-behind l n.alike) lead)
               (Line-alike n.alike ln) n.is_end n.more);
-          is = ap (λ z. line_feed ∷ (u ++ z)) n.is ∙ ap (λ z. line_feed ∷ z) (sym (append_assoc u v n.feeds));
+          is =
+              ap (λ z. line_feed ∷ (u ++ z)) n.is ∙ ap (λ z. line_feed ∷ z) (sym (append_assoc u v n.feeds));
           all = n.all;
         }
     more_glued (MoreLines.last {w} {l} {u} b lead ln) k =

@@ -131,8 +131,10 @@ appends o w name key value sep plain_name plain T items start d document none =
     let header_is : hs ≡ written_name w (Some name) =
     ap (λ z. open_bracket ∷ z)
     (append_assoc (escaped w.escape_policy name) (close_bracket ∷ []) (line_end w.line_separator ++ [])
-    ∙ ap (λ z. escaped w.escape_policy name ++ close_bracket ∷ z) (append-nil (line_end w.line_separator))) in
-    let written : T ++ (written_name w (Some name) ++ written_pair w (key, value)) ≡ T ++ (hs ++ (ps ++ [])) =
+    ∙ ap (λ z. escaped w.escape_policy name ++ close_bracket ∷ z)
+    (append-nil (line_end w.line_separator))) in
+    let written : T ++ (written_name w (Some name) ++ written_pair w (key, value))
+    ≡ T ++ (hs ++ (ps ++ [])) =
     ap (λ z. T ++ (z ++ written_pair w (key, value))) (sym header_is)
     ∙ ap (λ z. T ++ (hs ++ z)) (pair_is w key value ∙ sym (append-nil ps)) in
     let ends : (T ++ hs) ++ ps ≡ T ++ (hs ++ (ps ++ [])) = append_assoc T hs ps

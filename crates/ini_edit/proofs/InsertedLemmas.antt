@@ -49,14 +49,16 @@ line_end-column CRLF x = ap is_line_feed (last_or-behind line_feed carriage_retu
 
 -- both are in column one
 pub EndsLike-column : (b c : List ℕ) → is_column_one b ≡ true → is_column_one c ≡ true → EndsLike b c
-EndsLike-column b c one two = record { line = line_starts b one ∙ sym (line_starts c two); column = λ _. two }
+EndsLike-column b c one two =
+    record { line = line_starts b one ∙ sym (line_starts c two); column = λ _. two }
 
 module _ {o : ParseOption} {policy : EscapePolicy} {key value separator : List ℕ}
     (sep : IsPlainSeparator separator)
     (plain : IsPlainPair o policy key value) where
   -- a pair as it is written, with a tail
   pub pair_written : {b t r : List ℕ} → is_column_one b ≡ true → Tail o t r
-      → Element o b (escaped policy key ++ (separator ++ (escaped policy value ++ t))) r (Pair key value ∷ [])
+      → Element o b (escaped policy key ++ (separator ++ (escaped policy value ++ t))) r
+      (Pair key value ∷ [])
   pair_written {b} {t} {r} one tail =
       let ek = escaped policy key in
       let v = escaped policy value ++ t in

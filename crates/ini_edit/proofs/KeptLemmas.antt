@@ -107,7 +107,8 @@ module _ {o : ParseOption} {y c k r : List ℕ} (follows : Follows o r) (all : l
       by_parts SystemDefault follows b s [] k all
       (subst (λ z. Element o b z (k ++ r) gives) (sym (append-nil s)) e)
 
-  element_kept : {s z : List ℕ} {gives : List Given} (b : List ℕ) → z ≡ y → b ++ s ≡ c → Element o b s z gives
+  element_kept : {s z : List ℕ} {gives : List Given} (b : List ℕ) → z ≡ y → b ++ s ≡ c
+      → Element o b s z gives
       → ReadsKept b s gives
   element_kept b same is (Element.gap (Gap.blank_line d i h)) =
       before_gaps b (Element.gap (Gap.blank_line d i h))

@@ -20,7 +20,8 @@ use Rattle.ini_edit.specs.declared.error.EditError.TheVariants.{Text as TextErro
 use Rattle.ini_edit.proofs.StandsLemmas.{derives_one}
 
 -- a text has one document
-one_document : {o : ParseOption} {T : Text} {d e : Document} → IsDocumentOf o T d → IsDocumentOf o T e → d ≡ e
+one_document : {o : ParseOption} {T : Text} {d e : Document} → IsDocumentOf o T d → IsDocumentOf o T e
+    → d ≡ e
 one_document x y = x.document ∙ (ap document_of (derives_one x.derives y.derives) ∙ sym y.document)
 
 -- what loads as an edited document of the text loads as any document of it edited

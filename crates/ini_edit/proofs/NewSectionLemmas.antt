@@ -59,7 +59,8 @@ set_is_added name key value d none =
 pub in_new_section : {o : ParseOption} {w : WriteOption} {T name key value U : Text} {place : TextPlace}
     → LacksSection o T (Some name) → IsTextEnd o T place → IsPlainName o w.escape_policy name
     → IsWritable o w key value
-    → IsWithSection o w (front_ending place.is_behind_comment (chars place.front.now)) (chars place.front.now)
+    → IsWithSection o w (front_ending place.is_behind_comment (chars place.front.now))
+    (chars place.front.now)
     (chars place.rest.now) name key value U
     → IsInNewSection o w T name key value U
 in_new_section {o} {w} {T} {name} {key} {value} {U} {place} lacks end plain writable new =

@@ -31,7 +31,8 @@ use Rattle.ini_edit.specs.declared.place.TextPlace.{TextPlace}
 use Rattle.ini_edit.proofs.WalkLemmas.{step_reads}
 
 -- what follows begins with a blank or a line end
-pub taken_begins : {o : ParseOption} {W : Text} (r : Text) → IsTaken o W r → BeginsWith is_blank_or_line_end r
+pub taken_begins : {o : ParseOption} {W : Text} (r : Text) → IsTaken o W r
+    → BeginsWith is_blank_or_line_end r
 taken_begins [] (IsTaken.by_value on h) = absurd (false≢true h)
 taken_begins [] (IsTaken.by_blank apart h) = absurd (false≢true h)
 taken_begins (c ∷ r) (IsTaken.by_value on h) = h

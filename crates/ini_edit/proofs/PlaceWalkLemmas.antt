@@ -227,7 +227,8 @@ boundary_behind {o} {T} {first = first} from reads
     (Boundary.behind (reads-append reads more) whole element key)
 
 module _ {o : ParseOption} {T : Text} {p : Place} {name : Option Text} (opens : OpensFirst o T p name) where
-  end_within : {q : Place} {found : Option TextPlace} → ReachesSectionEnd o T p.front q found → StandsWithin q
+  end_within : {q : Place} {found : Option TextPlace} → ReachesSectionEnd o T p.front q found
+      → StandsWithin q
   end_within h =
       stands_within h.is_reading (reads-append opens.reads (reads-append h.reads (end_reads h.ends).1))
 

@@ -99,7 +99,8 @@ begins_first test (d ∷ w) x c Y h e = let same : d ≡ c = cc in subst (λ z. 
 no_blank : {X : Type 0} {b w Y : Text} (x : Text) → Indentation b w → w ++ x ≡ open_bracket ∷ Y → X
 no_blank {w = w} {Y} x i e = absurd (false≢true (begins_first is_blank w x open_bracket Y i.some e))
 
-no_mark : {X : Type 0} {Y : Text} (m : ℕ) (x : Text) → is_comment_mark m ≡ true → m ∷ x ≡ open_bracket ∷ Y → X
+no_mark : {X : Type 0} {Y : Text} (m : ℕ) (x : Text) → is_comment_mark m ≡ true → m ∷ x ≡ open_bracket ∷ Y
+    → X
 no_mark {Y = Y} m x h e = absurd (false≢true (begins_first is_comment_mark (m ∷ []) x open_bracket Y h e))
 
 no_key : {X : Type 0} {o : ParseOption} {b k y key Y : Text} → KeyFront o b k y key

@@ -65,7 +65,8 @@ renamed_first name other (s ∷ d) pairs e none =
     at true is none more = absurd (let no : Some s.1 ≡ None = none in cc)
     at false is none more = cond-false (is_name name s.0) _ _ is ∙ ap (λ x. s ∷ x) (more none)
 
-module _ (before : List Given) (name : Text) (pairs : Pairs) (after : List Given) (h : BeginsWithHeader after)
+module _ (before : List Given) (name : Text) (pairs : Pairs) (after : List Given)
+    (h : BeginsWithHeader after)
     (first : first_section (Some name) (document_of before) ≡ None) where
   pub document_without : section_removed (Some name)
       (document_of (before ++ (Header name ∷ (pair_items pairs ++ after))))

@@ -154,7 +154,8 @@ module _ {o : ParseOption} {T old front source rest : Text} (h : IsHeaderAt o T 
       }
 
 -- the header that was found, in a text that is read to its end
-pub header_at : {o : ParseOption} {T name : Text} {q : Place} {found : FoundHeader} → OpensAt o T q name found
+pub header_at : {o : ParseOption} {T name : Text} {q : Place} {found : FoundHeader}
+    → OpensAt o T q name found
     → ReadsOn q.option q.text q.front
     → IsHeaderAt o T name (chars found.front.now) (chars found.source.now) (chars found.rest.now)
 header_at {o} {T} {q = q} opens on =

@@ -145,7 +145,8 @@ module _ {o : ParseOption} {T b : Text} {column : Bool} where
       | inr kept ↦ absurd (at rest kept.0 kept.1.1 apart)
     ]
       where
-        at : (rest : Text) → column ≡ true → BeginsWith is_comment_mark rest → is_kept column rest ≡ false → ⊥
+        at : (rest : Text) → column ≡ true → BeginsWith is_comment_mark rest → is_kept column rest ≡ false
+            → ⊥
         at [] on h apart = false≢true (sym h)
         at (c ∷ rest) on h apart =
             both_ways (column && is_comment_mark c) apart (and_from column (is_comment_mark c) on h)

@@ -57,7 +57,8 @@ module _ {name : Option Text} {key : Text} {before after : List Given}
 
   -- the pair, and all behind it
   pub pair_and_after : (value : Text)
-      → before ++ (Pair key value ∷ after) ≡ (before ++ Pair key value ∷ []) ++ (pair_items t.later ++ t.rest)
+      → before ++ (Pair key value ∷ after)
+      ≡ (before ++ Pair key value ∷ []) ++ (pair_items t.later ++ t.rest)
   pair_and_after value =
       ap (λ l. before ++ (Pair key value ∷ l)) t.after_is
       ∙ sym (append_assoc before (Pair key value ∷ []) (pair_items t.later ++ t.rest))

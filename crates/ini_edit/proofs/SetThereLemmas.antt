@@ -66,7 +66,8 @@ module _ {o : ParseOption} {T : Text} {p : Place} {name : Option Text} (key : Te
 
     -- the text that was read to its end
     pub is_set : {policy : EscapePolicy} {value quote : Text} (left new : Text) → IsPlainValue o policy value
-        → KeepsQuote o pair.own value quote → f ≡ pair.front ++ pair_with pair (written_in policy quote value)
+        → KeepsQuote o pair.own value quote
+        → f ≡ pair.front ++ pair_with pair (written_in policy quote value)
         → ReadsOn r.option r.text r.front
         → r.front ++ left ≡ r.text → new ≡ g ++ left → IsSetThere o policy T name key value new
     is_set {policy} {value} {quote} left new plain keeps written on rest is_new =

@@ -153,4 +153,7 @@ module _ {o : ParseOption} {T : Text} {p : Place} {place : Option TextPlace}
             };
           }
       at (Some place) last lost =
-          record { items = s.items; is_last = subst (λ c. IsLastPlace o T [] s.items c place) h.was_end last }
+          record {
+            items = s.items;
+            is_last = subst (λ c. IsLastPlace o T [] s.items c place) h.was_end last;
+          }

@@ -141,6 +141,7 @@ module _ {o : ParseOption} (w pad : List ℕ) (white : list_all is_inline_white 
       (without_line_feeds-trimmed value u is.is_trimmed all)
       (Value.lines on x.is_lead x.is_line le more))
 
-pub line_closes : {o : ParseOption} {first : Bool} {l r v : List ℕ} → Line o first l r v → Closes plain_ends r
+pub line_closes : {o : ParseOption} {first : Bool} {l r v : List ℕ} → Line o first l r v
+    → Closes plain_ends r
 line_closes (Line.line quoted plain (Str.closed row h)) = h
 line_closes (Line.line quoted plain (Str.lone row h)) = refl

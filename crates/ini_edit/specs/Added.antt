@@ -46,8 +46,8 @@ pub record LoadsEdited (o : ParseOption) (T U : Text) (edit : Document → Docum
   pub was : IsDocumentOf o T document
   pub is : IsDocumentOf o U (edit document)
 
--- the first section of the name has no place for a line; or there is no such section, and the text none for a
--- new one
+-- the first section of the name has no place for a line; or there is no such section, and the text none for
+-- a new one
 pub data LacksPlace (o : ParseOption) (T : Text) (name : Option Text) : Type 0 where
   in_section : HasNoPlace o T name → LacksPlace o T name
   for_new_section : LacksSection o T name → HasNoEnd o T → LacksPlace o T name

@@ -19,7 +19,8 @@ use Rattle.ini_edit.specs.Targets.{IsSectionEnd, IsTarget, Lacks}
 -- Behind the items `upto` the section goes on, in the text T, with the pairs `later`, and behind those
 -- stands `rest`. The text U is T without those of the pairs that have the key: each was taken out, and
 -- nothing else.
-pub data LaterOut (o : ParseOption) (key : Text) (upto rest : List Given) : Text → Pairs → Text → Type 0 where
+pub data LaterOut (o : ParseOption) (key : Text) (upto rest : List Given) : Text → Pairs → Text
+    → Type 0 where
   none : {T : Text} {later : Pairs} → Lacks key later → LaterOut o key upto rest T later T
   out : {T U : Text} (p : Stretches) (kept r old : Text) (between later : Pairs)
       → StandsAt o T p key old (upto ++ pair_items between) (pair_items later ++ rest)
@@ -33,7 +34,8 @@ SetsValue o policy T value =
     (p : Stretches) (name : Option Text) (key old : Text) (before after : List Given)
     → StandsAt o T p key old before after → (target : IsTarget name key before after)
     → (quote : Text) → IsQuoteFor o value quote → (U : Text)
-    → LaterOut o key (before ++ Pair key value ∷ []) target.rest (text_with p (written_in policy quote value))
+    → LaterOut o key (before ++ Pair key value ∷ []) target.rest
+    (text_with p (written_in policy quote value))
     target.later U
     → (d : Document) → IsDocumentOf o T d → IsDocumentOf o U (set_in name key value d)
 

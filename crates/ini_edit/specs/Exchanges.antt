@@ -9,7 +9,8 @@ use Rattle.ini_edit.specs.Edited.{IsDeleted, IsSetThere}
 
 -- The text U is T with a pair edited that is there, the first of the key in the first section of the name:
 -- it has another value, or is taken out.
-abbrev pub IsPairEdited : ParseOption → EscapePolicy → Text → Option Text → Text → Option Text → Text → Type 0
+abbrev pub IsPairEdited : ParseOption → EscapePolicy → Text → Option Text → Text → Option Text → Text
+    → Type 0
 IsPairEdited o policy T name key (Some value) U = IsSetThere o policy T name key value U
 IsPairEdited o policy T name key None U = IsDeleted o T name key U
 

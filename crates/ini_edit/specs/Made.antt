@@ -62,8 +62,8 @@ HasUnplainWord o policy (RenameKey name old new) = ¬ IsPlainBareKey o policy ne
 HasUnplainWord o policy (RenameSection old new) = ¬ IsPlainName o policy new
 HasUnplainWord o policy _ = ⊥
 
--- What an edit of the text T is refused with: setting and adding as their calls say; each other edit with its
--- new word, whatever the text is, and else with the text's fault, or memory's.
+-- What an edit of the text T is refused with: setting and adding as their calls say; each other edit with
+-- its new word, whatever the text is, and else with the text's fault, or memory's.
 abbrev pub Refuses : ParseOption → WriteOption → Editing → Text → EditError → Type 0
 Refuses o w (Set name key value) T e = RefusesToSet o w T name key value e
 Refuses o w (Add name key value) T e = RefusesToAdd o w T name key value e

@@ -92,5 +92,6 @@ pub data IsLineStart (o : ParseOption) : List ℕ → List ℕ → List Given �
   behind_line_end : {r : List ℕ} {items : List Given} (V : List ℕ) (c : ℕ) (e : List ℕ)
       → list_all is_line_end (c ∷ e) ≡ true → is_column_one (V ++ c ∷ e) ≡ true
       → Reads o (V ++ (c ∷ (e ++ r))) [] items V → IsLineStart o (V ++ c ∷ e) r items
-  behind_line : {W r : List ℕ} {items : List Given} → ending W ≡ Ending.line → IsElementEnd o (W ++ r) W items
+  behind_line : {W r : List ℕ} {items : List Given} → ending W ≡ Ending.line
+      → IsElementEnd o (W ++ r) W items
       → IsLineStart o W r items

@@ -42,8 +42,8 @@ pub data StaysBehindSection (header upto rest : Text) : Type 0 where
       → StaysBehindSection header upto rest
 
 -- Between the front and the rest of the text T stands the first section of the name: its header, which the
--- bracket begins, its pairs, and what follows the last of these up to the rest. Where the header is in column
--- one, no comment is among that.
+-- bracket begins, its pairs, and what follows the last of these up to the rest. Where the header is in
+-- column one, no comment is among that.
 pub record IsSectionAt (o : ParseOption) (T name front rest : Text) : Type 0 where
   pub items : Text
   pub gaps : Text
@@ -87,9 +87,9 @@ pub record IsHeaderAt (o : ParseOption) (T name front source rest : Text) : Type
 abbrev pub header_of : EscapePolicy → Text → Text
 header_of policy name = open_bracket ∷ (escaped policy name ++ close_bracket ∷ [])
 
--- The text U is T with another name, as the policy writes it, in the header of the first section of the name,
--- and no byte behind that header or before it is another one: it loads as the document whose section has the
--- other name.
+-- The text U is T with another name, as the policy writes it, in the header of the first section of the
+-- name, and no byte behind that header or before it is another one: it loads as the document whose section
+-- has the other name.
 pub record IsSectionRenamed (o : ParseOption) (policy : EscapePolicy) (T old new U : Text) : Type 0 where
   pub front : Text
   pub source : Text

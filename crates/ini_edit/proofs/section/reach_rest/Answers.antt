@@ -45,7 +45,8 @@ elements-preserved-in-Nothing c =
             | then-not-is_column_one-via-then-not-is_column_one w ↦ kept_off column rest
                 w.if-not-is_column_one.true
             | then-not-is_column_one-via-else-not-is_column_one+then-not-begins_with_comment w ↦
-                kept_plain column rest (sym w.begins_with_comment.ensures ∙ w.if-not-begins_with_comment.true)
+                kept_plain column
+                rest (sym w.begins_with_comment.ensures ∙ w.if-not-begins_with_comment.true)
           ])
           c.rest-rest-then-not-is_column_one.ensures,
       c.rest-rest-then-not-is_column_one.utf8,

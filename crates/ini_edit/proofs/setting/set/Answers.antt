@@ -22,7 +22,8 @@ returns-in-None-clause-edited c =
     (LacksPair c.args.read (chars c.args.text.now) (str_name c.args.name) (chars c.args.key.now))
     (λ new. IsSetThere c.args.read c.args.write.now.escape_policy (chars c.args.text.now)
     (str_name c.args.name)
-    (chars c.args.key.now) (chars c.args.value.now) (text_of new))) c.in-None.is c.in_ok-new.ensures.edited in
+    (chars c.args.key.now) (chars c.args.value.now) (text_of new))) c.in-None.is
+    c.in_ok-new.ensures.edited in
     sets_by_adding c.args.write.now
     (chars c.args.value.now) c.add.result lacks c.add.ensures.plain c.add.ensures.added
 
@@ -33,7 +34,8 @@ returns-in-None-clause-loads c =
     (LacksPair c.args.read (chars c.args.text.now) (str_name c.args.name) (chars c.args.key.now))
     (λ new. IsSetThere c.args.read c.args.write.now.escape_policy (chars c.args.text.now)
     (str_name c.args.name)
-    (chars c.args.key.now) (chars c.args.value.now) (text_of new))) c.in-None.is c.in_ok-new.ensures.edited in
+    (chars c.args.key.now) (chars c.args.value.now) (text_of new))) c.in-None.is
+    c.in_ok-new.ensures.edited in
     IfOk-weaker c.add.result _ _ (λ new set. set_loads set)
     (sets_by_adding c.args.write.now
     (chars c.args.value.now) c.add.result lacks c.add.ensures.plain c.add.ensures.added)
@@ -45,7 +47,8 @@ returns-in-None-clause-refused c =
     (LacksPair c.args.read (chars c.args.text.now) (str_name c.args.name) (chars c.args.key.now))
     (λ new. IsSetThere c.args.read c.args.write.now.escape_policy (chars c.args.text.now)
     (str_name c.args.name)
-    (chars c.args.key.now) (chars c.args.value.now) (text_of new))) c.in-None.is c.in_ok-new.ensures.edited in
+    (chars c.args.key.now) (chars c.args.value.now) (text_of new))) c.in-None.is
+    c.in_ok-new.ensures.edited in
     IfErr-weaker c.add.result _ _
     (λ e refused. refuses_to_set e (c.is_plain_value.ensures.0 c.if-not-is_plain_value.false) lacks refused)
     c.add.ensures.refused
