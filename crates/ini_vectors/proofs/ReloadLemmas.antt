@@ -14,7 +14,8 @@ module _ {o : ParseOption} {T : Text} (one : HasOneOutcome o T) where
   same x y h k = one.alone x h ∙ sym (one.alone y k)
 
   pub tells : (result : Result Document Error) → IfOk result (IsDocumentOf o T)
-      → IfParse result (IsStopOf o T) → IfErr result IsParseOrMemory → (x : Outcome) → HasOutcome o T x → Tells x result
+      → IfParse result (IsStopOf o T) → IfErr result IsParseOrMemory → (x : Outcome) → HasOutcome o T x
+      → Tells x result
   tells (Ok d) document fault only x h = subst (λ y. Tells y (Ok d)) (same (loaded d) x document h) refl
   tells (Err (Parse f)) document fault only x h =
       let stop : HasOutcome o T (refused f.kind f.line f.col) =

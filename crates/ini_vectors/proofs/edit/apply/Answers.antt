@@ -10,7 +10,8 @@ returns-in_err-make-clause-cut_short c =
       made = take c.edits.edit-index c.args.edits.now;
       refused = c.edit-item.result;
       later = drop (suc c.edits.edit-index) c.args.edits.now;
-      split = split_at c.args.edits.now c.edits.edit-index c.edit-item.result c.edits-test.true c.edit-item.is;
+      split =
+          split_at c.args.edits.now c.edits.edit-index c.edit-item.result c.edits-test.true c.edit-item.is;
       grows = c.in_err-make.ensures.grows;
       document = c.in_err-make.ensures.unchanged ∙ c.edits.invariant;
     })
