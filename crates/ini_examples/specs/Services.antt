@@ -8,12 +8,13 @@ use Rattle.ini.specs.EditLaws.{values_in}
 use Rattle.ini.specs.Loading.{IsDocumentOf}
 use Rattle.ini_examples.specs.declared.service.Service.{Service}
 
--- the name is that of the general section, or a default; the port is no zero, and 80 where none is given; the
--- servers are all those of the section `[upstream]`, in order
+-- the name is that of the general section, or a default; the port is no zero, and 80 where none is given;
+-- the servers are all those of the section `[upstream]`, in order
 pub record IsServiceOf (T : Text) (s : Service) : Type 0 where
   pub document : Document
   pub loaded : IsDocumentOf default_parse_option T document
-  pub name : text_of s.name ≡ unwrap_or (value_in None (chars (codes "name")) document) (chars (codes "unnamed"))
+  pub name : text_of s.name
+      ≡ unwrap_or (value_in None (chars (codes "name")) document) (chars (codes "unnamed"))
   pub port : 0 < s.port
   pub port_by_default : value_in None (chars (codes "port")) document ≡ None → s.port ≡ 80
   pub servers : texts_of s.servers.items

@@ -1,5 +1,5 @@
-//! Functions as callers of `ini` write them, each proved from `ini`'s contracts and laws alone. They are to be
-//! read; the program doesn't run them.
+//! Functions as callers of `ini` write them, each proved from `ini`'s contracts and laws alone. They are to
+//! be read; the program doesn't run them.
 pub mod edited;
 pub mod entries;
 pub mod general;

@@ -5,4 +5,5 @@ use Rattle.ini.specs.Texts.{str_name}
 use Rattle.ini_examples.proofs.service.all_values.Given as goal
 
 abbrev pub invariant-loop-value : goal.invariant-loop-value
-invariant-loop-value l = texts_of l.found.items ++ l.value-iterator ≡ values_in (str_name l.name) (chars l.key) l.document
+invariant-loop-value l =
+    texts_of l.found.items ++ l.value-iterator ≡ values_in (str_name l.name) (chars l.key) l.document
