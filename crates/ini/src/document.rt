@@ -154,7 +154,7 @@ impl Ini {
     {
         match self.section_mut(name) {
             Some(section) => section.put(key, value),
-            None => self.open(name, key, value),
+            None => self.append_with_pair(name, key, value),
         }
     }
 
@@ -170,7 +170,7 @@ impl Ini {
         self.set_to(name, key, value)
     }
 
-    // Appends the pair to the first section of the name; where there is none a new one is opened last.
+    // Appends the pair to the first section of the name; where there is none a new one with it is put last.
     #[tactic(auto, using(crate::proofs::EditLemmas::edits))]
     fn add_to(&mut self, name: Option<&str>, key: String, value: String) -> Result<(), Error>
         ensures added { OnOk result
@@ -180,7 +180,7 @@ impl Ini {
     {
         match self.section_mut(name) {
             Some(section) => section.push(key, value),
-            None => self.open(name, key, value),
+            None => self.append_with_pair(name, key, value),
         }
     }
 
@@ -197,8 +197,13 @@ impl Ini {
     }
 
     // Puts a new section with one pair last.
-    fn open(&mut self, name: Option<&str>, key: String, value: String) -> Result<(), Error>
-        ensures opened { OnOk result
+    fn append_with_pair(
+        &mut self,
+        name: Option<&str>,
+        key: String,
+        value: String,
+    ) -> Result<(), Error>
+        ensures appended { OnOk result
             (self.new ≡ self.old ++ (str_name name.entry, (text_of key, text_of value) ∷ []) ∷ []) }
         ensures unchanged { OnErr result (self.new ≡ self.old) }
         ensures only_memory { IsOkUnless result (Error.Memory alloc_error) }
@@ -206,7 +211,7 @@ impl Ini {
         let name = owned_name(self.alloc, name)?;
         let mut section = Properties::new(self.alloc);
         section.push(key, value)?;
-        self.push_section(name, section)
+        self.append_or_error(name, section)
     }
 
     /// Takes the first pair of the key out of the first section of the name, and hands its value out.
@@ -274,21 +279,25 @@ impl Ini {
     }
 
     // Puts a copy of a section last.
-    pub(crate) fn push_copy(&mut self, name: Option<&str>, pairs: &Properties) -> Result<(), Error>
-        ensures pushed { OnOk result (self.new ≡ self.old ++ (str_name name.entry, pairs.now) ∷ []) }
+    pub(crate) fn append_copy(
+        &mut self,
+        name: Option<&str>,
+        pairs: &Properties,
+    ) -> Result<(), Error>
+        ensures appended { OnOk result (self.new ≡ self.old ++ (str_name name.entry, pairs.now) ∷ []) }
         ensures only_memory { IsOkUnless result (Error.Memory alloc_error) }
     {
         let name = owned_name(self.alloc, name)?;
-        self.push_section(name, pairs.clone()?)
+        self.append_or_error(name, pairs.clone()?)
     }
 
-    // Puts a section last.
-    pub(crate) fn push_section(
+    // Puts a section last. Refused, it drops the properties.
+    pub(crate) fn append_or_error(
         &mut self,
         name: SectionKey,
         section: Properties,
     ) -> Result<(), Error>
-        ensures pushed { OnOk result (self.new ≡ self.old ++ (name_of name, section) ∷ []) }
+        ensures appended { OnOk result (self.new ≡ self.old ++ (name_of name, section) ∷ []) }
         ensures unchanged { OnErr result (self.new ≡ self.old) }
         ensures only_memory { IsOkUnless result (Error.Memory alloc_error) }
     {
@@ -323,14 +332,14 @@ impl Ini {
         self.sections.get_last_mut().unwrap()
     }
 
-    // Opens a section, last, for writing. Refused, it hands the properties back.
-    pub(crate) fn open_section(
+    // Puts a section last, and gives it for writing. Refused, it hands the properties back.
+    pub(crate) fn append_section_mut(
         &mut self,
         name: SectionKey,
         section: Properties,
     ) -> Result<&mut Properties, NoRoom>
         ensures* writes_back { sem 𝓛 (lends_new_section self.entry (name_of name) result) }
-        ensures value { IfOk result (λ opened. opened.now ≡ section) }
+        ensures value { IfOk result (λ last. last.now ≡ section) }
         ensures handed_back { IfErr result (λ refused. refused.value ≡ section) }
     {
         match self.append_section(name, section) {

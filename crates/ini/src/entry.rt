@@ -144,7 +144,7 @@ impl<'a> SectionVacantEntry<'a> {
         ensures handed_back { IfErr result (λ refused. refused.value ≡ value) }
     {
         let SectionVacantEntry { ini, name } = self;
-        ini.open_section(name, value)
+        ini.append_section_mut(name, value)
     }
 }
 

@@ -92,7 +92,7 @@ fn push_item(alloc: Global, document: &mut Ini, item: Item) -> Result<(), Error>
     ensures only_memory { IsOkUnless result (Error.Memory alloc_error) }
 {
     match item {
-        Item::Header(name) => document.push_section(Some(name), Properties::new(alloc)),
+        Item::Header(name) => document.append_or_error(Some(name), Properties::new(alloc)),
         Item::Pair(key, value) => document.push_pair(key, value),
     }
 }

@@ -119,22 +119,22 @@ fn renamed_document(
     let mut left = document.iter();
     'sections: while let Some((found, pairs)) = left.next() {
         if is_same_name(name, found) {
-            copy.push_copy(other, pairs)?;
-            push_sections(&mut copy, left)?;
+            copy.append_copy(other, pairs)?;
+            append_copies(&mut copy, left)?;
             return Ok(copy);
         }
-        copy.push_copy(found, pairs)?;
+        copy.append_copy(found, pairs)?;
     }
     Ok(copy)
 }
 
 // Appends copies of sections.
-fn push_sections(copy: &mut Ini, sections: SectionIter<'_>) -> Result<(), Error>
-    ensures pushed { OnOk result (copy.new ≡ copy.old ++ sections.entry) }
+fn append_copies(copy: &mut Ini, sections: SectionIter<'_>) -> Result<(), Error>
+    ensures appended { OnOk result (copy.new ≡ copy.old ++ sections.entry) }
     ensures only_memory { IsOkUnless result (Error.Memory alloc_error) }
 {
     for (name, pairs) in sections {
-        copy.push_copy(name, pairs)?;
+        copy.append_copy(name, pairs)?;
     }
     Ok(())
 }

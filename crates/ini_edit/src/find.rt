@@ -51,7 +51,7 @@ pub fn find_pair<'a>(
     ensures only { IfErr result IsParseOrMemory }
 {
     let mut parser = Parser::new(alloc, text, read);
-    if !open_section(&mut parser, name)? {
+    if !reach_section(&mut parser, name)? {
         return Ok(None);
     }
     let found = reach_pair(&mut parser, text, key)?;
@@ -61,7 +61,7 @@ pub fn find_pair<'a>(
 
 /// Goes behind the header of the first section of the name: whether there is one. Where there is none, the
 /// text is read to its end.
-pub(crate) fn open_section(parser: &mut Parser, name: Option<&str>) -> Result<bool, Error>
+pub(crate) fn reach_section(parser: &mut Parser, name: Option<&str>) -> Result<bool, Error>
     requires refusal { parser.old.refusal ≡ None }
     requires front { parser.old.front ≡ [] }
     ensures opened { result ≡ Ok true →

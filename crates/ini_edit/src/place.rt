@@ -14,7 +14,7 @@ ghost use Rattle.ini_edit.specs.Inside.PlaceWalks.{Keeps, NoneKept, ReachesSecti
 ghost use Rattle.ini_edit.specs.Inside.NoPlaceWalks.{IsTaken, IsTakenAt, LooksIndented, NoneChosen};
 ghost use Rattle.ini_edit.specs.Inside.Walks.{StandsWithin};
 
-use crate::find::open_section;
+use crate::find::reach_section;
 use crate::text::{begins_with_comment, is_column_one, split_first, starts_line};
 use crate::walk::{read_on, step};
 use ini_text::{Content, Error, ParseOption, Parser, PlacedElement, front_before};
@@ -54,7 +54,7 @@ pub(crate) fn find_section_end<'a>(
     ensures only { IfErr result IsParseOrMemory }
 {
     let mut parser = Parser::new(alloc, text, read);
-    if !open_section(&mut parser, name)? {
+    if !reach_section(&mut parser, name)? {
         return Ok(SectionEnd::Absent);
     }
     let place = reach_section_end(&mut parser, text, read)?;

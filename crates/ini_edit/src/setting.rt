@@ -22,7 +22,7 @@ use crate::append::{push, push_text};
 use crate::cut::cut;
 use crate::error::EditError;
 use crate::escape::push_in_quote;
-use crate::find::{FoundPair, open_section, reach_pair};
+use crate::find::{FoundPair, reach_pair, reach_section};
 use crate::quote::kept_quote;
 use crate::walk::{is_same_text, read_on, step};
 use ini_text::{Content, Error, EscapePolicy, ParseOption, Parser, WriteOption, is_plain_value};
@@ -126,7 +126,7 @@ fn set_plain(
     ensures only { IfErr result IsParseOrMemory }
 {
     let mut parser = Parser::new(alloc, text, read);
-    if !open_section(&mut parser, name)? {
+    if !reach_section(&mut parser, name)? {
         return Ok(None);
     }
     let Some(pair) = reach_pair(&mut parser, text, key)? else {

@@ -6,18 +6,18 @@ use Rattle.ini_edit.proofs.find.find_pair.Goals as goal
 
 pub read_on-requires : goal.read_on-requires
 read_on-requires c =
-    let e : c.in_ok-open_section.field-0 ≡ true = c.if-not-branch.false in
+    let e : c.in_ok-reach_section.field-0 ≡ true = c.if-not-branch.false in
     goes_on_within (chars c.args.key.now)
-    (c.in_ok-open_section.ensures.opened (ap Ok e)) c.reach_pair.new.parser
+    (c.in_ok-reach_section.ensures.opened (ap Ok e)) c.reach_pair.new.parser
     c.in_ok-found.found c.in_ok-found.ensures.found
 
 pub returns-clause-found : goal.returns-clause-found
 returns-clause-found c =
-    let e : c.in_ok-open_section.field-0 ≡ true = c.if-not-branch.false in
-    let opened = subst (λ o. OpensFirst o (chars c.args.text.now) c.open_section.new.parser
+    let e : c.in_ok-reach_section.field-0 ≡ true = c.if-not-branch.false in
+    let opened = subst (λ o. OpensFirst o (chars c.args.text.now) c.reach_section.new.parser
     (str_name c.args.name)) c.new-parser.ensures.option
-    (subst (λ T. OpensFirst c.new-parser.result.option T c.open_section.new.parser (str_name c.args.name))
+    (subst (λ T. OpensFirst c.new-parser.result.option T c.reach_section.new.parser (str_name c.args.name))
     c.new-parser.ensures.text
-    (c.in_ok-open_section.ensures.opened (ap Ok e))) in
+    (c.in_ok-reach_section.ensures.opened (ap Ok e))) in
     finds (chars c.args.key.now) opened c.reach_pair.new.parser c.in_ok-found.found
     c.in_ok-found.ensures.found c.in_ok-read_on.ensures.end

@@ -7,35 +7,35 @@ use Rattle.ini_edit.proofs.place.find_section_end.Goals as goal
 
 pub read_on-requires : goal.read_on-requires
 read_on-requires c =
-    let e : c.in_ok-open_section.field-0 ≡ true = c.if-not-branch.false in
-    let opened = subst (λ o. OpensFirst o (chars c.args.text.now) c.open_section.new.parser
+    let e : c.in_ok-reach_section.field-0 ≡ true = c.if-not-branch.false in
+    let opened = subst (λ o. OpensFirst o (chars c.args.text.now) c.reach_section.new.parser
     (str_name c.args.name)) c.new-parser.ensures.option
-    (subst (λ T. OpensFirst c.new-parser.result.option T c.open_section.new.parser (str_name c.args.name))
+    (subst (λ T. OpensFirst c.new-parser.result.option T c.reach_section.new.parser (str_name c.args.name))
     c.new-parser.ensures.text
-    (c.in_ok-open_section.ensures.opened (ap Ok e))) in
+    (c.in_ok-reach_section.ensures.opened (ap Ok e))) in
     goes_on_behind opened c.in_ok-place.ensures.end
 
 pub returns-in-Some-clause-end : goal.returns-in-Some-clause-end
 returns-in-Some-clause-end c =
-    let e : c.in_ok-open_section.field-0 ≡ true = c.if-not-branch.false in
-    let opened = subst (λ o. OpensFirst o (chars c.args.text.now) c.open_section.new.parser
+    let e : c.in_ok-reach_section.field-0 ≡ true = c.if-not-branch.false in
+    let opened = subst (λ o. OpensFirst o (chars c.args.text.now) c.reach_section.new.parser
     (str_name c.args.name)) c.new-parser.ensures.option
-    (subst (λ T. OpensFirst c.new-parser.result.option T c.open_section.new.parser (str_name c.args.name))
+    (subst (λ T. OpensFirst c.new-parser.result.option T c.reach_section.new.parser (str_name c.args.name))
     c.new-parser.ensures.text
-    (c.in_ok-open_section.ensures.opened (ap Ok e))) in
+    (c.in_ok-reach_section.ensures.opened (ap Ok e))) in
     finds_end opened (subst (ReachesSectionEnd c.args.read
-    (chars c.args.text.now) c.open_section.new.parser.front c.reach_section_end.new.parser)
+    (chars c.args.text.now) c.reach_section.new.parser.front c.reach_section_end.new.parser)
     c.in-Some.is c.in_ok-place.ensures.end) c.in_ok-read_on.ensures.end
 
 pub returns-clause-end : goal.returns-clause-end
 returns-clause-end c =
-    let e : c.in_ok-open_section.field-0 ≡ true = c.if-not-branch.false in
-    let opened = subst (λ o. OpensFirst o (chars c.args.text.now) c.open_section.new.parser
+    let e : c.in_ok-reach_section.field-0 ≡ true = c.if-not-branch.false in
+    let opened = subst (λ o. OpensFirst o (chars c.args.text.now) c.reach_section.new.parser
     (str_name c.args.name)) c.new-parser.ensures.option
-    (subst (λ T. OpensFirst c.new-parser.result.option T c.open_section.new.parser (str_name c.args.name))
+    (subst (λ T. OpensFirst c.new-parser.result.option T c.reach_section.new.parser (str_name c.args.name))
     c.new-parser.ensures.text
-    (c.in_ok-open_section.ensures.opened (ap Ok e))) in
+    (c.in_ok-reach_section.ensures.opened (ap Ok e))) in
     finds_no_place opened (subst
     (ReachesSectionEnd c.args.read
-    (chars c.args.text.now) c.open_section.new.parser.front c.reach_section_end.new.parser)
+    (chars c.args.text.now) c.reach_section.new.parser.front c.reach_section_end.new.parser)
     c.in-None.is c.in_ok-place.ensures.end)

@@ -13,30 +13,30 @@ use Rattle.ini_edit.proofs.setting.set_plain.Goals as goal
 
 pub read_on-requires : goal.read_on-requires
 read_on-requires c =
-    let e : c.in_ok-open_section.field-0 ≡ true = c.if-not-branch.false in
+    let e : c.in_ok-reach_section.field-0 ≡ true = c.if-not-branch.false in
     goes_on_within (chars c.args.key.now)
-    (c.in_ok-open_section.ensures.opened (ap Ok e)) c.reach_pair.new.parser
+    (c.in_ok-reach_section.ensures.opened (ap Ok e)) c.reach_pair.new.parser
     c.in_ok-pair.field-0 c.in_ok-pair.ensures.found
 
 pub returns-in_default-clause-edited : goal.returns-in_default-clause-edited
 returns-in_default-clause-edited c =
-    let e : c.in_ok-open_section.field-0 ≡ true = c.if-not-branch.false in
-    let opened = subst (λ o. OpensFirst o (chars c.args.text.now) c.open_section.new.parser
+    let e : c.in_ok-reach_section.field-0 ≡ true = c.if-not-branch.false in
+    let opened = subst (λ o. OpensFirst o (chars c.args.text.now) c.reach_section.new.parser
     (str_name c.args.name)) c.new-parser.ensures.option
-    (subst (λ T. OpensFirst c.new-parser.result.option T c.open_section.new.parser (str_name c.args.name))
+    (subst (λ T. OpensFirst c.new-parser.result.option T c.reach_section.new.parser (str_name c.args.name))
     c.new-parser.ensures.text
-    (c.in_ok-open_section.ensures.opened (ap Ok e))) in
+    (c.in_ok-reach_section.ensures.opened (ap Ok e))) in
     found_none _ _ (finds (chars c.args.key.now) opened c.reach_pair.new.parser c.in_ok-pair.field-0
     c.in_ok-pair.ensures.found c.in_ok-read_on.ensures.end) c.in_default.is
 
 pub push_with-requires : goal.push_with-requires
 push_with-requires c =
-    let e : c.in_ok-open_section.field-0 ≡ true = c.if-not-branch.false in
-    let opened = subst (λ o. OpensFirst o (chars c.args.text.now) c.open_section.new.parser
+    let e : c.in_ok-reach_section.field-0 ≡ true = c.if-not-branch.false in
+    let opened = subst (λ o. OpensFirst o (chars c.args.text.now) c.reach_section.new.parser
     (str_name c.args.name)) c.new-parser.ensures.option
-    (subst (λ T. OpensFirst c.new-parser.result.option T c.open_section.new.parser (str_name c.args.name))
+    (subst (λ T. OpensFirst c.new-parser.result.option T c.reach_section.new.parser (str_name c.args.name))
     c.new-parser.ensures.text
-    (c.in_ok-open_section.ensures.opened (ap Ok e))) in
+    (c.in_ok-reach_section.ensures.opened (ap Ok e))) in
     record {
       own = own_source (chars c.args.key.now) opened c.reach_pair.new.parser c.in_ok-pair.field-0
           c.in_ok-pair.ensures.found c.in-Some.pair c.in-Some.is;
@@ -44,16 +44,16 @@ push_with-requires c =
 
 pub take_later_out-requires-clause-within : goal.take_later_out-requires-clause-within
 take_later_out-requires-clause-within c =
-    let e : c.in_ok-open_section.field-0 ≡ true = c.if-not-branch.false in
+    let e : c.in_ok-reach_section.field-0 ≡ true = c.if-not-branch.false in
     goes_on_within (chars c.args.key.now)
-    (c.in_ok-open_section.ensures.opened (ap Ok e)) c.reach_pair.new.parser
+    (c.in_ok-reach_section.ensures.opened (ap Ok e)) c.reach_pair.new.parser
     c.in_ok-pair.field-0 c.in_ok-pair.ensures.found
 
 pub take_later_out-requires-clause-alike : goal.take_later_out-requires-clause-alike
 take_later_out-requires-clause-alike c =
-    let e : c.in_ok-open_section.field-0 ≡ true = c.if-not-branch.false in
+    let e : c.in_ok-reach_section.field-0 ≡ true = c.if-not-branch.false in
     let written = c.in_ok-push_with.ensures.written in
-    pair_alike (chars c.args.key.now) (c.in_ok-open_section.ensures.opened (ap Ok e)) c.reach_pair.new.parser
+    pair_alike (chars c.args.key.now) (c.in_ok-reach_section.ensures.opened (ap Ok e)) c.reach_pair.new.parser
     c.in_ok-pair.field-0 c.in_ok-pair.ensures.found c.in-Some.pair c.in-Some.is
     (written_in c.args.policy written.quote (chars c.args.value.now)) (string_text c.push_with.new.out)
     (written.is_new
@@ -63,21 +63,21 @@ take_later_out-requires-clause-alike c =
 
 pub read_on-requires-2 : goal.read_on-requires-2
 read_on-requires-2 c =
-    let e : c.in_ok-open_section.field-0 ≡ true = c.if-not-branch.false in
+    let e : c.in_ok-reach_section.field-0 ≡ true = c.if-not-branch.false in
     taken_within (chars c.args.key.now)
-    (c.in_ok-open_section.ensures.opened (ap Ok e)) c.reach_pair.new.parser
+    (c.in_ok-reach_section.ensures.opened (ap Ok e)) c.reach_pair.new.parser
     c.in_ok-pair.field-0 c.in_ok-pair.ensures.found c.in-Some.pair c.in-Some.is
     c.in_ok-take_later_out.ensures.taken
 
 pub returns-clause-edited : goal.returns-clause-edited
 returns-clause-edited c =
-    let e : c.in_ok-open_section.field-0 ≡ true = c.if-not-branch.false in
+    let e : c.in_ok-reach_section.field-0 ≡ true = c.if-not-branch.false in
     let written = c.in_ok-push_with.ensures.written in
-    let opened = subst (λ o. OpensFirst o (chars c.args.text.now) c.open_section.new.parser
+    let opened = subst (λ o. OpensFirst o (chars c.args.text.now) c.reach_section.new.parser
     (str_name c.args.name)) c.new-parser.ensures.option
-    (subst (λ T. OpensFirst c.new-parser.result.option T c.open_section.new.parser (str_name c.args.name))
+    (subst (λ T. OpensFirst c.new-parser.result.option T c.reach_section.new.parser (str_name c.args.name))
     c.new-parser.ensures.text
-    (c.in_ok-open_section.ensures.opened (ap Ok e))) in
+    (c.in_ok-reach_section.ensures.opened (ap Ok e))) in
     is_set (chars c.args.key.now) opened c.reach_pair.new.parser
     c.in_ok-pair.field-0 c.in_ok-pair.ensures.found c.in-Some.pair c.in-Some.is
     c.in_ok-take_later_out.ensures.taken

@@ -9,11 +9,11 @@ pub returns : goal.returns
 returns c =
     let name = name_of c.args.self.name in
     let d = c.args.self.ini.now in (
-      (λ j. read_of (name_if_ok (λ x. x.ghost_name) c.open_section.result)
+      (λ j. read_of (name_if_ok (λ x. x.ghost_name) c.append_section_mut.result)
           (λ w. sym (edit_section-last name (λ _. w) ((name, w) ∷ []) d c.args.self.absent) j) d),
       record {
         writes_back = tt;
-        value = c.open_section.ensures.value;
-        handed_back = c.open_section.ensures.handed_back;
+        value = c.append_section_mut.ensures.value;
+        handed_back = c.append_section_mut.ensures.handed_back;
       },
     )

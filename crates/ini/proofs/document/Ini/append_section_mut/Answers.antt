@@ -1,7 +1,7 @@
 use Rattle.std.proofs.Common.{inl}
 use Rattle.ini.specs.Texts.{name_of}
 use Rattle.ini.proofs.LastSectionLemmas.{last_pushed, value_pushed}
-use Rattle.ini.proofs.document.Ini.open_section.Goals as goal
+use Rattle.ini.proofs.document.Ini.append_section_mut.Goals as goal
 
 pub returns-in-Ok : goal.returns-in-Ok
 returns-in-Ok c =

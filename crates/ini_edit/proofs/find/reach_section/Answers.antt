@@ -5,7 +5,7 @@ use Rattle.ini_edit.specs.Inside.Walks.{OpensFirst}
 use Rattle.ini_edit.proofs.FindLemmas.{general_opened, sections_end, sections_opened, sections_start}
 use Rattle.ini_edit.proofs.FindLemmas.{sections_step, sections_within}
 use Rattle.ini_edit.proofs.WalkLemmas.{step_none, step_some}
-use Rattle.ini_edit.proofs.find.open_section.Goals as goal
+use Rattle.ini_edit.proofs.find.reach_section.Goals as goal
 
 pub returns-in_default-clause-opened : goal.returns-in_default-clause-opened
 returns-in_default-clause-opened c is =
