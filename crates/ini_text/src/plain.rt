@@ -81,7 +81,7 @@ fn is_mark(c: char) -> bool
 fn is_blank(text: &str) -> bool
     ensures { result ≡ list_all is_blank (chars text.now) }
 {
-    text.chars().all(|c| Class::Blank.contain(c))
+    text.chars().all(|c| Class::Blank.contains(c))
 }
 
 fn is_trimmed(text: &str) -> bool

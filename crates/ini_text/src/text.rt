@@ -23,7 +23,7 @@ pub(crate) enum Class {
 }
 
 impl Class {
-    pub(crate) fn contain(self, c: char) -> bool
+    pub(crate) fn contains(self, c: char) -> bool
         ensures { result ≡ is_in self c }
     {
         match self {
@@ -85,7 +85,7 @@ pub(crate) fn skip(text: &str, class: Class) -> &str
 {
     let mut rest = text;
     'characters: while let Some((c, after)) = split_first(rest) {
-        if !class.contain(c) {
+        if !class.contains(c) {
             return rest;
         }
         rest = after;

@@ -30,7 +30,7 @@ pub(crate) fn read_element<'a>(
     requires { chars text.now ≡ c ∷ chars after.now }
     ensures { Gives given result (element option (chars front.now) (chars text.now)) }
 {
-    if Class::Blank.contain(c) {
+    if Class::Blank.contains(c) {
         if starts_line(front) {
             return read_indented(alloc, scratch, text, option);
         }

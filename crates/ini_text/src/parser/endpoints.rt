@@ -22,7 +22,7 @@ pub(crate) enum Endpoints {
 }
 
 impl Endpoints {
-    pub(crate) fn contain(self, c: char) -> bool
+    pub(crate) fn contains(self, c: char) -> bool
         ensures { result ≡ is_endpoint (ends_of self) c }
     {
         match self {
@@ -50,7 +50,7 @@ impl Endpoints {
         }
     }
 
-    pub(crate) fn contain_text_end(self) -> bool
+    pub(crate) fn contains_text_end(self) -> bool
         ensures { result ≡ (ends_of self).text }
     {
         matches!(self, Endpoints::Plain)

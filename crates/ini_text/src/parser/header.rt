@@ -76,7 +76,7 @@ fn before_bracket(text: &str) -> Option<&str>
         if c == ']' {
             return Some(before);
         }
-        if !Class::Blank.contain(c) {
+        if !Class::Blank.contains(c) {
             return None;
         }
         rest = before;

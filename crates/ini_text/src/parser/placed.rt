@@ -207,7 +207,7 @@ fn find_tail<'a>(
             rest = after;
         } else if c == '\r' {
             rest = after_cr(after)?;
-        } else if Class::Blank.contain(c) {
+        } else if Class::Blank.contains(c) {
             scratch.clear();
             let end = read_line(
                 alloc,
@@ -248,7 +248,7 @@ fn without_pad(lines: &str) -> &str
         if c == '\\' {
             return lines;
         }
-        if !Class::InlineWhite.contain(c) {
+        if !Class::InlineWhite.contains(c) {
             return own;
         }
         own = before;

@@ -27,7 +27,7 @@ pub(crate) fn split_plain(text: &str, ends: Endpoints) -> Option<(&str, &str)>
             }
         }
         None => {
-            if !ends.contain_text_end() {
+            if !ends.contains_text_end() {
                 return None;
             }
         }
@@ -51,7 +51,7 @@ pub(crate) fn read_string<'a>(
         let (run, stop) = split_run(rest, ends);
         push_text(out, run)?;
         let Some((c, after)) = split_first(stop) else {
-            if ends.contain_text_end() {
+            if ends.contains_text_end() {
                 return Ok(stop);
             }
             return Err(Stop::new(ParseKind::EndOfText, ends.expected(), stop));
@@ -60,7 +60,7 @@ pub(crate) fn read_string<'a>(
             return Ok(stop);
         }
         let Some((d, behind)) = split_first(after) else {
-            if !ends.contain_text_end() {
+            if !ends.contains_text_end() {
                 return Err(Stop::new(ParseKind::EndOfText, ends.expected(), after));
             }
             push(out, '\\')?;

@@ -44,7 +44,7 @@ fn behind_first<'a>(front: &str, text: &'a str) -> Option<&'a str>
     ensures { behind_first (chars front.now) (chars text.now) ≡ option_map (λ after. chars after.now) result }
 {
     let (c, after) = split_first(text)?;
-    if Class::Blank.contain(c) && starts_line(front) {
+    if Class::Blank.contains(c) && starts_line(front) {
         let (end, behind) = split_first(skip(after, Class::Blank))?;
         return if is_line_end(end) { Some(behind) } else { None };
     }

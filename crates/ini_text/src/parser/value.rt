@@ -88,7 +88,7 @@ fn read_more<'a>(
         } else if c == '\r' {
             rest = after_cr(after)?;
             push(out, '\n')?;
-        } else if Class::Blank.contain(c) {
+        } else if Class::Blank.contains(c) {
             push(out, '\n')?;
             let end = read_line(alloc, out, skip(rest, Class::InlineWhite), option, false)?;
             let Some(next) = after_line_end(end) else {

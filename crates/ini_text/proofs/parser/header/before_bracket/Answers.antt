@@ -7,17 +7,17 @@ pub returns-then-c-eq93 : goal.returns-then-c-eq93
 returns-then-c-eq93 c =
     sym c.blanks.invariant.name ∙ ap name_in c.in-Some.ensures ∙ name_before_bracket _ _ c.if-c-eq93.true
 
-pub returns-then-not-contain : goal.returns-then-not-contain
-returns-then-not-contain c =
+pub returns-then-not-contains : goal.returns-then-not-contains
+returns-then-not-contains c =
     sym c.blanks.invariant.name ∙ ap name_in c.in-Some.ensures
     ∙ no_name_before (chars c.in-Some.before.now) c.in-Some.c
-    (sym c.contain.ensures ∙ c.if-not-contain.true) c.if-c-eq93.false
+    (sym c.contains.ensures ∙ c.if-not-contains.true) c.if-c-eq93.false
 
 pub blanks-preserved : goal.blanks-preserved
 blanks-preserved c = record {
   text = search rules;
   name =
       sym (name_before_blank (chars c.in-Some.before.now) c.in-Some.c
-      (sym c.contain.ensures ∙ c.if-not-contain.false))
+      (sym c.contains.ensures ∙ c.if-not-contains.false))
       ∙ ap name_in (sym c.in-Some.ensures) ∙ c.blanks.invariant.name;
 }

@@ -57,30 +57,30 @@ pub returns-in_err-end : goal.returns-in_err-end
 returns-in_err-end c =
     passed _ _ _ c.from_residual-in_err-end.ensures.1 c.in_err-end.ensures
     (λ r k h. tail_line_stops c.args.option c.skip-start.ensures c.lines.invariant.known
-    c.in-Some-split_first.ensures.characters (sym c.contain.ensures ∙ c.if-contain.true) c.skip.ensures
+    c.in-Some-split_first.ensures.characters (sym c.contains.ensures ∙ c.if-contains.true) c.skip.ensures
     (sym (from_nothing _ c.clear.ensures.bytes) ∙ h))
 
 pub returns-in_default-after_line_end : goal.returns-in_default-after_line_end
 returns-in_default-after_line_end c =
     let read = sym (from_nothing _ c.clear.ensures.bytes) ∙ c.in_ok-end.ensures in
     let feeds =
-    sym (c.skip-then-contain.ensures ∙ ap (λ b. skipped is_line_feed (chars b)) c.as_str.ensures.value) in
+    sym (c.skip-then-contains.ensures ∙ ap (λ b. skipped is_line_feed (chars b)) c.as_str.ensures.value) in
     elim c.match-split_first-2.branch [
       | in-Some-split_first-2 w ↦
           rw w.tail-is (last_line-own c.args.option c.skip-start.ensures
           (not-false _ c.if-not-option.false) c.lines.invariant.known
           c.in-Some-split_first.ensures.characters
-          (sym c.contain.ensures ∙ c.if-contain.true) c.skip.ensures read
+          (sym c.contains.ensures ∙ c.if-contains.true) c.skip.ensures read
           c.in_default-after_line_end.ensures
-          (feeds_some (string_text c.read_line-then-contain.new.out)
+          (feeds_some (string_text c.read_line-then-contains.new.out)
           (feeds ∙ w.in-Some-split_first-2.ensures.characters)))
       | in_default-split_first-2 w ↦
           rw w.tail-is (last_line-empty c.args.option c.skip-start.ensures
           (not-false _ c.if-not-option.false) c.lines.invariant.known
           c.in-Some-split_first.ensures.characters
-          (sym c.contain.ensures ∙ c.if-contain.true) c.skip.ensures read
+          (sym c.contains.ensures ∙ c.if-contains.true) c.skip.ensures read
           c.in_default-after_line_end.ensures
-          (feeds_all (string_text c.read_line-then-contain.new.out)
+          (feeds_all (string_text c.read_line-then-contains.new.out)
           (feeds ∙ w.in_default-split_first-2.ensures.characters)))
     ]
 
@@ -89,13 +89,13 @@ lines-smaller c =
     let read = sym (from_nothing _ c.clear.ensures.bytes) ∙ c.in_ok-end.ensures in
     line_shorter c.args.option c.skip-start.ensures (not-false _ c.if-not-option.false)
     c.lines.invariant.known c.in-Some-split_first.ensures.characters
-    (sym c.contain.ensures ∙ c.if-contain.true) c.skip.ensures read c.in-Some-after_line_end.ensures
+    (sym c.contains.ensures ∙ c.if-contains.true) c.skip.ensures read c.in-Some-after_line_end.ensures
 
 pub lines-preserved : goal.lines-preserved
 lines-preserved c =
     let read = sym (from_nothing _ c.clear.ensures.bytes) ∙ c.in_ok-end.ensures in
     let feeds =
-    sym (c.skip-then-contain.ensures ∙ ap (λ b. skipped is_line_feed (chars b)) c.as_str.ensures.value) in
+    sym (c.skip-then-contains.ensures ∙ ap (λ b. skipped is_line_feed (chars b)) c.as_str.ensures.value) in
     elim c.match-split_first-2.branch [
       | in-Some-split_first-2 w ↦
           rw w.tail-is record {
@@ -103,9 +103,9 @@ lines-preserved c =
             text = search rules;
             known = line-own c.args.option c.skip-start.ensures (not-false _ c.if-not-option.false)
                 c.lines.invariant.known c.in-Some-split_first.ensures.characters
-                (sym c.contain.ensures ∙ c.if-contain.true) c.skip.ensures read
+                (sym c.contains.ensures ∙ c.if-contains.true) c.skip.ensures read
                 c.in-Some-after_line_end.ensures
-                (feeds_some (string_text c.read_line-then-contain.new.out)
+                (feeds_some (string_text c.read_line-then-contains.new.out)
                 (feeds ∙ w.in-Some-split_first-2.ensures.characters));
           }
       | in_default-split_first-2 w ↦
@@ -114,18 +114,18 @@ lines-preserved c =
             text = search rules;
             known = line-empty c.args.option c.skip-start.ensures (not-false _ c.if-not-option.false)
                 c.lines.invariant.known c.in-Some-split_first.ensures.characters
-                (sym c.contain.ensures ∙ c.if-contain.true) c.skip.ensures read
+                (sym c.contains.ensures ∙ c.if-contains.true) c.skip.ensures read
                 c.in-Some-after_line_end.ensures
-                (feeds_all (string_text c.read_line-then-contain.new.out)
+                (feeds_all (string_text c.read_line-then-contains.new.out)
                 (feeds ∙ w.in_default-split_first-2.ensures.characters));
           }
     ]
 
-pub returns-else-contain : goal.returns-else-contain
-returns-else-contain c =
+pub returns-else-contains : goal.returns-else-contains
+returns-else-contains c =
     tail_other c.args.option c.skip-start.ensures (not-false _ c.if-not-option.false)
     c.lines.invariant.known c.in-Some-split_first.ensures.characters c.if-c-eq10.false c.if-c-eq13.false
-    (sym c.contain.ensures ∙ c.if-contain.false)
+    (sym c.contains.ensures ∙ c.if-contains.false)
 
 pub returns : goal.returns
 returns c = tail_at_end c.args.option c.skip-start.ensures (not-false _ c.if-not-option.false)

@@ -10,10 +10,10 @@ returns-then-c-eq92 c =
     pad_escaped (chars c.in-Some.before.now) c.in-Some.c c.white.invariant.pad c.in-Some.ensures
     c.if-c-eq92.true
 
-pub returns-then-not-contain : goal.returns-then-not-contain
-returns-then-not-contain c =
+pub returns-then-not-contains : goal.returns-then-not-contains
+returns-then-not-contains c =
     pad_bare (chars c.in-Some.before.now) c.in-Some.c c.white.invariant.pad c.in-Some.ensures
-    c.if-c-eq92.false (sym c.contain.ensures ∙ c.if-not-contain.true)
+    c.if-c-eq92.false (sym c.contains.ensures ∙ c.if-not-contains.true)
 
 pub white-smaller : goal.white-smaller
 white-smaller c = shorter_before (chars c.in-Some.before.now) c.in-Some.c c.in-Some.ensures
@@ -23,7 +23,7 @@ white-preserved c = record {
   text = search rules;
   pad =
       pad_more c.in-Some.c c.white.invariant.pad c.in-Some.ensures
-      (sym c.contain.ensures ∙ c.if-not-contain.false);
+      (sym c.contains.ensures ∙ c.if-not-contains.false);
 }
 
 pub returns : goal.returns

@@ -13,12 +13,12 @@ use Rattle.ini_text.proofs.parser.string.read_string.Goals.{then-escapes+then-d-
 pub pieces-init : goal.pieces-init
 pieces-init c = record { text = search rules; read = refl }
 
-pub returns-then-contain_text_end : goal.returns-then-contain_text_end
-returns-then-contain_text_end c =
+pub returns-then-contains_text_end : goal.returns-then-contains_text_end
+returns-then-contains_text_end c =
     and_found _ (and_more _ _ _ c.pieces.invariant.read
     (string_run _ _ _ _ c.split_run.ensures.parts c.split_run.ensures.run) c.in_ok-push_text.ensures)
     (string_at_end _ _ c.in_default.ensures.characters
-    (sym c.if-contain_text_end.true ∙ c.contain_text_end.ensures)) (sym (append-nil _))
+    (sym c.if-contains_text_end.true ∙ c.contains_text_end.ensures)) (sym (append-nil _))
 
 pub returns-in_default : goal.returns-in_default
 returns-in_default c =
@@ -26,7 +26,7 @@ returns-in_default c =
     (and_more _ _ _ c.pieces.invariant.read
     (string_run _ _ _ _ c.split_run.ensures.parts c.split_run.ensures.run) c.in_ok-push_text.ensures)
     (string_at_end _ _ c.in_default.ensures.characters
-    (sym c.if-contain_text_end.false ∙ c.contain_text_end.ensures)))
+    (sym c.if-contains_text_end.false ∙ c.contains_text_end.ensures)))
 
 pub returns-then-c-ne92 : goal.returns-then-c-ne92
 returns-then-c-ne92 c =
@@ -35,14 +35,14 @@ returns-then-c-ne92 c =
     (string_at_endpoint _ _ c.in-Some.ensures.characters c.if-c-ne92.true c.split_run.ensures.stops)
     (sym (append-nil _))
 
-pub returns-then-not-contain_text_end : goal.returns-then-not-contain_text_end
-returns-then-not-contain_text_end c =
-    rw c.new-then-not-contain_text_end.ensures
+pub returns-then-not-contains_text_end : goal.returns-then-not-contains_text_end
+returns-then-not-contains_text_end c =
+    rw c.new-then-not-contains_text_end.ensures
     (and_stopped _ (and_more _ _ _ c.pieces.invariant.read
     (string_run _ _ _ _ c.split_run.ensures.parts c.split_run.ensures.run) c.in_ok-push_text.ensures)
     (string_at_backslash _ _ c.in-Some.ensures.characters c.if-c-ne92.false
     c.in_default-split_first.ensures.characters
-    (sym c.if-not-contain_text_end.true ∙ c.contain_text_end-in_default-split_first.ensures)))
+    (sym c.if-not-contains_text_end.true ∙ c.contains_text_end-in_default-split_first.ensures)))
 
 pub returns-in_default-split_first : goal.returns-in_default-split_first
 returns-in_default-split_first c =
@@ -50,7 +50,7 @@ returns-in_default-split_first c =
     (string_run _ _ _ _ c.split_run.ensures.parts c.split_run.ensures.run) c.in_ok-push_text.ensures)
     (string_at_backslash _ _ c.in-Some.ensures.characters c.if-c-ne92.false
     c.in_default-split_first.ensures.characters
-    (sym c.if-not-contain_text_end.false ∙ c.contain_text_end-in_default-split_first.ensures))
+    (sym c.if-not-contains_text_end.false ∙ c.contains_text_end-in_default-split_first.ensures))
     c.in_ok-push.ensures
 
 pub returns-in_err-rest : goal.returns-in_err-rest

@@ -32,18 +32,18 @@ returns-in_err-end c =
     passed _ _ _ c.from_residual-in_err-end.ensures.1 c.in_err-end.ensures
     (λ r k h. c.lines.invariant.read
     ∙ line_stops c.args.option _ _ c.in-Some.ensures.characters
-    (sym c.contain.ensures ∙ c.if-contain.true) c.skip.ensures c.in_ok-push-3.ensures h)
+    (sym c.contains.ensures ∙ c.if-contains.true) c.skip.ensures c.in_ok-push-3.ensures h)
 
 pub returns-in_default-after_line_end : goal.returns-in_default-after_line_end
 returns-in_default-after_line_end c =
     c.lines.invariant.read
-    ∙ line_ends c.args.option _ _ c.in-Some.ensures.characters (sym c.contain.ensures ∙ c.if-contain.true)
+    ∙ line_ends c.args.option _ _ c.in-Some.ensures.characters (sym c.contains.ensures ∙ c.if-contains.true)
     c.skip.ensures c.in_ok-push-3.ensures c.in_ok-end.ensures c.in_default-after_line_end.ensures
 
 pub lines-smaller : goal.lines-smaller
 lines-smaller c =
     (line_goes_on c.args.option _ _ c.in-Some.ensures.characters
-    (sym c.contain.ensures ∙ c.if-contain.true) c.skip.ensures c.in_ok-push-3.ensures
+    (sym c.contains.ensures ∙ c.if-contains.true) c.skip.ensures c.in_ok-push-3.ensures
     c.in_ok-end.ensures c.in-Some-after_line_end.ensures).1
 
 pub lines-preserved : goal.lines-preserved
@@ -51,15 +51,15 @@ lines-preserved c = record {
   text = search rules;
   read = c.lines.invariant.read
       ∙ (line_goes_on c.args.option _ _ c.in-Some.ensures.characters
-      (sym c.contain.ensures ∙ c.if-contain.true) c.skip.ensures c.in_ok-push-3.ensures
+      (sym c.contains.ensures ∙ c.if-contains.true) c.skip.ensures c.in_ok-push-3.ensures
       c.in_ok-end.ensures c.in-Some-after_line_end.ensures).0;
 }
 
-pub returns-else-contain : goal.returns-else-contain
-returns-else-contain c =
+pub returns-else-contains : goal.returns-else-contains
+returns-else-contains c =
     and_found _ c.lines.invariant.read
     (no_more_lines c.args.option c.in-Some.ensures.characters c.if-c-eq10.false c.if-c-eq13.false
-    (sym c.contain.ensures ∙ c.if-contain.false))
+    (sym c.contains.ensures ∙ c.if-contains.false))
     (sym (append-nil _))
 
 pub returns : goal.returns
