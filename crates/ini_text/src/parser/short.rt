@@ -8,11 +8,11 @@ ghost use Rattle.ini_text.specs.Inside.ShortPieces.{IsEscape, IsShort, Sees};
 ghost use Rattle.ini_text.specs.Inside.StringReader.{coded, string};
 ghost use Rattle.ini_text.specs.Parsing.Items.{string_text};
 ghost use Rattle.ini_text.specs.declared.lanes.TheConstants.{LANES};
-ghost use Rattle.ini_text.specs.declared.parser.block.TheConstants.{ROOM};
+ghost use Rattle.ini_text.specs.declared.parser.block.TheConstants.{BLOCK_LENGTH};
 ghost use Rattle.ini_text.specs.declared.parser.short.TheConstants.{CODE, LONGEST_ESCAPE};
 
 use crate::lanes::{LANES, marks_ahead, place_lanes};
-use crate::parser::block::{LONGEST, ROOM, place};
+use crate::parser::block::{BLOCK_LENGTH, LONGEST_CHARACTER, place};
 use crate::parser::endpoints::Endpoints;
 use crate::parser::tables::{digit, letter_value};
 use crate::text::push_text;
@@ -42,7 +42,7 @@ pub(crate) fn read_short<'a>(
     if !escapes {
         return Ok(text);
     }
-    let mut block = [0; ROOM];
+    let mut block = [0; BLOCK_LENGTH];
     let (len, rest) = gather(&mut block, text, ends);
     if len == 0 {
         return Ok(text);
@@ -59,8 +59,8 @@ pub(crate) fn read_short<'a>(
 
 /// Gathers the values of some short pieces, and gives how many bytes these are, and what follows the pieces.
 #[inline(always)]
-fn gather<'a>(block: &mut [u8; ROOM], text: &'a str, ends: Endpoints) -> (usize, &'a str)
-    ensures within { result.0 ≤ ROOM }
+fn gather<'a>(block: &mut [u8; BLOCK_LENGTH], text: &'a str, ends: Endpoints) -> (usize, &'a str)
+    ensures within { result.0 ≤ BLOCK_LENGTH }
     ensures read { string true (ends_of ends) (chars text.now)
         ≡ prepend (chars (take result.0 block.new)) (string true (ends_of ends) (chars result.1.now)) }
     ensures shorter { length (chars result.1.now) ≤ length (chars text.now) }
@@ -68,7 +68,7 @@ fn gather<'a>(block: &mut [u8; ROOM], text: &'a str, ends: Endpoints) -> (usize,
     let mut len = 0;
     let mut rest = text;
     let mut found = 0;
-    'pieces: while len <= ROOM - LANES - LONGEST {
+    'pieces: while len <= BLOCK_LENGTH - LANES - LONGEST_CHARACTER {
         let Some((plain, value, taken, marks)) = split_short(rest, found, ends) else {
             break 'pieces;
         };
