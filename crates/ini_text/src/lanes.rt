@@ -53,9 +53,9 @@ pub(crate) fn run_before<M: Marks>(bytes: &[u8], marks: &M) -> usize
 {
     let mut at = 0;
     'lanes: while bytes.len() - at >= LANES {
-        let found = marks.find(u8x16::from_slice(&bytes[at..]));
-        if found != 0 {
-            return at + found.trailing_zeros() as usize;
+        let bits = marks.find(u8x16::from_slice(&bytes[at..]));
+        if bits != 0 {
+            return at + bits.trailing_zeros() as usize;
         }
         at += LANES;
     }

@@ -67,37 +67,37 @@ fn gather<'a>(block: &mut [u8; BLOCK_LENGTH], text: &'a str, ends: Endpoints) ->
 {
     let mut len = 0;
     let mut rest = text;
-    let mut found = 0;
+    let mut known = 0;
     'pieces: while len <= BLOCK_LENGTH - LANES - LONGEST_CHARACTER {
-        let Some((plain, value, taken, marks)) = split_short(rest, found, ends) else {
+        let Some((plain, value, taken, bits)) = split_short(rest, known, ends) else {
             break 'pieces;
         };
         place_lanes(block, len, u8x16::from_slice(rest.as_bytes()));
         len = place(block, len + plain, value);
         let (_, behind) = rest.split_at(plain + taken);
         rest = behind;
-        found = marks >> (plain + taken);
+        known = bits >> (plain + taken);
     }
     (len, rest)
 }
 
 /// How many bytes of a run stand before an escape, what that stands for, and how many bytes it has, with the
-/// marks that are found.
+/// bits of the bytes that end a run.
 #[inline(always)]
-fn split_short(text: &str, found: u64, ends: Endpoints) -> Option<(usize, char, usize, u64)>
-    requires { Sees (ends_of ends) found text.now }
+fn split_short(text: &str, known: u64, ends: Endpoints) -> Option<(usize, char, usize, u64)>
+    requires { Sees (ends_of ends) known text.now }
     ensures piece { IfSome result (λ p. IsShort (ends_of ends) text.now p.0 p.1 p.2) }
     ensures seen { IfSome result (λ p. Sees (ends_of ends) p.3 text.now) }
 {
     // So many bytes follow that a run and an escape need no test of length.
-    let marks = marks_ahead(text.as_bytes(), found, LANES, &ends.marks());
-    if marks == 0 {
+    let bits = marks_ahead(text.as_bytes(), known, LANES, &ends.marks());
+    if bits == 0 {
         return None;
     }
-    let plain = marks.trailing_zeros() as usize;
+    let plain = bits.trailing_zeros() as usize;
     let (_, stop) = text.split_at(plain);
     let (value, taken) = split_escape(stop)?;
-    Some((plain, value, taken, marks))
+    Some((plain, value, taken, bits))
 }
 
 /// What an escape stands for that is read without a look at what follows it, and how many bytes it has.

@@ -24,8 +24,8 @@ pieces-init c = record {
 pub split_at-requires : goal.split_at-requires
 split_at-requires c = let piece = c.in-Some.ensures.piece in piece.cut
 
-pub overflow_shr-found : goal.overflow_shr-found
-overflow_shr-found c = let piece = c.in-Some.ensures.piece in omega (arith, piece.within, piece.few)
+pub overflow_shr-known : goal.overflow_shr-known
+overflow_shr-known c = let piece = c.in-Some.ensures.piece in omega (arith, piece.within, piece.few)
 
 pub pieces-preserved : goal.pieces-preserved
 pieces-preserved c =

@@ -17,6 +17,6 @@ invariant-pieces l = record {
   values : IsUtf8 (take l.len l.block);
   read : string true (ends_of l.ends) (chars l.fn.text) ≡ prepend (chars (take l.len l.block))
       (string true (ends_of l.ends) (chars l.rest));
-  seen : Sees (ends_of l.ends) l.found l.rest;
+  seen : Sees (ends_of l.ends) l.known l.rest;
   shorter : length (chars l.rest) ≤ length (chars l.fn.text);
 }
