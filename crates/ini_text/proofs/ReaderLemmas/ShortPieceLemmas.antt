@@ -15,13 +15,13 @@ use Rattle.ini_text.specs.Grammar.Strings.{Ends, plain_ends}
 use Rattle.ini_text.specs.Inside.Endpoints.{ends_of}
 use Rattle.ini_text.specs.Inside.Lanes.{Tells, is_one_of}
 use Rattle.ini_text.specs.Inside.Reading.{found, prepend, and_then}
-use Rattle.ini_text.specs.Inside.Scans.{is_plain}
+use Rattle.ini_text.specs.Inside.Scans.{is_raw}
 use Rattle.ini_text.specs.Inside.ShortPieces.{IsEscape, IsShort, Sees}
 use Rattle.ini_text.specs.Inside.StringReader.{coded, string}
 use Rattle.ini_text.proofs.ReaderLemmas.ReaderLemmas.{prepend-nil, prepend-prepend}
 use Rattle.ini_text.proofs.ReaderLemmas.StringReaderLemmas.{string_run, string_pair, string_coded, coded_digits, coded_shortens}
 use Rattle.ini_text.proofs.StringLemmas.LaneLemmas.{Tells-same, same_run, stops_at}
-use Rattle.ini_text.proofs.StringLemmas.RunLemmas.{boundary, plain_wide, split_chars, run_chars}
+use Rattle.ini_text.proofs.StringLemmas.RunLemmas.{boundary, raw_wide, split_chars, run_chars}
 
 -- a text whose first two bytes are ASCII
 pub record BeginsWithTwo (t : List ℕ) (a b : ℕ) : Type 0 where
@@ -121,41 +121,41 @@ twice false = refl
 
 -- bits of the bytes at which a string stops
 to_marks : (ends : Endpoints) (three : Three)
-    → ((c : ℕ) → is_plain (ends_of ends) c ≡ not (is_one_of three.0 three.1 three.2 c)) → (c : ℕ)
-    → not (is_plain (ends_of ends) c) ≡ is_one_of three.0 three.1 three.2 c
+    → ((c : ℕ) → is_raw (ends_of ends) c ≡ not (is_one_of three.0 three.1 three.2 c)) → (c : ℕ)
+    → not (is_raw (ends_of ends) c) ≡ is_one_of three.0 three.1 three.2 c
 to_marks ends three same c = ap not (same c) ∙ sym (twice (is_one_of three.0 three.1 three.2 c))
 
 pub told : (ends : Endpoints) (three : Three) {bits : ℕ} {t : List ℕ}
-    → ((c : ℕ) → is_plain (ends_of ends) c ≡ not (is_one_of three.0 three.1 three.2 c))
+    → ((c : ℕ) → is_raw (ends_of ends) c ≡ not (is_one_of three.0 three.1 three.2 c))
     → Sees (ends_of ends) bits t
     → Tells (is_one_of three.0 three.1 three.2) 16 bits t
 told ends three same = Tells-same _ _ (to_marks ends three same)
 
 pub seen : (ends : Endpoints) (three : Three) {bits : ℕ} {t : List ℕ}
-    → ((c : ℕ) → is_plain (ends_of ends) c ≡ not (is_one_of three.0 three.1 three.2 c))
+    → ((c : ℕ) → is_raw (ends_of ends) c ≡ not (is_one_of three.0 three.1 three.2 c))
     → Tells (is_one_of three.0 three.1 three.2) 16 bits t
     → Sees (ends_of ends) bits t
 seen ends three same = Tells-same _ _ (λ c. sym (to_marks ends three same c))
 
 -- the run before the first mark that is seen
 pub run_seen : (to : Ends) {bits : ℕ} {t : List ℕ} → Sees to bits t → 0 < bits
-    → (count_trailing_zeros 64 bits ≡ prefix_len (is_plain to) t) × (count_trailing_zeros 64 bits ≤ 16)
+    → (count_trailing_zeros 64 bits ≡ prefix_len (is_raw to) t) × (count_trailing_zeros 64 bits ≤ 16)
     × (count_trailing_zeros 64 bits + 16 ≤ length t)
 run_seen to {bits} {t} sees some =
-    let stops = stops_at (λ c. not (is_plain to c)) t sees some in (
-      stops.position ∙ sym (same_run (is_plain to) (λ x. not (not (is_plain to x)))
-          (λ c. twice (is_plain to c)) t),
+    let stops = stops_at (λ c. not (is_raw to c)) t sees some in (
+      stops.position ∙ sym (same_run (is_raw to) (λ x. not (not (is_raw to x)))
+          (λ c. twice (is_raw to c)) t),
       omega (arith, stops.below),
       omega (arith, stops.within),
     )
 
 -- a run and an escape
 pub short_piece : (ends : Endpoints) (t stop : List ℕ) (n v k : ℕ) → IsUtf8 t → 16 ≤ length t → n ≤ 16
-    → n ≡ prefix_len (is_plain (ends_of ends)) t → stop ≡ drop n t → IsEscape stop v k
+    → n ≡ prefix_len (is_raw (ends_of ends)) t → stop ≡ drop n t → IsEscape stop v k
     → IsShort (ends_of ends) t n v k
 short_piece ends t stop n v k u long within is behind escape =
-    let plain = is_plain (ends_of ends) in
-    let cut : IsCharBoundary t n = subst (IsCharBoundary t) (sym is) (boundary plain t (plain_wide ends)) in
+    let plain = is_raw (ends_of ends) in
+    let cut : IsCharBoundary t n = subst (IsCharBoundary t) (sym is) (boundary plain t (raw_wide ends)) in
     let run = take n t in
     let parts = split_chars t run stop n u cut refl behind in
     let rest : drop k stop ≡ drop (n + k) t = ap (drop k) behind ∙ drop-drop k n t in
@@ -169,7 +169,7 @@ short_piece ends t stop n v k u long within is behind escape =
       cut = IsCharBoundary-from_rest t n k (omega arith) (subst (λ x. IsCharBoundary x k) behind escape.cut);
       read =
           string_run true (ends_of ends) (chars run) (chars stop) parts
-          (run_chars plain t run n (plain_wide ends) u is refl)
+          (run_chars plain t run n (raw_wide ends) u is refl)
           ∙ ap (prepend (chars run)) read
           ∙ prepend-prepend (chars run) (v ∷ []) (string true (ends_of ends) (chars (drop (n + k) t)));
       shorter = omega (

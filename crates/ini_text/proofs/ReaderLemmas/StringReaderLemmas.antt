@@ -12,7 +12,7 @@ use Rattle.ini_text.specs.Grammar.CharacterKinds.{backslash, line_feed, plus, le
 use Rattle.ini_text.specs.Grammar.EscapeSequences.{control, spelled, EscapeSequence, Units, spelled_by, EscapeStops}
 use Rattle.ini_text.specs.Grammar.Strings.{Ends, is_endpoint, Row, Closes, Str, StrStops}
 use Rattle.ini_text.specs.Inside.Reading.{Answer, found, stopped, prepend, and_then, Step, more, ends, go_on}
-use Rattle.ini_text.specs.Inside.Scans.{is_plain}
+use Rattle.ini_text.specs.Inside.Scans.{is_raw}
 use Rattle.ini_text.specs.Inside.StringReader.{folded_unit, units, character, spelt, coded, value_behind_backslash, as_step, escape, piece, string}
 use Rattle.ini_text.proofs.ReaderLemmas.ReaderLemmas.{prepend-nil, prepend-prepend, Says, IsReader, StepSays, prefixed, and_found, and_stopped, read_behind, turn, shortens, reads}
 
@@ -125,7 +125,7 @@ escape_of e c other = elim (cases_Bool (c == line_feed)) [
 abbrev pub StringSays : Bool → Ends → List ℕ → Answer ℕ → Type 0
 StringSays e to t a = Says (Str e to) (StrStops e to) t a
 
-plain_parts : (to : Ends) (c : ℕ) → is_plain to c ≡ true → (c ≢ backslash) × (is_endpoint to c ≡ false)
+plain_parts : (to : Ends) (c : ℕ) → is_raw to c ≡ true → (c ≢ backslash) × (is_endpoint to c ≡ false)
 plain_parts to c h = let two = and_parts (not (c == backslash)) (not (is_endpoint to c)) h in
     (eqb-false c 92 (not-true (c == backslash) two.0), not-true (is_endpoint to c) two.1)
 
@@ -255,14 +255,14 @@ module _ (e : Bool) (to : Ends) where
       ∙ ap (go_on (string e to)) (piece-escape k (s ++ r))
       ∙ ap (prepend w) (Row-read x r) ∙ prepend-prepend w v (string e to r)
 
-  run_row : (run : List ℕ) → list_all (is_plain to) run ≡ true → Row e to run run
+  run_row : (run : List ℕ) → list_all (is_raw to) run ≡ true → Row e to run run
   run_row [] h = Row.none
   run_row (c ∷ run) h =
-      let two = and_parts (is_plain to c) (list_all (is_plain to) run) h in let plain =
+      let two = and_parts (is_raw to c) (list_all (is_raw to) run) h in let plain =
       plain_parts to c two.0 in Row.raw plain.0 plain.1 (run_row run two.1)
 
   -- characters that stand for themselves
-  pub string_run : {t : List ℕ} (run rest : List ℕ) → t ≡ run ++ rest → list_all (is_plain to) run ≡ true
+  pub string_run : {t : List ℕ} (run rest : List ℕ) → t ≡ run ++ rest → list_all (is_raw to) run ≡ true
       → string e to t ≡ prepend run (string e to rest)
   string_run run rest whole h = ap (string e to) whole ∙ Row-read (run_row run h) rest
 
@@ -271,7 +271,7 @@ module _ (e : Bool) (to : Ends) where
   string_at_end none is = rw (none, is) (string-turn [])
 
   pub string_at_endpoint : {t cs : List ℕ} {c : ℕ} → t ≡ c ∷ cs → c ≢ backslash
-      → BeginsWithNo (is_plain to) t → string e to t ≡ found [] t
+      → BeginsWithNo (is_raw to) t → string e to t ≡ found [] t
   string_at_endpoint {cs = cs} {c} is n closes =
       let other : is_endpoint to c ≡ true =
       not-false (is_endpoint to c) (rw (is, ne_eqb c 92 n) at closes) in

@@ -8,7 +8,7 @@ use Rattle.std.proofs.lemmas.Bool.Decides.{nat_tests}
 use Rattle.std.proofs.lemmas.Str.{IsCharBoundary-before_ascii, IsCharBoundary-end, encode_ascii, encodes-chars, IsUtf8-take, IsUtf8-drop, chars-append, chars_past_char, chars-nil}
 use Rattle.std.proofs.Math.Seq.{drop-cons}
 use Rattle.std.proofs.lemmas.List.{drop_all}
-use Rattle.ini_text.specs.Inside.Scans.{is_plain, skipped}
+use Rattle.ini_text.specs.Inside.Scans.{is_raw, skipped}
 use Rattle.ini_text.specs.Inside.Endpoints.{ends_of}
 use Rattle.ini_text.specs.Grammar.CharacterKinds.{is_line_feed, BeginsWithNo}
 use Rattle.ini_text.proofs.ReaderLemmas.RunReaderLemmas.{run-finds}
@@ -87,13 +87,13 @@ run_stops p bs back n wide u e k =
           subst (BeginsWithNo p) (sym (ap chars (k' ∙ drop_all (prefix_len p bs) bs past) ∙ chars-nil)) tt
     ]
 
-pub plain_wide : (ends : Endpoints) (c : ℕ) → 128 ≤ c → is_plain (ends_of ends) c ≡ true
-plain_wide Name c l = grind (arith, nat_tests)
-plain_wide BracketedName c l = grind (arith, nat_tests)
-plain_wide Key c l = grind (arith, nat_tests)
-plain_wide DoubleQuotes c l = grind (arith, nat_tests)
-plain_wide SingleQuotes c l = grind (arith, nat_tests)
-plain_wide Plain c l = grind (arith, nat_tests)
+pub raw_wide : (ends : Endpoints) (c : ℕ) → 128 ≤ c → is_raw (ends_of ends) c ≡ true
+raw_wide Name c l = grind (arith, nat_tests)
+raw_wide BracketedName c l = grind (arith, nat_tests)
+raw_wide Key c l = grind (arith, nat_tests)
+raw_wide DoubleQuotes c l = grind (arith, nat_tests)
+raw_wide SingleQuotes c l = grind (arith, nat_tests)
+raw_wide Plain c l = grind (arith, nat_tests)
 
 pub line_feed_narrow : (c : ℕ) → 128 ≤ c → not (is_line_feed c) ≡ true
 line_feed_narrow c l = grind (arith, nat_tests)

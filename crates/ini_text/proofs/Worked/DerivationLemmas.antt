@@ -17,6 +17,7 @@ use Rattle.ini_text.specs.Grammar.Keys.{Indentation, begins_key, begins_indented
 use Rattle.ini_text.specs.Grammar.Elements.{Given, Element, ElementStops, Gap}
 use Rattle.ini_text.specs.Grammar.Elements.Given.{Header, Pair}
 use Rattle.ini_text.specs.Grammar.Texts.{Reads, Derives, Stops}
+use Rattle.ini_text.specs.Inside.Scans.{is_raw}
 use Rattle.ini_text.specs.declared.option.ParseOption.{ParseOption}
 use Rattle.ini_text.specs.declared.error.ParseKind.{ParseKind}
 use Rattle.ini_text.proofs.GrammarLemmas.ItemLemmas.{reads-append}
@@ -87,10 +88,6 @@ begins_with_no test (c ∷ cs) h = not-true (test c) h
 closed_by : (ends : Ends) (r : List ℕ) → closes ends r ≡ true → Closes ends r
 closed_by ends [] h = h
 closed_by ends (c ∷ cs) h = h
-
--- a character that stands for itself
-abbrev pub is_raw : Ends → ℕ → Bool
-is_raw ends c = not (c == backslash) && not (is_endpoint ends c)
 
 -- raw characters before a row
 pub raws_before : {escapes : Bool} {ends : Ends} {t v : List ℕ} (s : List ℕ)

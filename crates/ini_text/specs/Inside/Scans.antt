@@ -14,8 +14,8 @@ is_in classes.InlineWhite c = is_inline_white c
 is_in classes.LineFeed c = is_line_feed c
 
 -- the character stands for itself in a string, and ends nothing
-abbrev pub is_plain : Ends → ℕ → Bool
-is_plain ends c = not (c == backslash) && not (is_endpoint ends c)
+abbrev pub is_raw : Ends → ℕ → Bool
+is_raw ends c = not (c == backslash) && not (is_endpoint ends c)
 
 -- the characters that pass a test, and what follows them
 abbrev pub run_of : (ℕ → Bool) → List ℕ → List ℕ

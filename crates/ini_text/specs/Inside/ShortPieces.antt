@@ -5,12 +5,12 @@ use Rattle.std.specs.Str.{IsUtf8, IsCharBoundary}
 use Rattle.ini_text.specs.Grammar.Strings.{Ends}
 use Rattle.ini_text.specs.Inside.Lanes.{Tells}
 use Rattle.ini_text.specs.Inside.Reading.{prepend}
-use Rattle.ini_text.specs.Inside.Scans.{is_plain}
+use Rattle.ini_text.specs.Inside.Scans.{is_raw}
 use Rattle.ini_text.specs.Inside.StringReader.{string}
 
 -- the bits tell which of the text's first bytes, at most sixteen, are marks; sixteen follow them
 abbrev pub Sees : Ends → ℕ → List ℕ → Type 0
-Sees to bits text = Tells (λ c. not (is_plain to c)) 16 bits text
+Sees to bits text = Tells (λ c. not (is_raw to c)) 16 bits text
 
 -- at the text's front: an escape of n bytes that stands for the character v
 pub record IsEscape (text : List ℕ) (v n : ℕ) : Type 0 where

@@ -5,7 +5,7 @@ ghost use Rattle.ini_text.specs.Grammar.CharacterKinds.{BeginsWithNo};
 ghost use Rattle.ini_text.specs.Grammar.Strings.{is_endpoint};
 ghost use Rattle.ini_text.specs.Inside.Endpoints.{ends_of};
 ghost use Rattle.ini_text.specs.Inside.Lanes.{is_one_of};
-ghost use Rattle.ini_text.specs.Inside.Scans.{is_plain};
+ghost use Rattle.ini_text.specs.Inside.Scans.{is_raw};
 
 use crate::lanes::{Three, run_before};
 
@@ -38,7 +38,7 @@ impl Endpoints {
     /// The bytes at which a string stops: a backslash, and the characters at which it ends.
     #[tactic(auto, using(crate::proofs::StringLemmas::LaneLemmas::no_marks))]
     pub(crate) fn marks(self) -> Three
-        ensures { (c : ℕ) → is_plain (ends_of self) c ≡ not (is_one_of result.0 result.1 result.2 c) }
+        ensures { (c : ℕ) → is_raw (ends_of self) c ≡ not (is_one_of result.0 result.1 result.2 c) }
     {
         match self {
             Endpoints::Name => Three(b'\\', b']', b']'),
@@ -70,7 +70,7 @@ impl Endpoints {
 }
 
 fn run_len(bytes: &[u8], ends: Endpoints) -> usize
-    ensures len { result ≡ prefix_len (is_plain (ends_of ends)) bytes.now }
+    ensures len { result ≡ prefix_len (is_raw (ends_of ends)) bytes.now }
     ensures within { result ≤ length bytes.now }
 {
     run_before(bytes, &ends.marks())
@@ -80,8 +80,8 @@ fn run_len(bytes: &[u8], ends: Endpoints) -> usize
 /// them.
 pub(crate) fn split_run(text: &str, ends: Endpoints) -> (&str, &str)
     ensures parts { chars text.now ≡ chars result.0.now ++ chars result.1.now }
-    ensures run { list_all (is_plain (ends_of ends)) (chars result.0.now) ≡ true }
-    ensures stops { BeginsWithNo (is_plain (ends_of ends)) (chars result.1.now) }
+    ensures run { list_all (is_raw (ends_of ends)) (chars result.0.now) ≡ true }
+    ensures stops { BeginsWithNo (is_raw (ends_of ends)) (chars result.1.now) }
 {
     text.split_at(run_len(text.as_bytes(), ends))
 }

@@ -69,14 +69,14 @@ fn gather<'a>(block: &mut [u8; BLOCK_LENGTH], text: &'a str, ends: Endpoints) ->
     let mut rest = text;
     let mut known = 0;
     'pieces: while len <= BLOCK_LENGTH - LANES - LONGEST_CHARACTER {
-        let Some((plain, value, taken, bits)) = split_short(rest, known, ends) else {
+        let Some((run, value, taken, bits)) = split_short(rest, known, ends) else {
             break 'pieces;
         };
         place_lanes(block, len, u8x16::from_slice(rest.as_bytes()));
-        len = place(block, len + plain, value);
-        let (_, behind) = rest.split_at(plain + taken);
+        len = place(block, len + run, value);
+        let (_, behind) = rest.split_at(run + taken);
         rest = behind;
-        known = bits >> (plain + taken);
+        known = bits >> (run + taken);
     }
     (len, rest)
 }
@@ -94,10 +94,10 @@ fn split_short(text: &str, known: u64, ends: Endpoints) -> Option<(usize, char, 
     if bits == 0 {
         return None;
     }
-    let plain = bits.trailing_zeros() as usize;
-    let (_, stop) = text.split_at(plain);
+    let run = bits.trailing_zeros() as usize;
+    let (_, stop) = text.split_at(run);
     let (value, taken) = split_escape(stop)?;
-    Some((plain, value, taken, bits))
+    Some((run, value, taken, bits))
 }
 
 /// What an escape stands for that is read without a look at what follows it, and how many bytes it has.

@@ -16,7 +16,7 @@ use std::alloc::AllocError;
 
 /// A string of one run, and what follows it, from its endpoint on. `None` where it has a backslash, or
 /// isn't ended.
-pub(crate) fn split_plain(text: &str, ends: Endpoints) -> Option<(&str, &str)>
+pub(crate) fn split_raw(text: &str, ends: Endpoints) -> Option<(&str, &str)>
     ensures { IfSome result (λ p. ReadsRaw (ends_of ends) (chars text.now) (chars p.0.now) (chars p.1.now)) }
 {
     let (run, rest) = split_run(text, ends);

@@ -9,7 +9,7 @@ ghost use Rattle.ini_text.specs.Parsing.Items.{string_text};
 
 use crate::parser::endpoints::Endpoints;
 use crate::parser::fault::Stop;
-use crate::parser::string::{read_string, split_plain};
+use crate::parser::string::{read_string, split_raw};
 use crate::text::trimmed;
 use std::alloc::Global;
 
@@ -28,7 +28,7 @@ pub(crate) fn read_trimmed<'a>(
         (altered (trimmed_at both) (string escapes (ends_of ends) (chars text.now))) }
 {
     // Most strings are one run of the text: they are copied once, as long as they are.
-    if let Some((run, rest)) = split_plain(text, ends) {
+    if let Some((run, rest)) = split_raw(text, ends) {
         let kept = String::from_str(alloc, trimmed(run, both))?;
         return Ok((kept, rest));
     }

@@ -6,7 +6,7 @@ use Rattle.ini_text.specs.Inside.Endpoints.{ends_of}
 use Rattle.ini_text.proofs.ReaderLemmas.ReaderLemmas.{and_more, from_nothing}
 use Rattle.ini_text.proofs.ReaderLemmas.ShortPieceLemmas.{gathered}
 use Rattle.ini_text.proofs.StringLemmas.LaneLemmas.{Tells-none, Tells-past}
-use Rattle.ini_text.specs.Inside.Scans.{is_plain}
+use Rattle.ini_text.specs.Inside.Scans.{is_raw}
 use Rattle.ini_text.proofs.parser.short.gather.Goals as goal
 
 pub pieces-init : goal.pieces-init
@@ -17,7 +17,7 @@ pieces-init c = record {
   read =
       sym (from_nothing _ refl);
   seen =
-      Tells-none (λ x. not (is_plain (ends_of c.args.ends) x)) 16 c.args.text.now;
+      Tells-none (λ x. not (is_raw (ends_of c.args.ends) x)) 16 c.args.text.now;
   shorter = omega arith;
 }
 
@@ -30,12 +30,12 @@ overflow_shr-known c = let piece = c.in-Some.ensures.piece in omega (arith, piec
 pub pieces-preserved : goal.pieces-preserved
 pieces-preserved c =
     let old = take c.pieces.len c.pieces.block in
-    let run = take c.in-Some.plain c.pieces.rest.now in
+    let run = take c.in-Some.run c.pieces.rest.now in
     let piece = c.in-Some.ensures.piece in
     let scalar : IsScalar c.in-Some.value = search rules in
-    let front = c.place_lanes.ensures.placed c.in-Some.plain piece.within
+    let front = c.place_lanes.ensures.placed c.in-Some.run piece.within
     ∙ ap (λ x. old ++ x)
-    (take-take c.in-Some.plain 16 _ piece.within ∙ ap (take c.in-Some.plain) c.as_bytes.ensures.value) in
+    (take-take c.in-Some.run 16 _ piece.within ∙ ap (take c.in-Some.run) c.as_bytes.ensures.value) in
     let grown =
     gathered old run c.in-Some.value c.pieces.invariant.values piece.run scalar front
     c.place-len.ensures.placed in
@@ -45,7 +45,7 @@ pieces-preserved c =
       values = grown.1;
       read = and_more (chars old) (chars run ++ c.in-Some.value ∷ []) _ c.pieces.invariant.read
           (rw (c.split_at.ensures.back) piece.read) grown.0;
-      seen = Tells-past (λ x. not (is_plain (ends_of c.args.ends) x)) (c.in-Some.plain + c.in-Some.taken)
+      seen = Tells-past (λ x. not (is_raw (ends_of c.args.ends) x)) (c.in-Some.run + c.in-Some.taken)
           c.in-Some.ensures.seen c.split_at.ensures.back;
       shorter = omega (arith, piece.shorter, ap (λ x. length (chars x)) c.split_at.ensures.back);
     }

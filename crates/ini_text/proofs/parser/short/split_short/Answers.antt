@@ -1,10 +1,10 @@
 use Rattle.std.proofs.Common.{IsCharBoundary, ap, arith, length, length-drop, subst, sym}
 use lib.Count.{count_trailing_zeros}
 use Rattle.ini_text.specs.Inside.Endpoints.{ends_of}
-use Rattle.ini_text.specs.Inside.Scans.{is_plain}
+use Rattle.ini_text.specs.Inside.Scans.{is_raw}
 use Rattle.ini_text.proofs.ReaderLemmas.ShortPieceLemmas.{run_seen, seen, short_piece}
 use Rattle.ini_text.specs.Inside.Lanes.{Tells}
-use Rattle.ini_text.proofs.StringLemmas.RunLemmas.{boundary, plain_wide}
+use Rattle.ini_text.proofs.StringLemmas.RunLemmas.{boundary, raw_wide}
 use Rattle.ini_text.proofs.parser.short.split_short.Goals as goal
 
 pub split_at-requires : goal.split_at-requires
@@ -14,7 +14,7 @@ split_at-requires c =
     (seen c.args.ends c.marks.result c.marks.ensures
     (subst (Tells _ 16 _) c.as_bytes.ensures.value c.marks_ahead-bits.ensures.tells)) (omega arith) in
     subst (IsCharBoundary text) (sym run.0)
-    (boundary (is_plain (ends_of c.args.ends)) text (plain_wide c.args.ends))
+    (boundary (is_raw (ends_of c.args.ends)) text (raw_wide c.args.ends))
 
 pub split_escape-requires : goal.split_escape-requires
 split_escape-requires c =

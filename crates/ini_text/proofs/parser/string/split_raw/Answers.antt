@@ -4,8 +4,8 @@ use Rattle.ini_text.specs.Inside.Reading.{found}
 use Rattle.ini_text.specs.Inside.StringReader.{string}
 use Rattle.ini_text.proofs.ReaderLemmas.ReaderLemmas.{and_found}
 use Rattle.ini_text.proofs.ReaderLemmas.StringReaderLemmas.{string_run, string_at_end, string_at_endpoint}
-use Rattle.ini_text.proofs.parser.string.split_plain.Goals.{in-Some+else-c-eq92, in-None+else-not-contains_text_end}
-use Rattle.ini_text.proofs.parser.string.split_plain.Goals as goal
+use Rattle.ini_text.proofs.parser.string.split_raw.Goals.{in-Some+else-c-eq92, in-None+else-not-contains_text_end}
+use Rattle.ini_text.proofs.parser.string.split_raw.Goals as goal
 
 pub returns : goal.returns
 returns c = λ e.
