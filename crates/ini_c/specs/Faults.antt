@@ -33,7 +33,7 @@ pub record ShowsWords (words bytes : List ℕ) : Type 0 where
   pub zero : slice_get bytes (shown words) ≡ Some 0
 
 -- the fault tells kind, line, column and message of this one
-pub record Tells (stop : ParseError) (f : Fault) : Type 0 where
+pub record TellsParseError (stop : ParseError) (f : Fault) : Type 0 where
   pub kind : f.kind ≡ kind_number stop.kind
   pub line : f.line ≡ stop.line
   pub column : f.column ≡ stop.col

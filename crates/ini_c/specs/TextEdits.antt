@@ -13,7 +13,7 @@ use Rattle.ini_edit.specs.Settings.{IsSet, RefusesToSet}
 use Rattle.ini_edit.specs.declared.error.EditError.{EditError}
 use Rattle.ini_edit.specs.declared.error.EditError.TheVariants.{Text as TextError}
 use Rattle.ini_c.specs.Choices.{IsWriteOption}
-use Rattle.ini_c.specs.Faults.{Tells}
+use Rattle.ini_c.specs.Faults.{TellsParseError}
 use Rattle.ini_c.specs.LookUps.{AreTexts}
 use Rattle.ini_c.specs.declared.fault.Fault.{Fault}
 use Rattle.ini_c.specs.declared.options.WriteChoice.{WriteChoice}
@@ -35,10 +35,10 @@ IsTextFault (TextError (Parse stop)) = ⊤
 IsTextFault _ = ⊥
 
 -- so it is, and the fault for C tells where and why
-pub record TellsRefusal (refusal : EditError) (f : Fault) : Type 0 where
+pub record TellsEditError (refusal : EditError) (f : Fault) : Type 0 where
   pub stop : ParseError
   pub is : refusal ≡ TextError (Parse stop)
-  pub tells : Tells stop f
+  pub tells : TellsParseError stop f
 
 -- The text U is T with the key set, by the option that the choice asks for, and loads so.
 pub record IsSetBy (o : ParseOption) (choice : WriteChoice) (T : Text) (name : Option Text)

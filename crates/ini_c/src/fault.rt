@@ -1,6 +1,6 @@
 //! Faults of a text as C sees them. This file knows the kinds of faults, and no grammar.
 ghost use Rattle.std.specs.Prelude.{◌≡◌};
-ghost use Rattle.ini_c.specs.Faults.{ShowsWords, Tells, kind_number};
+ghost use Rattle.ini_c.specs.Faults.{ShowsWords, TellsParseError, kind_number};
 
 use crate::copies::copy_out;
 use ini::{ParseError, ParseKind};
@@ -44,7 +44,7 @@ fn show(words: &[u8], out: &mut [u8; 64])
 
 // Tells C of a fault.
 pub(crate) fn tell(refused: &ParseError, fault: &mut Fault)
-    ensures { Tells refused.now fault.new }
+    ensures { TellsParseError refused.now fault.new }
 {
     fault.kind = number_of(refused.kind);
     fault.line = refused.line;

@@ -3,7 +3,7 @@ ghost use Rattle.std.specs.Prelude.{◌≡◌, ◌∷◌, [], ◌↔◌, IsTrue}
 ghost use Rattle.ini_edit.specs.declared.error.EditError.TheVariants.{Key, Name, NoPlace, Value};
 ghost use Rattle.ini_c.specs.Statuses.{broken, is_among, no_memory, no_place};
 ghost use Rattle.ini_c.specs.Statuses.{unplain_key, unplain_name, unplain_value};
-ghost use Rattle.ini_c.specs.TextEdits.{IsTextFault, TellsRefusal};
+ghost use Rattle.ini_c.specs.TextEdits.{IsTextFault, TellsEditError};
 
 use crate::fault::{Fault, tell};
 use crate::{BROKEN, NO_MEMORY, NO_PLACE, UNPLAIN_KEY, UNPLAIN_NAME, UNPLAIN_VALUE};
@@ -14,7 +14,7 @@ use ini_text::Error;
 // status none comes here but memory's.
 pub(crate) fn refused(refusal: EditError, fault: &mut Fault) -> u32
     ensures broken { result ≡ broken ↔ IsTextFault refusal }
-    ensures told { result ≡ broken → TellsRefusal refusal fault.new }
+    ensures told { result ≡ broken → TellsEditError refusal fault.new }
     ensures value { result ≡ unplain_value ↔ (refusal ≡ Value) }
     ensures key { result ≡ unplain_key ↔ (refusal ≡ Key) }
     ensures name { result ≡ unplain_name ↔ (refusal ≡ Name) }

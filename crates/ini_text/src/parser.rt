@@ -6,7 +6,7 @@
 //! between items, `fault` why reading stops, and `position` where.
 ghost use Rattle.std.specs.Prelude.{◌≡◌, ◌++◌, chars, [], None, Some, Ok, IfSome, IsOkAnd, IsErrAnd, OnErr};
 ghost use Rattle.ini_text.specs.Parsing.Fronts.{IsRest, front_of};
-ghost use Rattle.ini_text.specs.Parsing.Parser.{AnswersItem, KeepsRefusal, Tells, refusal_of};
+ghost use Rattle.ini_text.specs.Parsing.Parser.{AnswersItem, KeepsRefusal, TellsRefusal, refusal_of};
 ghost use Rattle.ini_text.specs.Inside.ItemSearch.{FindsItem, StopIsWithin};
 
 use crate::error::{Error, ParseError};
@@ -121,7 +121,7 @@ impl<'a> Parser<'a> {
         ensures ended { self.old.refusal ≡ None → self.old.front ≡ self.old.text → result ≡ Ok None }
 
         // A refusal is kept, and told again.
-        ensures refused_again { IfSome self.old.refusal (λ refusal. IsErrAnd result (Tells refusal)) }
+        ensures refused_again { IfSome self.old.refusal (λ refusal. IsErrAnd result (TellsRefusal refusal)) }
         ensures refusal { KeepsRefusal self.old.refusal self.new.refusal result }
         ensures stays { OnErr result (self.new.front ≡ self.old.front) }
     {
@@ -175,7 +175,7 @@ fn find_item<'a>(
 /// The error of a text that stops: its line and column are counted anew each time, without memory.
 fn told(text: &str, stop: Stop<'_>) -> Error
     requires { StopIsWithin (chars text.now) stop }
-    ensures { Tells (refusal_of (chars text.now) stop.entry) result }
+    ensures { TellsRefusal (refusal_of (chars text.now) stop.entry) result }
 {
     match stop {
         Stop::Memory => Error::Memory(AllocError),

@@ -7,7 +7,7 @@ use Rattle.ini.specs.Documents.{Document}
 use Rattle.ini.specs.Loading.{IfParse, IsDocumentOf, IsParseOrMemory, IsStopOf}
 use Rattle.ini.specs.Outcomes.{HasOneOutcome, HasOutcome, Outcome, loaded, refused}
 use Rattle.ini.specs.Texts.{Text}
-use Rattle.ini_vectors.specs.Reloads.{Tells}
+use Rattle.ini_vectors.specs.Reloads.{TellsOutcome}
 
 module _ {o : ParseOption} {T : Text} (one : HasOneOutcome o T) where
   same : (x y : Outcome) → HasOutcome o T x → HasOutcome o T y → x ≡ y
@@ -15,12 +15,12 @@ module _ {o : ParseOption} {T : Text} (one : HasOneOutcome o T) where
 
   pub tells : (result : Result Document Error) → IfOk result (IsDocumentOf o T)
       → IfParse result (IsStopOf o T) → IfErr result IsParseOrMemory → (x : Outcome) → HasOutcome o T x
-      → Tells x result
-  tells (Ok d) document fault only x h = subst (λ y. Tells y (Ok d)) (same (loaded d) x document h) refl
+      → TellsOutcome x result
+  tells (Ok d) document fault only x h = subst (λ y. TellsOutcome y (Ok d)) (same (loaded d) x document h) refl
   tells (Err (Parse f)) document fault only x h =
       let stop : HasOutcome o T (refused f.kind f.line f.col) =
       record { front = fault.front; stops = fault.stops; line_is = fault.line; column_is = fault.column } in
-      subst (λ y. Tells y (Err (Parse f))) (same (refused f.kind f.line f.col) x stop h) (refl, refl, refl)
+      subst (λ y. TellsOutcome y (Err (Parse f))) (same (refused f.kind f.line f.col) x stop h) (refl, refl, refl)
   tells (Err (Memory e)) document fault only (loaded d) h = tt
   tells (Err (Memory e)) document fault only (refused kind line column) h = tt
   tells (Err (Io e)) document fault only x h = absurd only

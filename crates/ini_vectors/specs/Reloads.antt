@@ -17,19 +17,19 @@ IsNoRefusal NotUtf8 = ⊥
 IsNoRefusal _ = ⊤
 
 -- the answer is this outcome, want of memory aside
-abbrev pub Tells : Outcome → Result Document Error → Type 0
-Tells (loaded d) (Ok e) = e ≡ d
-Tells (refused kind line column) (Err (Parse fault)) =
+abbrev pub TellsOutcome : Outcome → Result Document Error → Type 0
+TellsOutcome (loaded d) (Ok e) = e ≡ d
+TellsOutcome (refused kind line column) (Err (Parse fault)) =
     (fault.kind ≡ kind) × (fault.line ≡ line) × (fault.col ≡ column)
-Tells (refused kind line column) (Ok e) = ⊥
-Tells x (Err e) = IsNoRefusal e
+TellsOutcome (refused kind line column) (Ok e) = ⊥
+TellsOutcome x (Err e) = IsNoRefusal e
 
 -- the answer is what comes of the text
-abbrev pub TellsOutcome : ParseOption → Text → Result Document Error → Type 0
-TellsOutcome o T result = (x : Outcome) → HasOutcome o T x → Tells x result
+abbrev pub TellsOutcomeOf : ParseOption → Text → Result Document Error → Type 0
+TellsOutcomeOf o T result = (x : Outcome) → HasOutcome o T x → TellsOutcome x result
 
 -- the answer is what comes of the text Y, behind the document
-abbrev pub TellsBehind : ParseOption → WriteOption → Document → Text → Result Document Error → Type 0
-TellsBehind o w d Y result =
+abbrev pub TellsOutcomeBehind : ParseOption → WriteOption → Document → Text → Result Document Error → Type 0
+TellsOutcomeBehind o w d Y result =
     let lines = count_by is_line_feed (written d w) in
-    (x : Outcome) → HasOutcome o Y x → Tells (after d lines x) result
+    (x : Outcome) → HasOutcome o Y x → TellsOutcome (after d lines x) result

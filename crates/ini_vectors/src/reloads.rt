@@ -7,7 +7,7 @@ ghost use Rattle.ini.specs.Outcomes.{loaded};
 ghost use Rattle.ini.specs.Plain.{IsPlain};
 ghost use Rattle.ini.specs.Texts.{text_of};
 ghost use Rattle.ini.specs.Written.{written};
-ghost use Rattle.ini_vectors.specs.Reloads.{IsNoRefusal, Tells, TellsBehind, TellsOutcome};
+ghost use Rattle.ini_vectors.specs.Reloads.{IsNoRefusal, TellsOutcome, TellsOutcomeBehind, TellsOutcomeOf};
 
 use ini::laws::{inversion, one_outcome};
 use ini::{Error, Ini, ParseOption, WriteOption};
@@ -29,7 +29,7 @@ fn written_text(alloc: Global, document: &Ini, option: WriteOption) -> Result<St
 
 // The outcome of a text.
 fn load(alloc: Global, text: &str, read: ParseOption) -> Result<Ini, Error>
-    ensures { TellsOutcome read (chars text.now) result }
+    ensures { TellsOutcomeOf read (chars text.now) result }
 {
     one_outcome(text, read);
     Ini::load_from_str_opt(alloc, text, read)
@@ -43,7 +43,7 @@ pub fn reload(
     read: ParseOption,
 ) -> Result<Ini, Error>
     requires plain { IsPlain document.now write read }
-    ensures { Tells (loaded document.now) result }
+    ensures { TellsOutcome (loaded document.now) result }
 {
     inversion(document, &write, read, "");
     let text = written_text(alloc, document, write)?;
@@ -61,7 +61,7 @@ pub fn reload_with(
 ) -> Result<Ini, Error>
     requires plain { IsPlain document.now write read }
     requires begins { IsEmptyOrHeader (chars more.now) }
-    ensures { TellsBehind read write document.now (chars more.now) result }
+    ensures { TellsOutcomeBehind read write document.now (chars more.now) result }
 {
     inversion(document, &write, read, more);
     let mut text = written_text(alloc, document, write)?;

@@ -3,7 +3,7 @@ use Rattle.std.proofs.Common.{◌≡◌, ◌<◌, ◌≤◌, ℕ, List, [], ◌�
 use Rattle.ini_text.specs.Grammar.CharacterKinds.{is_blank}
 use Rattle.ini_text.specs.Grammar.Elements.{Given, Gap, Element, ElementStops}
 use Rattle.ini_text.specs.Parsing.Fronts.{front_of, IsRest}
-use Rattle.ini_text.specs.Parsing.Parser.{memory, parse, Refuses, Tells, refusal_of, StopsBehind}
+use Rattle.ini_text.specs.Parsing.Parser.{memory, parse, Refuses, TellsRefusal, refusal_of, StopsBehind}
 use Rattle.ini_text.specs.Inside.ItemSearch.{StopIsWithin}
 use Rattle.ini_text.specs.Errors.Messages.{HasMessage}
 use Rattle.ini_text.specs.declared.error.ParseKind.{ParseKind}
@@ -77,7 +77,7 @@ moved {o} {T} {b} {rest} {after = after} {items = items} within reads is at same
 
 -- what tells a refusal is right, where the refusal is
 module _ (o : ParseOption) (T b : List ℕ) where
-  tells_memory : (e : Error) → Tells memory e → Refuses o T b e
+  tells_memory : (e : Error) → TellsRefusal memory e → Refuses o T b e
   tells_memory (errors.Memory x) t = tt
   tells_memory (errors.Io x) t = absurd t
   tells_memory (errors.Parse x) t = absurd t
@@ -86,7 +86,7 @@ module _ (o : ParseOption) (T b : List ℕ) where
 
   tells_parse : {kind : ParseKind} {line column : ℕ} (message : List ℕ)
       → StopsBehind o T b kind line column → HasMessage kind message → (e : Error)
-      → Tells (parse kind line column message) e → Refuses o T b e
+      → TellsRefusal (parse kind line column message) e → Refuses o T b e
   tells_parse message stop m (errors.Memory x) t = absurd t
   tells_parse message stop m (errors.Io x) t = absurd t
   tells_parse message stop m (errors.Parse x) (kind, line, column, text) = (
@@ -109,7 +109,7 @@ module _ (o : ParseOption) (T b : List ℕ) where
   pub refuses : (rest : List ℕ) {front cs : List ℕ} {c : ℕ} (stop : Stop) → IsRest T rest
       → Reads o T b [] (front_of T rest) → rest ≡ c ∷ cs → front ≡ front_of T rest
       → StopsBy (element o front rest) stop
-      → StopIsWithin T stop × ((e : Error) → Tells (refusal_of T stop) e → Refuses o T b e)
+      → StopIsWithin T stop × ((e : Error) → TellsRefusal (refusal_of T stop) e → Refuses o T b e)
   refuses rest stops.Memory within reads is at read = (tt, tells_memory)
   refuses rest (stops.Fault fault) within reads is at read =
       let c = front_of T rest in

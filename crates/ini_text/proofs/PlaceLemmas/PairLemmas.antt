@@ -27,7 +27,7 @@ use Rattle.ini_text.specs.Inside.Scans.{run_of, skipped}
 use Rattle.ini_text.specs.Inside.StringReader.{string}
 use Rattle.ini_text.specs.Inside.ValueReader.{value}
 use Rattle.ini_text.specs.Parsing.Fronts.{front_of, IsRest}
-use Rattle.ini_text.specs.Parsing.Parser.{memory, parse, Tells, refusal_of}
+use Rattle.ini_text.specs.Parsing.Parser.{memory, parse, TellsRefusal, refusal_of}
 use Rattle.ini_text.specs.Parsing.Places.{gives, HasPlaces, StandsBetween, StopsAfter, RefusesElement}
 use Rattle.ini_text.proofs.GrammarLemmas.ItemLemmas.{element-some}
 use Rattle.ini_text.proofs.GrammarLemmas.KindLemmas.{no_white_no_blank}
@@ -297,7 +297,7 @@ module _ {o : ParseOption} (t r : List ℕ)
 
 -- what tells a refusal is right, where the refusal is
 module _ (o : ParseOption) (T b : List ℕ) where
-  pub tells_memory : (e : Error) → Tells memory e → RefusesElement o T b e
+  pub tells_memory : (e : Error) → TellsRefusal memory e → RefusesElement o T b e
   tells_memory (errors.Memory x) t = tt
   tells_memory (errors.Io x) t = absurd t
   tells_memory (errors.Parse x) t = absurd t
@@ -305,7 +305,7 @@ module _ (o : ParseOption) (T b : List ℕ) where
   tells_memory errors.NoProgress t = absurd t
 
   tells_parse : {kind : ParseKind} {line column : ℕ} (message : List ℕ) → StopsAfter o T b kind line column
-      → HasMessage kind message → (e : Error) → Tells (parse kind line column message) e
+      → HasMessage kind message → (e : Error) → TellsRefusal (parse kind line column message) e
       → RefusesElement o T b e
   tells_parse message stop m (errors.Memory x) t = absurd t
   tells_parse message stop m (errors.Io x) t = absurd t
@@ -328,7 +328,7 @@ module _ (o : ParseOption) {T rest front cs : List ℕ} {c : ℕ} (within : IsRe
     (at_front : front ≡ front_of T rest) where
   pub refuses_element : (stop : Stop) → StopsBy (element o front rest) stop
       → StopIsWithin T stop
-      × ((e : Error) → Tells (refusal_of T stop) e → RefusesElement o T (front_of T rest) e)
+      × ((e : Error) → TellsRefusal (refusal_of T stop) e → RefusesElement o T (front_of T rest) e)
   refuses_element stops.Memory read = (tt, tells_memory o T (front_of T rest))
   refuses_element (stops.Fault fault) read =
       let b = front_of T rest in
@@ -380,6 +380,6 @@ module _ (o : ParseOption) {T rest front cs : List ℕ} {c : ℕ} (within : IsRe
 
 -- where nothing but memory can be wanting
 pub refuses_memory : {o : ParseOption} {T b : List ℕ} (stop : Stop) → fault_of stop ≡ None
-    → StopIsWithin T stop × ((e : Error) → Tells (refusal_of T stop) e → RefusesElement o T b e)
+    → StopIsWithin T stop × ((e : Error) → TellsRefusal (refusal_of T stop) e → RefusesElement o T b e)
 refuses_memory {o} {T} {b} stops.Memory none = (tt, tells_memory o T b)
 refuses_memory (stops.Fault fault) none = cc

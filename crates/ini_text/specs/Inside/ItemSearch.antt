@@ -10,7 +10,7 @@ use Rattle.ini_text.specs.declared.item.Item.{Item}
 use Rattle.ini_text.specs.declared.option.ParseOption.{ParseOption}
 use Rattle.ini_text.specs.declared.parser.fault.Stop.{Stop}
 use Rattle.ini_text.specs.declared.parser.fault.Stop.TheVariants as stops
-use Rattle.ini_text.specs.Parsing.Parser.{Tells, Refuses, refusal_of}
+use Rattle.ini_text.specs.Parsing.Parser.{TellsRefusal, Refuses, refusal_of}
 
 -- the stop is before a rest of the text
 abbrev pub StopIsWithin : List ℕ → Stop → Type 0
@@ -25,7 +25,7 @@ FindsItem o T start r =
     (Reads o T (front_of T start) [] T × (chars p.1.now ≡ []))
     (λ item. (length (front_of T start) < length (front_of T (chars p.1.now)))
     × Reads o T (front_of T start) (item_of item ∷ []) (front_of T (chars p.1.now))))
-    (λ stop. StopIsWithin T stop × ((e : Error) → Tells (refusal_of T stop) e
+    (λ stop. StopIsWithin T stop × ((e : Error) → TellsRefusal (refusal_of T stop) e
     → Refuses o T (front_of T start) e))
 
 -- what a parser rests on: what is left is a rest of its text, and its stop stands before one

@@ -10,7 +10,7 @@ use Rattle.ini_text.specs.Inside.Reading.{found}
 use Rattle.ini_text.specs.Inside.Scans.{skipped}
 use Rattle.ini_text.specs.Inside.ValueReader.{value}
 use Rattle.ini_text.specs.Parsing.Fronts.{front_of, IsRest}
-use Rattle.ini_text.specs.Parsing.Parser.{Tells, refusal_of}
+use Rattle.ini_text.specs.Parsing.Parser.{TellsRefusal, refusal_of}
 use Rattle.ini_text.specs.Parsing.Places.{StandsBetween, RefusesElement, stretches_of}
 use Rattle.ini_text.specs.declared.error.Error.{Error}
 use Rattle.ini_text.specs.declared.option.ParseOption.{ParseOption}
@@ -53,5 +53,5 @@ FindsElement o T start r =
     (λ p. IsRest T (chars p.1.now) × MatchOption p.0
     ((front_of T start ≡ T) × (front_of T (chars p.1.now) ≡ T))
     (StandsBetween o T (front_of T start) (front_of T (chars p.1.now))))
-    (λ stop. StopIsWithin T stop × ((e : Error) → Tells (refusal_of T stop) e
+    (λ stop. StopIsWithin T stop × ((e : Error) → TellsRefusal (refusal_of T stop) e
     → RefusesElement o T (front_of T start) e))

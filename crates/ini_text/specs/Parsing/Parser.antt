@@ -28,11 +28,11 @@ pub record Place : Type 0 where
   pub refusal : Option AnsweredRefusal
 
 -- the error tells the refusal
-abbrev pub Tells : AnsweredRefusal → Error → Type 0
-Tells memory (errors.Memory _) = ⊤
-Tells (parse kind line column message) (errors.Parse e) =
+abbrev pub TellsRefusal : AnsweredRefusal → Error → Type 0
+TellsRefusal memory (errors.Memory _) = ⊤
+TellsRefusal (parse kind line column message) (errors.Parse e) =
     (e.kind ≡ kind) × (e.line ≡ line) × (e.col ≡ column) × (cow_str_bytes e.msg ≡ message)
-Tells _ _ = ⊥
+TellsRefusal _ _ = ⊥
 
 -- behind the front b, elements that give nothing reach a front behind which reading stops, with this kind,
 -- line and column
@@ -67,7 +67,7 @@ abbrev pub KeepsRefusal : {X : Type 0} → Option AnsweredRefusal → Option Ans
     → Type 0
 KeepsRefusal (Some refusal) new r = new ≡ Some refusal
 KeepsRefusal None new (Ok item) = new ≡ None
-KeepsRefusal None new (Err e) = IsSomeAnd new (λ refusal. Tells refusal e)
+KeepsRefusal None new (Err e) = IsSomeAnd new (λ refusal. TellsRefusal refusal e)
 
 -- the refusal of a text that stops
 abbrev pub refusal_of : List ℕ → Stop → AnsweredRefusal

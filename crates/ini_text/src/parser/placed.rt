@@ -9,7 +9,7 @@ ghost use Rattle.ini_text.specs.Inside.PlaceReader.{IsBeforePad, PlacesPair};
 ghost use Rattle.ini_text.specs.Inside.Reading.{StopsBy, fault_of};
 ghost use Rattle.ini_text.specs.Inside.ValueReader.{value};
 ghost use Rattle.ini_text.specs.Parsing.Fronts.{IsRest};
-ghost use Rattle.ini_text.specs.Parsing.Parser.{KeepsRefusal, Tells};
+ghost use Rattle.ini_text.specs.Parsing.Parser.{KeepsRefusal, TellsRefusal};
 ghost use Rattle.ini_text.specs.Parsing.Places.{AnswersElement};
 
 use crate::error::Error;
@@ -89,7 +89,7 @@ impl<'a> Parser<'a> {
         ensures element { self.old.refusal ≡ None
             → AnswersElement self.old.option self.old.text self.old.front self.new.front result }
         ensures ended { self.old.refusal ≡ None → self.old.front ≡ self.old.text → result ≡ Ok None }
-        ensures refused_again { IfSome self.old.refusal (λ refusal. IsErrAnd result (Tells refusal)) }
+        ensures refused_again { IfSome self.old.refusal (λ refusal. IsErrAnd result (TellsRefusal refusal)) }
         ensures refusal { KeepsRefusal self.old.refusal self.new.refusal result }
         ensures stays { OnErr result (self.new.front ≡ self.old.front) }
     {
