@@ -67,14 +67,14 @@ first : IsPlainPair default_parse_option Basics (codes "k") []
 first = record {
   plain_key = IsPlainKey.bare bare_k;
   key_read_back = reads_k;
-  plain_value = record { is_trimmed = refl; no_mark = λ on. tt; read_back = reads_nothing };
+  plain_value = record { is_trimmed = refl; no_quote_mark = λ on. tt; read_back = reads_nothing };
 }
 
 second : IsPlainPair default_parse_option Basics (codes "j") (codes "x\ny")
 second = record {
   plain_key = IsPlainKey.bare bare_j;
   key_read_back = reads_j;
-  plain_value = record { is_trimmed = refl; no_mark = λ on. refl; read_back = reads_lines };
+  plain_value = record { is_trimmed = refl; no_quote_mark = λ on. refl; read_back = reads_lines };
 }
 
 name : IsPlainName default_parse_option Basics (codes "b")

@@ -7,7 +7,7 @@ use Rattle.std.specs.Char.{is_digit}
 use Rattle.std.specs.List.{list_all}
 use Rattle.ini_text.specs.declared.option.ParseOption.{ParseOption}
 use Rattle.ini_text.specs.Grammar.CharacterKinds.{backslash, line_feed, plus, is_blank, is_inline_white}
-use Rattle.ini_text.specs.Grammar.CharacterKinds.{is_line_feed, is_mark, BeginsWith}
+use Rattle.ini_text.specs.Grammar.CharacterKinds.{is_line_feed, is_quote_mark, BeginsWith}
 use Rattle.ini_text.specs.Grammar.Positions.{last_or, is_column_one}
 use Rattle.ini_text.specs.Grammar.EscapeSequences.{EscapeSequence, spelled}
 use Rattle.ini_text.specs.Grammar.Strings.{Ends, Row, Str, is_endpoint}
@@ -42,8 +42,8 @@ inner_by test c no_slash no_feed h = record {
 pub inline_inner : (c : ℕ) → is_inline_white c ≡ true → IsInner c
 inline_inner c h = inner_by is_inline_white c refl refl h
 
-pub mark_inner : (c : ℕ) → is_mark c ≡ true → IsInner c
-mark_inner c h = inner_by is_mark c refl refl h
+pub mark_inner : (c : ℕ) → is_quote_mark c ≡ true → IsInner c
+mark_inner c h = inner_by is_quote_mark c refl refl h
 
 -- four characters that spell one are such characters
 digit_inner : (c : ℕ) → is_digit c 16 ≡ true → IsInner c

@@ -11,7 +11,7 @@ use Rattle.ini_text.specs.declared.option.ParseOption.{ParseOption}
 use Rattle.ini_text.specs.declared.write.option.LineSeparator.{LineSeparator}
 use Rattle.ini_text.specs.declared.write.option.LineSeparator.TheVariants.{SystemDefault, CR, CRLF}
 use Rattle.ini_text.specs.Grammar.CharacterKinds.{backslash, letter_x, line_feed, space, is_blank}
-use Rattle.ini_text.specs.Grammar.CharacterKinds.{is_inline_white, is_line_feed, is_mark, BeginsWith}
+use Rattle.ini_text.specs.Grammar.CharacterKinds.{is_inline_white, is_line_feed, is_quote_mark, BeginsWith}
 use Rattle.ini_text.specs.Grammar.CharacterKinds.{BeginsWithNo}
 use Rattle.ini_text.specs.Grammar.WhiteSpace.{Lead, trimmed, end_trimmed, drop_line_feeds}
 use Rattle.ini_text.specs.Grammar.WhiteSpace.{without_outer_line_feeds}
@@ -112,13 +112,13 @@ feeds_behind (c ∷ cs) w h = elim (cases_Bool (is_line_feed c)) [
 ]
 
 -- a line that is closed, before another text that closes lines
-no_mark_before : (p r y : List ℕ) → BeginsWithNo is_mark (p ++ r) → Closes plain_ends y
-    → BeginsWithNo is_mark (p ++ y)
+no_mark_before : (p r y : List ℕ) → BeginsWithNo is_quote_mark (p ++ r) → Closes plain_ends y
+    → BeginsWithNo is_quote_mark (p ++ y)
 no_mark_before [] r y h closes = closes_no_mark y closes
 no_mark_before (c ∷ p) r y h closes = h
 
-no_mark_behind : (s y z : List ℕ) → BeginsWithNo is_mark ((s ++ backslash ∷ []) ++ [])
-    → BeginsWithNo is_mark ((s ++ backslash ∷ y) ++ z)
+no_mark_behind : (s y z : List ℕ) → BeginsWithNo is_quote_mark ((s ++ backslash ∷ []) ++ [])
+    → BeginsWithNo is_quote_mark ((s ++ backslash ∷ y) ++ z)
 no_mark_behind [] y z h = refl
 no_mark_behind (c ∷ s) y z h = h
 

@@ -33,7 +33,7 @@ module _ {o : ParseOption} {policy : EscapePolicy} where
     key_read_back = b.read_back;
     plain_value = record {
       is_trimmed = refl;
-      no_mark = λ _. tt;
+      no_quote_mark = λ _. tt;
       read_back = record {
         of_characters = refl;
         is_read = inr (record { no_escaped = refl; no_backslash = refl });

@@ -10,7 +10,7 @@ use Rattle.std.specs.Char.{is_digit}
 use Rattle.std.specs.List.{list_all}
 use Rattle.ini_text.specs.declared.option.ParseOption.{ParseOption}
 use Rattle.ini_text.specs.declared.write.policy.EscapePolicy.{EscapePolicy}
-use Rattle.ini_text.specs.Grammar.CharacterKinds.{backslash, is_inline_white, is_mark, plus}
+use Rattle.ini_text.specs.Grammar.CharacterKinds.{backslash, is_inline_white, is_quote_mark, plus}
 use Rattle.ini_text.specs.Grammar.CharacterKinds.{BeginsWithNo}
 use Rattle.ini_text.specs.Grammar.EscapeSequences.{EscapeSequence, spelled}
 use Rattle.ini_text.specs.Grammar.Lines.{BeginsPlain, Line, Quoted, plain_value}
@@ -22,42 +22,43 @@ use Rattle.ini_text.specs.Laws.Plain.{IsPlainValue}
 use Rattle.ini_text.proofs.PlainLemmas.EscapedTextLemmas.{NoRawEnd, all_read}
 use Rattle.ini_text.proofs.PlainLemmas.PlainLineLemmas.{row_of}
 use Rattle.ini.specs.Texts.{Text}
-use Rattle.ini_edit.specs.Inside.Quotes.{IsOwnSource, IsBetweenMarks, behind_mark}
-use Rattle.ini_edit.specs.Quotes.{IsQuoteFor, KeepsQuote, StandsInQuotes, has_mark, written_in}
+use Rattle.ini_edit.specs.Inside.Quotes.{IsOwnSource, IsBetweenQuoteMarks, behind_quote_mark}
+use Rattle.ini_edit.specs.Quotes.{IsQuoteFor, KeepsQuote, StandsInQuotes, has_quote_mark, written_in}
 use Rattle.ini_edit.proofs.PadLemmas.{drop_white, white_row}
 use Rattle.ini_edit.proofs.ValueLemmas.{IsSourceOf, bare_source, closes_no_mark}
 
 -- there are two marks
-of_mark : (P : ℕ → Type 0) → P 0x22 → P 0x27 → (m : ℕ) → is_mark m ≡ true → P m
+of_mark : (P : ℕ → Type 0) → P 0x22 → P 0x27 → (m : ℕ) → is_quote_mark m ≡ true → P m
 of_mark P double single m h = elim (or_cases (eqb m 0x22) (eqb m 0x27) h) [
   | inl q ↦ subst P (sym (eqb-true m 0x22 q)) double
   | inr q ↦ subst P (sym (eqb-true m 0x27 q)) single
 ]
 
-pub other_mark : (m : ℕ) → is_mark m ≡ true → m ≢ 0x22 → m ≡ 0x27
+pub other_mark : (m : ℕ) → is_quote_mark m ≡ true → m ≢ 0x22 → m ≡ 0x27
 other_mark = of_mark (λ m. m ≢ 0x22 → m ≡ 0x27) (λ n. absurd (n refl)) (λ n. refl)
 
-mark_no_white : (m : ℕ) → is_mark m ≡ true → is_inline_white m ≡ false
+mark_no_white : (m : ℕ) → is_quote_mark m ≡ true → is_inline_white m ≡ false
 mark_no_white = of_mark (λ m. is_inline_white m ≡ false) refl refl
 
-mark_no_backslash : (m : ℕ) → is_mark m ≡ true → eqb backslash m ≡ false
+mark_no_backslash : (m : ℕ) → is_quote_mark m ≡ true → eqb backslash m ≡ false
 mark_no_backslash = of_mark (λ m. eqb backslash m ≡ false) refl refl
 
-white_no_mark : (c : ℕ) → is_inline_white c ≡ true → is_mark c ≡ false
-white_no_mark c h = false_from_ne_true (is_mark c) (λ q. both_ways (is_inline_white c) (mark_no_white c q) h)
+white_no_mark : (c : ℕ) → is_inline_white c ≡ true → is_quote_mark c ≡ false
+white_no_mark c h =
+    false_from_ne_true (is_quote_mark c) (λ q. both_ways (is_inline_white c) (mark_no_white c q) h)
 
 -- a value without the mark, as it is written, up to that
-no_raw_mark : (policy : EscapePolicy) (value : Text) (m : ℕ) → has_mark value m ≡ false
+no_raw_mark : (policy : EscapePolicy) (value : Text) (m : ℕ) → has_quote_mark value m ≡ false
     → NoRawEnd policy (quote_ends m) value
 no_raw_mark policy [] m h = refl
 no_raw_mark policy (c ∷ cs) m h =
-    let parts = or_parts (eqb c m) (has_mark cs m) h in
+    let parts = or_parts (eqb c m) (has_quote_mark cs m) h in
     and_from (not (is_endpoint (quote_ends m) c) || is_escaped policy c) _
     (or_left _ _ (ap not (or_from (eqb c m) false parts.0 refl))) (no_raw_mark policy cs m parts.1)
 
 module _ {o : ParseOption} {policy : EscapePolicy} {value : Text} (plain : IsPlainValue o policy value) where
   -- a plain value in a mark that it doesn't have
-  quoted_source : (m : ℕ) → o.enabled_quote ≡ true → is_mark m ≡ true → has_mark value m ≡ false
+  quoted_source : (m : ℕ) → o.enabled_quote ≡ true → is_quote_mark m ≡ true → has_quote_mark value m ≡ false
       → IsSourceOf o (written_in policy (m ∷ []) value) value
   quoted_source m on mark none = record {
     line = λ w pad r white white_pad h. record {
@@ -103,19 +104,19 @@ quote_for (KeepsQuote.kept stands none) = IsQuoteFor.mark stands.on stands.mark 
 quote_for (KeepsQuote.none all) = IsQuoteFor.empty
 
 -- what follows the mark that ends a row of pieces
-module _ (m : ℕ) (mark : is_mark m ≡ true) where
+module _ (m : ℕ) (mark : is_quote_mark m ≡ true) where
   past : (c : ℕ) (t : Text) → eqb c m ≡ false → eqb c backslash ≡ false
-      → behind_mark m false (c ∷ t) ≡ behind_mark m false t
+      → behind_quote_mark m false (c ∷ t) ≡ behind_quote_mark m false t
   past c t no_mark no_backslash = rw (no_mark, no_backslash) refl
 
   -- a backslash takes a character
-  past_two : (c : ℕ) (t : Text) → behind_mark m false (backslash ∷ c ∷ t) ≡ behind_mark m false t
+  past_two : (c : ℕ) (t : Text) → behind_quote_mark m false (backslash ∷ c ∷ t) ≡ behind_quote_mark m false t
   past_two c t =
       rw (mark_no_backslash m mark, and_right (eqb c m) false refl, and_right (eqb c backslash) false refl)
       refl
 
   past_digit : (c : ℕ) (t : Text) → is_digit c 16 ≡ true
-      → behind_mark m false (c ∷ t) ≡ behind_mark m false t
+      → behind_quote_mark m false (c ∷ t) ≡ behind_quote_mark m false t
   past_digit c t h = past c t
       (ne_eqb c m (λ q. no_digit (subst (λ x. is_digit x 16 ≡ true) q h)))
       (ne_eqb c backslash (λ q. let z = subst (λ x. is_digit x 16 ≡ true) q h in cc))
@@ -124,10 +125,12 @@ module _ (m : ℕ) (mark : is_mark m ≡ true) where
       no_digit = of_mark (λ m. is_digit m 16 ≡ true → ⊥) (λ h. cc) (λ h. cc) m mark
 
   past_first_digit : (c : ℕ) (t : Text) → (is_digit c 16 || eqb c plus) ≡ true
-      → behind_mark m false (c ∷ t) ≡ behind_mark m false t
+      → behind_quote_mark m false (c ∷ t) ≡ behind_quote_mark m false t
   past_first_digit c t h = elim (or_cases (is_digit c 16) (eqb c plus) h) [
     | inl q ↦ past_digit c t q
-    | inr q ↦ subst (λ x. behind_mark m false (x ∷ t) ≡ behind_mark m false t) (sym (eqb-true c plus q))
+    | inr q ↦
+        subst (λ x. behind_quote_mark m false (x ∷ t) ≡ behind_quote_mark m false t)
+        (sym (eqb-true c plus q))
         (past plus t no_plus refl)
   ]
     where
@@ -135,7 +138,7 @@ module _ (m : ℕ) (mark : is_mark m ≡ true) where
       no_plus = of_mark (λ m. eqb plus m ≡ false) refl refl m mark
 
   past_escape : {escapes : Bool} {p w : Text} → EscapeSequence escapes p w → (t : Text)
-      → behind_mark m false (p ++ t) ≡ behind_mark m false t
+      → behind_quote_mark m false (p ++ t) ≡ behind_quote_mark m false t
   unfolding spelled
   past_escape EscapeSequence.folded t = past_two _ t
   past_escape (EscapeSequence.named on named) t = past_two _ t
@@ -148,20 +151,21 @@ module _ (m : ℕ) (mark : is_mark m ≡ true) where
   past_escape (EscapeSequence.itself on feed x none) t = past_two _ t
   past_escape (EscapeSequence.kept off feed) t = past_two _ t
 
-  at_mark : (t : Text) → behind_mark m false (m ∷ t) ≡ Some t
+  at_mark : (t : Text) → behind_quote_mark m false (m ∷ t) ≡ Some t
   at_mark t = cond-true (eqb m m && true) _ _ (and_from (eqb m m) true (eq-eqb m m refl) refl)
 
   pub behind_row : {escapes : Bool} {s v : Text} → Row escapes (quote_ends m) s v → (t : Text)
-      → behind_mark m false (s ++ m ∷ t) ≡ Some t
+      → behind_quote_mark m false (s ++ m ∷ t) ≡ Some t
   behind_row Row.none t = at_mark t
   behind_row (Row.raw {c} {s} n ends row) t =
       past c (s ++ m ∷ t) (or_parts (eqb c m) false ends).0 (ne_eqb c backslash n) ∙ behind_row row t
   behind_row (Row.escape {p} {s = s} piece row) t =
-      ap (behind_mark m false) (append_assoc p s (m ∷ t)) ∙ past_escape piece (s ++ m ∷ t) ∙ behind_row row t
+      ap (behind_quote_mark m false) (append_assoc p s (m ∷ t)) ∙ past_escape piece (s ++ m ∷ t)
+      ∙ behind_row row t
 
 -- what follows goes on
-behind_more : (m : ℕ) (taken : Bool) (t x pad : Text) → behind_mark m taken t ≡ Some x
-    → behind_mark m taken (t ++ pad) ≡ Some (x ++ pad)
+behind_more : (m : ℕ) (taken : Bool) (t x pad : Text) → behind_quote_mark m taken t ≡ Some x
+    → behind_quote_mark m taken (t ++ pad) ≡ Some (x ++ pad)
 behind_more m taken [] x pad h = absurd (let z : None ≡ Some x = h in cc)
 behind_more m taken (c ∷ t) x pad h = elim (cases_Bool (eqb c m && not taken)) [
   | inl here ↦
@@ -182,12 +186,13 @@ record BeginsPart (o : ParseOption) (m : ℕ) (x : Text) : Type 0 where
   pub whole : x ≡ content ++ m ∷ behind
 
 line_part : {o : ParseOption} {first : Bool} {l r v : Text} → o.enabled_quote ≡ true → Line o first l r v
-    → (m : ℕ) (x z after : Text) → is_mark m ≡ true → l ++ z ≡ m ∷ x → r ≡ z ++ after → BeginsPart o m x
+    → (m : ℕ) (x z after : Text) → is_quote_mark m ≡ true → l ++ z ≡ m ∷ x → r ≡ z ++ after
+    → BeginsPart o m x
 line_part on (Line.line {p = p} {r = r} Quoted.none plain string) m x z after mark is next =
     let begins : p ++ r ≡ m ∷ (x ++ after) =
     ap (λ y. p ++ y) next ∙ sym (append_assoc p z after) ∙ ap (λ y. y ++ after) is in
-    let no : is_mark m ≡ false = subst (BeginsWithNo is_mark) begins (plain on) in
-    absurd (both_ways (is_mark m) no mark)
+    let no : is_quote_mark m ≡ false = subst (BeginsWithNo is_quote_mark) begins (plain on) in
+    absurd (both_ways (is_quote_mark m) no mark)
 line_part {o} on (Line.line {p = p} (Quoted.part {m = n} {s} {v} {q} _ _ (Str.closed row _) _) _ _)
     m x z after mark is next =
     let whole : n ∷ ((s ++ n ∷ q) ++ (p ++ z)) ≡ m ∷ x =
@@ -203,7 +208,7 @@ line_part {o} on (Line.line {p = p} (Quoted.part {m = n} {s} {v} {q} _ _ (Str.cl
     }
 
 own_part : {o : ParseOption} {own r : Text} → o.enabled_quote ≡ true → OwnLines o own r → (m : ℕ) (x : Text)
-    → is_mark m ≡ true → own ≡ m ∷ x → BeginsPart o m x
+    → is_quote_mark m ≡ true → own ≡ m ∷ x → BeginsPart o m x
 own_part on (OwnLines.first {l} {r} one) m x mark is =
     line_part on one m x [] r mark (append-nil l ∙ is) refl
 own_part on (OwnLines.more {l} {e} {t} {r} one ends more) m x mark is =
@@ -211,13 +216,13 @@ own_part on (OwnLines.more {l} {e} {t} {r} one ends more) m x mark is =
 
 -- a source that stands between two marks is one quoted part, and each such part stands so
 pub part_between : {o : ParseOption} {own : Text} {m : ℕ} → o.enabled_quote ≡ true → IsOwnSource o own
-    → IsBetweenMarks own m → StandsInQuotes o own m
+    → IsBetweenQuoteMarks own m → StandsInQuotes o own m
 part_between {o} {own} {m} on source between =
     let part = own_part on source.lines m (between.behind ++ source.pad) between.mark
     (ap (λ z. z ++ source.pad) between.whole) in
     let one = behind_more m false between.behind [] source.pad between.ends in
-    let other : behind_mark m false (between.behind ++ source.pad) ≡ Some part.behind =
-    ap (behind_mark m false) part.whole ∙ behind_row m between.mark part.row part.behind in
+    let other : behind_quote_mark m false (between.behind ++ source.pad) ≡ Some part.behind =
+    ap (behind_quote_mark m false) part.whole ∙ behind_row m between.mark part.row part.behind in
     let both : Some source.pad ≡ Some part.behind = sym one ∙ other in
     let same : source.pad ≡ part.behind = cc in
     let whole : between.behind ++ source.pad ≡ (part.content ++ m ∷ []) ++ source.pad =
@@ -234,11 +239,12 @@ part_between {o} {own} {m} on source between =
           ∙ ap (λ z. m ∷ z) (append_cancel_right between.behind (part.content ++ m ∷ []) source.pad whole);
     }
 
-ends_string : {escapes : Bool} {m : ℕ} {s r v : Text} → is_mark m ≡ true
-    → Str escapes (quote_ends m) s (m ∷ r) v → behind_mark m false (s ++ m ∷ []) ≡ Some []
+ends_string : {escapes : Bool} {m : ℕ} {s r v : Text} → is_quote_mark m ≡ true
+    → Str escapes (quote_ends m) s (m ∷ r) v → behind_quote_mark m false (s ++ m ∷ []) ≡ Some []
 ends_string {m = m} mark (Str.closed row closes) = behind_row m mark row []
 
-pub between_part : {o : ParseOption} {own : Text} {m : ℕ} → StandsInQuotes o own m → IsBetweenMarks own m
+pub between_part : {o : ParseOption} {own : Text} {m : ℕ} → StandsInQuotes o own m
+    → IsBetweenQuoteMarks own m
 between_part {m = m} part = record {
   mark = part.mark;
   behind = part.content ++ m ∷ [];
@@ -246,7 +252,7 @@ between_part {m = m} part = record {
   ends = ends_string part.mark part.string;
 }
 
-pub same_mark : {own : Text} {m n : ℕ} → IsBetweenMarks own m → IsBetweenMarks own n → m ≡ n
+pub same_mark : {own : Text} {m n : ℕ} → IsBetweenQuoteMarks own m → IsBetweenQuoteMarks own n → m ≡ n
 same_mark {m = m} {n = n} one other =
     let both : m ∷ one.behind ≡ n ∷ other.behind = sym one.whole ∙ other.whole in
     cc
@@ -256,16 +262,18 @@ module _ {o : ParseOption} {own value : Text} where
   pub off_none : o.enabled_quote ≡ false → KeepsQuote o own value []
   off_none off = KeepsQuote.none (λ m part. absurd (both_ways o.enabled_quote off part.on))
 
-  pub bare_none : ((m : ℕ) → ¬ IsBetweenMarks own m) → KeepsQuote o own value []
+  pub bare_none : ((m : ℕ) → ¬ IsBetweenQuoteMarks own m) → KeepsQuote o own value []
   bare_none none = KeepsQuote.none (λ m part. absurd (none m (between_part part)))
 
-  pub mark_none : {m : ℕ} → IsBetweenMarks own m → has_mark value m ≡ true → KeepsQuote o own value []
+  pub mark_none : {m : ℕ} → IsBetweenQuoteMarks own m → has_quote_mark value m ≡ true
+      → KeepsQuote o own value []
   mark_none between has =
       KeepsQuote.none
-      (λ n part. subst (λ x. has_mark value x ≡ true) (same_mark between (between_part part)) has)
+      (λ n part. subst (λ x. has_quote_mark value x ≡ true) (same_mark between (between_part part)) has)
 
-  pub mark_kept : {m : ℕ} {quote : Text} → o.enabled_quote ≡ true → IsOwnSource o own → IsBetweenMarks own m
-      → has_mark value m ≡ false → quote ≡ m ∷ [] → KeepsQuote o own value quote
+  pub mark_kept : {m : ℕ} {quote : Text} → o.enabled_quote ≡ true → IsOwnSource o own
+      → IsBetweenQuoteMarks own m
+      → has_quote_mark value m ≡ false → quote ≡ m ∷ [] → KeepsQuote o own value quote
   mark_kept on source between none is =
       subst (KeepsQuote o own value) (sym is) (KeepsQuote.kept (part_between on source between) none)
 

@@ -8,7 +8,7 @@ use Rattle.std.specs.Char.{is_whitespace}
 use Rattle.std.specs.List.{list_all}
 use Rattle.ini_text.specs.declared.option.ParseOption.{ParseOption}
 use Rattle.ini_text.specs.declared.write.policy.EscapePolicy.{EscapePolicy}
-use Rattle.ini_text.specs.Grammar.CharacterKinds.{backslash, is_inline_white, is_line_end, is_mark}
+use Rattle.ini_text.specs.Grammar.CharacterKinds.{backslash, is_inline_white, is_line_end, is_quote_mark}
 use Rattle.ini_text.specs.Grammar.CharacterKinds.{BeginsWithNo}
 use Rattle.ini_text.specs.Grammar.WhiteSpace.{Lead, trimmed, without_outer_line_feeds}
 use Rattle.ini_text.specs.Grammar.Strings.{Closes, Row, Str, plain_ends, is_endpoint}
@@ -37,7 +37,7 @@ tail_closes (Tail.lines on LineEnd.lf more all) = refl
 tail_closes (Tail.lines on LineEnd.cr_lf more all) = refl
 tail_closes (Tail.lines on (LineEnd.cr n) more all) = refl
 
-pub closes_no_mark : (r : List ℕ) → Closes plain_ends r → BeginsWithNo is_mark r
+pub closes_no_mark : (r : List ℕ) → Closes plain_ends r → BeginsWithNo is_quote_mark r
 closes_no_mark [] h = tt
 closes_no_mark (c ∷ r) h = line_end_no_mark c (closes_line_end c h)
 
@@ -99,7 +99,7 @@ module _ {o : ParseOption} {policy : EscapePolicy} (w pad : List ℕ)
           (and_left (is_whitespace c) _ (trimmed_begins (c ∷ cs) plain.is_trimmed))
 
       unquoted : BeginsPlain o ((escaped policy (c ∷ cs) ++ pad) ++ r)
-      unquoted = λ on. begins_no is_mark refl (plain.no_mark on)
+      unquoted = λ on. begins_no is_quote_mark refl (plain.no_quote_mark on)
 
 -- a plain value as it is written, bare
 pub bare_source : {o : ParseOption} {policy : EscapePolicy} {value : List ℕ} → IsPlainValue o policy value

@@ -1,7 +1,7 @@
 -- Quotes around a value's source, and the quote in which a value is written in another one's place.
 use Rattle.std.specs.Prelude.{◌≡◌, ℕ, Bool, true, false, [], ◌∷◌, ◌++◌, ◌==◌}
 use Rattle.std.specs.List.{list_any}
-use Rattle.ini_text.specs.Grammar.CharacterKinds.{is_mark}
+use Rattle.ini_text.specs.Grammar.CharacterKinds.{is_quote_mark}
 use Rattle.ini_text.specs.Grammar.Strings.{Str, quote_ends}
 use Rattle.ini_text.specs.Escaping.EscapedTexts.{escaped}
 use Rattle.ini_text.specs.declared.option.ParseOption.{ParseOption}
@@ -9,8 +9,8 @@ use Rattle.ini_text.specs.declared.write.policy.EscapePolicy.{EscapePolicy}
 use Rattle.ini.specs.Texts.{Text}
 
 -- the mark stands in the text
-abbrev pub has_mark : Text → ℕ → Bool
-has_mark text m = list_any (λ c. c == m) text
+abbrev pub has_quote_mark : Text → ℕ → Bool
+has_quote_mark text m = list_any (λ c. c == m) text
 
 -- what is written of a value between a quote's marks; with an empty quote the value stands bare
 abbrev pub written_in : EscapePolicy → Text → Text → Text
@@ -20,13 +20,13 @@ written_in policy quote value = quote ++ (escaped policy value ++ quote)
 -- doesn't have
 pub data IsQuoteFor (o : ParseOption) (value : Text) : Text → Type 0 where
   empty : IsQuoteFor o value []
-  mark : {m : ℕ} → o.enabled_quote ≡ true → is_mark m ≡ true → has_mark value m ≡ false
+  mark : {m : ℕ} → o.enabled_quote ≡ true → is_quote_mark m ≡ true → has_quote_mark value m ≡ false
       → IsQuoteFor o value (m ∷ [])
 
 -- a value's source stands in quotes: where these are read, it is one quoted part of this mark
 pub record StandsInQuotes (o : ParseOption) (own : Text) (m : ℕ) : Type 0 where
   pub on : o.enabled_quote ≡ true
-  pub mark : is_mark m ≡ true
+  pub mark : is_quote_mark m ≡ true
   pub content : Text
   pub given : Text
   pub string : Str o.enabled_escape (quote_ends m) content (m ∷ []) given
@@ -35,5 +35,5 @@ pub record StandsInQuotes (o : ParseOption) (own : Text) (m : ℕ) : Type 0 wher
 -- The quote in which a value is written in the place of one whose source is `own`: that in which the old one
 -- stands, where its mark doesn't stand in the value; else an empty one.
 pub data KeepsQuote (o : ParseOption) (own value : Text) : Text → Type 0 where
-  kept : {m : ℕ} → StandsInQuotes o own m → has_mark value m ≡ false → KeepsQuote o own value (m ∷ [])
-  none : ((m : ℕ) → StandsInQuotes o own m → has_mark value m ≡ true) → KeepsQuote o own value []
+  kept : {m : ℕ} → StandsInQuotes o own m → has_quote_mark value m ≡ false → KeepsQuote o own value (m ∷ [])
+  none : ((m : ℕ) → StandsInQuotes o own m → has_quote_mark value m ≡ true) → KeepsQuote o own value []

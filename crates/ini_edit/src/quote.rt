@@ -1,8 +1,8 @@
 //! The quotes that a value's source stands in. This file knows marks and backslashes, and no element.
 ghost use Rattle.std.specs.Prelude.{◌≡◌, ◌↔◌, ◌∷◌, ℕ, [], false, true, chars, MatchOption, Some};
-ghost use Rattle.ini_text.specs.Grammar.CharacterKinds.{is_mark};
-ghost use Rattle.ini_edit.specs.Inside.Quotes.{IsOwnSource, IsBetweenMarks, behind_mark};
-ghost use Rattle.ini_edit.specs.Quotes.{KeepsQuote, has_mark};
+ghost use Rattle.ini_text.specs.Grammar.CharacterKinds.{is_quote_mark};
+ghost use Rattle.ini_edit.specs.Inside.Quotes.{IsOwnSource, IsBetweenQuoteMarks, behind_quote_mark};
+ghost use Rattle.ini_edit.specs.Quotes.{KeepsQuote, has_quote_mark};
 
 use crate::text::split_first;
 use ini_text::ParseOption;
@@ -16,30 +16,30 @@ pub(crate) fn kept_quote(own: &str, value: &str, read: ParseOption) -> &'static 
     if !read.enabled_quote {
         return "";
     }
-    let Some(mark) = mark_around(own) else {
+    let Some(mark) = quote_mark_around(own) else {
         return "";
     };
-    if has_mark(value, mark) {
+    if has_quote_mark(value, mark) {
         return "";
     }
-    mark_text(mark)
+    quote_mark_text(mark)
 }
 
 // The mark between which a text stands.
-fn mark_around(text: &str) -> Option<char>
-    ensures { MatchOption result ((m : ℕ) → ¬ IsBetweenMarks (chars text.now) m)
-        (IsBetweenMarks (chars text.now)) }
+fn quote_mark_around(text: &str) -> Option<char>
+    ensures { MatchOption result ((m : ℕ) → ¬ IsBetweenQuoteMarks (chars text.now) m)
+        (IsBetweenQuoteMarks (chars text.now)) }
 {
     let (mark, behind) = split_first(text)?;
-    if is_mark(mark) && ends_at_mark(behind, mark) {
+    if is_quote_mark(mark) && ends_at_quote_mark(behind, mark) {
         return Some(mark);
     }
     None
 }
 
 // Whether the first mark that no backslash takes ends the text.
-fn ends_at_mark(text: &str, mark: char) -> bool
-    ensures { (result ≡ true) ↔ (behind_mark mark false (chars text.now) ≡ Some []) }
+fn ends_at_quote_mark(text: &str, mark: char) -> bool
+    ensures { (result ≡ true) ↔ (behind_quote_mark mark false (chars text.now) ≡ Some []) }
 {
     let mut rest = text;
     let mut is_taken = false;
@@ -53,22 +53,22 @@ fn ends_at_mark(text: &str, mark: char) -> bool
     false
 }
 
-fn is_mark(c: char) -> bool
-    ensures { result ≡ is_mark c }
+fn is_quote_mark(c: char) -> bool
+    ensures { result ≡ is_quote_mark c }
 {
     c == '"' || c == '\''
 }
 
-fn mark_text(mark: char) -> &'static str
-    requires { is_mark mark ≡ true }
+fn quote_mark_text(mark: char) -> &'static str
+    requires { is_quote_mark mark ≡ true }
     ensures { chars result.now ≡ mark ∷ [] }
 {
     if mark == '"' { "\"" } else { "'" }
 }
 
 // Whether a mark stands in a text.
-fn has_mark(text: &str, mark: char) -> bool
-    ensures { result ≡ has_mark (chars text.now) mark }
+fn has_quote_mark(text: &str, mark: char) -> bool
+    ensures { result ≡ has_quote_mark (chars text.now) mark }
 {
     let mut rest = text;
     'characters: while let Some((c, after)) = split_first(rest) {

@@ -4,7 +4,7 @@
 ghost use Rattle.std.specs.Prelude.{◌≡◌, ◌&&◌, ◌↔◌, IsTrue, chars};
 ghost use Rattle.std.specs.Char.{is_whitespace};
 ghost use Rattle.std.specs.List.{list_all};
-ghost use Rattle.ini_text.specs.Grammar.CharacterKinds.{is_blank, is_mark, is_separator};
+ghost use Rattle.ini_text.specs.Grammar.CharacterKinds.{is_blank, is_quote_mark, is_separator};
 ghost use Rattle.ini_text.specs.Laws.Plain.{IsPlainName, IsPlainPair, IsPlainSeparator, IsPlainValue};
 ghost use Rattle.ini_text.specs.Escaping.Policies.{is_escaped};
 ghost use Rattle.ini_text.specs.Inside.PlainTests.{begins, escapes_nothing, has_no_close_bracket};
@@ -71,8 +71,8 @@ fn is_separator(c: char) -> bool
     c == '=' || c == ':'
 }
 
-fn is_mark(c: char) -> bool
-    ensures { result ≡ is_mark c }
+fn is_quote_mark(c: char) -> bool
+    ensures { result ≡ is_quote_mark c }
 {
     c == '"' || c == '\''
 }
@@ -214,10 +214,10 @@ fn has_no_raw_separator(key: &str, policy: EscapePolicy) -> bool
 }
 
 fn begins_with_mark(value: &str) -> bool
-    ensures { result ≡ begins is_mark (chars value.now) }
+    ensures { result ≡ begins is_quote_mark (chars value.now) }
 {
     match split_first(value) {
-        Some((c, _)) => is_mark(c),
+        Some((c, _)) => is_quote_mark(c),
         None => false,
     }
 }

@@ -1,7 +1,7 @@
 -- How a quoted part is found to be all of a value's source.
 use Rattle.std.specs.Prelude.{◌≡◌, ℕ, Bool, true, false, not, ◌&&◌, ◌==◌, if◌then◌else◌, [], ◌∷◌, ◌++◌}
 use Rattle.std.specs.Prelude.{Option, Some, None}
-use Rattle.ini_text.specs.Grammar.CharacterKinds.{backslash, is_mark}
+use Rattle.ini_text.specs.Grammar.CharacterKinds.{backslash, is_quote_mark}
 use Rattle.ini_text.specs.Grammar.Places.{OwnLines}
 use Rattle.ini_text.specs.declared.option.ParseOption.{ParseOption}
 use Rattle.ini_text.specs.declared.write.policy.EscapePolicy.{EscapePolicy}
@@ -16,17 +16,17 @@ pub record IsOwnSource (o : ParseOption) (own : Text) : Type 0 where
   pub lines : OwnLines o (own ++ pad) rest
 
 -- what follows the first mark that no backslash takes; the text's first character is taken or isn't
-abbrev pub behind_mark : ℕ → Bool → Text → Option Text
-behind_mark m taken [] = None
-behind_mark m taken (c ∷ cs) =
-    if c == m && not taken then Some cs else behind_mark m (c == backslash && not taken) cs
+abbrev pub behind_quote_mark : ℕ → Bool → Text → Option Text
+behind_quote_mark m taken [] = None
+behind_quote_mark m taken (c ∷ cs) =
+    if c == m && not taken then Some cs else behind_quote_mark m (c == backslash && not taken) cs
 
 -- a mark begins the text, and where it stands next with no backslash that takes it, it ends the text
-pub record IsBetweenMarks (text : Text) (m : ℕ) : Type 0 where
-  pub mark : is_mark m ≡ true
+pub record IsBetweenQuoteMarks (text : Text) (m : ℕ) : Type 0 where
+  pub mark : is_quote_mark m ≡ true
   pub behind : Text
   pub whole : text ≡ m ∷ behind
-  pub ends : behind_mark m false behind ≡ Some []
+  pub ends : behind_quote_mark m false behind ≡ Some []
 
 -- The text `old` goes on with what stands before a pair, and with the pair; there the value is in the place
 -- of the old one, in the quotes that this one stands in where it can be.

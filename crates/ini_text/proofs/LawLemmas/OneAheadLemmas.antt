@@ -3,7 +3,7 @@
 use Rattle.std.proofs.Common.{◌≤◌, ◌≡◌, ℕ, Bool, List, [], ◌∷◌, ◌++◌, length, refl, sym, ap, ◌∙◌, subst, append_assoc, append-nil, arith}
 use Rattle.std.proofs.lemmas.List.{append_cancel_left}
 use Rattle.ini_text.specs.declared.option.ParseOption.{ParseOption}
-use Rattle.ini_text.specs.Grammar.CharacterKinds.{is_blank, is_inline_white, is_line_end, is_line_feed, is_mark, BeginsWith, BeginsWithNo}
+use Rattle.ini_text.specs.Grammar.CharacterKinds.{is_blank, is_inline_white, is_line_end, is_line_feed, is_quote_mark, BeginsWith, BeginsWithNo}
 use Rattle.ini_text.specs.Grammar.WhiteSpace.{Lead}
 use Rattle.ini_text.specs.Grammar.Strings.{Ends, Str}
 use Rattle.ini_text.specs.Grammar.Lines.{Line}
@@ -52,7 +52,7 @@ Gap-alike a (Gap.white h n) = Gap.white h n
 module _ {o : ParseOption} where
   pub Line-alike : {first : Bool} {s r v x : List ℕ} → Alike r x → Line o first s r v → Line o first s x v
   Line-alike a (Line.line {p = p} k plain str) =
-      Line.line k (λ on. BeginsWithNo-alike is_mark (Alike-behind p a) (plain on)) (Str-alike a str)
+      Line.line k (λ on. BeginsWithNo-alike is_quote_mark (Alike-behind p a) (plain on)) (Str-alike a str)
 
   -- a line before its line end stands before each text before which the line end does
   pub EndedLine-before : {first : Bool} {w l e r x u : List ℕ} → LineEnd e x → EndedLine o first w l e r u

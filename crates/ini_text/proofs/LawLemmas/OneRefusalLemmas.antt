@@ -4,7 +4,7 @@ use Rattle.std.proofs.lemmas.List.{append_cancel_left}
 use Rattle.ini_text.specs.declared.option.ParseOption.{ParseOption}
 use Rattle.ini_text.specs.declared.error.ParseKind.{ParseKind}
 use Rattle.ini_text.specs.declared.error.ParseKind.TheVariants.{EndOfText, CrAlone}
-use Rattle.ini_text.specs.Grammar.CharacterKinds.{carriage_return, line_feed, is_blank, is_line_feed, is_mark, BeginsWithNo}
+use Rattle.ini_text.specs.Grammar.CharacterKinds.{carriage_return, line_feed, is_blank, is_line_feed, is_quote_mark, BeginsWithNo}
 use Rattle.ini_text.specs.Grammar.WhiteSpace.{without_outer_line_feeds}
 use Rattle.ini_text.specs.Grammar.EscapeSequences.{EscapeStops}
 use Rattle.ini_text.specs.Grammar.Strings.{Ends, StrStops}
@@ -83,7 +83,7 @@ module _ (o : ParseOption) where
   LineStops-stands x n (LineStops.in_plain {q} {s = s} {r} k plain stops) =
       let y = StrStops-stands x n stops in (
         omega (arith, length-append q s, y.0),
-        LineStops.in_plain k (λ on. BeginsWithNo-alike is_mark (Alike-some s r x y.0) (plain on)) y.1,
+        LineStops.in_plain k (λ on. BeginsWithNo-alike is_quote_mark (Alike-some s r x y.0) (plain on)) y.1,
       )
 
   -- before a last CR too

@@ -9,7 +9,7 @@ use Rattle.ini_text.specs.declared.write.policy.EscapePolicy.TheVariants.{Nothin
 use Rattle.ini_text.specs.declared.write.option.LineSeparator.{LineSeparator}
 use Rattle.ini_text.specs.declared.write.option.WriteOption.{WriteOption}
 use Rattle.ini_text.specs.declared.write.option.LineSeparator.TheVariants.{SystemDefault, CR, CRLF}
-use Rattle.ini_text.specs.Grammar.CharacterKinds.{backslash, line_feed, carriage_return, open_bracket, space, is_blank, is_comment_mark, is_inline_white, is_line_end, is_line_feed, is_mark, is_separator, BeginsWith, BeginsWithNo}
+use Rattle.ini_text.specs.Grammar.CharacterKinds.{backslash, line_feed, carriage_return, open_bracket, space, is_blank, is_comment_mark, is_inline_white, is_line_end, is_line_feed, is_quote_mark, is_separator, BeginsWith, BeginsWithNo}
 use Rattle.ini_text.specs.Escaping.EscapedTexts.{escape, escape_by, escaped, letter_of}
 use Rattle.ini_text.specs.Escaping.Policies.{is_escaped}
 use Rattle.ini_text.specs.Grammar.WhiteSpace.{Lead, trimmed, end_trimmed}
@@ -71,11 +71,12 @@ module _ (P : List ℕ → Type 0) (slash : (y : List ℕ) → P (backslash ∷ 
   pub value_begins : {o : ParseOption} {value : List ℕ} (l : ℕ) (x : List ℕ) → IsPlainValue o policy value
       → is_line_end l ≡ true
       → ((y : List ℕ) → P (l ∷ y))
-      → ((c : ℕ) (y : List ℕ) → is_whitespace c ≡ false → (o.enabled_quote ≡ true → is_mark c ≡ false)
+      → ((c : ℕ) (y : List ℕ) → is_whitespace c ≡ false → (o.enabled_quote ≡ true → is_quote_mark c ≡ false)
       → P (c ∷ y)) → P (escaped policy value ++ l ∷ x)
   value_begins {o} {value = []} l x plain h ends raw = ends x
   value_begins {o} {value = c ∷ cs} l x plain h ends raw =
-      escaped_begins c cs (l ∷ x) (λ _ y. raw c y (trimmed_begins (c ∷ cs) plain.is_trimmed) plain.no_mark)
+      escaped_begins c
+      cs (l ∷ x) (λ _ y. raw c y (trimmed_begins (c ∷ cs) plain.is_trimmed) plain.no_quote_mark)
 
 pub no_white_no_line_end : (c : ℕ) → is_whitespace c ≡ false → is_line_end c ≡ false
 no_white_no_line_end c h =
@@ -286,10 +287,10 @@ line_end_closes l h = at (eqb l 0x0A) (eqb l 0x0D) h
     at false true h = h
     at false false h = h
 
-pub line_end_no_mark : (l : ℕ) → is_line_end l ≡ true → is_mark l ≡ false
+pub line_end_no_mark : (l : ℕ) → is_line_end l ≡ true → is_quote_mark l ≡ false
 line_end_no_mark l h = elim (or_cases (eqb l 0x0A) (eqb l 0x0D) h) [
-  | inl q ↦ subst (λ x. is_mark x ≡ false) (sym (eqb-true l 0x0A q)) refl
-  | inr q ↦ subst (λ x. is_mark x ≡ false) (sym (eqb-true l 0x0D q)) refl
+  | inl q ↦ subst (λ x. is_quote_mark x ≡ false) (sym (eqb-true l 0x0A q)) refl
+  | inr q ↦ subst (λ x. is_quote_mark x ≡ false) (sym (eqb-true l 0x0D q)) refl
 ]
 
 pub inline_blanks : (w : List ℕ) → list_all is_blank w ≡ true → list_all is_inline_white w ≡ true
@@ -308,7 +309,7 @@ module _ {o : ParseOption} {policy : EscapePolicy} {value : List ℕ} (plain : I
       → Line o true (escaped policy value) (l ∷ r) value
   value_line l r h =
       let unquoted : BeginsPlain o (escaped policy value ++ l ∷ r) = λ on.
-      value_begins (BeginsWithNo is_mark) (λ y. refl) policy l r plain h (λ y. line_end_no_mark l h)
+      value_begins (BeginsWithNo is_quote_mark) (λ y. refl) policy l r plain h (λ y. line_end_no_mark l h)
       (λ c y white mark. mark on) in
       subst (Line o true (escaped policy value) (l ∷ r)) plain.is_trimmed
       (Line.line Quoted.none unquoted

@@ -7,7 +7,7 @@ use Rattle.std.specs.Char.{is_whitespace}
 use Rattle.std.specs.Cmp.Lexicographic.{bytes_decides}
 use Rattle.std.specs.List.{list_all}
 use Rattle.std.specs.Str.{all_scalars}
-use Rattle.ini_text.specs.Grammar.CharacterKinds.{space, is_blank, is_comment_mark, is_mark, is_separator, open_bracket, BeginsWith, BeginsWithNo}
+use Rattle.ini_text.specs.Grammar.CharacterKinds.{space, is_blank, is_comment_mark, is_quote_mark, is_separator, open_bracket, BeginsWith, BeginsWithNo}
 use Rattle.ini_text.specs.Laws.Plain.{HasNoEscapes, HasReadEscapes, IsBareKey, IsIndentedByEscape, IsPlainKey, IsPlainName, IsPlainPair, IsPlainSeparator, IsPlainValue, IsReadBack}
 use Rattle.ini_text.specs.Inside.PlainTests.{begins, escapes_nothing, has_no_close_bracket, has_no_escapes, has_read_escapes, is_bare_key, is_indented_by_escape, is_mark_and_blanks, is_plain_key, is_plain_name, is_plain_pair, is_plain_separator, is_plain_value, is_read_back, is_trimmed, may_begin_key, may_indent}
 use Rattle.ini_text.specs.Escaping.Policies.{is_escaped}
@@ -152,19 +152,20 @@ module _ (o : ParseOption) (policy : EscapePolicy) where
 
   -- values
   no_mark_decides : (value : List ℕ)
-      → Decides (not o.enabled_quote || not (begins is_mark value)) (o.enabled_quote ≡ true
-      → BeginsWithNo is_mark value)
+      → Decides (not o.enabled_quote || not (begins is_quote_mark value)) (o.enabled_quote ≡ true
+      → BeginsWithNo is_quote_mark value)
   no_mark_decides value = at o.enabled_quote
     where
-      at : (b : Bool) → Decides (not b || not (begins is_mark value)) (b ≡ true → BeginsWithNo is_mark value)
-      at true = let none = begins_no_decides is_mark value in (λ e on. none.0 e, λ h. none.1 (h refl))
+      at : (b : Bool)
+          → Decides (not b || not (begins is_quote_mark value)) (b ≡ true → BeginsWithNo is_quote_mark value)
+      at true = let none = begins_no_decides is_quote_mark value in (λ e on. none.0 e, λ h. none.1 (h refl))
       at false = (λ e on. absurd (false≢true on), λ h. refl)
 
   pub value_decides : (value : List ℕ) → all_scalars value ≡ true
       → Decides (is_plain_value o policy value) (IsPlainValue o policy value)
   value_decides value valid =
-      Decides-like _ (λ e. record { is_trimmed = e.0; no_mark = e.1.0; read_back = e.1.1 })
-      (λ v. (v.is_trimmed, (v.no_mark, v.read_back)))
+      Decides-like _ (λ e. record { is_trimmed = e.0; no_quote_mark = e.1.0; read_back = e.1.1 })
+      (λ v. (v.is_trimmed, (v.no_quote_mark, v.read_back)))
       (Decides-and _ _ (trimmed_decides value)
       (Decides-and _ _ (no_mark_decides value) (read_back_decides value valid)))
 

@@ -5,10 +5,10 @@ use Rattle.std.proofs.Math.Bool.{or-false}
 use Rattle.std.proofs.lemmas.Bool.{cases_Bool, and_parts}
 use Rattle.ini_text.specs.declared.option.ParseOption.{ParseOption}
 use Rattle.ini_text.specs.declared.error.ParseKind.{ParseKind}
-use Rattle.ini_text.specs.Grammar.CharacterKinds.{is_mark}
+use Rattle.ini_text.specs.Grammar.CharacterKinds.{is_quote_mark}
 use Rattle.ini_text.specs.Grammar.Strings.{Ends, quote_ends, plain_ends, Str, StrStops}
 use Rattle.ini_text.specs.Grammar.Lines.{Quoted, BeginsPlain, plain_value, Line, LineStops}
-use Rattle.ini_text.specs.Inside.LineReader.{quote_at, opens_quote, behind_mark, part, parts, plain_part, line}
+use Rattle.ini_text.specs.Inside.LineReader.{quote_at, opens_quote, behind_quoted, part, parts, plain_part, line}
 use Rattle.ini_text.specs.Inside.Reading.{Answer, found, stopped, prepend, altered, and_then, Step, more, go_on}
 use Rattle.ini_text.specs.Inside.Scans.{trimmed_at}
 use Rattle.ini_text.specs.Inside.StringReader.{string}
@@ -33,11 +33,11 @@ abbrev pub LineSays : ParseOption → Bool → List ℕ → Answer ℕ → Type 
 LineSays o first t a = Says (Line o first) (LineStops o) t a
 
 module _ (o : ParseOption) where
-  quote-reads : (m : ℕ) → is_mark m ≡ true
+  quote-reads : (m : ℕ) → is_quote_mark m ≡ true
       → IsReader (Str o.enabled_escape (quote_ends m)) (StrStops o.enabled_escape (quote_ends m))
       (string o.enabled_escape (quote_ends m))
   quote-reads m h = string-reads o.enabled_escape (quote_ends m)
-      (rw (ne_eqb 92 m (λ q. let z = subst (λ x. is_mark x ≡ true) (sym q) h in cc)) refl)
+      (rw (ne_eqb 92 m (λ q. let z = subst (λ x. is_quote_mark x ≡ true) (sym q) h in cc)) refl)
 
   plain-reads : IsReader (Str o.enabled_escape plain_ends) (StrStops o.enabled_escape plain_ends)
       (string o.enabled_escape plain_ends)
@@ -54,14 +54,14 @@ module _ (o : ParseOption) where
 
   data PartsStop : List ℕ → List ℕ → ParseKind → Type 0 where
     stop : {q w s r : List ℕ} {quoted : Bool} {m : ℕ} {kind : ParseKind} → Quoted o q w quoted
-        → o.enabled_quote ≡ true → is_mark m ≡ true
+        → o.enabled_quote ≡ true → is_quote_mark m ≡ true
         → StrStops o.enabled_escape (quote_ends m) s r kind → PartsStop (q ++ m ∷ s) r kind
 
   abbrev PartSays : List ℕ → Step ℕ → Type 0
   PartSays t x = StepSays Parts PartsStop t x
 
   -- behind a quoted part
-  behind : {m : ℕ} {s v : List ℕ} → o.enabled_quote ≡ true → is_mark m ≡ true
+  behind : {m : ℕ} {s v : List ℕ} → o.enabled_quote ≡ true → is_quote_mark m ≡ true
       → Str o.enabled_escape (quote_ends m) s (m ∷ []) v
       → (r : List ℕ) (a : Answer ℕ) → Says Parts PartsStop r a
       → Says Parts PartsStop (m ∷ (s ++ m ∷ r)) (prepend v a)
@@ -83,9 +83,9 @@ module _ (o : ParseOption) where
         simp (append_assoc, whole),
       )
 
-  behind-sound : (m : ℕ) (t : List ℕ) → o.enabled_quote ≡ true → is_mark m ≡ true → (a : Answer ℕ)
+  behind-sound : (m : ℕ) (t : List ℕ) → o.enabled_quote ≡ true → is_quote_mark m ≡ true → (a : Answer ℕ)
       → StringSays o.enabled_escape (quote_ends m) t a
-      → PartSays (m ∷ t) (behind_mark a)
+      → PartSays (m ∷ t) (behind_quoted a)
   behind-sound m t on mark (stopped r k) (s, stops, h) =
       (m ∷ s, PartsStop.stop Quoted.none on mark stops, ap (λ y. m ∷ y) h)
   behind-sound m t on mark (found v r) (s, str, h) =
@@ -95,9 +95,9 @@ module _ (o : ParseOption) where
 
   part-sound : (t : List ℕ) → PartSays t (part o t)
   part-sound [] = ([], (Quoted.none, λ on. tt), refl)
-  part-sound (c ∷ cs) = elim (cases_Bool (o.enabled_quote && is_mark c)) [
+  part-sound (c ∷ cs) = elim (cases_Bool (o.enabled_quote && is_quote_mark c)) [
     | inl h ↦
-        let test = and_parts o.enabled_quote (is_mark c) h in
+        let test = and_parts o.enabled_quote (is_quote_mark c) h in
         rw h (behind-sound c cs test.0 test.1 (string o.enabled_escape (quote_ends c) cs)
         ((quote-reads c test.1).sound cs))
     | inr h ↦ rw h ([], (rw h Quoted.none, λ on. rw on at h), refl)
@@ -115,7 +115,7 @@ module _ (o : ParseOption) where
   pub parts_end : (t : List ℕ) → quote_at o t ≡ None → parts o t ≡ found [] t
   parts_end t none = parts-turn t ∙ rw none
 
-  behind-mark : (a : Answer ℕ) → go_on (parts o) (behind_mark a) ≡ and_then (λ r. parts o (drop 1 r)) a
+  behind-mark : (a : Answer ℕ) → go_on (parts o) (behind_quoted a) ≡ and_then (λ r. parts o (drop 1 r)) a
   behind-mark (found v r) = refl
   behind-mark (stopped r k) = refl
 
@@ -135,7 +135,7 @@ module _ (o : ParseOption) where
         → length (drop 1 r) < length t
     part_shortens {r = r} h =
         let (u, read, grown) = read_behind w (string o.enabled_escape to after) h in
-        let step : part o t ≡ more u (drop 1 r) = rw opens (ap behind_mark read) in
+        let step : part o t ≡ more u (drop 1 r) = rw opens (ap behind_quoted read) in
         shortens Parts PartsStop (part o) part-sound step
 
   pub line_plain : (t : List ℕ) → quote_at o t ≡ None

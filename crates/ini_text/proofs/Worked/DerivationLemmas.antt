@@ -6,7 +6,7 @@ use Rattle.std.specs.Char.{is_whitespace}
 use Rattle.std.specs.List.{list_all}
 use Rattle.std.proofs.lemmas.List.{append-nil}
 use Rattle.std.proofs.lemmas.Bool.{and_parts, and_cases, eqb-false, not-true, false≢true, both_ways}
-use Rattle.ini_text.specs.Grammar.CharacterKinds.{backslash, equals, double_quote, open_bracket, close_bracket, is_blank, is_mark, is_inline_white, BeginsWith, BeginsWithNo}
+use Rattle.ini_text.specs.Grammar.CharacterKinds.{backslash, equals, double_quote, open_bracket, close_bracket, is_blank, is_quote_mark, is_inline_white, BeginsWith, BeginsWithNo}
 use Rattle.ini_text.specs.Grammar.Positions.{starts_line}
 use Rattle.ini_text.specs.Grammar.WhiteSpace.{Lead, trimmed, end_trimmed}
 use Rattle.ini_text.specs.Grammar.EscapeSequences.{Units}
@@ -146,11 +146,12 @@ pub quoted : {o : ParseOption} {q w : List ℕ} {some : Bool} (s : List ℕ) →
     → Quoted o q w some → Quoted o (double_quote ∷ (s ++ double_quote ∷ q)) (s ++ w) true
 quoted s on h rest = Quoted.part on refl (raw_string s h) rest
 
-begins_plain : (o : ParseOption) (cs : List ℕ) → begins_no is_mark cs ≡ true → BeginsPlain o cs
-begins_plain o cs h _ = begins_with_no is_mark cs h
+begins_plain : (o : ParseOption) (cs : List ℕ) → begins_no is_quote_mark cs ≡ true → BeginsPlain o cs
+begins_plain o cs h _ = begins_with_no is_quote_mark cs h
 
 -- a line without quotes
-pub unquoted_line : {o : ParseOption} {first : Bool} {s r v : List ℕ} → begins_no is_mark (s ++ r) ≡ true
+pub unquoted_line : {o : ParseOption} {first : Bool} {s r v : List ℕ}
+    → begins_no is_quote_mark (s ++ r) ≡ true
     → Row o.enabled_escape plain_ends s v
     → closes plain_ends r ≡ true → Line o first s r (plain_value first false v)
 unquoted_line {o} {s = s} {r = r} mark row close =
@@ -158,12 +159,12 @@ unquoted_line {o} {s = s} {r = r} mark row close =
 
 -- a line without quotes and backslashes
 abbrev pub is_plain_line : List ℕ → List ℕ → Bool
-is_plain_line s r = begins_no is_mark (s ++ r) && is_raw_string plain_ends s r
+is_plain_line s r = begins_no is_quote_mark (s ++ r) && is_raw_string plain_ends s r
 
 pub plain_line : {o : ParseOption} {first : Bool} {r : List ℕ} (s : List ℕ) → is_plain_line s r ≡ true
     → Line o first s r (plain_value first false s)
 plain_line {o} {r = r} s h =
-    let parts = and_parts (begins_no is_mark (s ++ r)) (is_raw_string plain_ends s r) h in
+    let parts = and_parts (begins_no is_quote_mark (s ++ r)) (is_raw_string plain_ends s r) h in
     Line.line Quoted.none (begins_plain o (s ++ r) parts.0) (raw_string s parts.1)
 
 -- a value of one line, with nothing before it

@@ -123,7 +123,7 @@ space_around_value o policy v = let same : codes "v" ≡ codes "v " = v.is_trimm
 
 -- with quotes on a value doesn't begin with a quote's mark
 marks : ¬ IsPlainValue default_parse_option Basics (codes "\"a\"")
-marks v = true≢false (v.no_mark refl)
+marks v = true≢false (v.no_quote_mark refl)
 
 abbrev without_quotes : ParseOption
 without_quotes = record default_parse_option { enabled_quote = false }
@@ -131,7 +131,7 @@ without_quotes = record default_parse_option { enabled_quote = false }
 marks_without_quotes : IsPlainValue without_quotes Basics (codes "\"a\"")
 marks_without_quotes = record {
   is_trimmed = refl;
-  no_mark = λ on. absurd (false≢true on);
+  no_quote_mark = λ on. absurd (false≢true on);
   read_back = record {
     of_characters = refl;
     is_read = inr (record { no_escaped = refl; no_backslash = refl });

@@ -64,8 +64,8 @@ abbrev pub is_inline_white : ℕ → Bool
 is_inline_white c = is_whitespace c && not (is_line_end c)
 
 -- a quote's mark
-abbrev pub is_mark : ℕ → Bool
-is_mark c = c == double_quote || c == single_quote
+abbrev pub is_quote_mark : ℕ → Bool
+is_quote_mark c = c == double_quote || c == single_quote
 
 -- what stands between a key and its value
 abbrev pub is_separator : ℕ → Bool

@@ -1,6 +1,6 @@
 -- Lines of a value: quoted parts, and then one plain part to the line's end.
 use Rattle.std.specs.Prelude.{◌≡◌, ℕ, Bool, true, false, not, ◌&&◌, if◌then◌else◌, List, [], ◌∷◌, ◌++◌}
-use Rattle.ini_text.specs.Grammar.CharacterKinds.{is_mark, BeginsWithNo}
+use Rattle.ini_text.specs.Grammar.CharacterKinds.{is_quote_mark, BeginsWithNo}
 use Rattle.ini_text.specs.Grammar.WhiteSpace.{trimmed, end_trimmed}
 use Rattle.ini_text.specs.Grammar.Strings.{Str, StrStops, quote_ends, plain_ends}
 use Rattle.ini_text.specs.declared.option.ParseOption.{ParseOption}
@@ -9,13 +9,13 @@ use Rattle.ini_text.specs.declared.error.ParseKind.{ParseKind}
 -- a row of quoted parts, their values joined, and whether there is one
 pub data Quoted (o : ParseOption) : List ℕ → List ℕ → Bool → Type 0 where
   none : Quoted o [] [] false
-  part : {m : ℕ} {s v q w : List ℕ} {some : Bool} → o.enabled_quote ≡ true → is_mark m ≡ true
+  part : {m : ℕ} {s v q w : List ℕ} {some : Bool} → o.enabled_quote ≡ true → is_quote_mark m ≡ true
       → Str o.enabled_escape (quote_ends m) s (m ∷ []) v
       → Quoted o q w some → Quoted o (m ∷ (s ++ m ∷ q)) (v ++ w) true
 
 -- with quotes on, the plain part begins with no mark
 abbrev pub BeginsPlain : ParseOption → List ℕ → Type 0
-BeginsPlain o cs = o.enabled_quote ≡ true → BeginsWithNo is_mark cs
+BeginsPlain o cs = o.enabled_quote ≡ true → BeginsWithNo is_quote_mark cs
 
 -- the plain value is trimmed on both sides on a first line without quoted parts, else at its end alone
 abbrev pub plain_value : Bool → Bool → List ℕ → List ℕ
@@ -30,7 +30,7 @@ pub data Line (o : ParseOption) (first : Bool) : List ℕ → List ℕ → List 
 -- a line's source at whose end reading stops, before r
 pub data LineStops (o : ParseOption) : List ℕ → List ℕ → ParseKind → Type 0 where
   in_quotes : {q w s r : List ℕ} {quoted : Bool} {m : ℕ} {kind : ParseKind} → Quoted o q w quoted
-      → o.enabled_quote ≡ true → is_mark m ≡ true
+      → o.enabled_quote ≡ true → is_quote_mark m ≡ true
       → StrStops o.enabled_escape (quote_ends m) s r kind → LineStops o (q ++ m ∷ s) r kind
   in_plain : {q w s r : List ℕ} {quoted : Bool} {kind : ParseKind} → Quoted o q w quoted
       → BeginsPlain o (s ++ r)

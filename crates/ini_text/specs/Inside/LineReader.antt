@@ -1,6 +1,6 @@
 -- Reading a line by steps that each take a quoted part, and then the plain part.
 use Rattle.std.specs.Prelude.{ℕ, Bool, ◌&&◌, if◌then◌else◌, is_some, List, [], ◌∷◌, drop, Option, Some, None}
-use Rattle.ini_text.specs.Grammar.CharacterKinds.{is_mark}
+use Rattle.ini_text.specs.Grammar.CharacterKinds.{is_quote_mark}
 use Rattle.ini_text.specs.Grammar.Lines.{plain_value}
 use Rattle.ini_text.specs.Grammar.Strings.{Ends, quote_ends, plain_ends}
 use Rattle.ini_text.specs.Inside.Reading.{Answer, found, stopped, altered, and_then, Step, more, ends}
@@ -11,18 +11,18 @@ use Rattle.ini_text.specs.declared.option.ParseOption.{ParseOption}
 -- where the quoted part ends that begins here, and what follows its mark
 abbrev pub quote_at : ParseOption → List ℕ → Option (Ends × List ℕ)
 quote_at o [] = None
-quote_at o (c ∷ cs) = if o.enabled_quote && is_mark c then Some (quote_ends c, cs) else None
+quote_at o (c ∷ cs) = if o.enabled_quote && is_quote_mark c then Some (quote_ends c, cs) else None
 
 abbrev pub opens_quote : ParseOption → List ℕ → Bool
 opens_quote o t = is_some (quote_at o t)
 
-abbrev pub behind_mark : Answer ℕ → Step ℕ
-behind_mark (found v r) = more v (drop 1 r)
-behind_mark (stopped r k) = ends (stopped r k)
+abbrev pub behind_quoted : Answer ℕ → Step ℕ
+behind_quoted (found v r) = more v (drop 1 r)
+behind_quoted (stopped r k) = ends (stopped r k)
 
 abbrev pub part_of : ParseOption → List ℕ → Option (Ends × List ℕ) → Step ℕ
 part_of o t None = ends (found [] t)
-part_of o t (Some p) = behind_mark (string o.enabled_escape p.0 p.1)
+part_of o t (Some p) = behind_quoted (string o.enabled_escape p.0 p.1)
 
 abbrev pub part : ParseOption → List ℕ → Step ℕ
 part o t = part_of o t (quote_at o t)

@@ -4,7 +4,7 @@ use Rattle.std.specs.Char.{is_whitespace}
 use Rattle.std.specs.List.{list_all}
 use Rattle.std.specs.Str.{bytes_eq}
 use Rattle.ini_text.specs.Grammar.CharacterKinds.{backslash, close_bracket, open_bracket, space, is_blank}
-use Rattle.ini_text.specs.Grammar.CharacterKinds.{is_comment_mark, is_line_end, is_mark, is_separator}
+use Rattle.ini_text.specs.Grammar.CharacterKinds.{is_comment_mark, is_line_end, is_quote_mark, is_separator}
 use Rattle.ini_text.specs.Laws.Plain.{has_unread_letter}
 use Rattle.ini_text.specs.Escaping.Policies.{is_escaped, is_extended}
 use Rattle.ini_text.specs.Inside.Scans.{skipped}
@@ -102,7 +102,8 @@ is_plain_key o policy key =
 
 abbrev pub is_plain_value : ParseOption → EscapePolicy → List ℕ → Bool
 is_plain_value o policy value =
-    is_trimmed value && ((not o.enabled_quote || not (begins is_mark value)) && is_read_back o policy value)
+    is_trimmed value
+    && ((not o.enabled_quote || not (begins is_quote_mark value)) && is_read_back o policy value)
 
 abbrev pub is_plain_pair : ParseOption → EscapePolicy → List ℕ → List ℕ → Bool
 is_plain_pair o policy key value =

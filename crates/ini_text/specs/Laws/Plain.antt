@@ -4,7 +4,7 @@ use Rattle.std.specs.Char.{is_whitespace}
 use Rattle.std.specs.List.{list_all}
 use Rattle.std.specs.Str.{all_scalars}
 use Rattle.ini_text.specs.Grammar.CharacterKinds.{backslash, close_bracket, open_bracket, space, is_blank}
-use Rattle.ini_text.specs.Grammar.CharacterKinds.{is_comment_mark, is_line_end, is_mark, is_separator}
+use Rattle.ini_text.specs.Grammar.CharacterKinds.{is_comment_mark, is_line_end, is_quote_mark, is_separator}
 use Rattle.ini_text.specs.Grammar.CharacterKinds.{BeginsWith, BeginsWithNo}
 use Rattle.ini_text.specs.Escaping.Policies.{is_escaped, is_extended}
 use Rattle.ini_text.specs.Grammar.WhiteSpace.{trimmed, end_trimmed}
@@ -101,7 +101,7 @@ pub record IsPlainValue (o : ParseOption) (policy : EscapePolicy) (value : List 
   -- it is trimmed
   pub is_trimmed : trimmed value ≡ value
   -- with quotes on, no quote's mark begins it
-  pub no_mark : o.enabled_quote ≡ true → BeginsWithNo is_mark value
+  pub no_quote_mark : o.enabled_quote ≡ true → BeginsWithNo is_quote_mark value
   -- its characters are read back
   pub read_back : IsReadBack o policy value
 

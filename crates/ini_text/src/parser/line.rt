@@ -15,7 +15,7 @@ use crate::text::{after_first, split_first, trim_from};
 use std::alloc::Global;
 
 /// Where the quoted part that begins here ends, and what follows its mark.
-fn split_mark(text: &str, option: ParseOption) -> Option<(Endpoints, &str)>
+fn split_quote_mark(text: &str, option: ParseOption) -> Option<(Endpoints, &str)>
     ensures { quote_at option (chars text.now) ≡ option_map (λ p. (ends_of p.0, chars p.1.now)) result }
 {
     let (c, after) = split_first(text)?;
@@ -39,7 +39,7 @@ pub(crate) fn read_first_line<'a>(
 ) -> Result<(String, &'a str), Stop<'a>>
     ensures { Gives string_text result (line option true (chars text.now)) }
 {
-    match split_mark(text, option) {
+    match split_quote_mark(text, option) {
         None => read_trimmed(
             alloc,
             scratch,
@@ -71,7 +71,7 @@ pub(crate) fn read_line<'a>(
 {
     let mut rest = text;
     let mut is_quoted = false;
-    'parts: while let Some((ends, after)) = split_mark(rest, option) {
+    'parts: while let Some((ends, after)) = split_quote_mark(rest, option) {
         let end = read_string(out, after, option.enabled_escape, ends)?;
         rest = after_first(end);
         is_quoted = true;

@@ -13,13 +13,13 @@ returns-then-not-read c =
 pub returns-in_default : goal.returns-in_default
 returns-in_default c = subst (KeepsQuote _ _ _) (sym chars-none) (bare_none c.in_default.ensures)
 
-pub returns-then-has_mark : goal.returns-then-has_mark
-returns-then-has_mark c =
+pub returns-then-has_quote_mark : goal.returns-then-has_quote_mark
+returns-then-has_quote_mark c =
     subst (KeepsQuote _ _ _) (sym chars-none)
-    (mark_none c.in-Some.ensures (sym c.has_mark.ensures ∙ c.if-has_mark.true))
+    (mark_none c.in-Some.ensures (sym c.has_quote_mark.ensures ∙ c.if-has_quote_mark.true))
 
 pub returns : goal.returns
 returns c =
     mark_kept (not-false c.args.read.enabled_quote c.if-not-read.false) c.requires c.in-Some.ensures
-    (sym c.has_mark.ensures ∙ c.if-has_mark.false)
-    c.mark_text.ensures
+    (sym c.has_quote_mark.ensures ∙ c.if-has_quote_mark.false)
+    c.quote_mark_text.ensures

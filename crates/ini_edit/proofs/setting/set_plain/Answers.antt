@@ -53,7 +53,8 @@ pub take_later_out-requires-clause-alike : goal.take_later_out-requires-clause-a
 take_later_out-requires-clause-alike c =
     let e : c.in_ok-reach_section.field-0 ≡ true = c.if-not-branch.false in
     let written = c.in_ok-push_with.ensures.written in
-    pair_alike (chars c.args.key.now) (c.in_ok-reach_section.ensures.opened (ap Ok e)) c.reach_pair.new.parser
+    pair_alike (chars c.args.key.now) (c.in_ok-reach_section.ensures.opened (ap Ok e))
+    c.reach_pair.new.parser
     c.in_ok-pair.field-0 c.in_ok-pair.ensures.found c.in-Some.pair c.in-Some.is
     (written_in c.args.policy written.quote (chars c.args.value.now)) (string_text c.push_with.new.out)
     (written.is_new

@@ -1,7 +1,7 @@
 use Rattle.std.proofs.Common.{◌≡◌, ◌∷◌, [], refl, subst, sym}
 use Rattle.std.specs.Str.{chars}
 use Rattle.ini_edit.proofs.QuoteLemmas.{other_mark}
-use Rattle.ini_edit.proofs.quote.mark_text.Goals as goal
+use Rattle.ini_edit.proofs.quote.quote_mark_text.Goals as goal
 
 pub returns-then-mark-eq34 : goal.returns-then-mark-eq34
 unfolding chars
