@@ -93,7 +93,7 @@ separator_plain : IsPlainSeparator (chars (codes "="))
 unfolding chars
 separator_plain = record {
   before = [];
-  mark = 0x3D;
+  separator = 0x3D;
   after = [];
   whole = refl;
   separates = refl;

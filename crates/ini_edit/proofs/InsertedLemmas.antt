@@ -63,7 +63,8 @@ module _ {o : ParseOption} {policy : EscapePolicy} {key value separator : List �
       let ek = escaped policy key in
       let v = escaped policy value ++ t in
       let read_key = all_read {o = o} policy key plain.key_read_back in
-      let front = key_front {b = b} sep.before ((sep.after ++ v) ++ r) sep.mark one plain.plain_key read_key
+      let front =
+      key_front {b = b} sep.before ((sep.after ++ v) ++ r) sep.separator one plain.plain_key read_key
       sep.blank_before sep.separates in
       subst (λ x. Element o b x r (Pair key value ∷ [])) (source-parts ek v sep)
       (Element.pair front (key_some plain.plain_key) sep.separates

@@ -24,7 +24,7 @@ pub fn is_plain_separator(text: &str) -> bool
     ensures { IsTrue result ↔ IsPlainSeparator (chars text.now) }
 {
     match split_first(skip(text, Class::Blank)) {
-        Some((mark, after)) => is_separator(mark) && is_blank(after),
+        Some((c, after)) => is_separator(c) && is_blank(after),
         None => false,
     }
 }

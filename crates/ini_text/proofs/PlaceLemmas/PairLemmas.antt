@@ -160,25 +160,26 @@ module _ {o : ParseOption} {t r name : List ℕ} (p : PairRead o t r name) where
       → prepend w (string o.enabled_escape key_ends name) ≡ found (w ++ p.u) (p.m ∷ p.behind)
   key_found w = ap (prepend w) p.key_is
 
-  module _ {out mark : List ℕ} (read : string o.enabled_escape key_ends name ≡ found out mark) where
-    pub mark_is : mark ≡ p.m ∷ p.behind
-    mark_is = found_rest (sym read ∙ p.key_is)
+  module _ {out behind_key : List ℕ}
+      (read : string o.enabled_escape key_ends name ≡ found out behind_key) where
+    pub behind_key_is : behind_key ≡ p.m ∷ p.behind
+    behind_key_is = found_rest (sym read ∙ p.key_is)
 
-    pub mark_whole : p.k ++ mark ≡ t
-    mark_whole = ap (λ x. p.k ++ x) mark_is ∙ p.whole
+    pub behind_key_whole : p.k ++ behind_key ≡ t
+    behind_key_whole = ap (λ x. p.k ++ x) behind_key_is ∙ p.whole
 
-    pub mark_within : IsRest t mark
-    mark_within = rest_of p.k mark t mark_whole
+    pub behind_key_within : IsRest t behind_key
+    behind_key_within = rest_of p.k behind_key t behind_key_whole
 
-    pub mark_some : mark ≡ [] → ⊥
-    mark_some none = let z : [] ≡ p.m ∷ p.behind = sym none ∙ mark_is in cc
+    pub behind_key_some : behind_key ≡ [] → ⊥
+    behind_key_some none = let z : [] ≡ p.m ∷ p.behind = sym none ∙ behind_key_is in cc
 
-    module _ {after : List ℕ} {sep : ℕ} (splits : mark ≡ sep ∷ after) where
+    module _ {after : List ℕ} {sep : ℕ} (splits : behind_key ≡ sep ∷ after) where
       pub after_is : after ≡ p.behind
-      after_is = let z : sep ∷ after ≡ p.m ∷ p.behind = sym splits ∙ mark_is in cc
+      after_is = let z : sep ∷ after ≡ p.m ∷ p.behind = sym splits ∙ behind_key_is in cc
 
       pub separator_is : sep ≡ p.m
-      separator_is = let z : sep ∷ after ≡ p.m ∷ p.behind = sym splits ∙ mark_is in cc
+      separator_is = let z : sep ∷ after ≡ p.m ∷ p.behind = sym splits ∙ behind_key_is in cc
 
       pub value_found : value o after ≡ found p.v r
       value_found = ap (value o) after_is ∙ p.value_is
@@ -210,10 +211,11 @@ made_of key_s sep lead_s own pad tail_s =
 
 -- the stretches, from the rests at which they end
 module _ {o : ParseOption} (t r : List ℕ)
-    {name out mark after start tail own pad key_s lead_s tail_s : List ℕ} {sep : ℕ}
-    (name_is : name ≡ skipped is_blank t) (read : string o.enabled_escape key_ends name ≡ found out mark)
-    (splits : mark ≡ sep ∷ after) (h : HasTail o after start tail)
-    (key_cut : key_s ≡ front_of t mark) (lead_cut : lead_s ≡ front_of after start)
+    {name out behind_key after start tail own pad key_s lead_s tail_s : List ℕ} {sep : ℕ}
+    (name_is : name ≡ skipped is_blank t)
+    (read : string o.enabled_escape key_ends name ≡ found out behind_key)
+    (splits : behind_key ≡ sep ∷ after) (h : HasTail o after start tail)
+    (key_cut : key_s ≡ front_of t behind_key) (lead_cut : lead_s ≡ front_of after start)
     (own_cut : front_of start tail ≡ own ++ pad) (padded : Padded own pad)
     (tail_cut : tail_s ≡ front_of tail r) where
   own_is : h.own ≡ own ++ pad
@@ -231,7 +233,7 @@ module _ {o : ParseOption} (t r : List ℕ)
 
     key_is : p.k ≡ key_s
     unfolding read_of
-    key_is = sym (key_cut ∙ front_is p.k mark t (mark_whole q read))
+    key_is = sym (key_cut ∙ front_is p.k behind_key t (behind_key_whole q read))
 
     rest_is : h.rest ≡ r
     rest_is = tail_rest q read splits h

@@ -345,10 +345,10 @@ more_lines CRLF true n m = (line_feed ∷ [], refl, MoreLines.empty_cr_lf (MoreL
 
 -- the source of a pair, its separator in three parts
 pub source-parts : {text : List ℕ} (key value : List ℕ) (sep : IsPlainSeparator text)
-    → (key ++ sep.before) ++ sep.mark ∷ (sep.after ++ value) ≡ key ++ (text ++ value)
+    → (key ++ sep.before) ++ sep.separator ∷ (sep.after ++ value) ≡ key ++ (text ++ value)
 source-parts key value sep =
-    append_assoc key sep.before (sep.mark ∷ (sep.after ++ value))
-    ∙ ap (λ x. key ++ x) (sym (append_assoc sep.before (sep.mark ∷ sep.after) value))
+    append_assoc key sep.before (sep.separator ∷ (sep.after ++ value))
+    ∙ ap (λ x. key ++ x) (sym (append_assoc sep.before (sep.separator ∷ sep.after) value))
     ∙ ap (λ x. key ++ (x ++ value)) (sym sep.whole)
 
 module _ (o : ParseOption) (w : WriteOption) (twice : Bool) (b key value r : List ℕ)
@@ -381,7 +381,7 @@ module _ (o : ParseOption) (w : WriteOption) (twice : Bool) (b key value r : Lis
   pair_element v rest given =
       let read_key = all_read {o = o} policy key plain.key_read_back in
       let front =
-      key_front {b = b} sep.before ((sep.after ++ v) ++ rest) sep.mark one plain.plain_key read_key
+      key_front {b = b} sep.before ((sep.after ++ v) ++ rest) sep.separator one plain.plain_key read_key
       sep.blank_before sep.separates in
       subst (λ x. Element o b x rest (Pair key value ∷ [])) (source-parts ek v sep)
       (Element.pair front (key_some plain.plain_key) sep.separates given)

@@ -9,7 +9,7 @@ use Rattle.std.specs.List.{list_all}
 use Rattle.std.specs.Str.{all_scalars}
 use Rattle.ini_text.specs.Grammar.CharacterKinds.{space, is_blank, is_comment_mark, is_quote_mark, is_separator, open_bracket, BeginsWith, BeginsWithNo}
 use Rattle.ini_text.specs.Laws.Plain.{HasNoEscapes, HasReadEscapes, IsBareKey, IsIndentedByEscape, IsPlainKey, IsPlainName, IsPlainPair, IsPlainSeparator, IsPlainValue, IsReadBack}
-use Rattle.ini_text.specs.Inside.PlainTests.{begins, escapes_nothing, has_no_close_bracket, has_no_escapes, has_read_escapes, is_bare_key, is_indented_by_escape, is_mark_and_blanks, is_plain_key, is_plain_name, is_plain_pair, is_plain_separator, is_plain_value, is_read_back, is_trimmed, may_begin_key, may_indent}
+use Rattle.ini_text.specs.Inside.PlainTests.{begins, escapes_nothing, has_no_close_bracket, has_no_escapes, has_read_escapes, is_bare_key, is_indented_by_escape, is_separator_and_blanks, is_plain_key, is_plain_name, is_plain_pair, is_plain_separator, is_plain_value, is_read_back, is_trimmed, may_begin_key, may_indent}
 use Rattle.ini_text.specs.Escaping.Policies.{is_escaped}
 use Rattle.ini_text.specs.Inside.Scans.{run_of, skipped}
 use Rattle.ini_text.specs.Grammar.WhiteSpace.{trimmed, end_trimmed}
@@ -73,14 +73,14 @@ skipped-none : (p : ℕ → Bool) (cs : List ℕ) → BeginsWithNo p cs → skip
 skipped-none p [] h = refl
 skipped-none p (c ∷ cs) h = cond-false (p c) (skipped p cs) (c ∷ cs) h
 
-separator_found : (text rest : List ℕ) → skipped is_blank text ≡ rest → is_mark_and_blanks rest ≡ true
+separator_found : (text rest : List ℕ) → skipped is_blank text ≡ rest → is_separator_and_blanks rest ≡ true
     → IsPlainSeparator text
 separator_found text [] e h = absurd (false≢true h)
 separator_found text (c ∷ cs) e h =
     let parts = and_parts (is_separator c) (list_all is_blank cs) h in
     record {
       before = run_of is_blank text;
-      mark = c;
+      separator = c;
       after = cs;
       whole = sym (run-sound is_blank text).whole ∙ ap (λ l. run_of is_blank text ++ l) e;
       separates = parts.0;
@@ -92,11 +92,11 @@ pub separator_decides : (text : List ℕ) → Decides (is_plain_separator text) 
 separator_decides text = (
   separator_found text (skipped is_blank text) refl,
   λ s.
-      let found : skipped is_blank text ≡ s.mark ∷ s.after =
-      ap (skipped is_blank) s.whole ∙ skipped-behind is_blank s.before (s.mark ∷ s.after) s.blank_before
-      ∙ skipped-none is_blank (s.mark ∷ s.after) (separator_no_blank s.mark s.separates) in
-      ap is_mark_and_blanks found
-      ∙ and_from (is_separator s.mark) (list_all is_blank s.after) s.separates s.blank_after,
+      let found : skipped is_blank text ≡ s.separator ∷ s.after =
+      ap (skipped is_blank) s.whole ∙ skipped-behind is_blank s.before (s.separator ∷ s.after) s.blank_before
+      ∙ skipped-none is_blank (s.separator ∷ s.after) (separator_no_blank s.separator s.separates) in
+      ap is_separator_and_blanks found
+      ∙ and_from (is_separator s.separator) (list_all is_blank s.after) s.separates s.blank_after,
 )
 
 -- what is read back

@@ -53,8 +53,8 @@ blanks-scalars (c ∷ w) h =
     ] in
     and_from (scalar c) _ one (blanks-scalars w parts.1)
 
-mark-scalar : (m : ℕ) → is_separator m ≡ true → scalar m ≡ true
-mark-scalar m h = elim (or_cases (eqb m 0x3D) (eqb m 0x3A) h) [
+separator-scalar : (m : ℕ) → is_separator m ≡ true → scalar m ≡ true
+separator-scalar m h = elim (or_cases (eqb m 0x3D) (eqb m 0x3A) h) [
   | inl q ↦ subst (λ x. scalar x ≡ true) (sym (eqb-true m 0x3D q)) refl
   | inr q ↦ subst (λ x. scalar x ≡ true) (sym (eqb-true m 0x3A q)) refl
 ]
@@ -62,7 +62,8 @@ mark-scalar m h = elim (or_cases (eqb m 0x3D) (eqb m 0x3A) h) [
 pub separator-scalars : (text : List ℕ) → IsPlainSeparator text → all_scalars text ≡ true
 separator-scalars text sep =
     let after = blanks-scalars sep.after sep.blank_after in
-    let behind : all_scalars (sep.mark ∷ sep.after) ≡ true =
-    and_from (scalar sep.mark) _ (mark-scalar sep.mark sep.separates) after in
+    let behind : all_scalars (sep.separator ∷ sep.after) ≡ true =
+    and_from (scalar sep.separator) _ (separator-scalar sep.separator sep.separates) after in
     subst (λ x. all_scalars x ≡ true) (sym sep.whole)
-    (scalars-append sep.before (sep.mark ∷ sep.after) (blanks-scalars sep.before sep.blank_before) behind)
+    (scalars-append sep.before (sep.separator ∷ sep.after)
+    (blanks-scalars sep.before sep.blank_before) behind)

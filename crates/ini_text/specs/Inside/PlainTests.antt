@@ -31,12 +31,12 @@ abbrev pub is_end_trimmed : List ℕ → Bool
 is_end_trimmed cs = bytes_eq (end_trimmed cs) cs
 
 -- one separator, and then blanks
-abbrev pub is_mark_and_blanks : List ℕ → Bool
-is_mark_and_blanks [] = false
-is_mark_and_blanks (c ∷ cs) = is_separator c && list_all is_blank cs
+abbrev pub is_separator_and_blanks : List ℕ → Bool
+is_separator_and_blanks [] = false
+is_separator_and_blanks (c ∷ cs) = is_separator c && list_all is_blank cs
 
 abbrev pub is_plain_separator : List ℕ → Bool
-is_plain_separator text = is_mark_and_blanks (skipped is_blank text)
+is_plain_separator text = is_separator_and_blanks (skipped is_blank text)
 
 abbrev pub escapes_nothing : EscapePolicy → Bool
 escapes_nothing Nothing = true

@@ -15,11 +15,11 @@ use Rattle.ini_text.specs.declared.write.policy.EscapePolicy.TheVariants.{Nothin
 -- what is written between a key and its value
 pub record IsPlainSeparator (text : List ℕ) : Type 0 where
   pub before : List ℕ
-  pub mark : ℕ
+  pub separator : ℕ
   pub after : List ℕ
-  pub whole : text ≡ before ++ mark ∷ after
+  pub whole : text ≡ before ++ separator ∷ after
   -- one = or :
-  pub separates : is_separator mark ≡ true
+  pub separates : is_separator separator ≡ true
   -- only spaces and tabs stand before it
   pub blank_before : list_all is_blank before ≡ true
   -- only spaces and tabs stand behind it

@@ -165,14 +165,14 @@ fn place_pair<'a>(
         (PlacesPair option (chars text.now) (chars end.now)) (λ stop. fault_of stop ≡ None) }
 {
     let name = skip(text, Class::Blank);
-    let mark = read_string(scratch, name, option.enabled_escape, Endpoints::Key)?;
-    let Some((separator, after)) = split_first(mark) else {
+    let behind_key = read_string(scratch, name, option.enabled_escape, Endpoints::Key)?;
+    let Some((separator, after)) = split_first(behind_key) else {
         unreachable!()
     };
     let (start, tail) = find_tail(alloc, scratch, after, option)?;
     let (own, pad) = split_pad(front_before(start, tail));
     Ok(PairPlaces {
-        key: front_before(text, mark),
+        key: front_before(text, behind_key),
         separator,
         lead: front_before(after, start),
         own,

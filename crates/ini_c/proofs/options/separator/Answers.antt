@@ -6,7 +6,7 @@ pub returns-in-0-clause-plain : goal.returns-in-0-clause-plain
 unfolding chars
 returns-in-0-clause-plain c = record {
   before = [];
-  mark = 0x3D;
+  separator = 0x3D;
   after = [];
   whole = refl;
   separates = refl;
@@ -18,7 +18,7 @@ pub returns-in-1-clause-plain : goal.returns-in-1-clause-plain
 unfolding chars
 returns-in-1-clause-plain c = record {
   before = 0x20 ∷ [];
-  mark = 0x3D;
+  separator = 0x3D;
   after = 0x20 ∷ [];
   whole = refl;
   separates = refl;
@@ -30,7 +30,7 @@ pub returns-in-2-clause-plain : goal.returns-in-2-clause-plain
 unfolding chars
 returns-in-2-clause-plain c = record {
   before = [];
-  mark = 0x3A;
+  separator = 0x3A;
   after = [];
   whole = refl;
   separates = refl;
@@ -42,7 +42,7 @@ pub returns-in_default-clause-plain : goal.returns-in_default-clause-plain
 unfolding chars
 returns-in_default-clause-plain c = record {
   before = [];
-  mark = 0x3A;
+  separator = 0x3A;
   after = 0x20 ∷ [];
   whole = refl;
   separates = refl;
