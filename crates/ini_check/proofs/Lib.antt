@@ -1,2 +1,2 @@
-pub mod MarkLemmas
+pub mod PositionLemmas
 pub mod WalkLemmas

@@ -17,10 +17,10 @@ use Rattle.ini_text.proofs.GrammarLemmas.ItemLemmas.{reads-append}
 use Rattle.ini.specs.Texts.{Text}
 use Rattle.ini.specs.Properties.{Pairs}
 use Rattle.ini.specs.Loading.{IfParse, IsStopOf}
-use Rattle.ini_check.specs.Inside.Marks.{IsAt}
+use Rattle.ini_check.specs.Inside.Positions.{IsAt}
 use Rattle.ini_check.specs.Inside.Walks.{IsPastLast, IsReading, StandsWithin, Steps}
 use Rattle.ini_check.specs.Warnings.{Adds, AreWarningsOf, ElementWarns, Warns, keys_behind, names_behind}
-use Rattle.ini_check.specs.declared.mark.Mark.{Mark}
+use Rattle.ini_check.specs.declared.position.Position.{Position}
 use Rattle.ini_check.specs.declared.warning.Warning.{Warning}
 
 -- where reading stops behind what was read
@@ -42,7 +42,7 @@ step_stops c (Err (Parse e)) reads h = stops_behind e reads h.0 h.1
 step_stops c (Err _) reads h = tt
 
 -- what was checked: elements reach where the parser stands, and these are their warnings
-pub record Checks (o : ParseOption) (T : Text) (p : Place) (m : Mark) (names keys : Pairs)
+pub record Checks (o : ParseOption) (T : Text) (p : Place) (m : Position) (names keys : Pairs)
     (ws : List Warning) : Type 0 where
   pub is_reading : IsReading o T p
   pub items : List Given
@@ -91,7 +91,7 @@ module _ {o : ParseOption} {T : Text} where
           length-append source stands.rest,
         )
 
-  module _ {p : Place} {m : Mark} {names keys : Pairs} {ws : List Warning}
+  module _ {p : Place} {m : Position} {names keys : Pairs} {ws : List Warning}
       (s : Checks o T p m names keys ws) where
     pub checks_within : StandsWithin p
     checks_within = record {
@@ -109,7 +109,8 @@ module _ {o : ParseOption} {T : Text} where
       warns = subst (λ c. Warns o T c names keys ws) h.was_end s.warns;
     }
 
-    pub checks_step : {q : Place} {e : PlacedElement} {n : Mark} {new : List Warning} {names' keys' : Pairs}
+    pub checks_step : {q : Place} {e : PlacedElement} {n : Position} {new : List Warning}
+        {names' keys' : Pairs}
         → Steps o T p.front q e → Adds (ElementWarns o p.front names keys e.content) ws new
         → names' ≡ names_behind names e.content → keys' ≡ keys_behind keys e.content
         → IsAt (p.front ++ chars e.source.now) n → Checks o T q n names' keys' new
@@ -126,7 +127,7 @@ module _ {o : ParseOption} {T : Text} where
     }
 
 -- before the first element
-pub checks_start : {o : ParseOption} {T : Text} {p : Place} {m : Mark} {names keys : Pairs}
+pub checks_start : {o : ParseOption} {T : Text} {p : Place} {m : Position} {names keys : Pairs}
     {ws : List Warning} → p.option ≡ o → p.text ≡ T → p.front ≡ [] → p.refusal ≡ None → IsAt [] m
     → names ≡ [] → keys ≡ [] → ws ≡ []
     → Checks o T p m names keys ws

@@ -17,14 +17,14 @@ begins_like_comment [] = false
 begins_like_comment (c ∷ cs) = if is_blank c then begins_like_comment cs else is_comment_mark c
 
 -- a comment's mark stands behind white space; whether the text stands behind white space, `white` says
-abbrev pub has_mark_behind_white : Bool → Text → Bool
-has_mark_behind_white white [] = false
-has_mark_behind_white white (c ∷ cs) =
-    (white && is_comment_mark c) || has_mark_behind_white (is_whitespace c) cs
+abbrev pub has_comment_mark_behind_white : Bool → Text → Bool
+has_comment_mark_behind_white white [] = false
+has_comment_mark_behind_white white (c ∷ cs) =
+    (white && is_comment_mark c) || has_comment_mark_behind_white (is_whitespace c) cs
 
 -- a comment's mark stands in the value's own source, behind white space
 abbrev pub has_comment_mark : Text → Bool
-has_comment_mark own = has_mark_behind_white false own
+has_comment_mark own = has_comment_mark_behind_white false own
 
 -- a backslash in the value's own source begins an escape, where escapes are read: the value is another text
 abbrev pub has_escape : ParseOption → Text → Text → Bool

@@ -2,7 +2,7 @@
 //! elements and their stretches, and writes nothing.
 #![tactic(auto)]
 
-mod mark;
+mod position;
 #[cfg(test)]
 mod tests;
 mod text;

@@ -4,7 +4,7 @@ ghost use Rattle.ini.specs.Loading.{IfParse, IsParseOrMemory, IsStopOf};
 ghost use Rattle.ini_check.specs.Warnings.{AreWarningsOf, keys_behind, names_behind};
 ghost use Rattle.ini_check.specs.Inside.Walks.{IsPastLast, StandsWithin, Steps};
 
-use crate::mark::Mark;
+use crate::position::Position;
 use crate::warn::warn_element;
 use crate::warning::Warning;
 use ini::Properties;
@@ -27,11 +27,11 @@ pub fn check(alloc: Global, text: &str, read: ParseOption) -> Result<Vec<Warning
     let mut warnings = Vec::new(alloc);
     let mut names = Properties::new(alloc);
     let mut keys = Properties::new(alloc);
-    let mut mark = Mark::at_front();
+    let mut position = Position::at_front();
     'elements: while let Some(element) = step(&mut parser)? {
-        warn_element(&mut warnings, mark, &element, &names, &keys, read)?;
+        warn_element(&mut warnings, position, &element, &names, &keys, read)?;
         note_element(alloc, &mut names, &mut keys, &element.content)?;
-        mark = mark.over(element.source);
+        position = position.over(element.source);
     }
     Ok(warnings)
 }

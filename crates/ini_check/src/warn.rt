@@ -7,9 +7,9 @@ ghost use Rattle.ini_text.specs.Parsing.Items.{string_text};
 ghost use Rattle.ini_text.specs.Parsing.Places.{HasPlaces, stretches_of};
 ghost use Rattle.ini_check.specs.Warnings.{Adds, ElementWarns, HeaderWarns, PairWarns, value_front, warned};
 ghost use Rattle.ini_check.specs.Warnings.{key_warnings, value_warnings};
-ghost use Rattle.ini_check.specs.Inside.Marks.{HasRoom, IsAt};
+ghost use Rattle.ini_check.specs.Inside.Positions.{HasRoom, IsAt};
 
-use crate::mark::Mark;
+use crate::position::Position;
 use crate::trap::{begins_like_comment, has_comment_mark, has_escape, runs_on};
 use crate::warning::{Trap, Warning};
 use ini::Properties;
@@ -21,35 +21,35 @@ use ini_text::{
 /// Puts an element's warnings last, behind headers of these names and pairs of these keys in its section.
 pub(crate) fn warn_element(
     warnings: &mut Vec<Warning>,
-    mark: Mark,
+    position: Position,
     element: &PlacedElement,
     names: &Properties,
     keys: &Properties,
     read: ParseOption,
 ) -> Result<(), Error>
-    requires room { HasRoom (length (chars element.now.source.now)) mark }
+    requires room { HasRoom (length (chars element.now.source.now)) position }
     requires places { (b : Text) × ((r : Text)
         × HasPlaces read b (chars element.now.source.now) r element.now.content) }
-    ensures warned { OnOk result ((b : Text) → IsAt b mark
+    ensures warned { OnOk result ((b : Text) → IsAt b position
         → Adds (ElementWarns read b names.now keys.now element.now.content)
         warnings.old.items warnings.new.items) }
     ensures only { IsOkUnless result (Error.Memory alloc_error) }
 {
     match &element.content {
         Content::Nothing => Ok(()),
-        Content::Header(name) => warn_header(warnings, mark, name.as_str(), names, read),
-        Content::Pair(pair) => warn_pair(warnings, mark, pair, keys, read),
+        Content::Header(name) => warn_header(warnings, position, name.as_str(), names, read),
+        Content::Pair(pair) => warn_pair(warnings, position, pair, keys, read),
     }
 }
 
 fn warn_header(
     warnings: &mut Vec<Warning>,
-    mark: Mark,
+    position: Position,
     name: &str,
     names: &Properties,
     read: ParseOption,
 ) -> Result<(), Error>
-    ensures warned { OnOk result ((b : Text) → IsAt b mark
+    ensures warned { OnOk result ((b : Text) → IsAt b position
         → Adds (HeaderWarns read b names.now (chars name.now)) warnings.old.items warnings.new.items) }
     ensures only { IsOkUnless result (Error.Memory alloc_error) }
 {
@@ -57,32 +57,32 @@ fn warn_header(
     warn_where(
         warnings,
         names.contains_key(name),
-        mark,
+        position,
         Trap::RepeatedSection,
     )?;
-    warn_where(warnings, !is_plain, mark, Trap::NotPlain)
+    warn_where(warnings, !is_plain, position, Trap::NotPlain)
 }
 
 fn warn_pair(
     warnings: &mut Vec<Warning>,
-    mark: Mark,
+    position: Position,
     pair: &PlacedPair,
     keys: &Properties,
     read: ParseOption,
 ) -> Result<(), Error>
-    requires room { HasRoom (length (pair_source (stretches_of pair.now.places))) mark }
+    requires room { HasRoom (length (pair_source (stretches_of pair.now.places))) position }
     requires separates { is_separator pair.now.places.separator ≡ true }
-    ensures warned { OnOk result ((b : Text) → IsAt b mark
+    ensures warned { OnOk result ((b : Text) → IsAt b position
         → Adds (PairWarns read b keys.now pair.now) warnings.old.items warnings.new.items) }
     ensures only { IsOkUnless result (Error.Memory alloc_error) }
 {
     let (key, value) = (pair.key.as_str(), pair.value.as_str());
     let is_plain = is_plain_pair(key, value, EscapePolicy::Basics, read);
-    warn_key(warnings, mark, pair.places.key, key, keys)?;
-    warn_where(warnings, !is_plain, mark, Trap::NotPlain)?;
+    warn_key(warnings, position, pair.places.key, key, keys)?;
+    warn_where(warnings, !is_plain, position, Trap::NotPlain)?;
     warn_value(
         warnings,
-        value_mark(mark, pair),
+        value_position(position, pair),
         pair.places.own,
         value,
         read,
@@ -90,65 +90,76 @@ fn warn_pair(
 }
 
 // Where a pair's value begins, behind the white space before it.
-fn value_mark(mark: Mark, pair: &PlacedPair) -> Mark
-    requires room { HasRoom (length (pair_source (stretches_of pair.now.places))) mark }
+fn value_position(position: Position, pair: &PlacedPair) -> Position
+    requires room { HasRoom (length (pair_source (stretches_of pair.now.places))) position }
     requires separates { is_separator pair.now.places.separator ≡ true }
-    ensures { (b : Text) → IsAt b mark → IsAt (value_front b (stretches_of pair.now.places)) result }
+    ensures { (b : Text) → IsAt b position → IsAt (value_front b (stretches_of pair.now.places)) result }
 {
-    mark.over(pair.places.key)
+    position
+        .over(pair.places.key)
         .behind_separator()
         .over(pair.places.lead)
 }
 
 fn warn_key(
     warnings: &mut Vec<Warning>,
-    mark: Mark,
+    position: Position,
     source: &str,
     key: &str,
     keys: &Properties,
 ) -> Result<(), Error>
-    ensures warned { OnOk result ((b : Text) → IsAt b mark → warnings.new.items
+    ensures warned { OnOk result ((b : Text) → IsAt b position → warnings.new.items
         ≡ warnings.old.items ++ key_warnings b keys.now (chars source.now) (chars key.now)) }
     ensures only { IsOkUnless result (Error.Memory alloc_error) }
 {
-    warn_where(warnings, runs_on(source), mark, Trap::RunsOn)?;
+    warn_where(warnings, runs_on(source), position, Trap::RunsOn)?;
     warn_where(
         warnings,
         begins_like_comment(source),
-        mark,
+        position,
         Trap::MarkBeginsKey,
     )?;
-    warn_where(warnings, keys.contains_key(key), mark, Trap::RepeatedKey)
+    warn_where(
+        warnings,
+        keys.contains_key(key),
+        position,
+        Trap::RepeatedKey,
+    )
 }
 
 fn warn_value(
     warnings: &mut Vec<Warning>,
-    mark: Mark,
+    position: Position,
     own: &str,
     value: &str,
     read: ParseOption,
 ) -> Result<(), Error>
-    ensures warned { OnOk result ((b : Text) → IsAt b mark → warnings.new.items
+    ensures warned { OnOk result ((b : Text) → IsAt b position → warnings.new.items
         ≡ warnings.old.items ++ value_warnings read b (chars own.now) (chars value.now)) }
     ensures only { IsOkUnless result (Error.Memory alloc_error) }
 {
-    warn_where(warnings, has_escape(own, value, read), mark, Trap::Escape)?;
-    warn_where(warnings, has_comment_mark(own), mark, Trap::MarkInValue)
+    warn_where(
+        warnings,
+        has_escape(own, value, read),
+        position,
+        Trap::Escape,
+    )?;
+    warn_where(warnings, has_comment_mark(own), position, Trap::MarkInValue)
 }
 
 // Puts a warning last, if it is one.
 fn warn_where(
     warnings: &mut Vec<Warning>,
     is_trap: bool,
-    mark: Mark,
+    position: Position,
     trap: Trap,
 ) -> Result<(), Error>
-    ensures warned { OnOk result ((b : Text) → IsAt b mark
+    ensures warned { OnOk result ((b : Text) → IsAt b position
         → warnings.new.items ≡ warnings.old.items ++ warned is_trap b trap) }
     ensures only { IsOkUnless result (Error.Memory alloc_error) }
 {
     if is_trap {
-        let (line, column) = (mark.line, mark.column);
+        let (line, column) = (position.line, position.column);
         warnings.push(Warning { line, column, trap })?;
     }
     Ok(())

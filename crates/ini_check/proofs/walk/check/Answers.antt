@@ -1,13 +1,13 @@
 use Rattle.std.proofs.Common.{arith, chars}
 use Rattle.ini_text.proofs.StringLemmas.PositionLemmas.{characters_fit}
-use Rattle.ini_check.proofs.MarkLemmas.{room_behind}
+use Rattle.ini_check.proofs.PositionLemmas.{room_behind}
 use Rattle.ini_check.proofs.WalkLemmas.{checks_start, checks_step, step_some}
 use Rattle.ini_check.proofs.walk.check.Goals as goal
 
 pub elements-init : goal.elements-init
 elements-init c =
     let p = c.new-parser.ensures in
-    checks_start p.option p.text p.front p.refusal c.at_front-mark.ensures c.new-names.ensures
+    checks_start p.option p.text p.front p.refusal c.at_front-position.ensures c.new-names.ensures
     c.new-keys.ensures c.new-warnings.ensures.items
 
 pub warn_element-requires-clause-room : goal.warn_element-requires-clause-room
@@ -15,7 +15,7 @@ warn_element-requires-clause-room c =
     let s = c.elements.invariant in
     let t = step_some s.is_reading c.in_ok-element.ensures.element c.in-Some.is in
     room_behind (chars c.args.text.now) c.elements.parser.front (chars c.in-Some.element.source.now)
-    t.stands.rest c.elements.mark (omega (arith, characters_fit c.args.text.now c.utf8.text))
+    t.stands.rest c.elements.position (omega (arith, characters_fit c.args.text.now c.utf8.text))
     t.stands.whole s.at
 
 pub warn_element-requires-clause-places : goal.warn_element-requires-clause-places
@@ -24,12 +24,12 @@ warn_element-requires-clause-places c =
     let t = step_some s.is_reading c.in_ok-element.ensures.element c.in-Some.is in
     (c.elements.parser.front, (t.stands.rest, t.stands.places))
 
-pub over-mark-requires : goal.over-mark-requires
-over-mark-requires c =
+pub over-position-requires : goal.over-position-requires
+over-position-requires c =
     let s = c.elements.invariant in
     let t = step_some s.is_reading c.in_ok-element.ensures.element c.in-Some.is in
     room_behind (chars c.args.text.now) c.elements.parser.front (chars c.in-Some.element.source.now)
-    t.stands.rest c.elements.mark (omega (arith, characters_fit c.args.text.now c.utf8.text))
+    t.stands.rest c.elements.position (omega (arith, characters_fit c.args.text.now c.utf8.text))
     t.stands.whole s.at
 
 pub elements-preserved-in_ok-note_element : goal.elements-preserved-in_ok-note_element
@@ -38,7 +38,7 @@ elements-preserved-in_ok-note_element c =
     let noted = c.in_ok-note_element.ensures in
     checks_step s (step_some s.is_reading c.in_ok-element.ensures.element c.in-Some.is)
     (c.in_ok-warn_element.ensures.warned c.elements.parser.front s.at) noted.names noted.keys
-    (c.over-mark.ensures.at c.elements.parser.front s.at)
+    (c.over-position.ensures.at c.elements.parser.front s.at)
 
 pub elements-preserved-in_ok-note_element-2 : goal.elements-preserved-in_ok-note_element-2
 elements-preserved-in_ok-note_element-2 c =
@@ -46,7 +46,7 @@ elements-preserved-in_ok-note_element-2 c =
     let noted = c.in_ok-note_element.ensures in
     checks_step s (step_some s.is_reading c.in_ok-element.ensures.element c.in-Some.is)
     (c.in_ok-warn_element.ensures.warned c.elements.parser.front s.at) noted.names noted.keys
-    (c.over-mark.ensures.at c.elements.parser.front s.at)
+    (c.over-position.ensures.at c.elements.parser.front s.at)
 
 pub elements-preserved : goal.elements-preserved
 elements-preserved c =
@@ -54,4 +54,4 @@ elements-preserved c =
     let noted = c.in_ok-note_element.ensures in
     checks_step s (step_some s.is_reading c.in_ok-element.ensures.element c.in-Some.is)
     (c.in_ok-warn_element.ensures.warned c.elements.parser.front s.at) noted.names noted.keys
-    (c.over-mark.ensures.at c.elements.parser.front s.at)
+    (c.over-position.ensures.at c.elements.parser.front s.at)

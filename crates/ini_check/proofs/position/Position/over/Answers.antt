@@ -1,7 +1,7 @@
 use Rattle.std.proofs.Common.{length, chars, ap, ◌∙◌, sym, rules, arith}
 use Rattle.ini_text.proofs.StringLemmas.PositionLemmas.{column-feed, line-feed}
-use Rattle.ini_check.proofs.MarkLemmas.{over_at, over_room}
-use Rattle.ini_check.proofs.mark.Mark.over.Goals as goal
+use Rattle.ini_check.proofs.PositionLemmas.{over_at, over_room}
+use Rattle.ini_check.proofs.position.Position.over.Goals as goal
 
 pub returns-clause-room : goal.returns-clause-room
 returns-clause-room c =

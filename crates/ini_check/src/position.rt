@@ -1,27 +1,27 @@
 //! Lines and columns, counted along a text. This file knows LF alone.
 ghost use Rattle.std.specs.Prelude.{◌≡◌, ◌+◌, ◌++◌, [], ℕ, chars, length};
 ghost use Rattle.ini.specs.Texts.{Text};
-ghost use Rattle.ini_check.specs.Inside.Marks.{HasRoom, IsAt};
+ghost use Rattle.ini_check.specs.Inside.Positions.{HasRoom, IsAt};
 
 use crate::text::split_first;
 
 /// A place of a text: its line and its column, counted from one, the column in characters.
 #[derive(Clone, Copy)]
-pub(crate) struct Mark {
+pub(crate) struct Position {
     pub(crate) line: usize,
     pub(crate) column: usize,
 }
 
-impl Mark {
+impl Position {
     /// The text's front.
-    pub(crate) fn at_front() -> Mark
+    pub(crate) fn at_front() -> Position
         ensures { IsAt [] result }
     {
-        Mark { line: 1, column: 1 }
+        Position { line: 1, column: 1 }
     }
 
     /// The place behind a stretch that begins here.
-    pub(crate) fn over(self, passed: &str) -> Mark
+    pub(crate) fn over(self, passed: &str) -> Position
         requires { HasRoom (length (chars passed.now)) self }
         ensures room { (n : ℕ) → HasRoom (length (chars passed.now) + n) self → HasRoom n result }
         ensures at { (b : Text) → IsAt b self → IsAt (b ++ chars passed.now) result }
@@ -38,16 +38,16 @@ impl Mark {
             }
             rest = after;
         }
-        Mark { line, column }
+        Position { line, column }
     }
 
     /// The place behind a separator that stands here.
-    pub(crate) fn behind_separator(self) -> Mark
+    pub(crate) fn behind_separator(self) -> Position
         requires { HasRoom 1 self }
         ensures line { result.line ≡ self.line }
         ensures column { result.column ≡ self.column + 1 }
     {
-        Mark {
+        Position {
             line: self.line,
             column: self.column + 1,
         }

@@ -9,8 +9,8 @@ use Rattle.ini_text.specs.Grammar.CharacterKinds.{is_line_feed, is_separator}
 use Rattle.ini_text.specs.Grammar.Places.{Stretches, pair_source, value_source}
 use Rattle.ini_text.specs.Grammar.Positions.{column_of}
 use Rattle.ini_text.proofs.StringLemmas.PositionLemmas.{column_from, column-front}
-use Rattle.ini_check.specs.Inside.Marks.{HasRoom, IsAt}
-use Rattle.ini_check.specs.declared.mark.Mark.{Mark}
+use Rattle.ini_check.specs.Inside.Positions.{HasRoom, IsAt}
+use Rattle.ini_check.specs.declared.position.Position.{Position}
 
 -- a character that is no LF is a column more
 any-cons : (c : ℕ) (cs : List ℕ) (x y : Bool) → is_line_feed c ≡ x → list_any is_line_feed cs ≡ y
@@ -91,7 +91,7 @@ column-bound n (c ∷ b) = at (is_line_feed c) refl (λ m. column-bound m b)
     at false is more = omega (arith, column-other n c b is, more (n + 1))
 
 -- what was counted over the text p, behind which nothing is left
-module _ (p rest : List ℕ) (m n : Mark) (none : rest ≡ [])
+module _ (p rest : List ℕ) (m n : Position) (none : rest ≡ [])
     (line : n.line + count_by is_line_feed rest ≡ m.line + count_by is_line_feed p)
     (column : column_from n.column rest ≡ column_from m.column p) where
   no_lines : count_by is_line_feed rest ≡ 0
@@ -117,7 +117,7 @@ separator-other : (c : ℕ) → is_separator c ≡ true → is_line_feed c ≡ f
 separator-other c is = grind (arith, is)
 
 -- the place behind a separator
-pub separator_at : (b : List ℕ) (c : ℕ) (m n : Mark) → is_separator c ≡ true → n.line ≡ m.line
+pub separator_at : (b : List ℕ) (c : ℕ) (m n : Position) → is_separator c ≡ true → n.line ≡ m.line
     → n.column ≡ m.column + 1 → IsAt b m → IsAt (b ++ c ∷ []) n
 separator_at b c m n is line column at =
     let other = separator-other c is in
@@ -128,7 +128,7 @@ separator_at b c m n is line column at =
           ∙ sym (column-other (column_of b) c [] other) ∙ column_of-append b (c ∷ []);
     }
 
-pub room_less : {k n : ℕ} {m : Mark} → k ≤ n → HasRoom n m → HasRoom k m
+pub room_less : {k n : ℕ} {m : Position} → k ≤ n → HasRoom n m → HasRoom k m
 room_less less room = record {
   line = omega (arith, less, room.line);
   column = omega (arith, less, room.column);
@@ -143,7 +143,7 @@ value_room p = omega (
 )
 
 -- in a text that is short enough there is room behind a front for what follows it
-pub room_behind : (T b s r : List ℕ) (m : Mark) → length T + 1 < 2 ^ 64 → T ≡ b ++ (s ++ r) → IsAt b m
+pub room_behind : (T b s r : List ℕ) (m : Position) → length T + 1 < 2 ^ 64 → T ≡ b ++ (s ++ r) → IsAt b m
     → HasRoom (length s) m
 room_behind T b s r m fits whole at =
     let parts : length T ≡ length b + (length s + length r) =

@@ -1,8 +1,8 @@
 use Rattle.std.proofs.Common.{◌+◌, ◌∷◌, ◌++◌, [], arith, append_assoc, length, subst}
 use Rattle.ini_text.specs.Parsing.Places.{stretches_of}
-use Rattle.ini_check.specs.Inside.Marks.{IsAt}
-use Rattle.ini_check.proofs.MarkLemmas.{room_less, separator_at, value_room}
-use Rattle.ini_check.proofs.warn.value_mark.Goals as goal
+use Rattle.ini_check.specs.Inside.Positions.{IsAt}
+use Rattle.ini_check.proofs.PositionLemmas.{room_less, separator_at, value_room}
+use Rattle.ini_check.proofs.warn.value_position.Goals as goal
 
 pub behind_separator-requires : goal.behind_separator-requires
 behind_separator-requires c =
