@@ -9,7 +9,7 @@ pub mod InversionLemmas
 pub mod KeepingLemmas
 pub mod LastSectionLemmas
 pub mod ListLemmas
-pub mod MarkLemmas
+pub mod ByteOrderMarkLemmas
 pub mod PassingLemmas
 pub mod PlainPartLemmas
 pub mod PlainSamples

@@ -7,7 +7,7 @@ use Rattle.ini_text.specs.declared.error.Error.{Error}
 use Rattle.ini_text.specs.declared.error.Error.TheVariants.{Io, Memory, NoProgress, NotUtf8, Parse}
 use Rattle.ini_text.specs.declared.option.ParseOption.{ParseOption}
 use Rattle.ini.specs.Documents.{Document, HasGeneral}
-use Rattle.ini.specs.Loading.{IsDocumentOf, IsNotUtf8, IsStopOf, IsTextWith, ReadsDocument, mark, text_bytes}
+use Rattle.ini.specs.Loading.{IsDocumentOf, IsNotUtf8, IsStopOf, IsTextWith, ReadsDocument, byte_order_mark, text_bytes}
 use Rattle.ini.specs.Inside.Passing.{Ends, GoesBy, IsPassing}
 use Rattle.ini.specs.Inside.ReadBytes.{HasRead, IsFilled, IsTextRefusal}
 use Rattle.ini.specs.declared.passing.Passing.{Passing}
@@ -22,7 +22,7 @@ text_bytes-append false read left long = refl
 text_bytes-append true [] left long = absurd (omega arith)
 text_bytes-append true (a ∷ []) left long = absurd (omega arith)
 text_bytes-append true (a ∷ b ∷ []) left long = absurd (omega arith)
-text_bytes-append true (a ∷ b ∷ c ∷ r) left long = at (starts_with nat_eq (a ∷ b ∷ c ∷ r) mark)
+text_bytes-append true (a ∷ b ∷ c ∷ r) left long = at (starts_with nat_eq (a ∷ b ∷ c ∷ r) byte_order_mark)
   where
     at : (found : Bool)
         → cond found (r ++ left) (a ∷ b ∷ c ∷ (r ++ left)) ≡ cond found r (a ∷ b ∷ c ∷ r) ++ left

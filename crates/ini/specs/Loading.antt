@@ -41,17 +41,18 @@ IsParseOrMemory (Parse _) = ⊤
 IsParseOrMemory (Memory _) = ⊤
 IsParseOrMemory _ = ⊥
 
--- a mark: the bytes EF BB BF
-abbrev pub mark : List ℕ
-mark = 0xEF ∷ 0xBB ∷ 0xBF ∷ []
+-- the byte order mark: the bytes EF BB BF
+abbrev pub byte_order_mark : List ℕ
+byte_order_mark = 0xEF ∷ 0xBB ∷ 0xBF ∷ []
 
 -- the bytes without one mark at their front
-abbrev pub without_mark : List ℕ → List ℕ
-without_mark bytes = if starts_with nat_eq bytes mark then drop (length mark) bytes else bytes
+abbrev pub without_byte_order_mark : List ℕ → List ℕ
+without_byte_order_mark bytes =
+    if starts_with nat_eq bytes byte_order_mark then drop (length byte_order_mark) bytes else bytes
 
 -- the bytes that are read as a text
 abbrev pub text_bytes : Bool → List ℕ → List ℕ
-text_bytes drop_mark bytes = if drop_mark then without_mark bytes else bytes
+text_bytes drop_mark bytes = if drop_mark then without_byte_order_mark bytes else bytes
 
 -- the same of a text: a mark is the character U+FEFF
 abbrev pub unmarked : Text → Text

@@ -1,5 +1,5 @@
 //! Documents from texts, and from the bytes of a reader, which is read piece by piece. Of characters this
-//! file knows the mark alone that may stand before a text.
+//! file knows the byte order mark alone that may stand before a text.
 ghost use Rattle.std.specs.Prelude.{◌≡◌, ◌<◌, ◌↔◌, length, chars, false, true, alloc_error};
 ghost use Rattle.std.specs.Prelude.{IfOk, IfErr, IfSome, IsOkUnless, OnOk};
 ghost use Rattle.ini_text.specs.Device.DeviceRefusals.{IsIo, failures_in};
@@ -72,7 +72,7 @@ impl Ini {
         ensures fault { IfParse result (IsStopOf opt (unmarked (chars text.now))) }
         ensures only { IfErr result IsParseOrMemory }
     {
-        Ini::load_from_str_opt(alloc, without_mark(text), opt)
+        Ini::load_from_str_opt(alloc, without_byte_order_mark(text), opt)
     }
 
     /// The document of a reader's bytes, by the default options. A mark at their front is text. The rest
@@ -143,7 +143,7 @@ impl Ini {
         let mut piece = [0; PIECE];
         let mut bytes = Vec::new(alloc);
         let mut is_all = fill(reader, &mut piece, &mut bytes, PIECE)?;
-        drop_front_mark(&mut bytes, drop_mark);
+        drop_byte_order_mark(&mut bytes, drop_mark);
         let mut passing = Passing::new(alloc)?;
         // No line is greater.
         let mut last_line = 1 + bytes.len();
@@ -171,10 +171,10 @@ pub(crate) fn without_escapes() -> ParseOption
 }
 
 // A mark at a text's front: the character U+FEFF.
-const MARK: [u8; 3] = [0xEF, 0xBB, 0xBF];
+const BYTE_ORDER_MARK: [u8; 3] = [0xEF, 0xBB, 0xBF];
 
 // The text without one mark at its front.
-fn without_mark(text: &str) -> &str
+fn without_byte_order_mark(text: &str) -> &str
     ensures { chars result.now ≡ unmarked (chars text.now) }
 {
     match text.strip_prefix('\u{FEFF}') {
@@ -214,10 +214,10 @@ fn fill<R: Read>(
 }
 
 // Drops one mark at the front of bytes, if it is to be dropped.
-fn drop_front_mark(bytes: &mut Vec<u8>, drop_mark: bool)
+fn drop_byte_order_mark(bytes: &mut Vec<u8>, drop_mark: bool)
     ensures { bytes.new.items ≡ text_bytes drop_mark bytes.old.items }
 {
-    if drop_mark && bytes.starts_with(&MARK) {
-        drop_front(bytes, MARK.len());
+    if drop_mark && bytes.starts_with(&BYTE_ORDER_MARK) {
+        drop_front(bytes, BYTE_ORDER_MARK.len());
     }
 }

@@ -13,13 +13,13 @@ use crate::{BROKEN, NO_MEMORY, NOT_UTF8, OK};
 use ini::{Error, Ini, ParseOption};
 use std::alloc::Global;
 
-const MARK: [u8; 3] = [0xEF, 0xBB, 0xBF];
+const BYTE_ORDER_MARK: [u8; 3] = [0xEF, 0xBB, 0xBF];
 
 // The bytes, without one mark at their front if it is dropped.
 pub(crate) fn text_of(drop_mark: bool, bytes: &[u8]) -> &[u8]
     ensures { result.now ≡ text_bytes drop_mark bytes.now }
 {
-    if drop_mark && bytes.starts_with(&MARK) {
+    if drop_mark && bytes.starts_with(&BYTE_ORDER_MARK) {
         return &bytes[3..];
     }
     bytes

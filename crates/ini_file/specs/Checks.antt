@@ -10,7 +10,7 @@ use Rattle.std.specs.declared.vec.Vec.{Vec}
 use Rattle.ini_text.specs.declared.error.Error.{Error}
 use Rattle.ini_text.specs.declared.error.Error.TheVariants.{Memory, NotUtf8, Parse}
 use Rattle.ini_text.specs.declared.option.ParseOption.{ParseOption}
-use Rattle.ini.specs.Loading.{IsStopOf, IsTextWith, without_mark}
+use Rattle.ini.specs.Loading.{IsStopOf, IsTextWith, without_byte_order_mark}
 use Rattle.ini.specs.Texts.{Text}
 use Rattle.ini_check.specs.Messages.{message}
 use Rattle.ini_check.specs.Warnings.{AreWarningsOf}
@@ -72,9 +72,9 @@ pub record AreWarningLines (o : ParseOption) (file : Word) (T : Text) (lines : L
 -- how the check of a file with these bytes ends: with the lines of its warnings, or with its first refusal
 abbrev pub IsChecked : ParseOption → Word → List ℕ → Result (Vec ℕ Global) Error → Type 0
 IsChecked o file input (Ok lines) =
-    IsTextWith (λ T. AreWarningLines o file T lines.items) (without_mark input)
-IsChecked o file input (Err NotUtf8) = ¬ (IsUtf8 (without_mark input))
-IsChecked o file input (Err (Parse e)) = IsTextWith (λ T. IsStopOf o T e) (without_mark input)
+    IsTextWith (λ T. AreWarningLines o file T lines.items) (without_byte_order_mark input)
+IsChecked o file input (Err NotUtf8) = ¬ (IsUtf8 (without_byte_order_mark input))
+IsChecked o file input (Err (Parse e)) = IsTextWith (λ T. IsStopOf o T e) (without_byte_order_mark input)
 IsChecked o file input (Err (Memory _)) = ⊤
 IsChecked o file input (Err _) = ⊥
 

@@ -40,10 +40,10 @@ pub record IsChange (old new : List Line) (first gone come : List Line) : Type 0
 abbrev pub range : ℕ → ℕ → List ℕ
 range first count = decimal (if count == 0 then first else first + 1) ++ codes "," ++ decimal count
 
--- a line behind a mark; where it has no line feed, a line that says so follows
-abbrev pub marked_line : ℕ → Line → List ℕ
-marked_line mark line =
-    mark ∷ line
+-- a line behind a sign; where it has no line feed, a line that says so follows
+abbrev pub signed_line : ℕ → Line → List ℕ
+signed_line sign line =
+    sign ∷ line
     ++ (if list_any (λ byte. byte == line_feed) line then [] else codes "\n\\ No newline at end of file\n")
 
 -- the names of the old file and the new one, and the ranges of the lines that go and of those that come
@@ -56,7 +56,7 @@ hunk_head from to first gone come =
 abbrev pub hunk : Word → Word → ℕ → List Line → List Line → List ℕ
 hunk from to first gone come =
     hunk_head from to first (length gone) (length come)
-    ++ (flat_map (marked_line 0x2D) gone ++ flat_map (marked_line 0x2B) come)
+    ++ (flat_map (signed_line 0x2D) gone ++ flat_map (signed_line 0x2B) come)
 
 -- nothing where no line goes and none comes
 abbrev pub hunk_where : Word → Word → ℕ → List Line → List Line → List ℕ

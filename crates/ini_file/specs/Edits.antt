@@ -12,12 +12,13 @@ use Rattle.ini_options.specs.declared.options.Options.{Options}
 use Rattle.ini_file.specs.Writing.{IsWriting}
 
 -- the bytes are the mark, and behind it the text T with the edit made in it, written as the options say
-pub record IsChanged (o : Options) (separator : Option Word) (e : Editing) (mark : List ℕ) (T : Text)
+pub record IsChanged (o : Options) (separator : Option Word) (e : Editing) (byte_order_mark : List ℕ)
+    (T : Text)
     (bytes : List ℕ) : Type 0 where
   pub option : WriteOption
   pub is_option : IsWriting o separator option
   pub new : List ℕ
-  pub whole : bytes ≡ mark ++ new
+  pub whole : bytes ≡ byte_order_mark ++ new
   pub is_made : IsMade o.reading option e T (chars new)
 
 -- the edit of the text T is refused where it is written as the options say

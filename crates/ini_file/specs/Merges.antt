@@ -8,13 +8,13 @@ use Rattle.ini_text.specs.declared.error.Error.TheVariants.{Memory, NotUtf8, Par
 use Rattle.ini_text.specs.declared.option.ParseOption.{ParseOption}
 use Rattle.ini_text.specs.declared.write.option.WriteOption.{WriteOption}
 use Rattle.ini.specs.Documents.{Document}
-use Rattle.ini.specs.Loading.{IsDocumentOf, IsStopOf, IsTextWith, without_mark}
+use Rattle.ini.specs.Loading.{IsDocumentOf, IsStopOf, IsTextWith, without_byte_order_mark}
 use Rattle.ini.specs.Texts.{Text}
 use Rattle.ini_edit.specs.MadeLists.{AreMade, RefusesOneOf}
 use Rattle.ini_edit.specs.declared.edit_list.RefusedEdit.{RefusedEdit}
 use Rattle.ini_options.specs.Words.{IsWriteOption}
 use Rattle.ini_options.specs.declared.options.Options.{Options}
-use Rattle.ini_file.specs.Bytes.{mark_of}
+use Rattle.ini_file.specs.Bytes.{byte_order_mark_of}
 use Rattle.ini_file.specs.Settings.{settings_of}
 use Rattle.ini_file.specs.declared.merge.MergeEnd.{MergeEnd}
 use Rattle.ini_file.specs.declared.merge.MergeEnd.TheVariants.{Done, Other, File, Edit}
@@ -25,7 +25,7 @@ bytes_of files = map (λ file. file.items) files
 
 -- the bytes are those of a text with this document
 abbrev pub Loads : ParseOption → List ℕ → Document → Type 0
-Loads o file document = IsTextWith (λ T. IsDocumentOf o T document) (without_mark file)
+Loads o file document = IsTextWith (λ T. IsDocumentOf o T document) (without_byte_order_mark file)
 
 -- so it is with each file and its document
 pub data AreLoaded (o : ParseOption) : List (List ℕ) → List Document → Type 0 where
@@ -36,8 +36,8 @@ pub data AreLoaded (o : ParseOption) : List (List ℕ) → List Document → Typ
 
 -- the bytes have no document
 abbrev pub RefusesFile : ParseOption → List ℕ → Error → Type 0
-RefusesFile o file NotUtf8 = ¬ (IsUtf8 (without_mark file))
-RefusesFile o file (Parse e) = IsTextWith (λ T. IsStopOf o T e) (without_mark file)
+RefusesFile o file NotUtf8 = ¬ (IsUtf8 (without_byte_order_mark file))
+RefusesFile o file (Parse e) = IsTextWith (λ T. IsStopOf o T e) (without_byte_order_mark file)
 RefusesFile o file (Memory _) = ⊤
 RefusesFile o file _ = ⊥
 
@@ -53,12 +53,13 @@ pub record RefusesOther (o : ParseOption) (files : List (List ℕ)) (index : ℕ
   pub is_refused : RefusesFile o file e
 
 -- the bytes are the mark, and behind it the text T with what the documents set, written as the options say
-pub record IsMerged (o : Options) (documents : List Document) (mark : List ℕ) (T : Text) (bytes : List ℕ)
+pub record IsMerged (o : Options) (documents : List Document) (byte_order_mark : List ℕ) (T : Text)
+    (bytes : List ℕ)
     : Type 0 where
   pub option : WriteOption
   pub is_option : IsWriteOption o option
   pub new : List ℕ
-  pub whole : bytes ≡ mark ++ new
+  pub whole : bytes ≡ byte_order_mark ++ new
   pub found : List Bool
   pub are_made : AreMade o.reading option T (flat_map settings_of documents) found (chars new)
 
@@ -71,16 +72,16 @@ pub record RefusesMerge (o : Options) (documents : List Document) (T : Text) (re
 
 -- how a merge of documents into a text behind a mark ends
 abbrev pub EndsOnText : Options → List Document → List ℕ → Text → MergeEnd → Type 0
-EndsOnText o documents mark T (Done bytes) = IsMerged o documents mark T bytes.items
-EndsOnText o documents mark T (Edit refused) = RefusesMerge o documents T refused
-EndsOnText o documents mark T (File (Memory _)) = ⊤
-EndsOnText o documents mark T _ = ⊥
+EndsOnText o documents byte_order_mark T (Done bytes) = IsMerged o documents byte_order_mark T bytes.items
+EndsOnText o documents byte_order_mark T (Edit refused) = RefusesMerge o documents T refused
+EndsOnText o documents byte_order_mark T (File (Memory _)) = ⊤
+EndsOnText o documents byte_order_mark T _ = ⊥
 
 -- the same where other files have these documents, of the file's bytes, which may be no text
 abbrev pub EndsOnBytes : Options → List Document → List ℕ → MergeEnd → Type 0
-EndsOnBytes o documents input (File NotUtf8) = ¬ (IsUtf8 (without_mark input))
+EndsOnBytes o documents input (File NotUtf8) = ¬ (IsUtf8 (without_byte_order_mark input))
 EndsOnBytes o documents input end =
-    IsTextWith (λ T. EndsOnText o documents (mark_of input) T end) (without_mark input)
+    IsTextWith (λ T. EndsOnText o documents (byte_order_mark_of input) T end) (without_byte_order_mark input)
 
 -- how a merge of other files into a file ends
 abbrev pub HasMerge : Options → List ℕ → List (List ℕ) → MergeEnd → Type 0

@@ -7,14 +7,14 @@ use Rattle.std.specs.declared.vec.Vec.{Vec}
 use Rattle.ini_text.specs.declared.error.Error.TheVariants.{Io, Parse, Memory, NotUtf8, NoProgress}
 use Rattle.ini_text.specs.declared.write.option.WriteOption.{WriteOption}
 use Rattle.ini.specs.Documents.{Document}
-use Rattle.ini.specs.Loading.{IsDocumentOf, IsStopOf, IsTextWith, without_mark}
+use Rattle.ini.specs.Loading.{IsDocumentOf, IsStopOf, IsTextWith, without_byte_order_mark}
 use Rattle.ini.specs.Texts.{Text}
 use Rattle.ini_edit.specs.Made.{HasNothing, HasUnplainWord}
 use Rattle.ini_edit.specs.declared.error.EditError.{EditError}
 use Rattle.ini_edit.specs.declared.error.EditError.TheVariants as refusal
 use Rattle.ini_options.specs.Words.{Word}
 use Rattle.ini_options.specs.declared.options.Options.{Options}
-use Rattle.ini_file.specs.Bytes.{mark_of}
+use Rattle.ini_file.specs.Bytes.{byte_order_mark_of}
 use Rattle.ini_file.specs.Edits.{IsChanged, RefusesEdit}
 use Rattle.ini_file.specs.Outputs.{output}
 use Rattle.ini_file.specs.Requests.{Asking, Asks, Request, Ask, Change}
@@ -39,9 +39,9 @@ pub record IsAnswer (o : Options) (separator : Option Word) (q : Asking) (T : Te
 
 -- the bytes are what the request asks to be written of a file with this mark and text
 abbrev pub IsWritten : Options → Option Word → Request → List ℕ → Text → List ℕ → Type 0
-IsWritten o separator (Ask q) mark T bytes =
+IsWritten o separator (Ask q) byte_order_mark T bytes =
     (out : Text) × IsAnswer o separator q T (Some out) × bytes ≡ encode_utf8_all out
-IsWritten o separator (Change e) mark T bytes = IsChanged o separator e mark T bytes
+IsWritten o separator (Change e) byte_order_mark T bytes = IsChanged o separator e byte_order_mark T bytes
 
 -- what the request is about isn't in the text, and it has no word that can't be written
 abbrev pub IsAbsent : Options → Option Word → Request → Text → Type 0
@@ -63,17 +63,17 @@ RefusesRequest o separator (Change e) T refused = RefusesEdit o separator e T re
 
 -- how a run ends that asks for the request of a file with this mark and text
 abbrev pub EndsAs : Options → Option Word → Request → List ℕ → Text → Outcome → Type 0
-EndsAs o separator r mark T (Done bytes) = IsWritten o separator r mark T bytes.items
-EndsAs o separator r mark T NotFound = IsAbsent o separator r T
-EndsAs o separator r mark T Usage = ⊥
-EndsAs o separator r mark T (Refused refused) = RefusesRequest o separator r T refused
+EndsAs o separator r byte_order_mark T (Done bytes) = IsWritten o separator r byte_order_mark T bytes.items
+EndsAs o separator r byte_order_mark T NotFound = IsAbsent o separator r T
+EndsAs o separator r byte_order_mark T Usage = ⊥
+EndsAs o separator r byte_order_mark T (Refused refused) = RefusesRequest o separator r T refused
 
 -- the same of a file's bytes, which may be no text
 abbrev pub EndsOn : List ℕ → Asks → Outcome → Type 0
-EndsOn input a (Refused (refusal.Text NotUtf8)) = ¬ (IsUtf8 (without_mark input))
+EndsOn input a (Refused (refusal.Text NotUtf8)) = ¬ (IsUtf8 (without_byte_order_mark input))
 EndsOn input a end =
-    IsTextWith (λ T. EndsAs a.options a.choices.separator a.request (mark_of input) T end)
-    (without_mark input)
+    IsTextWith (λ T. EndsAs a.options a.choices.separator a.request (byte_order_mark_of input) T end)
+    (without_byte_order_mark input)
 
 -- how a run of the words over the file's bytes ends
 abbrev pub HasOutcome : List (String Global) → List ℕ → Outcome → Type 0

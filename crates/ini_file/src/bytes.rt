@@ -1,31 +1,32 @@
 //! The text of a file's bytes, and bytes of a text. This file knows no document and no edit.
 ghost use Rattle.std.specs.Prelude.{◌≡◌, ◌++◌, Err, IfErr, IfOk, IsOkUnless, OnErr, OnOk, alloc_error};
 ghost use Rattle.std.specs.Str.{IsUtf8};
-ghost use Rattle.ini.specs.Loading.{without_mark};
-ghost use Rattle.ini_file.specs.Bytes.{mark_of};
+ghost use Rattle.ini.specs.Loading.{without_byte_order_mark};
+ghost use Rattle.ini_file.specs.Bytes.{byte_order_mark_of};
 ghost use Rattle.ini_text.specs.declared.error.Error.TheVariants.{Memory, NotUtf8};
 
 use ini::Error;
 use std::alloc::Global;
 
 // The byte order mark, EF BB BF.
-const MARK: [u8; 3] = [0xEF, 0xBB, 0xBF];
+const BYTE_ORDER_MARK: [u8; 3] = [0xEF, 0xBB, 0xBF];
 
 /// The byte order mark at the front of a file's bytes, if there is one, and the text behind it.
 ///
 /// Refused as `NotUtf8` where the bytes behind the mark are no UTF-8.
 pub fn text_of(bytes: &[u8]) -> Result<(&[u8], &str), Error>
-    ensures parts { IfOk result (λ p. (p.0.now ≡ mark_of bytes.now) × (p.1.now ≡ without_mark bytes.now)) }
-    ensures not_utf8 { OnErr result (¬ (IsUtf8 (without_mark bytes.now))) }
+    ensures parts { IfOk result (λ p. (p.0.now ≡ byte_order_mark_of bytes.now)
+        × (p.1.now ≡ without_byte_order_mark bytes.now)) }
+    ensures not_utf8 { OnErr result (¬ (IsUtf8 (without_byte_order_mark bytes.now))) }
     ensures only { IsOkUnless result NotUtf8 }
 {
-    let (mark, behind) = if bytes.starts_with(&MARK) {
-        bytes.split_at(MARK.len())
+    let (byte_order_mark, behind) = if bytes.starts_with(&BYTE_ORDER_MARK) {
+        bytes.split_at(BYTE_ORDER_MARK.len())
     } else {
         bytes.split_at(0)
     };
     match str::from_utf8(behind) {
-        Ok(text) => Ok((mark, text)),
+        Ok(text) => Ok((byte_order_mark, text)),
         Err(_) => Err(Error::NotUtf8),
     }
 }

@@ -4,7 +4,7 @@ ghost use Rattle.std.specs.Prelude.{◌≡◌, ◌≤◌, ◌<◌, ◌^◌, ◌+
 ghost use Rattle.std.specs.Prelude.{option_map, string_bytes};
 ghost use Rattle.ini_text.specs.declared.error.Error.TheVariants.{Memory};
 ghost use Rattle.ini_file.specs.Diffs.{DifferFirst, DifferLast, IsDiff, IsDiffBetween, hunk, hunk_head};
-ghost use Rattle.ini_file.specs.Diffs.{hunk_where, lines_of, marked_line};
+ghost use Rattle.ini_file.specs.Diffs.{hunk_where, lines_of, signed_line};
 ghost use Rattle.ini_file.specs.Inside.Shared.{ShareFirst, ShareLast};
 
 use crate::lines::{count_lines, split_first_line, split_last_line};
@@ -140,26 +140,26 @@ fn head_of(
     Ok(format!(in alloc; "--- {from}\n+++ {to}\n@@ -{gone_at},{gone} +{come_at},{come} @@\n")?)
 }
 
-// Puts lines last, each behind the mark.
-fn put_lines(diff: &mut Vec<u8>, mark: u8, lines: &[u8]) -> Result<(), Error>
+// Puts lines last, each behind the sign.
+fn put_lines(diff: &mut Vec<u8>, sign: u8, lines: &[u8]) -> Result<(), Error>
     ensures put { OnOk result (diff.new.items
-        ≡ diff.old.items ++ flat_map (marked_line mark) (lines_of lines.now)) }
+        ≡ diff.old.items ++ flat_map (signed_line sign) (lines_of lines.now)) }
     ensures only { IsOkUnless result (Memory alloc_error) }
 {
     let mut rest = lines;
     'lines: while let Some((line, behind)) = split_first_line(rest) {
-        put_line(diff, mark, line)?;
+        put_line(diff, sign, line)?;
         rest = behind;
     }
     Ok(())
 }
 
-// Puts a line last, behind the mark.
-fn put_line(diff: &mut Vec<u8>, mark: u8, line: &[u8]) -> Result<(), Error>
-    ensures put { OnOk result (diff.new.items ≡ diff.old.items ++ marked_line mark line.now) }
+// Puts a line last, behind the sign.
+fn put_line(diff: &mut Vec<u8>, sign: u8, line: &[u8]) -> Result<(), Error>
+    ensures put { OnOk result (diff.new.items ≡ diff.old.items ++ signed_line sign line.now) }
     ensures only { IsOkUnless result (Memory alloc_error) }
 {
-    diff.push(mark)?;
+    diff.push(sign)?;
     diff.extend_from_slice(line)?;
     if !line.contains(&b'\n') {
         diff.extend_from_slice(b"\n\\ No newline at end of file\n")?;

@@ -22,12 +22,12 @@ pub fn change(
     options: Options,
     separator: Option<&str>,
     edit: Edit<'_>,
-    mark: &[u8],
+    byte_order_mark: &[u8],
     text: &str,
 ) -> Result<Option<Vec<u8>>, EditError>
     ensures changed { IfOk result (λ bytes. MatchOption bytes
         (HasNothing options.reading (editing_of edit.entry) (chars text.now))
-        (λ bytes. IsChanged options (word_of separator.entry) (editing_of edit.entry) mark.now
+        (λ bytes. IsChanged options (word_of separator.entry) (editing_of edit.entry) byte_order_mark.now
         (chars text.now) bytes.items)) }
     ensures plain { OnOk result (¬ HasUnplainWord options.reading options.escape_policy
         (editing_of edit.entry)) }
@@ -38,5 +38,5 @@ pub fn change(
     let Some(new) = make_edit(alloc, text, options.reading, &write, edit)? else {
         return Ok(None);
     };
-    Ok(Some(joined(alloc, mark, new.as_str())?))
+    Ok(Some(joined(alloc, byte_order_mark, new.as_str())?))
 }

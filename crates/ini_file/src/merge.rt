@@ -37,7 +37,7 @@ pub fn merge(alloc: Global, options: Options, input: &[u8], others: &[Vec<u8>]) 
         Err((index, refusal)) => return MergeEnd::Other(index, refusal),
     };
     match text_of(input) {
-        Ok((mark, text)) => merge_text(alloc, options, documents.as_slice(), mark, text),
+        Ok((front, text)) => merge_text(alloc, options, documents.as_slice(), front, text),
         Err(refused) => MergeEnd::File(refused),
     }
 }
@@ -47,10 +47,10 @@ fn merge_text(
     alloc: Global,
     options: Options,
     documents: &[Ini],
-    mark: &[u8],
+    byte_order_mark: &[u8],
     text: &str,
 ) -> MergeEnd
-    ensures { EndsOnText options documents.now mark.now (chars text.now) result }
+    ensures { EndsOnText options documents.now byte_order_mark.now (chars text.now) result }
 {
     let Ok(edits) = settings_of(alloc, documents) else {
         return MergeEnd::File(Error::Memory(AllocError));
@@ -60,7 +60,7 @@ fn merge_text(
         Ok(new) => new,
         Err(refused) => return MergeEnd::Edit(refused),
     };
-    match joined(alloc, mark, new.text.as_str()) {
+    match joined(alloc, byte_order_mark, new.text.as_str()) {
         Ok(bytes) => MergeEnd::Done(bytes),
         Err(refused) => MergeEnd::File(refused),
     }

@@ -76,14 +76,14 @@ pub fn run(alloc: Global, words: &[String], input: &[u8]) -> Outcome
     let Some(asked) = parse(words) else {
         return Outcome::Usage;
     };
-    let (mark, text) = match text_of(input) {
+    let (byte_order_mark, text) = match text_of(input) {
         Ok(parts) => parts,
         Err(refused) => return Outcome::from(refused),
     };
     let (options, separator) = (asked.options, asked.choices.separator);
     let made = match asked.command {
         Command::Ask(question) => ask(alloc, options, separator, question, text),
-        Command::Change(edit) => change(alloc, options, separator, edit, mark, text),
+        Command::Change(edit) => change(alloc, options, separator, edit, byte_order_mark, text),
     };
     match made {
         Ok(Some(bytes)) => Outcome::Done(bytes),

@@ -6,18 +6,18 @@ pub pieces-init : goal.pieces-init
 pieces-init g c =
     let filled = c.in_ok-is_all.ensures in
     let new = c.in_ok-passing.ensures in
-    let last = c.len-last_line.ensures ∙ c.drop_front_mark.new.bytes.ok.0 in
+    let last = c.len-last_line.ensures ∙ c.drop_byte_order_mark.new.bytes.ok.0 in
     let lines = ap (λ n. 1 + n) last in (
       search rules,
       search rules,
       IsStreamed-starts 65536 (omega arith)
-          (rw c.new-bytes.ensures.items at filled.bytes) filled.filled c.drop_front_mark.ensures lines
+          (rw c.new-bytes.ensures.items at filled.bytes) filled.filled c.drop_byte_order_mark.ensures lines
           new.document new.front new.lines,
       omega (
         arith,
         c.len-last_line.ensures,
-        c.drop_front_mark.new.bytes.ok.1,
-        c.drop_front_mark.new.bytes.small,
+        c.drop_byte_order_mark.new.bytes.ok.1,
+        c.drop_byte_order_mark.new.bytes.small,
       ),
     )
 
