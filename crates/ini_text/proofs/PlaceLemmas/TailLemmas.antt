@@ -14,7 +14,7 @@ use Rattle.ini_text.specs.Grammar.Values.{LineEnd, MoreLines}
 use Rattle.ini_text.specs.Grammar.Places.{LastLine, OwnLines, Tail}
 use Rattle.ini_text.specs.Inside.LineReader.{line}
 use Rattle.ini_text.specs.Inside.PlaceReader.{HasTail}
-use Rattle.ini_text.specs.Inside.Reading.{found, stopped, prepend, altered}
+use Rattle.ini_text.specs.Inside.Reading.{found, stopped, prepend, altered_answer}
 use Rattle.ini_text.specs.Inside.Scans.{run_of, skipped}
 use Rattle.ini_text.specs.Inside.ValueReader.{after_end, empty_cr, more_lines, value}
 use Rattle.ini_text.proofs.GrammarLemmas.KindLemmas.{blank_inline}
@@ -148,7 +148,7 @@ pub record TailSoFar (o : ParseOption) (text start tail rest : List ℕ) : Type 
   pub tail_is : tail ≡ end ++ (lines ++ rest)
   pub own_lines : OwnLines o own tail
   pub ends : LineEnd end (lines ++ rest)
-  pub reads : value o text ≡ altered without_outer_line_feeds (prepend given (more_lines o rest))
+  pub reads : value o text ≡ altered_answer without_outer_line_feeds (prepend given (more_lines o rest))
   pub closes : (s r v : List ℕ) → s ++ r ≡ rest → MoreLines o s r v → list_all is_line_feed v ≡ true
       → (u : List ℕ) × MoreLines o (lines ++ s) r u × (list_all is_line_feed u ≡ true)
   pub grows : (s r : List ℕ) → s ++ r ≡ rest → LastLine o s r → OwnLines o (before ++ s) r
@@ -232,8 +232,8 @@ module _ (o : ParseOption) {text start : List ℕ} (skips : start ≡ skipped is
         st.tail_is ∙ ap (λ x. st.end ++ x) (ap (λ x. st.lines ++ x) is ∙ sym (append_assoc st.lines p next));
     own_lines = st.own_lines;
     ends = subst (LineEnd st.end) (ap (λ x. st.lines ++ x) is ∙ sym (append_assoc st.lines p next)) st.ends;
-    reads = st.reads ∙ ap (λ a. altered without_outer_line_feeds (prepend st.given a)) turn
-        ∙ ap (altered without_outer_line_feeds) (prepend-prepend st.given u (more_lines o next));
+    reads = st.reads ∙ ap (λ a. altered_answer without_outer_line_feeds (prepend st.given a)) turn
+        ∙ ap (altered_answer without_outer_line_feeds) (prepend-prepend st.given u (more_lines o next));
     closes = λ s r v q m feeds.
         let x = st.closes (p ++ s) r (u ++ v) (append_assoc p s r ∙ ap (λ y. p ++ y) q ∙ sym is)
         (row.more s r v q m) (all_behind u v all feeds) in
@@ -259,7 +259,7 @@ module _ (o : ParseOption) {text start : List ℕ} (skips : start ≡ skipped is
   -- reading stops behind what is known
   pub tail_stops : {tail rest r : List ℕ} {k : ParseKind} → TailSoFar o text start tail rest
       → more_lines o rest ≡ stopped r k → value o text ≡ stopped r k
-  tail_stops st h = st.reads ∙ ap (λ a. altered without_outer_line_feeds (prepend st.given a)) h
+  tail_stops st h = st.reads ∙ ap (λ a. altered_answer without_outer_line_feeds (prepend st.given a)) h
 
   -- the lines end before r
   tail_done : {tail rest : List ℕ} → o.enabled_indented_mutiline_value ≡ true
@@ -277,7 +277,7 @@ module _ (o : ParseOption) {text start : List ℕ} (skips : start ≡ skipped is
         skips = skips;
         own_is = st.own_is;
         tail_is = st.tail_is ∙ ap (λ y. st.end ++ y) whole ∙ sym (append_assoc st.end (st.lines ++ s) r);
-        reads = st.reads ∙ ap (λ a. altered without_outer_line_feeds (prepend st.given a))
+        reads = st.reads ∙ ap (λ a. altered_answer without_outer_line_feeds (prepend st.given a))
             (ap (more_lines o) (sym q) ∙ MoreLines-finds o s r v m);
         own_lines = st.own_lines;
         is_tail = Tail.lines on (subst (LineEnd st.end) whole st.ends) x.1 x.2;
@@ -351,7 +351,7 @@ module _ (o : ParseOption) {text start : List ℕ} (skips : start ≡ skipped is
         skips = skips;
         own_is = own_whole;
         tail_is = refl;
-        reads = st.reads ∙ ap (λ a. altered without_outer_line_feeds (prepend st.given a))
+        reads = st.reads ∙ ap (λ a. altered_answer without_outer_line_feeds (prepend st.given a))
             (sym (prepend-nil (more_lines o rest))
             ∙ line_ends o [] (line_feed ∷ []) is b from refl feed_first none);
         own_lines = own_line some;
@@ -395,8 +395,8 @@ module _ (o : ParseOption) {text start : List ℕ} (skips : start ≡ skipped is
             tail_is = sym q;
             own_lines = own_line gives;
             ends = le;
-            reads = st.reads ∙ ap (λ a. altered without_outer_line_feeds (prepend st.given a)) turn
-                ∙ ap (altered without_outer_line_feeds)
+            reads = st.reads ∙ ap (λ a. altered_answer without_outer_line_feeds (prepend st.given a)) turn
+                ∙ ap (altered_answer without_outer_line_feeds)
                 (prepend-prepend st.given (line_feed ∷ u) (more_lines o next));
             closes = λ s r v h m all. (v, m, all);
             grows = λ s r h last.

@@ -17,8 +17,8 @@ use Rattle.ini_text.specs.Grammar.Strings.{Ends, is_endpoint, Str, StrStops, nam
 use Rattle.ini_text.specs.Grammar.Values.{Value, ValueStops}
 use Rattle.ini_text.specs.Grammar.Keys.{Indentation, begins_key, begins_indented_key, KeyFront}
 use Rattle.ini_text.specs.Grammar.Elements.{Given, Gap, Element, ElementStops}
-use Rattle.ini_text.specs.Inside.ElementReader.{name_in, header, named, bracketed_header, behind_bracket, paired, behind_separator, trimmed_key, keyed, unindented, dropped, indented_keyed, kept_blanks, indented, behind_blanks, is_comment_part, element}
-use Rattle.ini_text.specs.Inside.Reading.{Answer, found, stopped, prepend, altered}
+use Rattle.ini_text.specs.Inside.ElementReader.{name_in, header, header_of_name, bracketed_header, behind_bracket, pair_of_value, behind_separator, trimmed_key, pair_of_key, unindented_pair, dropped_tail, indented_pair_of_key, kept_blanks, indented_pair, behind_blanks, is_comment_part, element}
+use Rattle.ini_text.specs.Inside.Reading.{Answer, found, stopped, prepend, altered_answer}
 use Rattle.ini_text.specs.Inside.Scans.{run_of, skipped, trimmed_at}
 use Rattle.ini_text.specs.Inside.StringReader.{string}
 use Rattle.ini_text.specs.Inside.ValueReader.{value}
@@ -65,12 +65,12 @@ indented_value false w v = refl
 
 -- behind a key, and where an indented key begins
 pub behind_key : (o : ParseOption) (key r : List ℕ) → key ≢ []
-    → behind_separator o key r ≡ paired key (value o r)
+    → behind_separator o key r ≡ pair_of_value key (value o r)
 behind_key o [] r some = absurd (some refl)
 behind_key o (c ∷ key) r some = refl
 
 pub key_at : (o : ParseOption) (w : List ℕ) {t cs : List ℕ} {c : ℕ} → t ≡ c ∷ cs → is_line_end c ≡ false
-    → c ≢ open_bracket → behind_blanks o w t ≡ indented o w t
+    → c ≢ open_bracket → behind_blanks o w t ≡ indented_pair o w t
 key_at o w {c = c} is end bracket = rw is (rw (end, ne_eqb c 91 bracket))
 
 module _ (o : ParseOption) (b : List ℕ) where
@@ -117,7 +117,8 @@ module _ (o : ParseOption) (b : List ℕ) where
       (k ++ m ∷ [], ElementStops.no_key front sep, append_assoc k (m ∷ []) r)
   behind_separator-sound {k} {r} {m} (c ∷ key) front sep = by (value o r) ((value-reads o).sound r)
     where
-      by : (a : Answer ℕ) → Says (Value o) (ValueStops o) r a → ElementSays (k ++ m ∷ r) (paired (c ∷ key) a)
+      by : (a : Answer ℕ) → Says (Value o) (ValueStops o) r a
+          → ElementSays (k ++ m ∷ r) (pair_of_value (c ∷ key) a)
       by (found v x) (s, given, h) =
           let before = subst (λ y. KeyFront o b k (m ∷ y) (c ∷ key)) (sym h) front in
           (k ++ m ∷ s, Element.pair before (λ q. cc) sep given, simp (append_assoc, h))
@@ -125,11 +126,11 @@ module _ (o : ParseOption) (b : List ℕ) where
           let before = subst (λ y. KeyFront o b k (m ∷ y) (c ∷ key)) (sym h) front in
           (k ++ m ∷ s, ElementStops.in_value before (λ q. cc) sep stops, simp (append_assoc, h))
 
-  keyed-sound : (w : List ℕ) {s r v t : List ℕ} (key : List ℕ)
+  pair_of_key-sound : (w : List ℕ) {s r v t : List ℕ} (key : List ℕ)
       → ((x : List ℕ) → s ++ x ≡ t → Str o.enabled_escape key_ends s x v → KeyFront o b (w ++ s) x key)
       → Str o.enabled_escape key_ends s r v → s ++ r ≡ t
       → ElementSays (w ++ t) (behind_separator o key (drop 1 r))
-  keyed-sound w {s} {r} {v} {t} key front str h =
+  pair_of_key-sound w {s} {r} {v} {t} key front str h =
       let x = key-separator str in
       let whole : s ++ x.0 ∷ x.1 ≡ t = ap (λ y. s ++ y) (sym x.2) ∙ h in
       rw x.2 (subst (λ y. ElementSays y (behind_separator o key x.1))
@@ -137,32 +138,33 @@ module _ (o : ParseOption) (b : List ℕ) where
       (behind_separator-sound
       key (front (x.0 ∷ x.1) whole (subst (λ y. Str o.enabled_escape key_ends s y v) x.2 str)) x.3))
 
-  unindented-sound : (t : List ℕ) → BeginsWith begins_key t → (a : Answer ℕ)
-      → StringSays o.enabled_escape key_ends t a → ElementSays t (keyed o (trimmed_key o a))
-  unindented-sound t begins (found v r) (s, str, h) =
+  unindented_pair-sound : (t : List ℕ) → BeginsWith begins_key t → (a : Answer ℕ)
+      → StringSays o.enabled_escape key_ends t a → ElementSays t (pair_of_key o (trimmed_key o a))
+  unindented_pair-sound t begins (found v r) (s, str, h) =
       subst (λ k. ElementSays t (behind_separator o k (drop 1 r)))
       (sym (key_value o.enabled_preserve_key_leading_whitespace v))
-      (keyed-sound [] _ (λ x q k. KeyFront.unindented (subst (BeginsWith begins_key) (sym q) begins) k) str
+      (pair_of_key-sound [] _ (λ x q k. KeyFront.unindented (subst (BeginsWith begins_key) (sym q) begins) k)
+      str
       h)
-  unindented-sound t begins (stopped r k) (s, stops, h) =
+  unindented_pair-sound t begins (stopped r k) (s, stops, h) =
       (s, ElementStops.in_key (subst (BeginsWith begins_key) (sym h) begins) stops, h)
 
-  indented-sound : (w t : List ℕ) → Indentation b w → BeginsWith begins_indented_key t → (a : Answer ℕ)
+  indented_pair-sound : (w t : List ℕ) → Indentation b w → BeginsWith begins_indented_key t → (a : Answer ℕ)
       → StringSays o.enabled_escape key_ends t a
-      → ElementSays (w ++ t) (indented_keyed o (trimmed_key o (prepend (kept_blanks o w) a)))
-  indented-sound w t ind begins (found v r) (s, str, h) =
+      → ElementSays (w ++ t) (indented_pair_of_key o (trimmed_key o (prepend (kept_blanks o w) a)))
+  indented_pair-sound w t ind begins (found v r) (s, str, h) =
       subst (λ k. ElementSays (w ++ t) (behind_separator o k (drop 1 r)))
       (sym (indented_value o.enabled_preserve_key_leading_whitespace w v))
-      (keyed-sound w
+      (pair_of_key-sound w
       _ (λ x q k. KeyFront.indented ind (subst (BeginsWith begins_indented_key) (sym q) begins) k) str h)
-  indented-sound w t ind begins (stopped r k) (s, stops, h) =
+  indented_pair-sound w t ind begins (stopped r k) (s, stops, h) =
       by k stops (subst (BeginsWith begins_indented_key) (sym h) begins)
     where
       whole : (w ++ s) ++ r ≡ w ++ t
       whole = append_assoc w s r ∙ ap (λ y. w ++ y) h
 
       by : (k : ParseKind) → StrStops o.enabled_escape key_ends s r k
-          → BeginsWith begins_indented_key (s ++ r) → ElementSays (w ++ t) (dropped r k)
+          → BeginsWith begins_indented_key (s ++ r) → ElementSays (w ++ t) (dropped_tail r k)
       by EndOfText stops begins =
           let none : r ≡ [] = stopped_at_end stops refl in
           let key = Element.dropped_key ind (rw (none, append-nil s) at begins)
@@ -177,14 +179,14 @@ module _ (o : ParseOption) (b : List ℕ) where
     | inl h ↦ rw h (w ++ c ∷ [], Element.gap (Gap.blank_line c ind h), append_assoc w (c ∷ []) cs)
     | inr n ↦ elim (cases_Bool (c == open_bracket)) [
       | inl q ↦ rw (eqb-true c 91 q) (w, Element.gap (Gap.before_header ind), refl)
-      | inr m ↦ rw (n, m) (indented-sound w (c ∷ cs) ind (rw (other, n, m) refl)
+      | inr m ↦ rw (n, m) (indented_pair-sound w (c ∷ cs) ind (rw (other, n, m) refl)
           (string o.enabled_escape key_ends (c ∷ cs)) (key-reads.sound (c ∷ cs)))
     ]
   ]
 
   header-sound : o.enabled_brackets_in_section_names ≡ false → (t : List ℕ) (a : Answer ℕ)
       → StringSays o.enabled_escape name_ends t a
-      → ElementSays (open_bracket ∷ t) (header (altered (trimmed_at true) a))
+      → ElementSays (open_bracket ∷ t) (header (altered_answer (trimmed_at true) a))
   header-sound off t (stopped r k) (s, stops, h) =
       (open_bracket ∷ s, ElementStops.in_header off stops, ap (λ y. open_bracket ∷ y) h)
   header-sound off t (found v r) (s, str, h) =
@@ -196,12 +198,12 @@ module _ (o : ParseOption) (b : List ℕ) where
             (append_assoc s (close_bracket ∷ []) x.0 ∙ ap (λ y. s ++ y) (sym x.1) ∙ h),
       )
 
-  named-sound : {s r v t : List ℕ} → o.enabled_brackets_in_section_names ≡ true
+  header_of_name-sound : {s r v t : List ℕ} → o.enabled_brackets_in_section_names ≡ true
       → Str o.enabled_escape bracketed_name_ends s r v → s ++ r ≡ t → (name : Option (List ℕ))
-      → name_in v ≡ name → ElementSays (open_bracket ∷ t) (named name r)
-  named-sound {s} {r} {v} on str h (Some name) e =
+      → name_in v ≡ name → ElementSays (open_bracket ∷ t) (header_of_name name r)
+  header_of_name-sound {s} {r} {v} on str h (Some name) e =
       (open_bracket ∷ s, Element.bracketed_header on str (name_found v name e), ap (λ y. open_bracket ∷ y) h)
-  named-sound {s} {r} {v} on str h None e =
+  header_of_name-sound {s} {r} {v} on str h None e =
       let (c, x, is, ends) = endpoint_follows str refl in
       rw is (
         open_bracket ∷ (s ++ c ∷ []),
@@ -215,7 +217,7 @@ module _ (o : ParseOption) (b : List ℕ) where
       → ElementSays (open_bracket ∷ t) (bracketed_header a)
   bracketed_header-sound on t (stopped r k) (s, stops, h) =
       (open_bracket ∷ s, ElementStops.in_bracketed_header on stops, ap (λ y. open_bracket ∷ y) h)
-  bracketed_header-sound on t (found v r) (s, str, h) = named-sound on str h (name_in v) refl
+  bracketed_header-sound on t (found v r) (s, str, h) = header_of_name-sound on str h (name_in v) refl
 
   behind_bracket-sound : (cs : List ℕ) → ElementSays (open_bracket ∷ cs) (behind_bracket o cs)
   behind_bracket-sound cs = elim (cases_Bool o.enabled_brackets_in_section_names) [
@@ -275,7 +277,7 @@ module _ (o : ParseOption) (b : List ℕ) where
         | inr m ↦ elim (cases_Bool (c == open_bracket)) [
           | inl q ↦ rw (eqb-true c 91 q) (behind_bracket-sound cs)
           | inr k ↦ rw (n, x, m, k)
-              (unindented-sound (c ∷ cs) (rw (x, m, k) refl) (string o.enabled_escape key_ends (c ∷ cs))
+              (unindented_pair-sound (c ∷ cs) (rw (x, m, k) refl) (string o.enabled_escape key_ends (c ∷ cs))
               (key-reads.sound (c ∷ cs)))
         ]
       ]
@@ -292,18 +294,18 @@ module _ (o : ParseOption) (b : List ℕ) where
       cond-true (is_blank c && starts_line b) _ _ (rw (ind.some, ind.at_line_start) refl)
       ∙ rw (split.0, split.1) refl
 
-  element-indented : {w : List ℕ} (t : List ℕ) → Indentation b w → BeginsWith begins_indented_key t
-      → element o b (w ++ t) ≡ indented o w t
-  element-indented [] ind begins = cc
-  element-indented (c ∷ t) ind begins =
+  element-indented_pair : {w : List ℕ} (t : List ℕ) → Indentation b w → BeginsWith begins_indented_key t
+      → element o b (w ++ t) ≡ indented_pair o w t
+  element-indented_pair [] ind begins = cc
+  element-indented_pair (c ∷ t) ind begins =
       let x = or_parts (is_blank c || is_line_end c) (c == open_bracket) (not-true _ begins) in
       let y = or_parts (is_blank c) (is_line_end c) x.0 in
       rw (element-blanks (c ∷ t) ind y.0, y.1, x.1)
 
-  element-unindented : (t : List ℕ) → BeginsWith begins_key t → element o b t ≡ unindented o t
+  element-unindented_pair : (t : List ℕ) → BeginsWith begins_key t → element o b t ≡ unindented_pair o t
   unfolding element
-  element-unindented [] begins = cc
-  element-unindented (c ∷ t) begins =
+  element-unindented_pair [] begins = cc
+  element-unindented_pair (c ∷ t) begins =
       let x = or_parts (is_whitespace c || is_comment_mark c) (c == open_bracket) (not-true _ begins) in
       let y = or_parts (is_whitespace c) (is_comment_mark c) x.0 in
       rw (no_white_no_blank c y.0, y.0, y.1, x.1)
@@ -311,10 +313,10 @@ module _ (o : ParseOption) (b : List ℕ) where
   element-key : {k x key : List ℕ} {m : ℕ} → KeyFront o b k (m ∷ x) key → is_separator m ≡ true
       → element o b (k ++ m ∷ x) ≡ behind_separator o key x
   element-key {x = x} {m = m} (KeyFront.unindented {s} {v = v} begins str) sep =
-      rw (element-unindented (s ++ m ∷ x) begins, key-reads.finds str)
+      rw (element-unindented_pair (s ++ m ∷ x) begins, key-reads.finds str)
       (ap (λ k. behind_separator o k x) (key_value o.enabled_preserve_key_leading_whitespace v))
   element-key {x = x} {m = m} (KeyFront.indented {w} {s} {v = v} ind begins str) sep =
-      rw (append_assoc w s (m ∷ x), element-indented (s ++ m ∷ x) ind begins, key-reads.finds str)
+      rw (append_assoc w s (m ∷ x), element-indented_pair (s ++ m ∷ x) ind begins, key-reads.finds str)
       (ap (λ k. behind_separator o k x) (indented_value o.enabled_preserve_key_leading_whitespace w v))
 
   element-gap : {s r : List ℕ} → Gap b s r → element o b (s ++ r) ≡ found [] r
@@ -359,11 +361,11 @@ module _ (o : ParseOption) (b : List ℕ) where
   element-finds (Element.dropped_key {w} {s} ind begins stops) =
       let reads : string o.enabled_escape key_ends s ≡ stopped [] EndOfText =
       rw (append-nil s) at (key-reads.stops stops) in
-      rw (append-nil (w ++ s), element-indented s ind begins, reads)
+      rw (append-nil (w ++ s), element-indented_pair s ind begins, reads)
 
-  dropped-stops : (r : List ℕ) (k : ParseKind) → k ≢ EndOfText → dropped r k ≡ stopped r k
-  dropped-stops r EndOfText n = absurd (n refl)
-  dropped-stops r _ n = refl
+  dropped_tail-stops : (r : List ℕ) (k : ParseKind) → k ≢ EndOfText → dropped_tail r k ≡ stopped r k
+  dropped_tail-stops r EndOfText n = absurd (n refl)
+  dropped_tail-stops r _ n = refl
 
   pub element-stops : {s r : List ℕ} {k : ParseKind} → ElementStops o b s r k
       → element o b (s ++ r) ≡ stopped r k
@@ -373,10 +375,10 @@ module _ (o : ParseOption) (b : List ℕ) where
   element-stops {r = r} (ElementStops.no_header_end {s} {v = v} {c} on str none) =
       rw (on, append_assoc s (c ∷ []) r, line-reads.finds str, none_found v none)
   element-stops {s} {r} (ElementStops.in_key begins stops) =
-      rw (element-unindented (s ++ r) begins, key-reads.stops stops)
+      rw (element-unindented_pair (s ++ r) begins, key-reads.stops stops)
   element-stops {r = r} {k} (ElementStops.in_indented_key {w} {s} ind begins stops n) =
-      rw (append_assoc w s r, element-indented (s ++ r) ind begins, key-reads.stops stops)
-      (dropped-stops r k n)
+      rw (append_assoc w s r, element-indented_pair (s ++ r) ind begins, key-reads.stops stops)
+      (dropped_tail-stops r k n)
   element-stops {r = r} (ElementStops.no_key {k} {m = m} front sep) =
       rw (append_assoc k (m ∷ []) r) (element-key front sep)
   element-stops {r = r} (ElementStops.in_value {k} {s} {key = key} {m = m} front some sep stops) =
@@ -404,7 +406,8 @@ blanks_front {t} {start} is =
     (front, ap (λ x. x ++ start) front ∙ whole)
 
 -- other stops than the text's end stay
-pub not_dropped : (r : List ℕ) (kind : ParseKind) → (kind ≡ EndOfText → ⊥) → dropped r kind ≡ stopped r kind
+pub not_dropped : (r : List ℕ) (kind : ParseKind) → (kind ≡ EndOfText → ⊥)
+    → dropped_tail r kind ≡ stopped r kind
 not_dropped r kinds.EndOfText other = absurd (other refl)
 not_dropped r kinds.BrokenEscape other = refl
 not_dropped r kinds.UnknownCharacter other = refl

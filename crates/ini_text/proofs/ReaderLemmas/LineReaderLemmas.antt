@@ -9,7 +9,7 @@ use Rattle.ini_text.specs.Grammar.CharacterKinds.{is_quote_mark}
 use Rattle.ini_text.specs.Grammar.Strings.{Ends, quote_ends, plain_ends, Str, StrStops}
 use Rattle.ini_text.specs.Grammar.Lines.{Quoted, BeginsPlain, plain_value, Line, LineStops}
 use Rattle.ini_text.specs.Inside.LineReader.{quote_at, opens_quote, behind_quoted, part, parts, plain_part, line}
-use Rattle.ini_text.specs.Inside.Reading.{Answer, found, stopped, prepend, altered, and_then, Step, more, go_on}
+use Rattle.ini_text.specs.Inside.Reading.{Answer, found, stopped, prepend, altered_answer, and_then, Step, more, go_on}
 use Rattle.ini_text.specs.Inside.Scans.{trimmed_at}
 use Rattle.ini_text.specs.Inside.StringReader.{string}
 use Rattle.ini_text.proofs.ReaderLemmas.ReaderLemmas.{and_found, and_stopped, prepend-nil, prepend-prepend, then_found, then_stopped, stopped_behind, read_behind, Says, IsReader, StepSays, turn, shortens, reads}
@@ -139,7 +139,7 @@ module _ (o : ParseOption) where
         shortens Parts PartsStop (part o) part-sound step
 
   pub line_plain : (t : List ℕ) → quote_at o t ≡ None
-      → line o true t ≡ altered (trimmed_at true) (string o.enabled_escape plain_ends t)
+      → line o true t ≡ altered_answer (trimmed_at true) (string o.enabled_escape plain_ends t)
   unfolding line
   line_plain t none = rw (parts_end t none, none) (prepend-nil _)
 
@@ -164,7 +164,7 @@ module _ (o : ParseOption) where
     plained-sound : {q w : List ℕ} {quoted : Bool} → Quoted o q w quoted → (r : List ℕ) → BeginsPlain o r
         → (a : Answer ℕ)
         → StringSays o.enabled_escape plain_ends r a
-        → LineSays o first (q ++ r) (prepend w (altered (plain_value first quoted) a))
+        → LineSays o first (q ++ r) (prepend w (altered_answer (plain_value first quoted) a))
     plained-sound {q} quoted r plain (found v x) (p, str, h) = (
       q ++ p,
       Line.line quoted (subst (BeginsPlain o) (sym h) plain) str,

@@ -17,7 +17,7 @@ use Rattle.ini_text.specs.Inside.Lanes.{Tells, is_one_of}
 use Rattle.ini_text.specs.Inside.Reading.{found, prepend, and_then}
 use Rattle.ini_text.specs.Inside.Scans.{is_raw}
 use Rattle.ini_text.specs.Inside.ShortPieces.{IsEscape, IsShort, Sees}
-use Rattle.ini_text.specs.Inside.StringReader.{coded, string}
+use Rattle.ini_text.specs.Inside.StringReader.{coded_character, string}
 use Rattle.ini_text.proofs.ReaderLemmas.ReaderLemmas.{prepend-nil, prepend-prepend}
 use Rattle.ini_text.proofs.ReaderLemmas.StringReaderLemmas.{string_run, string_pair, string_coded, coded_digits, coded_shortens}
 use Rattle.ini_text.proofs.StringLemmas.LaneLemmas.{Tells-same, same_run, stops_at}
@@ -70,7 +70,7 @@ begins_with_four t bytes a b c d same u long first second third fourth low-a low
 -- what they spell, if that is a character
 pub four_spell : (t : List ℕ) {a b c d : ℕ} (r : Option ℕ)
     → (chars t ≡ a ∷ b ∷ c ∷ d ∷ chars (drop 4 t)) × IsCharBoundary t 4 → r ≡ spelled a b c d
-    → IfSome r (λ v. (coded (chars t) ≡ found (v ∷ []) (chars (drop 4 t))) × IsCharBoundary t 4)
+    → IfSome r (λ v. (coded_character (chars t) ≡ found (v ∷ []) (chars (drop 4 t))) × IsCharBoundary t 4)
 four_spell t None four is = tt
 four_spell t (Some v) four is = (coded_digits four.0 refl refl refl (sym is), four.1)
 
@@ -84,13 +84,14 @@ module _ (to : Ends) where
 
   -- a code
   pub coded_read : {t ds rest : List ℕ} {v : ℕ} → t ≡ backslash ∷ letter_x ∷ ds
-      → coded ds ≡ found (v ∷ []) rest → string true to t ≡ prepend (v ∷ []) (string true to rest)
+      → coded_character ds ≡ found (v ∷ []) rest → string true to t ≡ prepend (v ∷ []) (string true to rest)
   coded_read two is = string_coded true to two refl refl refl refl ∙ ap (and_then (string true to)) is
 
-pub coded_shorter : {t ds rest v : List ℕ} → t ≡ backslash ∷ letter_x ∷ ds → coded ds ≡ found v rest
+pub coded_shorter : {t ds rest v : List ℕ} → t ≡ backslash ∷ letter_x ∷ ds
+    → coded_character ds ≡ found v rest
     → length rest < length t
 coded_shorter {ds = ds} two is =
-    coded_shortens true plain_ends [] two refl refl refl refl (prepend-nil (coded ds) ∙ is)
+    coded_shortens true plain_ends [] two refl refl refl refl (prepend-nil (coded_character ds) ∙ is)
 
 pub letter_escape : {t : List ℕ} {d v : ℕ} → BeginsWithTwo t 92 d → d ≢ line_feed → d ≢ letter_x
     → v ≡ unwrap_or (control d) d → IsEscape t v 2
@@ -102,11 +103,11 @@ letter_escape two n m is = record {
 }
 
 pub coded_escape : {t behind : List ℕ} {v : ℕ} → BeginsWithTwo t 92 120 → 2 ≤ length t → behind ≡ drop 2 t
-    → coded (chars behind) ≡ found (v ∷ []) (chars (drop 4 behind)) → IsCharBoundary behind 4
+    → coded_character (chars behind) ≡ found (v ∷ []) (chars (drop 4 behind)) → IsCharBoundary behind 4
     → IsEscape t v 6
 coded_escape {t} {behind} {v} two long is_behind is cut =
-    let codes : coded (chars (drop 2 t)) ≡ found (v ∷ []) (chars (drop 6 t)) =
-    ap (λ x. coded (chars x)) (sym is_behind) ∙ is
+    let codes : coded_character (chars (drop 2 t)) ≡ found (v ∷ []) (chars (drop 6 t)) =
+    ap (λ x. coded_character (chars x)) (sym is_behind) ∙ is
     ∙ ap (λ x. found (v ∷ []) (chars x)) (ap (drop 4) is_behind ∙ drop-drop 4 2 t) in
     record {
       few = omega arith;

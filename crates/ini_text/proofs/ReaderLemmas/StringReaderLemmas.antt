@@ -13,7 +13,7 @@ use Rattle.ini_text.specs.Grammar.EscapeSequences.{control, spelled, EscapeSeque
 use Rattle.ini_text.specs.Grammar.Strings.{Ends, is_endpoint, Row, Closes, Str, StrStops}
 use Rattle.ini_text.specs.Inside.Reading.{Answer, found, stopped, prepend, and_then, Step, more, ends, go_on}
 use Rattle.ini_text.specs.Inside.Scans.{is_raw}
-use Rattle.ini_text.specs.Inside.StringReader.{folded_unit, units, character, spelt, coded, value_behind_backslash, as_step, escape, piece, string}
+use Rattle.ini_text.specs.Inside.StringReader.{folded_unit, units, character, spelled_character, coded_character, value_behind_backslash, as_step, escape, piece, string}
 use Rattle.ini_text.proofs.ReaderLemmas.ReaderLemmas.{prepend-nil, prepend-prepend, Says, IsReader, StepSays, prefixed, and_found, and_stopped, read_behind, turn, shortens, reads}
 
 digit-apart : (c : ℕ) → is_digit c 16 ≡ true → c ≢ backslash
@@ -96,8 +96,8 @@ spelled-EscapeSequence (Units.character a
 spelled-EscapeSequence _ v h = cc
 
 pub coded_digits : {t x y z rest : List ℕ} {a b c d v : ℕ} → t ≡ a ∷ x → x ≡ b ∷ y → y ≡ c ∷ z
-    → z ≡ d ∷ rest → spelled a b c d ≡ Some v → coded t ≡ found (v ∷ []) rest
-unfolding coded
+    → z ≡ d ∷ rest → spelled a b c d ≡ Some v → coded_character t ≡ found (v ∷ []) rest
+unfolding coded_character
 coded_digits {rest = rest} {a} {b} {c} {d} {v} p q r s h =
     rw (p, q, r, s) (rw (units-found (spelled-Units a b c d v h) 4 0 rest (omega arith), h))
 
@@ -134,7 +134,7 @@ module _ (e : Bool) (to : Ends) where
   no_control c x v n h q = let z = subst (λ y. control y ≡ Some v) q h in cc
 
   piece-escape : {p w : List ℕ} → EscapeSequence e p w → (t : List ℕ) → piece e to (p ++ t) ≡ more w t
-  unfolding coded
+  unfolding coded_character
   piece-escape EscapeSequence.folded t = refl
   piece-escape (EscapeSequence.named {c} {v} on h) t =
       rw (ne_eqb c 120 (no_control c 120 v refl h), ne_eqb c 10 (no_control c 10 v refl h), on, h)
@@ -145,7 +145,7 @@ module _ (e : Bool) (to : Ends) where
 
   piece-stops : {p r : List ℕ} {k : ParseKind} → e ≡ true → EscapeStops p r k
       → piece e to (p ++ r) ≡ ends (stopped r k)
-  unfolding coded
+  unfolding coded_character
   piece-stops on (EscapeStops.cut_short {us = us} x l) =
       rw (on, units-found x 4 (suc (3 - length us)) [] (omega arith))
   piece-stops on (EscapeStops.cut_in_unit {u} {us} x l) =
@@ -204,16 +204,16 @@ module _ (e : Bool) (to : Ends) where
   character-sound {u} r on x four None q =
       (backslash ∷ letter_x ∷ u, StrStops.in_escape Row.none on (EscapeStops.unknown x four q), refl)
 
-  spelt-sound : e ≡ true → (t : List ℕ) (a : Answer (Option ℕ)) → UnitsSay t a
-      → PieceSays (backslash ∷ letter_x ∷ t) (as_step (spelt a))
-  spelt-sound on t (found us r) (u, x, four, h) =
-      subst (λ y. PieceSays (backslash ∷ letter_x ∷ y) (as_step (spelt (found us r)))) h
+  spelled_character-sound : e ≡ true → (t : List ℕ) (a : Answer (Option ℕ)) → UnitsSay t a
+      → PieceSays (backslash ∷ letter_x ∷ t) (as_step (spelled_character a))
+  spelled_character-sound on t (found us r) (u, x, four, h) =
+      subst (λ y. PieceSays (backslash ∷ letter_x ∷ y) (as_step (spelled_character (found us r)))) h
       (character-sound r on x four (spelled_by us) refl)
-  spelt-sound on t (stopped r k) (u, x, h) =
+  spelled_character-sound on t (stopped r k) (u, x, h) =
       (backslash ∷ letter_x ∷ u, StrStops.in_escape Row.none on x, ap (λ y. backslash ∷ letter_x ∷ y) h)
 
   escape-sound : (t : List ℕ) → PieceSays (backslash ∷ t) (escape e to t)
-  unfolding coded
+  unfolding coded_character
   escape-sound [] = cond_both to.text _ _ (λ a. PieceSays t (ends a)) (λ h. (t, Str.lone Row.none h, refl))
       (λ h. (t, StrStops.after_backslash Row.none h, refl))
     where
@@ -223,7 +223,7 @@ module _ (e : Bool) (to : Ends) where
     | inl q ↦
         let two = and_parts (c == letter_x) e q in
         rw (q, eqb-true c 120 two.0)
-        (spelt-sound two.1 cs (units 4 cs)
+        (spelled_character-sound two.1 cs (units 4 cs)
         (subst (UnitsSay cs) (prepend-nil (units 4 cs)) (units-sound 4 Units.none refl cs)))
     | inr n ↦ rw n (escaped cs (escape_of e c n) (omega arith))
   ]
@@ -291,9 +291,9 @@ module _ (e : Bool) (to : Ends) where
 
   pub string_coded : {t cs ds : List ℕ} {c d : ℕ} → t ≡ c ∷ cs → c ≡ backslash → cs ≡ d ∷ ds → e ≡ true
       → d ≡ letter_x
-      → string e to t ≡ and_then (string e to) (coded ds)
+      → string e to t ≡ and_then (string e to) (coded_character ds)
   string_coded {ds = ds} first b next on x =
-      rw (first, b, next, x) (string-turn (backslash ∷ letter_x ∷ ds) ∙ rw on (goes_on (coded ds)))
+      rw (first, b, next, x) (string-turn (backslash ∷ letter_x ∷ ds) ∙ rw on (goes_on (coded_character ds)))
     where
       goes_on : (a : Answer ℕ) → go_on (string true to) (as_step a) ≡ and_then (string true to) a
       goes_on (found v r) = refl
@@ -301,9 +301,9 @@ module _ (e : Bool) (to : Ends) where
 
   pub coded_shortens : {t cs ds v r : List ℕ} {c d : ℕ} (w : List ℕ) → t ≡ c ∷ cs → c ≡ backslash
       → cs ≡ d ∷ ds → e ≡ true → d ≡ letter_x
-      → prepend w (coded ds) ≡ found v r → length r < length t
+      → prepend w (coded_character ds) ≡ found v r → length r < length t
   coded_shortens {t} {ds = ds} {r = r} w first b next on x h =
-      let (u, read, grown) = read_behind w (coded ds) h in
+      let (u, read, grown) = read_behind w (coded_character ds) h in
       let step : piece e to t ≡ more u r = rw (first, b, next, x, on) (ap as_step read) in
       shortens (Str e to) (StrStops e to) (piece e to) piece-sound step
 

@@ -12,10 +12,10 @@ use Rattle.ini_text.specs.Grammar.Strings.{plain_ends, Closes, Str}
 use Rattle.ini_text.specs.Grammar.Lines.{Line}
 use Rattle.ini_text.specs.Grammar.Values.{LineEnd, MoreLines, Value, MoreLinesStop, ValueStops}
 use Rattle.ini_text.specs.Inside.LineReader.{line}
-use Rattle.ini_text.specs.Inside.Reading.{Answer, found, stopped, prepend, altered, Step, more, ends, go_on}
+use Rattle.ini_text.specs.Inside.Reading.{Answer, found, stopped, prepend, altered_answer, Step, more, ends, go_on}
 use Rattle.ini_text.specs.Inside.Scans.{run_of, skipped}
 use Rattle.ini_text.specs.Inside.StringReader.{as_step}
-use Rattle.ini_text.specs.Inside.ValueReader.{behind_cr, after_end, empty_cr, before_end, behind_line, row, more_lines, multiline, value}
+use Rattle.ini_text.specs.Inside.ValueReader.{behind_cr, after_end, empty_cr, before_end, behind_line, row, more_lines, multiline_value, value}
 use Rattle.ini_text.proofs.GrammarLemmas.KindLemmas.{blank_inline}
 use Rattle.ini_text.proofs.ReaderLemmas.ReaderLemmas.{and_more, and_found, read_behind, stopped_behind, Says, IsReader, StepSays, prefixed, turn, shortens, reads}
 use Rattle.ini_text.proofs.ReaderLemmas.LineReaderLemmas.{LineSays, line-reads}
@@ -252,7 +252,7 @@ module _ (o : ParseOption) where
   }
 
   abbrev pub joined : List ℕ → Answer ℕ → Answer ℕ
-  joined u a = altered without_outer_line_feeds (prepend u a)
+  joined u a = altered_answer without_outer_line_feeds (prepend u a)
 
   abbrev ValueSays : List ℕ → Answer ℕ → Type 0
   ValueSays t a = Says (Value o) (ValueStops o) t a
@@ -282,18 +282,19 @@ module _ (o : ParseOption) where
       (w ++ l, Value.one_line off (subst (Lead w) (sym h) lead) ln, append_assoc w l r ∙ ap (λ y. w ++ y) h)
   one_line-sound off lead (stopped r k) said = first_line-stops lead said
 
-  multiline-sound : {w x : List ℕ} → o.enabled_indented_mutiline_value ≡ true → Lead w x → (a : Answer ℕ)
+  multiline_value-sound : {w x : List ℕ} → o.enabled_indented_mutiline_value ≡ true → Lead w x
+      → (a : Answer ℕ)
       → LineSays o true x a
-      → ValueSays (w ++ x) (multiline o a)
-  multiline-sound {w} on lead (found u []) (l, ln, h) = (
+      → ValueSays (w ++ x) (multiline_value o a)
+  multiline_value-sound {w} on lead (found u []) (l, ln, h) = (
     w ++ l,
     Value.to_end on (subst (Lead w) (sym h ∙ append-nil l) lead) ln,
     append_assoc w l [] ∙ ap (λ y. w ++ y) h,
   )
-  multiline-sound on lead (found u (c ∷ r)) said =
+  multiline_value-sound on lead (found u (c ∷ r)) said =
       let (n, is, l, e, ln, whole) = ended c r lead said in
       rw (is, ← whole) (joined-sound on ln (more_lines o n) (more_lines-reads.sound n))
-  multiline-sound on lead (stopped r k) said = first_line-stops lead said
+  multiline_value-sound on lead (stopped r k) said = first_line-stops lead said
 
   value-lines : {w l e n u : List ℕ} → o.enabled_indented_mutiline_value ≡ true → EndedLine o true w l e n u
       → value o (w ++ (l ++ (e ++ n))) ≡ joined u (more_lines o n)
@@ -313,7 +314,7 @@ module _ (o : ParseOption) where
           record { white = split.all; ends = split.ends } in
           let said = (line-reads o true).sound rest in
           let multi = λ (on : o.enabled_indented_mutiline_value ≡ true).
-          multiline-sound on lead (line o true rest) said in
+          multiline_value-sound on lead (line o true rest) said in
           let one = λ (off : o.enabled_indented_mutiline_value ≡ false).
           one_line-sound off lead (line o true rest) said in
           subst (λ y. ValueSays y (value o t)) split.whole
@@ -406,25 +407,26 @@ module _ (o : ParseOption) where
     unfolding value
     value_line off = rw (skips, off)
 
-    value_multiline : o.enabled_indented_mutiline_value ≡ true → value o t ≡ multiline o (line o true start)
+    value_multiline : o.enabled_indented_mutiline_value ≡ true
+        → value o t ≡ multiline_value o (line o true start)
     unfolding value
     value_multiline on = rw (skips, on)
 
     pub value_stops : {r : List ℕ} {k : ParseKind} → line o true start ≡ stopped r k
         → value o t ≡ stopped r k
     value_stops h = elim (cases_Bool o.enabled_indented_mutiline_value)
-        [ inl on ↦ value_multiline on ∙ ap (multiline o) h | inr off ↦ value_line off ∙ h ]
+        [ inl on ↦ value_multiline on ∙ ap (multiline_value o) h | inr off ↦ value_line off ∙ h ]
 
     pub value_ends : {u v end : List ℕ} → o.enabled_indented_mutiline_value ≡ true
         → line o true start ≡ found u end → after_end end ≡ None → v ≡ without_outer_line_feeds u
         → value o t ≡ found v end
     value_ends {u} {end = end} on h e is =
-        value_multiline on ∙ ap (multiline o) h
-        ∙ ap (λ n. altered without_outer_line_feeds (go_on (more_lines o) (before_end u end n))) e
+        value_multiline on ∙ ap (multiline_value o) h
+        ∙ ap (λ n. altered_answer without_outer_line_feeds (go_on (more_lines o) (before_end u end n))) e
         ∙ ap (λ x. found x end) (sym is)
 
     pub value_goes_on : {u end next : List ℕ} → o.enabled_indented_mutiline_value ≡ true
         → line o true start ≡ found u end → after_end end ≡ Some next
         → value o t ≡ joined u (more_lines o next)
-    value_goes_on {u} {end} on h e = value_multiline on ∙ ap (multiline o) h
-        ∙ ap (λ n. altered without_outer_line_feeds (go_on (more_lines o) (before_end u end n))) e
+    value_goes_on {u} {end} on h e = value_multiline on ∙ ap (multiline_value o) h
+        ∙ ap (λ n. altered_answer without_outer_line_feeds (go_on (more_lines o) (before_end u end n))) e

@@ -9,7 +9,7 @@ use Rattle.ini_text.specs.Grammar.Elements.{Given, Header, Pair}
 use Rattle.ini_text.specs.Grammar.Positions.{starts_line, is_column_one}
 use Rattle.ini_text.specs.Grammar.Strings.{name_ends, bracketed_name_ends, key_ends}
 use Rattle.ini_text.specs.Grammar.WhiteSpace.{trimmed}
-use Rattle.ini_text.specs.Inside.Reading.{Answer, found, stopped, prepend, altered}
+use Rattle.ini_text.specs.Inside.Reading.{Answer, found, stopped, prepend, altered_answer}
 use Rattle.ini_text.specs.Inside.Scans.{run_of, skipped, trimmed_at}
 use Rattle.ini_text.specs.Inside.StringReader.{string}
 use Rattle.ini_text.specs.Inside.ValueReader.{value}
@@ -40,12 +40,12 @@ header (found name r) = found (Header name ∷ []) (drop 1 r)
 header (stopped r k) = stopped r k
 
 -- behind a header's string, by the name in it
-abbrev pub named : Option (List ℕ) → List ℕ → Answer Given
-named (Some name) r = found (Header (trimmed name) ∷ []) r
-named None r = stopped (drop 1 r) HeaderEnd
+abbrev pub header_of_name : Option (List ℕ) → List ℕ → Answer Given
+header_of_name (Some name) r = found (Header (trimmed name) ∷ []) r
+header_of_name None r = stopped (drop 1 r) HeaderEnd
 
 abbrev pub bracketed_header : Answer ℕ → Answer Given
-bracketed_header (found v r) = named (name_in v) r
+bracketed_header (found v r) = header_of_name (name_in v) r
 bracketed_header (stopped r k) = stopped r k
 
 -- behind an opening bracket
@@ -53,43 +53,43 @@ abbrev pub behind_bracket : ParseOption → List ℕ → Answer Given
 behind_bracket o cs =
     if o.enabled_brackets_in_section_names
     then bracketed_header (string o.enabled_escape bracketed_name_ends cs)
-    else header (altered (trimmed_at true) (string o.enabled_escape name_ends cs))
+    else header (altered_answer (trimmed_at true) (string o.enabled_escape name_ends cs))
 
-abbrev pub paired : List ℕ → Answer ℕ → Answer Given
-paired key (found v r) = found (Pair key v ∷ []) r
-paired key (stopped r k) = stopped r k
+abbrev pub pair_of_value : List ℕ → Answer ℕ → Answer Given
+pair_of_value key (found v r) = found (Pair key v ∷ []) r
+pair_of_value key (stopped r k) = stopped r k
 
 abbrev pub behind_separator : ParseOption → List ℕ → List ℕ → Answer Given
 behind_separator o [] r = stopped r MissingKey
-behind_separator o (c ∷ key) r = paired (c ∷ key) (value o r)
+behind_separator o (c ∷ key) r = pair_of_value (c ∷ key) (value o r)
 
 -- a key's string is trimmed at both ends, or at its end alone
 abbrev pub trimmed_key : ParseOption → Answer ℕ → Answer ℕ
-trimmed_key o a = altered (trimmed_at (not o.enabled_preserve_key_leading_whitespace)) a
+trimmed_key o a = altered_answer (trimmed_at (not o.enabled_preserve_key_leading_whitespace)) a
 
-abbrev pub keyed : ParseOption → Answer ℕ → Answer Given
-keyed o (found key r) = behind_separator o key (drop 1 r)
-keyed o (stopped r k) = stopped r k
+abbrev pub pair_of_key : ParseOption → Answer ℕ → Answer Given
+pair_of_key o (found key r) = behind_separator o key (drop 1 r)
+pair_of_key o (stopped r k) = stopped r k
 
-abbrev pub unindented : ParseOption → List ℕ → Answer Given
-unindented o t = keyed o (trimmed_key o (string o.enabled_escape key_ends t))
+abbrev pub unindented_pair : ParseOption → List ℕ → Answer Given
+unindented_pair o t = pair_of_key o (trimmed_key o (string o.enabled_escape key_ends t))
 
 -- the text's end is no fault in an indented key
-abbrev pub dropped : List ℕ → ParseKind → Answer Given
-dropped r EndOfText = found [] r
-dropped r k = stopped r k
+abbrev pub dropped_tail : List ℕ → ParseKind → Answer Given
+dropped_tail r EndOfText = found [] r
+dropped_tail r k = stopped r k
 
-abbrev pub indented_keyed : ParseOption → Answer ℕ → Answer Given
-indented_keyed o (found key r) = behind_separator o key (drop 1 r)
-indented_keyed o (stopped r k) = dropped r k
+abbrev pub indented_pair_of_key : ParseOption → Answer ℕ → Answer Given
+indented_pair_of_key o (found key r) = behind_separator o key (drop 1 r)
+indented_pair_of_key o (stopped r k) = dropped_tail r k
 
 -- the blanks with which a key begins, where they are kept
 abbrev pub kept_blanks : ParseOption → List ℕ → List ℕ
 kept_blanks o w = if o.enabled_preserve_key_leading_whitespace then w else []
 
-abbrev pub indented : ParseOption → List ℕ → List ℕ → Answer Given
-indented o w t =
-    indented_keyed o (trimmed_key o (prepend (kept_blanks o w) (string o.enabled_escape key_ends t)))
+abbrev pub indented_pair : ParseOption → List ℕ → List ℕ → Answer Given
+indented_pair o w t =
+    indented_pair_of_key o (trimmed_key o (prepend (kept_blanks o w) (string o.enabled_escape key_ends t)))
 
 -- behind the blanks w at a line's start
 abbrev pub behind_blanks : ParseOption → List ℕ → List ℕ → Answer Given
@@ -97,7 +97,7 @@ behind_blanks o w [] = found [] []
 behind_blanks o w (c ∷ cs) =
     if is_line_end c then found [] cs
     else if c == open_bracket then found [] (c ∷ cs)
-    else indented o w (c ∷ cs)
+    else indented_pair o w (c ∷ cs)
 
 abbrev pub is_comment_part : ℕ → Bool
 is_comment_part c = not (is_line_feed c)
@@ -112,4 +112,4 @@ element o b (c ∷ cs) =
     then (if is_column_one b then found [] (drop 1 (skipped is_comment_part cs))
     else stopped cs InlineComment)
     else if c == open_bracket then behind_bracket o cs
-    else unindented o (c ∷ cs)
+    else unindented_pair o (c ∷ cs)

@@ -3,7 +3,7 @@ use Rattle.std.specs.Prelude.{ℕ, Bool, ◌&&◌, if◌then◌else◌, is_some,
 use Rattle.ini_text.specs.Grammar.CharacterKinds.{is_quote_mark}
 use Rattle.ini_text.specs.Grammar.Lines.{plain_value}
 use Rattle.ini_text.specs.Grammar.Strings.{Ends, quote_ends, plain_ends}
-use Rattle.ini_text.specs.Inside.Reading.{Answer, found, stopped, altered, and_then, Step, more, ends}
+use Rattle.ini_text.specs.Inside.Reading.{Answer, found, stopped, altered_answer, and_then, Step, more, ends}
 use Rattle.ini_text.specs.Inside.Reading.{read_by}
 use Rattle.ini_text.specs.Inside.StringReader.{string}
 use Rattle.ini_text.specs.declared.option.ParseOption.{ParseOption}
@@ -32,7 +32,8 @@ unfoldable pub parts : ParseOption → List ℕ → Answer ℕ
 parts o t = read_by (part o) t
 
 abbrev pub plain_part : ParseOption → Bool → Bool → List ℕ → Answer ℕ
-plain_part o first quoted t = altered (plain_value first quoted) (string o.enabled_escape plain_ends t)
+plain_part o first quoted t =
+    altered_answer (plain_value first quoted) (string o.enabled_escape plain_ends t)
 
 unfoldable pub line : ParseOption → Bool → List ℕ → Answer ℕ
 line o first t = and_then (plain_part o first (opens_quote o t)) (parts o t)

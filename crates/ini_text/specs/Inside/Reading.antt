@@ -17,9 +17,9 @@ prepend w (found v r) = found (w ++ v) r
 prepend w (stopped r k) = stopped r k
 
 -- what was read is made another
-abbrev pub altered : {A B : Type 0} → (List A → List B) → Answer A → Answer B
-altered f (found v r) = found (f v) r
-altered f (stopped r k) = stopped r k
+abbrev pub altered_answer : {A B : Type 0} → (List A → List B) → Answer A → Answer B
+altered_answer f (found v r) = found (f v) r
+altered_answer f (stopped r k) = stopped r k
 
 -- more is read behind it
 abbrev pub and_then : {A : Type 0} → (List ℕ → Answer A) → Answer A → Answer A

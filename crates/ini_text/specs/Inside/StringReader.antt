@@ -26,13 +26,13 @@ character (Some v) r = found (v ∷ []) r
 character None r = stopped r UnknownCharacter
 
 -- the character that the units spell
-abbrev pub spelt : Answer (Option ℕ) → Answer ℕ
-spelt (found us r) = character (spelled_by us) r
-spelt (stopped r k) = stopped r k
+abbrev pub spelled_character : Answer (Option ℕ) → Answer ℕ
+spelled_character (found us r) = character (spelled_by us) r
+spelled_character (stopped r k) = stopped r k
 
 -- behind \x
-unfoldable pub coded : List ℕ → Answer ℕ
-coded t = spelt (units 4 t)
+unfoldable pub coded_character : List ℕ → Answer ℕ
+coded_character t = spelled_character (units 4 t)
 
 -- what a backslash and the character behind it stand for, where that is not the x of a code
 abbrev pub value_behind_backslash : Bool → ℕ → List ℕ
@@ -53,7 +53,7 @@ as_step (stopped r k) = ends (stopped r k)
 abbrev pub escape : Bool → Ends → List ℕ → Step ℕ
 escape e to [] = ends (at_end to (backslash ∷ []))
 escape e to (c ∷ cs) =
-    if c == letter_x && e then as_step (coded cs) else more (value_behind_backslash e c) cs
+    if c == letter_x && e then as_step (coded_character cs) else more (value_behind_backslash e c) cs
 
 abbrev pub piece : Bool → Ends → List ℕ → Step ℕ
 piece e to [] = ends (at_end to [])

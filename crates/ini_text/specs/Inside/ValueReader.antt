@@ -3,7 +3,7 @@ use Rattle.std.specs.Prelude.{ℕ, ◌==◌, true, false, if◌then◌else◌, L
 use Rattle.ini_text.specs.Grammar.CharacterKinds.{line_feed, carriage_return, is_blank, is_inline_white}
 use Rattle.ini_text.specs.Grammar.WhiteSpace.{without_outer_line_feeds}
 use Rattle.ini_text.specs.Inside.LineReader.{line}
-use Rattle.ini_text.specs.Inside.Reading.{Answer, found, stopped, prepend, altered, Step, more, ends, go_on}
+use Rattle.ini_text.specs.Inside.Reading.{Answer, found, stopped, prepend, altered_answer, Step, more, ends, go_on}
 use Rattle.ini_text.specs.Inside.Reading.{read_by}
 use Rattle.ini_text.specs.Inside.Scans.{skipped}
 use Rattle.ini_text.specs.Inside.StringReader.{as_step}
@@ -50,10 +50,10 @@ unfoldable pub more_lines : ParseOption → List ℕ → Answer ℕ
 more_lines o t = read_by (row o) t
 
 -- a multiline value, by its first line
-abbrev pub multiline : ParseOption → Answer ℕ → Answer ℕ
-multiline o a = altered without_outer_line_feeds (go_on (more_lines o) (behind_line a))
+abbrev pub multiline_value : ParseOption → Answer ℕ → Answer ℕ
+multiline_value o a = altered_answer without_outer_line_feeds (go_on (more_lines o) (behind_line a))
 
 unfoldable pub value : ParseOption → List ℕ → Answer ℕ
 value o t =
     let first = line o true (skipped is_inline_white t) in
-    if o.enabled_indented_mutiline_value then multiline o first else first
+    if o.enabled_indented_mutiline_value then multiline_value o first else first

@@ -3,7 +3,7 @@
 ghost use Rattle.std.specs.Prelude.{◌≡◌, ℕ, chars, drop, IfOk};
 ghost use Rattle.ini_text.specs.Grammar.CharacterKinds.{is_blank};
 ghost use Rattle.ini_text.specs.Inside.ElementReader.{behind_blanks, behind_separator, given};
-ghost use Rattle.ini_text.specs.Inside.ElementReader.{indented_keyed, kept_blanks, unindented};
+ghost use Rattle.ini_text.specs.Inside.ElementReader.{indented_pair_of_key, kept_blanks, unindented_pair};
 ghost use Rattle.ini_text.specs.Inside.Reading.{Answer, Gives, StopsBy};
 ghost use Rattle.ini_text.specs.Inside.Scans.{run_of, skipped};
 ghost use Rattle.ini_text.specs.Parsing.Items.{string_text};
@@ -29,7 +29,7 @@ pub(crate) fn read_unindented<'a>(
     text: &'a str,
     option: ParseOption,
 ) -> Result<(Option<Item>, &'a str), Stop<'a>>
-    ensures { Gives given result (unindented option (chars text.now)) }
+    ensures { Gives given result (unindented_pair option (chars text.now)) }
 {
     let both = !option.enabled_preserve_key_leading_whitespace;
     let (key, rest) = read_trimmed(
@@ -87,7 +87,7 @@ fn begin_key(alloc: Global, blanks: &str, option: ParseOption) -> Result<String,
 /// What is left of a text that ends within an indented key gives nothing; other stops stay.
 fn drop_tail(stop: Stop<'_>) -> Result<(Option<Item>, &str), Stop<'_>>
     ensures { (o : ParseOption) (a : Answer ℕ) → StopsBy a stop.entry
-        → Gives given result (indented_keyed o a) }
+        → Gives given result (indented_pair_of_key o a) }
 {
     match stop {
         Stop::Memory => Err(stop),

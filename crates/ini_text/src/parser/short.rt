@@ -5,7 +5,7 @@ ghost use Rattle.std.specs.Str.{IsCharBoundary};
 ghost use Rattle.ini_text.specs.Inside.Endpoints.{ends_of};
 ghost use Rattle.ini_text.specs.Inside.Reading.{found, prepend};
 ghost use Rattle.ini_text.specs.Inside.ShortPieces.{IsEscape, IsShort, Sees};
-ghost use Rattle.ini_text.specs.Inside.StringReader.{coded, string};
+ghost use Rattle.ini_text.specs.Inside.StringReader.{coded_character, string};
 ghost use Rattle.ini_text.specs.Parsing.Items.{string_text};
 ghost use Rattle.ini_text.specs.declared.lanes.TheConstants.{LANES};
 ghost use Rattle.ini_text.specs.declared.parser.block.TheConstants.{BLOCK_LENGTH};
@@ -125,7 +125,7 @@ fn split_escape(text: &str) -> Option<(char, usize)>
 /// The character that the four characters behind `\x` spell, if they are digits, and what follows them.
 #[inline(always)]
 pub(crate) fn split_coded(text: &str) -> Option<(char, &str)>
-    ensures { IfSome result (λ p. coded (chars text.now) ≡ found (p.0 ∷ []) (chars p.1.now)) }
+    ensures { IfSome result (λ p. coded_character (chars text.now) ≡ found (p.0 ∷ []) (chars p.1.now)) }
 {
     if text.len() < CODE {
         return None;
@@ -139,7 +139,8 @@ pub(crate) fn split_coded(text: &str) -> Option<(char, &str)>
 #[inline(always)]
 fn coded_value(text: &str) -> Option<char>
     requires { CODE ≤ length text.now }
-    ensures { IfSome result (λ v. (coded (chars text.now) ≡ found (v ∷ []) (chars (drop CODE text.now)))
+    ensures { IfSome result (λ v.
+        (coded_character (chars text.now) ≡ found (v ∷ []) (chars (drop CODE text.now)))
         × IsCharBoundary text.now CODE) }
 {
     let bytes = text.as_bytes();

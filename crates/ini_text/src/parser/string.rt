@@ -3,7 +3,7 @@ ghost use Rattle.std.specs.Prelude.{◌≡◌, ◌∷◌, ◌++◌, [], chars, u
 ghost use Rattle.ini_text.specs.Inside.Endpoints.{ends_of};
 ghost use Rattle.ini_text.specs.Grammar.EscapeSequences.{control, spelled, spelled_by};
 ghost use Rattle.ini_text.specs.Inside.Reading.{prepend, Appends, Gives};
-ghost use Rattle.ini_text.specs.Inside.StringReader.{ReadsRaw, coded, string, unit, value_behind_backslash};
+ghost use Rattle.ini_text.specs.Inside.StringReader.{ReadsRaw, coded_character, string, unit, value_behind_backslash};
 ghost use Rattle.ini_text.specs.Parsing.Items.{string_text};
 
 use crate::error::ParseKind;
@@ -103,9 +103,10 @@ fn escaped_value(c: char) -> char
 
 // coded = "\x" 4unit
 /// Appends the character that the four units behind `\x` spell.
-#[tactic(auto, unfolding(crate::specs::Inside::StringReader::coded))]
+#[tactic(auto, unfolding(crate::specs::Inside::StringReader::coded_character))]
 fn read_coded<'a>(out: &mut String, text: &'a str, ends: Endpoints) -> Result<&'a str, Stop<'a>>
-    ensures { Appends (string_text out.new) result (prepend (string_text out.old) (coded (chars text.now))) }
+    ensures { Appends (string_text out.new) result
+        (prepend (string_text out.old) (coded_character (chars text.now))) }
 {
     if let Some((value, rest)) = split_coded(text) {
         push(out, value)?;

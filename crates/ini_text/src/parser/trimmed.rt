@@ -2,7 +2,7 @@
 //! no line.
 ghost use Rattle.std.specs.Prelude.{chars};
 ghost use Rattle.ini_text.specs.Inside.Endpoints.{ends_of};
-ghost use Rattle.ini_text.specs.Inside.Reading.{altered, Gives};
+ghost use Rattle.ini_text.specs.Inside.Reading.{altered_answer, Gives};
 ghost use Rattle.ini_text.specs.Inside.Scans.{trimmed_at};
 ghost use Rattle.ini_text.specs.Inside.StringReader.{string};
 ghost use Rattle.ini_text.specs.Parsing.Items.{string_text};
@@ -25,7 +25,7 @@ pub(crate) fn read_trimmed<'a>(
     both: bool,
 ) -> Result<(String, &'a str), Stop<'a>>
     ensures { Gives string_text result
-        (altered (trimmed_at both) (string escapes (ends_of ends) (chars text.now))) }
+        (altered_answer (trimmed_at both) (string escapes (ends_of ends) (chars text.now))) }
 {
     // Most strings are one run of the text: they are copied once, as long as they are.
     if let Some((run, rest)) = split_raw(text, ends) {

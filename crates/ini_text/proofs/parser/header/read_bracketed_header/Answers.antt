@@ -2,7 +2,7 @@ use Rattle.std.proofs.Common.{[], ◌∷◌, chars, sym, ap, ◌∙◌}
 use Rattle.ini_text.specs.declared.error.ParseKind.TheVariants.{HeaderEnd}
 use Rattle.ini_text.specs.Grammar.Elements.{Header}
 use Rattle.ini_text.specs.Grammar.WhiteSpace.{trimmed}
-use Rattle.ini_text.specs.Inside.ElementReader.{bracketed_header, name_in, named}
+use Rattle.ini_text.specs.Inside.ElementReader.{bracketed_header, name_in, header_of_name}
 use Rattle.ini_text.specs.Inside.Reading.{found, stopped}
 use Rattle.ini_text.proofs.ReaderLemmas.ReaderLemmas.{from_nothing, passed}
 use Rattle.ini_text.proofs.parser.header.read_bracketed_header.Goals as goal
@@ -15,14 +15,14 @@ pub returns-in_default : goal.returns-in_default
 returns-in_default c =
     rw c.new.ensures
     (ap bracketed_header (sym (from_nothing _ c.new-line.ensures.bytes) ∙ c.in_ok-rest.ensures)
-    ∙ ap (λ n. named n (chars c.in_ok-rest.rest.now))
+    ∙ ap (λ n. header_of_name n (chars c.in_ok-rest.rest.now))
     (ap (λ x. name_in (chars x)) (sym c.as_str.ensures.value) ∙ c.in_default.ensures)
     ∙ ap (λ x. stopped x HeaderEnd) (sym c.after_first.ensures))
 
 pub returns : goal.returns
 returns c =
     ap bracketed_header (sym (from_nothing _ c.new-line.ensures.bytes) ∙ c.in_ok-rest.ensures)
-    ∙ ap (λ n. named n (chars c.in_ok-rest.rest.now))
+    ∙ ap (λ n. header_of_name n (chars c.in_ok-rest.rest.now))
     (ap (λ x. name_in (chars x)) (sym c.as_str.ensures.value) ∙ c.in-Some.ensures)
     ∙ ap (λ x. found (Header x ∷ []) (chars c.in_ok-rest.rest.now))
     (sym (c.in_ok-name.ensures ∙ ap (λ x. trimmed (chars x)) c.in_ok-from_str.ensures.ok))

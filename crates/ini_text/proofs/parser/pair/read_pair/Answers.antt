@@ -1,6 +1,6 @@
 use Rattle.std.proofs.Common.{◌≢◌, [], string_bytes, sym, ap, ◌∙◌, eqb-true, eq-eqb, true≢false}
 use Rattle.std.proofs.lemmas.Str.{IsUtf8-string_bytes}
-use Rattle.ini_text.specs.Inside.ElementReader.{behind_separator, paired}
+use Rattle.ini_text.specs.Inside.ElementReader.{behind_separator, pair_of_value}
 use Rattle.ini_text.specs.Parsing.Items.{string_text}
 use Rattle.ini_text.proofs.StringLemmas.PushLemmas.{no_characters, some_characters}
 use Rattle.ini_text.proofs.ReaderLemmas.ReaderLemmas.{passed}
@@ -24,7 +24,7 @@ returns-in_err-value c =
     (sym (eq-eqb _ 0 (c.args.key.bytes.ok.0 ∙ none)) ∙ sym c.is_empty.ensures ∙ c.if-is_empty.false)) in
     passed _ _ _ c.from_residual.ensures.1 c.in_err-value.ensures λ r k h.
     ap (behind_separator c.args.option (string_text c.args.key)) (sym c.after_first-after.ensures)
-    ∙ behind_key c.args.option _ _ some ∙ ap (paired (string_text c.args.key)) h
+    ∙ behind_key c.args.option _ _ some ∙ ap (pair_of_value (string_text c.args.key)) h
 
 pub returns : goal.returns
 returns c =
@@ -34,4 +34,4 @@ returns c =
     (sym (eq-eqb _ 0 (c.args.key.bytes.ok.0 ∙ none)) ∙ sym c.is_empty.ensures ∙ c.if-is_empty.false)) in
     ap (behind_separator c.args.option (string_text c.args.key)) (sym c.after_first-after.ensures)
     ∙ behind_key c.args.option _ _ some
-    ∙ ap (paired (string_text c.args.key)) c.in_ok-value.ensures
+    ∙ ap (pair_of_value (string_text c.args.key)) c.in_ok-value.ensures

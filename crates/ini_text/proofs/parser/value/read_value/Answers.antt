@@ -1,6 +1,6 @@
 use Rattle.std.proofs.Common.{◌∙◌, sym, ap, chars}
 use Rattle.ini_text.specs.Grammar.WhiteSpace.{without_outer_line_feeds}
-use Rattle.ini_text.specs.Inside.Reading.{altered, found}
+use Rattle.ini_text.specs.Inside.Reading.{altered_answer, found}
 use Rattle.ini_text.proofs.ReaderLemmas.ReaderLemmas.{passed}
 use Rattle.ini_text.proofs.ReaderLemmas.ValueReaderLemmas.{value_stops, value_ends, value_goes_on}
 use Rattle.ini_text.proofs.parser.value.read_value.Goals as goal
@@ -20,13 +20,13 @@ pub returns-in_err-rest : goal.returns-in_err-rest
 returns-in_err-rest c =
     passed _ _ _ c.from_residual-in_err-rest.ensures.1 c.in_err-rest.ensures
     (λ r k h. value_goes_on c.args.option _ c.skip-start.ensures c.if-not-option.false
-    c.in_ok-value.ensures c.in-Some.ensures ∙ ap (altered without_outer_line_feeds) h)
+    c.in_ok-value.ensures c.in-Some.ensures ∙ ap (altered_answer without_outer_line_feeds) h)
 
 pub returns : goal.returns
 returns c =
     value_goes_on c.args.option _ c.skip-start.ensures c.if-not-option.false c.in_ok-value.ensures
     c.in-Some.ensures
-    ∙ ap (altered without_outer_line_feeds) c.in_ok-rest.ensures
+    ∙ ap (altered_answer without_outer_line_feeds) c.in_ok-rest.ensures
     ∙ ap (λ v. found v (chars c.in_ok-rest.rest.now))
     (sym (c.in_ok-trim_line_feeds-2.ensures
     ∙ ap (λ b. without_outer_line_feeds (chars b)) c.as_str-2.ensures.value))
