@@ -55,8 +55,8 @@ takes command c =
     && (not c.switches.dry_run || not (writes_texts command))
 
 -- what a word chooses by itself
-abbrev pub switched : Word → Switches → Option Switches
-switched word s =
+abbrev pub with_switch : Word → Switches → Option Switches
+with_switch word s =
     if bytes_eq word (codes "--existing") then Some (record s { existing = true })
     else if bytes_eq word (codes "--all") then Some (record s { all = true })
     else if bytes_eq word (codes "--null") then Some (record s { null = true })
@@ -77,7 +77,7 @@ abbrev mutual
       then chosen_text (λ value. record c { default = Some value }) words
       else if bytes_eq word (codes "--separator")
       then chosen_text (λ text. record c { separator = Some text }) words
-      else option_map_or (λ s. chosen (record c { switches = s }) words) (switched word c.switches)
+      else option_map_or (λ s. chosen (record c { switches = s }) words) (with_switch word c.switches)
       (if starts_with nat_eq word (codes "--") then None else Some (c, word ∷ words))
 
   -- the same behind a word that a text follows

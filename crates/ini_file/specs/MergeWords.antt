@@ -26,15 +26,16 @@ files_merged o c (file ∷ other ∷ others) =
     Some (record { options = o; choices = c; file = file; others = other ∷ others })
 
 -- the same, but that the command takes the choices, and standard input is one file at most
-abbrev pub merged : Options → Chosen → List Word → Option Merged
-merged o c files =
+abbrev pub merge_of_files : Options → Chosen → List Word → Option Merged
+merge_of_files o c files =
     if not (takes (codes "merge") c) || reads_input_twice files then None else files_merged o c files
 
 -- the same behind the options, if `merge` stands there
 abbrev pub merged_behind : Options → List Word → Option Merged
 merged_behind o [] = None
 merged_behind o (command ∷ words) =
-    if bytes_eq command (codes "merge") then option_and_then (λ p. merged o p.0 p.1) (chosen no_choice words)
+    if bytes_eq command (codes "merge")
+    then option_and_then (λ p. merge_of_files o p.0 p.1) (chosen no_choice words)
     else None
 
 -- what words merge; None where they are no merge

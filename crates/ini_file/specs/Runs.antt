@@ -18,14 +18,14 @@ use Rattle.ini_file.specs.Bytes.{byte_order_mark_of}
 use Rattle.ini_file.specs.Edits.{IsChanged, RefusesEdit}
 use Rattle.ini_file.specs.Outputs.{output}
 use Rattle.ini_file.specs.Requests.{Asking, Asks, Request, Ask, Change}
-use Rattle.ini_file.specs.Words.{asked}
+use Rattle.ini_file.specs.Words.{asks_of_words}
 use Rattle.ini_file.specs.Writing.{IsWriting, Separates}
 use Rattle.ini_file.specs.declared.run.Outcome.{Outcome}
 use Rattle.ini_file.specs.declared.run.Outcome.TheVariants.{Done, NotFound, Usage, Refused}
 
 -- what the words ask for, if they are the program's
 abbrev pub asked_by : List (String Global) → Option Asks
-asked_by words = asked (map string_bytes words)
+asked_by words = asks_of_words (map string_bytes words)
 
 -- what a question is answered of the document that a text gives; no text where what it asks for isn't there
 pub record IsAnswer (o : Options) (separator : Option Word) (q : Asking) (T : Text) (out : Option Text)

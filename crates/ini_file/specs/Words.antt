@@ -13,8 +13,8 @@ use Rattle.ini_file.specs.Requests.{Asks, Request, Ask, Change}
 use Rattle.ini_file.specs.Requests.{Format, Listing, Sections, Keys, Get}
 
 -- the request of a command without arguments, and of one with one, two or three
-abbrev pub requested_alone : Word → Chosen → Option Request
-requested_alone command c =
+abbrev pub request_alone : Word → Chosen → Option Request
+request_alone command c =
     if bytes_eq command (codes "format") then Some (Ask Format)
     else if bytes_eq command (codes "list") then Some (Ask (Listing c.switches.null))
     else if bytes_eq command (codes "sections") then Some (Ask (Sections c.switches.null))
@@ -26,8 +26,8 @@ abbrev pub getting : Chosen → Text → Option Text → Option Request
 getting c key section =
     Some (Ask (Get c.switches.null c.switches.all key section (option_map chars c.default)))
 
-abbrev pub requested_with_one : Word → Chosen → Text → Option Request
-requested_with_one command c first =
+abbrev pub request_with_one : Word → Chosen → Text → Option Request
+request_with_one command c first =
     if bytes_eq command (codes "get") then getting c first None
     else if bytes_eq command (codes "keys") then Some (Ask (Keys c.switches.null (Some first)))
     else if bytes_eq command (codes "delete") then Some (Change (Delete None first))
@@ -40,8 +40,8 @@ setting c name key value =
     if c.switches.existing then Some (Change (SetExisting name key value))
     else Some (Change (Set name key value))
 
-abbrev pub requested_with_two : Word → Chosen → Text → Text → Option Request
-requested_with_two command c key second =
+abbrev pub request_with_two : Word → Chosen → Text → Text → Option Request
+request_with_two command c key second =
     if bytes_eq command (codes "get") then getting c key (Some second)
     else if bytes_eq command (codes "delete") then Some (Change (Delete (Some second) key))
     else if bytes_eq command (codes "set") then setting c None key second
@@ -50,37 +50,38 @@ requested_with_two command c key second =
     else if bytes_eq command (codes "rename-section") then Some (Change (RenameSection key second))
     else None
 
-abbrev pub requested_with_three : Word → Chosen → Text → Text → Text → Option Request
-requested_with_three command c key value section =
+abbrev pub request_with_three : Word → Chosen → Text → Text → Text → Option Request
+request_with_three command c key value section =
     if bytes_eq command (codes "set") then setting c (Some section) key value
     else if bytes_eq command (codes "add") then Some (Change (Add (Some section) key value))
     else if bytes_eq command (codes "rename-key") then Some (Change (RenameKey (Some section) key value))
     else None
 
 -- the request of a command, its choices and its arguments
-abbrev pub requested : Word → Chosen → List Word → Option Request
-requested command c [] = requested_alone command c
-requested command c (first ∷ []) = requested_with_one command c (chars first)
-requested command c (first ∷ second ∷ []) = requested_with_two command c (chars first) (chars second)
-requested command c (first ∷ second ∷ third ∷ []) =
-    requested_with_three command c (chars first) (chars second) (chars third)
-requested command c _ = None
+abbrev pub request_for : Word → Chosen → List Word → Option Request
+request_for command c [] = request_alone command c
+request_for command c (first ∷ []) = request_with_one command c (chars first)
+request_for command c (first ∷ second ∷ []) = request_with_two command c (chars first) (chars second)
+request_for command c (first ∷ second ∷ third ∷ []) =
+    request_with_three command c (chars first) (chars second) (chars third)
+request_for command c _ = None
 
 -- what is asked for behind the options and the command, which takes its choices: a file, and the command's
 -- arguments
-abbrev pub filed : Options → Word → Chosen → List Word → Option Asks
-filed o command c [] = None
-filed o command c (file ∷ arguments) =
+abbrev pub asks_of_file : Options → Word → Chosen → List Word → Option Asks
+asks_of_file o command c [] = None
+asks_of_file o command c (file ∷ arguments) =
     if takes command c
     then option_map (λ r. record { options = o; choices = c; file = file; request = r })
-    (requested command c arguments)
+    (request_for command c arguments)
     else None
 
 -- the same behind the options: a command comes first, and then its own options
-abbrev pub commanded : Options → List Word → Option Asks
-commanded o [] = None
-commanded o (command ∷ words) = option_and_then (λ p. filed o command p.0 p.1) (chosen no_choice words)
+abbrev pub asks_of_command : Options → List Word → Option Asks
+asks_of_command o [] = None
+asks_of_command o (command ∷ words) =
+    option_and_then (λ p. asks_of_file o command p.0 p.1) (chosen no_choice words)
 
 -- what words ask for; None where they are none of the program's
-abbrev pub asked : List Word → Option Asks
-asked words = option_and_then (λ p. commanded p.0 p.1) (given default_options words)
+abbrev pub asks_of_words : List Word → Option Asks
+asks_of_words words = option_and_then (λ p. asks_of_command p.0 p.1) (given default_options words)

@@ -1,7 +1,7 @@
 //! The options of the program's own, which stand behind its command. This file knows no document, and of the
 //! commands their names alone.
 ghost use Rattle.std.specs.Prelude.{◌≡◌, ◌&&◌, ◌||◌, map, not, string_bytes};
-ghost use Rattle.ini_file.specs.Choices.{chosen, chosen_by, chosen_of, no_choice, no_switch, switched};
+ghost use Rattle.ini_file.specs.Choices.{chosen, chosen_by, chosen_of, no_choice, no_switch, with_switch};
 ghost use Rattle.ini_file.specs.Choices.{takes, writes_pairs, writes_texts};
 
 /// What words behind the command choose by themselves.
@@ -31,8 +31,8 @@ impl Switches {
     }
 
     // The switches after a word that is one.
-    fn switched(self, word: &str) -> Option<Switches>
-        ensures { result ≡ switched word.now self }
+    fn with_switch(self, word: &str) -> Option<Switches>
+        ensures { result ≡ with_switch word.now self }
     {
         let mut switches = self;
         match word {
@@ -94,7 +94,7 @@ impl<'a> Choices<'a> {
                 let (text, after) = after.split_first()?;
                 separator = Some(text.as_str());
                 rest = after;
-            } else if let Some(changed) = switches.switched(word) {
+            } else if let Some(changed) = switches.with_switch(word) {
                 switches = changed;
                 rest = after;
             } else if word.as_bytes().starts_with(b"--") {

@@ -2,7 +2,7 @@
 //! device.
 ghost use Rattle.std.specs.Prelude.{◌≡◌, map, string_bytes};
 ghost use Rattle.std.specs.Option.{option_map};
-ghost use Rattle.ini_file.specs.MergeWords.{merge_asked, merged, merging_of, reads_input_twice};
+ghost use Rattle.ini_file.specs.MergeWords.{merge_asked, merge_of_files, merging_of, reads_input_twice};
 ghost use Rattle.ini_file.specs.Choices.{chosen_of};
 
 use crate::choices::Choices;
@@ -42,7 +42,7 @@ fn files_merged<'a>(
     files: &'a [String],
 ) -> Option<Merging<'a>>
     ensures { option_map merging_of result
-        ≡ merged options (chosen_of choices.entry) (map string_bytes files.now) }
+        ≡ merge_of_files options (chosen_of choices.entry) (map string_bytes files.now) }
 {
     if !choices.suit("merge") || reads_input_twice(files) {
         return None;

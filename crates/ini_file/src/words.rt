@@ -5,8 +5,8 @@ ghost use Rattle.std.specs.Option.{option_map};
 ghost use Rattle.ini.specs.Texts.{str_name};
 ghost use Rattle.ini_file.specs.Choices.{chosen_of};
 ghost use Rattle.ini_file.specs.Requests.{asks_of, request_of};
-ghost use Rattle.ini_file.specs.Words.{asked, getting, requested, requested_alone, requested_with_one};
-ghost use Rattle.ini_file.specs.Words.{requested_with_three, requested_with_two, setting};
+ghost use Rattle.ini_file.specs.Words.{asks_of_words, getting, request_for, request_alone, request_with_one};
+ghost use Rattle.ini_file.specs.Words.{request_with_three, request_with_two, setting};
 
 use crate::choices::Choices;
 use ini_edit::Edit;
@@ -78,7 +78,7 @@ pub struct Asked<'a> {
 // The command of a word and its arguments.
 fn command_of<'a>(word: &str, choices: Choices<'a>, arguments: &'a [String]) -> Option<Command<'a>>
     ensures { option_map request_of result
-        ≡ requested word.now (chosen_of choices.entry) (map string_bytes arguments.now) }
+        ≡ request_for word.now (chosen_of choices.entry) (map string_bytes arguments.now) }
 {
     match arguments {
         [] => with_none(word, choices),
@@ -99,7 +99,7 @@ fn command_of<'a>(word: &str, choices: Choices<'a>, arguments: &'a [String]) -> 
 
 // The command of a word without arguments.
 fn with_none<'a>(word: &str, choices: Choices<'a>) -> Option<Command<'a>>
-    ensures { option_map request_of result ≡ requested_alone word.now (chosen_of choices.entry) }
+    ensures { option_map request_of result ≡ request_alone word.now (chosen_of choices.entry) }
 {
     let null = choices.switches.null;
     match word {
@@ -131,7 +131,7 @@ fn get_of<'a>(choices: Choices<'a>, key: &'a str, section: Option<&'a str>) -> O
 // The command of a word with one argument.
 fn with_one<'a>(word: &str, choices: Choices<'a>, first: &'a str) -> Option<Command<'a>>
     ensures { option_map request_of result
-        ≡ requested_with_one word.now (chosen_of choices.entry) (chars first.now) }
+        ≡ request_with_one word.now (chosen_of choices.entry) (chars first.now) }
 {
     let (key, section, null) = (first, Some(first), choices.switches.null);
     match word {
@@ -151,7 +151,7 @@ fn with_two<'a>(
     second: &'a str,
 ) -> Option<Command<'a>>
     ensures { option_map request_of result
-        ≡ requested_with_two word.now (chosen_of choices.entry) (chars key.now) (chars second.now) }
+        ≡ request_with_two word.now (chosen_of choices.entry) (chars key.now) (chars second.now) }
 {
     let section = Some(second);
     match word {
@@ -190,7 +190,7 @@ fn with_three<'a>(
     value: &'a str,
     section: &'a str,
 ) -> Option<Command<'a>>
-    ensures { option_map request_of result ≡ requested_with_three word.now (chosen_of choices.entry)
+    ensures { option_map request_of result ≡ request_with_three word.now (chosen_of choices.entry)
         (chars key.now) (chars value.now) (chars section.now) }
 {
     let name = Some(section);
@@ -231,7 +231,7 @@ fn set_of<'a>(
 /// the first word that is none, or up to `--`; then the name of a file, and the command's arguments, whatever
 /// they begin with. Takes no memory.
 pub fn parse(words: &[String]) -> Option<Asked<'_>>
-    ensures { option_map asks_of result ≡ asked (map string_bytes words.now) }
+    ensures { option_map asks_of result ≡ asks_of_words (map string_bytes words.now) }
 {
     let (options, behind) = Options::of_words(words)?;
     let (word, behind) = behind.split_first()?;

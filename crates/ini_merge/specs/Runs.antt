@@ -12,7 +12,7 @@ use Rattle.ini.specs.Written.{written}
 use Rattle.ini_layers.specs.Merging.{merged}
 use Rattle.ini_options.specs.Words.{IsWriteOption, Word}
 use Rattle.ini_options.specs.declared.options.Options.{Options}
-use Rattle.ini_merge.specs.Words.{asked}
+use Rattle.ini_merge.specs.Words.{asks_of_words}
 use Rattle.ini_merge.specs.declared.Outcome.{Outcome}
 use Rattle.ini_merge.specs.declared.Outcome.TheVariants.{Done, Usage, NotLoaded, Refused}
 
@@ -22,7 +22,7 @@ merged_bytes layers option = encode_utf8_all (written (merged layers) option)
 
 -- the options and the names of files of the words, if they are the program's
 abbrev pub asked_by : List (String Global) → Option (Options × List Word)
-asked_by words = asked (map string_bytes words)
+asked_by words = asks_of_words (map string_bytes words)
 
 -- these bytes are the merged text of documents of files, as many as the words name: read and written as the
 -- words' options say

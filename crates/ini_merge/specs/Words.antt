@@ -22,6 +22,6 @@ files_in (word ∷ words) =
     else Some (word ∷ words)
 
 -- the options and the names of files that words give; None where the words are none of the program's
-abbrev pub asked : List Word → Option (Options × List Word)
-asked words =
+abbrev pub asks_of_words : List Word → Option (Options × List Word)
+asks_of_words words =
     option_and_then (λ p. option_map (λ files. (p.0, files)) (files_in p.1)) (given default_options words)

@@ -1,7 +1,7 @@
 //! The words of the program: options, and the names of files. This file knows no document and no device.
 ghost use Rattle.std.specs.Prelude.{◌≡◌, ◌≤◌, IfSome, length, map, string_bytes};
 ghost use Rattle.ini_options.specs.Words.{given_by};
-ghost use Rattle.ini_merge.specs.Words.{asked};
+ghost use Rattle.ini_merge.specs.Words.{asks_of_words};
 
 use ini_options::{Options, usage_line};
 
@@ -13,7 +13,7 @@ pub const USAGE: &str = usage_line!("ini_merge", "[--] FILE..");
 /// are the words behind `--`; where there is no such word they begin with the first that is no option, which
 /// then doesn't begin with `--`. Takes no memory.
 pub fn parse(words: &[String]) -> Option<(Options, &[String])>
-    ensures given { given_by result ≡ asked (map string_bytes words.now) }
+    ensures given { given_by result ≡ asks_of_words (map string_bytes words.now) }
     ensures no_more { IfSome result (λ p. length p.1.now ≤ length words.now) }
 {
     let (options, behind) = Options::of_words(words)?;

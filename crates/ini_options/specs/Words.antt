@@ -34,8 +34,8 @@ abbrev pub with_reading : Options → ParseOption → Options
 with_reading o reading = record o { reading = reading }
 
 -- what a word sets that is an option by itself
-abbrev pub switched : Word → Options → Option Options
-switched word o =
+abbrev pub with_switch : Word → Options → Option Options
+with_switch word o =
     if bytes_eq word (codes "--noescape")
     then Some (with_reading o (record o.reading { enabled_escape = false }))
     else if bytes_eq word (codes "--noquote")
@@ -71,7 +71,7 @@ abbrev mutual
   given o [] = Some (o, [])
   given o (word ∷ words) =
       if bytes_eq word (codes "--policy") then given_policy o words
-      else option_map_or (λ p. given p words) (switched word o) (Some (o, word ∷ words))
+      else option_map_or (λ p. given p words) (with_switch word o) (Some (o, word ∷ words))
 
   -- the same behind the word `--policy`, which the name of a policy follows
   pub given_policy : Options → List Word → Option (Options × List Word)

@@ -1,7 +1,7 @@
 //! The options that stand at the front of a program's words. This file knows no command and no device.
 ghost use Rattle.std.specs.Prelude.{◌≡◌, ◌≤◌, IfSome, length, map, string_bytes};
 ghost use Rattle.ini_options.specs.Words.{IsWriteOption, default_options, given, given_by, policy_named};
-ghost use Rattle.ini_options.specs.Words.{switched};
+ghost use Rattle.ini_options.specs.Words.{with_switch};
 
 use ini_text::{EscapePolicy, LineSeparator, ParseOption, WriteOption};
 
@@ -45,7 +45,7 @@ impl Options {
                 let (name, after) = after.split_first()?;
                 options.escape_policy = policy_named(name.as_str())?;
                 rest = after;
-            } else if let Some(changed) = options.switched(word) {
+            } else if let Some(changed) = options.with_switch(word) {
                 options = changed;
                 rest = after;
             } else {
@@ -68,8 +68,8 @@ impl Options {
     }
 
     // The options after a word that is one by itself.
-    fn switched(self, word: &str) -> Option<Options>
-        ensures { result ≡ switched word.now self }
+    fn with_switch(self, word: &str) -> Option<Options>
+        ensures { result ≡ with_switch word.now self }
     {
         let mut options = self;
         match word {

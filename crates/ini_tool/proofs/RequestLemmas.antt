@@ -3,7 +3,7 @@ use Rattle.std.proofs.Common.{◌≡◌, ◌≤◌, ◌<◌, List, [], ◌∷◌
 use Rattle.std.proofs.Common.{codes, rules, arith}
 use Rattle.ini.specs.Texts.{is_text}
 use Rattle.ini_options.specs.Words.{Word}
-use Rattle.ini_tool.specs.Words.{requested}
+use Rattle.ini_tool.specs.Words.{request_for}
 
 apart : (a b : Word) → (a ≡ b → ⊥) → is_text a b ≡ false
 apart a b other = search rules
@@ -14,7 +14,7 @@ IsNot word name = word ≡ name → ⊥
 
 -- the word and its arguments are no command
 abbrev AreNone : Word → List (String Global) → Type 0
-AreNone word xs = None ≡ requested word (map string_bytes xs)
+AreNone word xs = None ≡ request_for word (map string_bytes xs)
 
 module _ (word : Word) where
   pub without_arguments : (xs : List (String Global)) → length xs < 1

@@ -15,13 +15,13 @@ use Rattle.ini_options.specs.Words.{IsWriteOption, default_options}
 use Rattle.ini_options.specs.declared.options.Options.{Options}
 use Rattle.ini_tool.specs.Outputs.{output}
 use Rattle.ini_tool.specs.Requests.{Request}
-use Rattle.ini_tool.specs.Words.{asked}
+use Rattle.ini_tool.specs.Words.{asks_of_words}
 use Rattle.ini_tool.specs.declared.run.Outcome.{Outcome}
 use Rattle.ini_tool.specs.declared.run.Outcome.TheVariants.{Done, NotFound, Usage, Refused}
 
 -- the options and the request of the words, if they are the program's
 abbrev pub asked_by : List (String Global) → Option (Options × Request)
-asked_by words = asked default_options (map string_bytes words)
+asked_by words = asks_of_words default_options (map string_bytes words)
 
 -- what the words ask to be written of the document that the input gives without a mark;
 -- no text where the pair that they ask for isn't there

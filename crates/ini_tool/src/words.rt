@@ -4,7 +4,7 @@ ghost use Rattle.std.specs.Prelude.{◌≡◌, map, string_bytes};
 ghost use Rattle.std.specs.Option.{option_map};
 ghost use Rattle.ini_options.specs.Words.{default_options};
 ghost use Rattle.ini_tool.specs.Requests.{given_by, request_of};
-ghost use Rattle.ini_tool.specs.Words.{asked, requested};
+ghost use Rattle.ini_tool.specs.Words.{asks_of_words, request_for};
 
 use ini_options::{Options, usage_line};
 
@@ -41,7 +41,7 @@ pub enum Command<'a> {
 
 // The command of a word and its arguments.
 fn command_of<'a>(word: &'a str, arguments: &'a [String]) -> Option<Command<'a>>
-    ensures { option_map request_of result ≡ requested word.now (map string_bytes arguments.now) }
+    ensures { option_map request_of result ≡ request_for word.now (map string_bytes arguments.now) }
 {
     match arguments {
         [] => match word {
@@ -86,7 +86,7 @@ fn command_of<'a>(word: &'a str, arguments: &'a [String]) -> Option<Command<'a>>
 /// often as one likes, of which the last `--policy` holds, and then a command and its arguments. Takes no
 /// memory.
 pub fn parse(words: &[String]) -> Option<(Options, Command<'_>)>
-    ensures { given_by result ≡ asked default_options (map string_bytes words.now) }
+    ensures { given_by result ≡ asks_of_words default_options (map string_bytes words.now) }
 {
     let (options, behind) = Options::of_words(words)?;
     let (command, arguments) = behind.split_first()?;
