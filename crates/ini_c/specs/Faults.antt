@@ -24,13 +24,13 @@ kind_number CrAlone = 6
 kind_number HeaderEnd = 7
 
 -- how many bytes of the words are shown: there is room for 63, and a 0 behind them
-abbrev pub shown : List ℕ → ℕ
-shown words = min (length words) 63
+abbrev pub shown_count : List ℕ → ℕ
+shown_count words = min (length words) 63
 
 -- the words, as far as there is room, and a 0 behind them
 pub record ShowsWords (words bytes : List ℕ) : Type 0 where
-  pub front : take (shown words) bytes ≡ take (shown words) words
-  pub zero : slice_get bytes (shown words) ≡ Some 0
+  pub front : take (shown_count words) bytes ≡ take (shown_count words) words
+  pub zero : slice_get bytes (shown_count words) ≡ Some 0
 
 -- the fault tells kind, line, column and message of this one
 pub record TellsParseError (stop : ParseError) (f : Fault) : Type 0 where

@@ -9,5 +9,5 @@ kept_if true kept = Some kept.document
 kept_if false kept = None
 
 -- the document that is loaded, if one is
-abbrev pub held : Document → Option IniDocument
-held d = kept_if d.is_open d.handle.value
+abbrev pub document_in : Document → Option IniDocument
+document_in d = kept_if d.is_open d.handle.value

@@ -31,13 +31,13 @@ abbrev pub with_pair : Listed → Text × Text → Listed
 with_pair l p = with_text (with_text l p.0) p.1
 
 -- stands for the number of bytes of a name where there is no name
-abbrev pub unnamed : ℕ
-unnamed = 2 ^ 64 - 1
+abbrev pub no_name_length : ℕ
+no_name_length = 2 ^ 64 - 1
 
 -- a section's name goes last
 abbrev pub with_name : Listed → Option Text → Listed
 with_name l (Some name) = with_text l name
-with_name l None = with_number l unnamed
+with_name l None = with_number l no_name_length
 
 -- a section goes last: its name, the number of its pairs, and these
 abbrev pub with_section : Listed → Option Text × Pairs → Listed
@@ -57,15 +57,16 @@ document_listed d = fold with_section nothing d
 
 -- the values of the key in the first section of the name
 abbrev pub all_found_in : Option Text → Text → Option Document → Option (List Text)
-all_found_in name key held = option_map (values key) (option_and_then (first_section name) held)
+all_found_in name key document = option_map (values key) (option_and_then (first_section name) document)
 
 -- the pairs of the first section of the name
 abbrev pub pairs_found_in : Option Text → Option Document → Option Pairs
-pairs_found_in name held = option_and_then (first_section name) held
+pairs_found_in name document = option_and_then (first_section name) document
 
 -- what was copied out: as much of the two buffers as the sizes say
-abbrev pub copied : Sizes → List ℕ → List ℕ → Listed
-copied sizes bytes counts = record { bytes = take sizes.bytes bytes; counts = take sizes.counts counts }
+abbrev pub copied_listing : Sizes → List ℕ → List ℕ → Listed
+copied_listing sizes bytes counts =
+    record { bytes = take sizes.bytes bytes; counts = take sizes.counts counts }
 
 -- the sizes of what is listed
 pub record AreSizesOf (sizes : Sizes) (l : Listed) : Type 0 where

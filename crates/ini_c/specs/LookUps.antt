@@ -16,8 +16,8 @@ AreTexts section key = IsUtf8 section × IsUtf8 key
 
 -- the first value of the key in the first section of the name
 abbrev pub found_in : Option Text → Text → Option Document → Option Text
-found_in name key held = option_and_then (value_in name key) held
+found_in name key document = option_and_then (value_in name key) document
 
 -- the first section of the name is there
 abbrev pub HasSection : Option Text → Option Document → Type 0
-HasSection name held = IsSome (option_and_then (first_section name) held)
+HasSection name document = IsSome (option_and_then (first_section name) document)

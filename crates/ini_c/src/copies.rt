@@ -3,8 +3,8 @@ ghost use Rattle.std.specs.Prelude.{◌≡◌, ◌∷◌, [], ◌<◌, ◌≤◌
 ghost use Rattle.std.specs.Prelude.{slice_get, take, false};
 ghost use Rattle.std.specs.Str.{IsUtf8, chars};
 ghost use Rattle.ini.specs.Texts.{str_name};
-ghost use Rattle.ini_c.specs.Inside.Gathered.{listed};
-ghost use Rattle.ini_c.specs.Listings.{AreSizesOf, copied, fits};
+ghost use Rattle.ini_c.specs.Inside.Gathered.{contents};
+ghost use Rattle.ini_c.specs.Listings.{AreSizesOf, copied_listing, fits};
 ghost use Rattle.ini_c.specs.LookUps.{AreTexts, name_if};
 ghost use Rattle.ini_c.specs.Statuses.{is_among, no_room, ok};
 
@@ -118,8 +118,8 @@ pub(crate) fn give_listing(
     counts: &mut [usize],
     sizes: &mut Sizes,
 ) -> u32
-    ensures sizes { AreSizesOf sizes.new (listed listing.now) }
-    ensures whole { result ≡ ok → listed listing.now ≡ copied sizes.new bytes.new counts.new }
+    ensures sizes { AreSizesOf sizes.new (contents listing.now) }
+    ensures whole { result ≡ ok → contents listing.now ≡ copied_listing sizes.new bytes.new counts.new }
     ensures no_room { result ≡ no_room ↔ (fits sizes.new bytes.old counts.old ≡ false) }
     ensures bytes_stay { ¬ (result ≡ ok) → bytes.new ≡ bytes.old }
     ensures counts_stay { ¬ (result ≡ ok) → counts.new ≡ counts.old }

@@ -1,7 +1,7 @@
 //! A document goes out for a call, and in again.
 ghost use Rattle.std.specs.Prelude.{◌≡◌, Some, None};
-ghost use Rattle.ini_c.specs.Held.{held};
-ghost use Rattle.ini_c.specs.Inside.Taken.{taken};
+ghost use Rattle.ini_c.specs.Held.{document_in};
+ghost use Rattle.ini_c.specs.Inside.Taken.{kept_document};
 
 use crate::document::{Document, Kept};
 use crate::handle::Handle;
@@ -11,8 +11,8 @@ use std::mem;
 impl Document {
     // Takes the document out, which leaves none.
     pub(crate) fn take(&mut self, alloc: Global) -> Option<Box<Kept>>
-        ensures left { held self.new ≡ None }
-        ensures taken { taken result ≡ held self.old }
+        ensures left { document_in self.new ≡ None }
+        ensures taken { kept_document result ≡ document_in self.old }
     {
         if !self.is_open {
             return None;
@@ -29,7 +29,7 @@ impl Document {
 
     // Puts a document in, in place of the one that is here, which is freed.
     pub(crate) fn put(&mut self, alloc: Global, kept: Box<Kept>)
-        ensures { held self.new ≡ Some kept.value.document }
+        ensures { document_in self.new ≡ Some kept.value.document }
     {
         let _before = self.take(alloc);
         let Document { is_open: _, handle } = mem::replace(

@@ -13,8 +13,8 @@ ghost use Rattle.ini.specs.Edits.{add_in, delete_in, set_in};
 ghost use Rattle.ini.specs.Loading.{IsDocumentOf, text_bytes};
 ghost use Rattle.ini_c.specs.Choices.{IsCountOf, IsTextOf, TellsPlain, parse_option};
 ghost use Rattle.ini_c.specs.Faults.{IsStopAt};
-ghost use Rattle.ini_c.specs.Held.{held};
-ghost use Rattle.ini_c.specs.Listings.{AreSizesOf, all_found_in, copied, document_listed, fits};
+ghost use Rattle.ini_c.specs.Held.{document_in};
+ghost use Rattle.ini_c.specs.Listings.{AreSizesOf, all_found_in, copied_listing, document_listed, fits};
 ghost use Rattle.ini_c.specs.Listings.{pairs_found_in, pairs_listed, values_listed};
 ghost use Rattle.ini_c.specs.LookUps.{AreTexts, HasSection, found_in, name_if};
 ghost use Rattle.ini_c.specs.Statuses.{absent, broken, is_among, no_document};
@@ -92,13 +92,13 @@ pub extern "C" fn bigrosk_ini_load(
     document: &mut Document,
     fault: &mut Fault,
 ) -> u32
-    ensures loaded { result ≡ ok → IsSomeAnd (held document.new)
+    ensures loaded { result ≡ ok → IsSomeAnd (document_in document.new)
         (IsDocumentOf (parse_option option.now) (chars (text_bytes drop_mark text.now))) }
     ensures broken { result ≡ broken →
         IsStopAt (parse_option option.now) (chars (text_bytes drop_mark text.now)) fault.new }
     ensures not_utf8 { result ≡ not_utf8 ↔ ¬ (IsUtf8 (text_bytes drop_mark text.now)) }
     ensures statuses { IsTrue (is_among result (ok ∷ broken ∷ not_utf8 ∷ no_memory ∷ [])) }
-    ensures unchanged { ¬ (result ≡ ok) → held document.new ≡ held document.old }
+    ensures unchanged { ¬ (result ≡ ok) → document_in document.new ≡ document_in document.old }
     ensures fault_stays { ¬ (result ≡ broken) → fault.new ≡ fault.old }
 {
     let bytes = loading::text_of(drop_mark, text);
@@ -108,7 +108,7 @@ pub extern "C" fn bigrosk_ini_load(
 /// Frees the document, which leaves none.
 #[unsafe(no_mangle)]
 pub extern "C" fn bigrosk_ini_free(alloc: Global, document: &mut Document)
-    ensures { held document.new ≡ None }
+    ensures { document_in document.new ≡ None }
 {
     let _before = document.take(alloc);
 }
@@ -125,17 +125,18 @@ pub extern "C" fn bigrosk_ini_get(
     value: &mut [u8],
     count: &mut usize,
 ) -> u32
-    ensures stays { held document.new ≡ held document.old }
-    ensures no_document { result ≡ no_document ↔ (held document.old ≡ None) }
+    ensures stays { document_in document.new ≡ document_in document.old }
+    ensures no_document { result ≡ no_document ↔ (document_in document.old ≡ None) }
     ensures not_utf8 { result ≡ not_utf8 ↔
-        (IsSome (held document.old) × ¬ (AreTexts section.now key.now)) }
+        (IsSome (document_in document.old) × ¬ (AreTexts section.now key.now)) }
     ensures absent { result ≡ absent →
-        found_in (name_if named section.now) (chars key.now) (held document.old) ≡ None }
-    ensures value { result ≡ ok → found_in (name_if named section.now) (chars key.now) (held document.old)
+        found_in (name_if named section.now) (chars key.now) (document_in document.old) ≡ None }
+    ensures value { result ≡ ok
+        → found_in (name_if named section.now) (chars key.now) (document_in document.old)
         ≡ Some (chars (take count.new value.new)) }
     ensures zero { result ≡ ok → slice_get value.new count.new ≡ Some 0 }
     ensures there { result ≡ no_room →
-        IsSome (found_in (name_if named section.now) (chars key.now) (held document.old)) }
+        IsSome (found_in (name_if named section.now) (chars key.now) (document_in document.old)) }
     ensures no_room { result ≡ no_room → length value.old ≤ count.new }
     ensures rest { ¬ (result ≡ ok) → value.new ≡ value.old }
     ensures statuses { IsTrue (is_among result (ok ∷ absent ∷ no_room ∷ not_utf8 ∷ no_document ∷ [])) }
@@ -157,14 +158,14 @@ pub extern "C" fn bigrosk_ini_has(
     section: &[u8],
     key: &[u8],
 ) -> u32
-    ensures stays { held document.new ≡ held document.old }
-    ensures no_document { result ≡ no_document ↔ (held document.old ≡ None) }
+    ensures stays { document_in document.new ≡ document_in document.old }
+    ensures no_document { result ≡ no_document ↔ (document_in document.old ≡ None) }
     ensures not_utf8 { result ≡ not_utf8 ↔
-        (IsSome (held document.old) × ¬ (AreTexts section.now key.now)) }
+        (IsSome (document_in document.old) × ¬ (AreTexts section.now key.now)) }
     ensures absent { result ≡ absent →
-        found_in (name_if named section.now) (chars key.now) (held document.old) ≡ None }
+        found_in (name_if named section.now) (chars key.now) (document_in document.old) ≡ None }
     ensures there { result ≡ ok →
-        IsSome (found_in (name_if named section.now) (chars key.now) (held document.old)) }
+        IsSome (found_in (name_if named section.now) (chars key.now) (document_in document.old)) }
     ensures statuses { IsTrue (is_among result (ok ∷ absent ∷ not_utf8 ∷ no_document ∷ [])) }
 {
     let Some(kept) = document.take(alloc) else {
@@ -183,11 +184,11 @@ pub extern "C" fn bigrosk_ini_has_section(
     named: bool,
     section: &[u8],
 ) -> u32
-    ensures stays { held document.new ≡ held document.old }
-    ensures no_document { result ≡ no_document ↔ (held document.old ≡ None) }
-    ensures not_utf8 { result ≡ not_utf8 ↔ (IsSome (held document.old) × ¬ (IsUtf8 section.now)) }
-    ensures absent { result ≡ absent → ¬ (HasSection (name_if named section.now) (held document.old)) }
-    ensures there { result ≡ ok → HasSection (name_if named section.now) (held document.old) }
+    ensures stays { document_in document.new ≡ document_in document.old }
+    ensures no_document { result ≡ no_document ↔ (document_in document.old ≡ None) }
+    ensures not_utf8 { result ≡ not_utf8 ↔ (IsSome (document_in document.old) × ¬ (IsUtf8 section.now)) }
+    ensures absent { result ≡ absent → ¬ (HasSection (name_if named section.now) (document_in document.old)) }
+    ensures there { result ≡ ok → HasSection (name_if named section.now) (document_in document.old) }
     ensures statuses { IsTrue (is_among result (ok ∷ absent ∷ not_utf8 ∷ no_document ∷ [])) }
 {
     let Some(kept) = document.take(alloc) else {
@@ -212,19 +213,19 @@ pub extern "C" fn bigrosk_ini_get_all(
     counts: &mut [usize],
     sizes: &mut Sizes,
 ) -> u32
-    ensures stays { held document.new ≡ held document.old }
-    ensures no_document { result ≡ no_document ↔ (held document.old ≡ None) }
+    ensures stays { document_in document.new ≡ document_in document.old }
+    ensures no_document { result ≡ no_document ↔ (document_in document.old ≡ None) }
     ensures not_utf8 { result ≡ not_utf8 ↔
-        (IsSome (held document.old) × ¬ (AreTexts section.now key.now)) }
+        (IsSome (document_in document.old) × ¬ (AreTexts section.now key.now)) }
     ensures absent { result ≡ absent →
-        found_in (name_if named section.now) (chars key.now) (held document.old) ≡ None }
+        found_in (name_if named section.now) (chars key.now) (document_in document.old) ≡ None }
     ensures there { result ≡ ok →
-        IsSome (found_in (name_if named section.now) (chars key.now) (held document.old)) }
+        IsSome (found_in (name_if named section.now) (chars key.now) (document_in document.old)) }
     ensures listed { result ≡ ok → option_map values_listed
-        (all_found_in (name_if named section.now) (chars key.now) (held document.old))
-        ≡ Some (copied sizes.new bytes.new counts.new) }
+        (all_found_in (name_if named section.now) (chars key.now) (document_in document.old))
+        ≡ Some (copied_listing sizes.new bytes.new counts.new) }
     ensures sizes { result ≡ no_room → IsSomeAnd (option_map values_listed
-        (all_found_in (name_if named section.now) (chars key.now) (held document.old)))
+        (all_found_in (name_if named section.now) (chars key.now) (document_in document.old)))
         (AreSizesOf sizes.new) }
     ensures no_room { result ≡ no_room → fits sizes.new bytes.old counts.old ≡ false }
     ensures bytes_stay { ¬ (result ≡ ok) → bytes.new ≡ bytes.old }
@@ -261,15 +262,15 @@ pub extern "C" fn bigrosk_ini_pairs(
     counts: &mut [usize],
     sizes: &mut Sizes,
 ) -> u32
-    ensures stays { held document.new ≡ held document.old }
-    ensures no_document { result ≡ no_document ↔ (held document.old ≡ None) }
-    ensures not_utf8 { result ≡ not_utf8 ↔ (IsSome (held document.old) × ¬ (IsUtf8 section.now)) }
-    ensures absent { result ≡ absent → ¬ (HasSection (name_if named section.now) (held document.old)) }
+    ensures stays { document_in document.new ≡ document_in document.old }
+    ensures no_document { result ≡ no_document ↔ (document_in document.old ≡ None) }
+    ensures not_utf8 { result ≡ not_utf8 ↔ (IsSome (document_in document.old) × ¬ (IsUtf8 section.now)) }
+    ensures absent { result ≡ absent → ¬ (HasSection (name_if named section.now) (document_in document.old)) }
     ensures listed { result ≡ ok → option_map pairs_listed
-        (pairs_found_in (name_if named section.now) (held document.old))
-        ≡ Some (copied sizes.new bytes.new counts.new) }
+        (pairs_found_in (name_if named section.now) (document_in document.old))
+        ≡ Some (copied_listing sizes.new bytes.new counts.new) }
     ensures sizes { result ≡ no_room → IsSomeAnd (option_map pairs_listed
-        (pairs_found_in (name_if named section.now) (held document.old))) (AreSizesOf sizes.new) }
+        (pairs_found_in (name_if named section.now) (document_in document.old))) (AreSizesOf sizes.new) }
     ensures no_room { result ≡ no_room → fits sizes.new bytes.old counts.old ≡ false }
     ensures bytes_stay { ¬ (result ≡ ok) → bytes.new ≡ bytes.old }
     ensures counts_stay { ¬ (result ≡ ok) → counts.new ≡ counts.old }
@@ -295,12 +296,12 @@ pub extern "C" fn bigrosk_ini_items(
     counts: &mut [usize],
     sizes: &mut Sizes,
 ) -> u32
-    ensures stays { held document.new ≡ held document.old }
-    ensures no_document { result ≡ no_document ↔ (held document.old ≡ None) }
-    ensures listed { result ≡ ok → option_map document_listed (held document.old)
-        ≡ Some (copied sizes.new bytes.new counts.new) }
+    ensures stays { document_in document.new ≡ document_in document.old }
+    ensures no_document { result ≡ no_document ↔ (document_in document.old ≡ None) }
+    ensures listed { result ≡ ok → option_map document_listed (document_in document.old)
+        ≡ Some (copied_listing sizes.new bytes.new counts.new) }
     ensures sizes { result ≡ no_room →
-        IsSomeAnd (option_map document_listed (held document.old)) (AreSizesOf sizes.new) }
+        IsSomeAnd (option_map document_listed (document_in document.old)) (AreSizesOf sizes.new) }
     ensures no_room { result ≡ no_room → fits sizes.new bytes.old counts.old ≡ false }
     ensures bytes_stay { ¬ (result ≡ ok) → bytes.new ≡ bytes.old }
     ensures counts_stay { ¬ (result ≡ ok) → counts.new ≡ counts.old }
@@ -325,13 +326,13 @@ pub extern "C" fn bigrosk_ini_set(
     key: &[u8],
     value: &[u8],
 ) -> u32
-    ensures no_document { result ≡ no_document ↔ (held document.old ≡ None) }
+    ensures no_document { result ≡ no_document ↔ (document_in document.old ≡ None) }
     ensures not_utf8 { result ≡ not_utf8 ↔
-        (IsSome (held document.old) × ¬ (AreTexts section.now key.now × IsUtf8 value.now)) }
-    ensures set { result ≡ ok → held document.new
+        (IsSome (document_in document.old) × ¬ (AreTexts section.now key.now × IsUtf8 value.now)) }
+    ensures set { result ≡ ok → document_in document.new
         ≡ option_map (set_in (name_if named section.now) (chars key.now) (chars value.now))
-        (held document.old) }
-    ensures unchanged { ¬ (result ≡ ok) → held document.new ≡ held document.old }
+        (document_in document.old) }
+    ensures unchanged { ¬ (result ≡ ok) → document_in document.new ≡ document_in document.old }
     ensures statuses { IsTrue (is_among result (ok ∷ not_utf8 ∷ no_memory ∷ no_document ∷ [])) }
 {
     let Some(mut kept) = document.take(alloc) else {
@@ -352,13 +353,13 @@ pub extern "C" fn bigrosk_ini_add(
     key: &[u8],
     value: &[u8],
 ) -> u32
-    ensures no_document { result ≡ no_document ↔ (held document.old ≡ None) }
+    ensures no_document { result ≡ no_document ↔ (document_in document.old ≡ None) }
     ensures not_utf8 { result ≡ not_utf8 ↔
-        (IsSome (held document.old) × ¬ (AreTexts section.now key.now × IsUtf8 value.now)) }
-    ensures added { result ≡ ok → held document.new
+        (IsSome (document_in document.old) × ¬ (AreTexts section.now key.now × IsUtf8 value.now)) }
+    ensures added { result ≡ ok → document_in document.new
         ≡ option_map (add_in (name_if named section.now) (chars key.now) (chars value.now))
-        (held document.old) }
-    ensures unchanged { ¬ (result ≡ ok) → held document.new ≡ held document.old }
+        (document_in document.old) }
+    ensures unchanged { ¬ (result ≡ ok) → document_in document.new ≡ document_in document.old }
     ensures statuses { IsTrue (is_among result (ok ∷ not_utf8 ∷ no_memory ∷ no_document ∷ [])) }
 {
     let Some(mut kept) = document.take(alloc) else {
@@ -378,16 +379,16 @@ pub extern "C" fn bigrosk_ini_delete(
     section: &[u8],
     key: &[u8],
 ) -> u32
-    ensures no_document { result ≡ no_document ↔ (held document.old ≡ None) }
+    ensures no_document { result ≡ no_document ↔ (document_in document.old ≡ None) }
     ensures not_utf8 { result ≡ not_utf8 ↔
-        (IsSome (held document.old) × ¬ (AreTexts section.now key.now)) }
-    ensures deleted { result ≡ ok → held document.new
-        ≡ option_map (delete_in (name_if named section.now) (chars key.now)) (held document.old) }
+        (IsSome (document_in document.old) × ¬ (AreTexts section.now key.now)) }
+    ensures deleted { result ≡ ok → document_in document.new
+        ≡ option_map (delete_in (name_if named section.now) (chars key.now)) (document_in document.old) }
     ensures there { result ≡ ok →
-        IsSome (found_in (name_if named section.now) (chars key.now) (held document.old)) }
+        IsSome (found_in (name_if named section.now) (chars key.now) (document_in document.old)) }
     ensures absent { result ≡ absent →
-        found_in (name_if named section.now) (chars key.now) (held document.old) ≡ None }
-    ensures unchanged { ¬ (result ≡ ok) → held document.new ≡ held document.old }
+        found_in (name_if named section.now) (chars key.now) (document_in document.old) ≡ None }
+    ensures unchanged { ¬ (result ≡ ok) → document_in document.new ≡ document_in document.old }
     ensures statuses { IsTrue (is_among result (ok ∷ absent ∷ not_utf8 ∷ no_document ∷ [])) }
 {
     let Some(mut kept) = document.take(alloc) else {
@@ -406,13 +407,13 @@ pub extern "C" fn bigrosk_ini_delete_section(
     named: bool,
     section: &[u8],
 ) -> u32
-    ensures no_document { result ≡ no_document ↔ (held document.old ≡ None) }
-    ensures not_utf8 { result ≡ not_utf8 ↔ (IsSome (held document.old) × ¬ (IsUtf8 section.now)) }
-    ensures deleted { result ≡ ok → held document.new
-        ≡ option_map (section_removed (name_if named section.now)) (held document.old) }
-    ensures there { result ≡ ok → HasSection (name_if named section.now) (held document.old) }
-    ensures absent { result ≡ absent → ¬ (HasSection (name_if named section.now) (held document.old)) }
-    ensures unchanged { ¬ (result ≡ ok) → held document.new ≡ held document.old }
+    ensures no_document { result ≡ no_document ↔ (document_in document.old ≡ None) }
+    ensures not_utf8 { result ≡ not_utf8 ↔ (IsSome (document_in document.old) × ¬ (IsUtf8 section.now)) }
+    ensures deleted { result ≡ ok → document_in document.new
+        ≡ option_map (section_removed (name_if named section.now)) (document_in document.old) }
+    ensures there { result ≡ ok → HasSection (name_if named section.now) (document_in document.old) }
+    ensures absent { result ≡ absent → ¬ (HasSection (name_if named section.now) (document_in document.old)) }
+    ensures unchanged { ¬ (result ≡ ok) → document_in document.new ≡ document_in document.old }
     ensures statuses { IsTrue (is_among result (ok ∷ absent ∷ not_utf8 ∷ no_document ∷ [])) }
 {
     let Some(mut kept) = document.take(alloc) else {
@@ -433,11 +434,11 @@ pub extern "C" fn bigrosk_ini_write(
     text: &mut [u8],
     count: &mut usize,
 ) -> u32
-    ensures stays { held document.new ≡ held document.old }
-    ensures no_document { result ≡ no_document ↔ (held document.old ≡ None) }
-    ensures text { result ≡ ok → IsTextOf choice.now (held document.old) (take count.new text.new) }
+    ensures stays { document_in document.new ≡ document_in document.old }
+    ensures no_document { result ≡ no_document ↔ (document_in document.old ≡ None) }
+    ensures text { result ≡ ok → IsTextOf choice.now (document_in document.old) (take count.new text.new) }
     ensures zero { result ≡ ok → slice_get text.new count.new ≡ Some 0 }
-    ensures count { result ≡ no_room → IsCountOf choice.now (held document.old) count.new }
+    ensures count { result ≡ no_room → IsCountOf choice.now (document_in document.old) count.new }
     ensures no_room { result ≡ no_room → length text.old ≤ count.new }
     ensures rest { ¬ (result ≡ ok) → text.new ≡ text.old }
     ensures statuses { IsTrue (is_among result (ok ∷ no_room ∷ no_memory ∷ no_document ∷ [])) }
@@ -458,8 +459,8 @@ pub extern "C" fn bigrosk_ini_is_plain(
     choice: &WriteChoice,
     option: &ReadChoice,
 ) -> bool
-    ensures stays { held document.new ≡ held document.old }
-    ensures plain { TellsPlain choice.now (parse_option option.now) result (held document.old) }
+    ensures stays { document_in document.new ≡ document_in document.old }
+    ensures plain { TellsPlain choice.now (parse_option option.now) result (document_in document.old) }
 {
     let Some(kept) = document.take(alloc) else {
         return false;

@@ -4,7 +4,7 @@ ghost use Rattle.std.specs.Prelude.{◌≡◌, OnOk, IfOk};
 ghost use Rattle.std.specs.Str.{chars};
 ghost use Rattle.ini.specs.Properties.{values};
 ghost use Rattle.ini.specs.Texts.{str_name};
-ghost use Rattle.ini_c.specs.Inside.Gathered.{listed};
+ghost use Rattle.ini_c.specs.Inside.Gathered.{contents};
 ghost use Rattle.ini_c.specs.Listings.{document_listed, nothing, pairs_listed, values_listed};
 ghost use Rattle.ini_c.specs.Listings.{with_name, with_number, with_pair, with_section, with_text};
 
@@ -23,7 +23,7 @@ pub(crate) struct Listing {
 
 impl Listing {
     fn new(alloc: Global) -> Listing
-        ensures { listed result ≡ nothing }
+        ensures { contents result ≡ nothing }
     {
         Listing {
             bytes: Vec::new(alloc),
@@ -33,7 +33,7 @@ impl Listing {
 
     // Puts a text last.
     fn text(&mut self, text: &str) -> Result<(), AllocError>
-        ensures { OnOk result (listed self.new ≡ with_text (listed self.old) (chars text.now)) }
+        ensures { OnOk result (contents self.new ≡ with_text (contents self.old) (chars text.now)) }
     {
         self.bytes.extend_from_slice(text.as_bytes())?;
         self.bytes.push(0)?;
@@ -43,7 +43,7 @@ impl Listing {
 
     // Puts a number last.
     fn number(&mut self, number: usize) -> Result<(), AllocError>
-        ensures { OnOk result (listed self.new ≡ with_number (listed self.old) number) }
+        ensures { OnOk result (contents self.new ≡ with_number (contents self.old) number) }
     {
         self.counts.push(number)?;
         Ok(())
@@ -51,7 +51,7 @@ impl Listing {
 
     // Puts a section's name last.
     fn name(&mut self, name: Option<&str>) -> Result<(), AllocError>
-        ensures { OnOk result (listed self.new ≡ with_name (listed self.old) (str_name name.entry)) }
+        ensures { OnOk result (contents self.new ≡ with_name (contents self.old) (str_name name.entry)) }
     {
         match name {
             Some(name) => self.text(name),
@@ -62,7 +62,7 @@ impl Listing {
     // Puts a pair last.
     fn pair(&mut self, key: &str, value: &str) -> Result<(), AllocError>
         ensures { OnOk result
-            (listed self.new ≡ with_pair (listed self.old) (chars key.now, chars value.now)) }
+            (contents self.new ≡ with_pair (contents self.old) (chars key.now, chars value.now)) }
     {
         self.text(key)?;
         self.text(value)
@@ -71,7 +71,7 @@ impl Listing {
     // Puts a section last.
     fn section(&mut self, name: Option<&str>, section: &Properties) -> Result<(), AllocError>
         ensures { OnOk result
-            (listed self.new ≡ with_section (listed self.old) (str_name name.entry, section.now)) }
+            (contents self.new ≡ with_section (contents self.old) (str_name name.entry, section.now)) }
     {
         self.name(name)?;
         self.number(section.iter().size_hint().0)?;
@@ -88,7 +88,7 @@ pub(crate) fn list_values(
     section: &Properties,
     key: &str,
 ) -> Result<Listing, AllocError>
-    ensures { IfOk result (λ listing. listed listing ≡ values_listed (values (chars key.now) section.now)) }
+    ensures { IfOk result (λ listing. contents listing ≡ values_listed (values (chars key.now) section.now)) }
 {
     let mut listing = Listing::new(alloc);
     for value in section.get_all(key) {
@@ -99,7 +99,7 @@ pub(crate) fn list_values(
 
 // All pairs, in order.
 pub(crate) fn list_pairs(alloc: Global, section: &Properties) -> Result<Listing, AllocError>
-    ensures { IfOk result (λ listing. listed listing ≡ pairs_listed section.now) }
+    ensures { IfOk result (λ listing. contents listing ≡ pairs_listed section.now) }
 {
     let mut listing = Listing::new(alloc);
     for (key, value) in section {
@@ -110,7 +110,7 @@ pub(crate) fn list_pairs(alloc: Global, section: &Properties) -> Result<Listing,
 
 // All sections with their pairs, in order.
 pub(crate) fn list_document(alloc: Global, document: &Ini) -> Result<Listing, AllocError>
-    ensures { IfOk result (λ listing. listed listing ≡ document_listed document.now) }
+    ensures { IfOk result (λ listing. contents listing ≡ document_listed document.now) }
 {
     let mut listing = Listing::new(alloc);
     for (name, section) in document {

@@ -4,7 +4,7 @@ ghost use Rattle.std.specs.Prelude.{◌≡◌, ◌∷◌, [], ◌↔◌, IsTrue,
 ghost use Rattle.std.specs.Str.{IsUtf8, chars};
 ghost use Rattle.ini.specs.Loading.{IsDocumentOf, IsStopOf, IfParse, IsNotUtf8, text_bytes};
 ghost use Rattle.ini_c.specs.Faults.{IsStopAt};
-ghost use Rattle.ini_c.specs.Held.{held};
+ghost use Rattle.ini_c.specs.Held.{document_in};
 ghost use Rattle.ini_c.specs.Statuses.{broken, is_among, no_memory, not_utf8, ok};
 
 use crate::document::{Document, Kept};
@@ -49,11 +49,12 @@ pub(crate) fn load_into(
     document: &mut Document,
     fault: &mut Fault,
 ) -> u32
-    ensures loaded { result ≡ ok → IsSomeAnd (held document.new) (IsDocumentOf option (chars bytes.now)) }
+    ensures loaded { result ≡ ok
+        → IsSomeAnd (document_in document.new) (IsDocumentOf option (chars bytes.now)) }
     ensures broken { result ≡ broken → IsStopAt option (chars bytes.now) fault.new }
     ensures not_utf8 { result ≡ not_utf8 ↔ ¬ (IsUtf8 bytes.now) }
     ensures statuses { IsTrue (is_among result (ok ∷ broken ∷ not_utf8 ∷ no_memory ∷ [])) }
-    ensures unchanged { ¬ (result ≡ ok) → held document.new ≡ held document.old }
+    ensures unchanged { ¬ (result ≡ ok) → document_in document.new ≡ document_in document.old }
     ensures fault_stays { ¬ (result ≡ broken) → fault.new ≡ fault.old }
 {
     match load(alloc, bytes, option) {

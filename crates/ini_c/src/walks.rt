@@ -3,7 +3,7 @@ ghost use Rattle.std.specs.Prelude.{◌≡◌, ◌∷◌, [], ◌↔◌, IsTrue,
 ghost use Rattle.std.specs.Option.{option_map};
 ghost use Rattle.std.specs.Str.{IsUtf8, chars};
 ghost use Rattle.ini.specs.Documents.{first_section, value_in};
-ghost use Rattle.ini_c.specs.Listings.{AreSizesOf, all_found_in, copied, document_listed, fits};
+ghost use Rattle.ini_c.specs.Listings.{AreSizesOf, all_found_in, copied_listing, document_listed, fits};
 ghost use Rattle.ini_c.specs.Listings.{pairs_found_in, pairs_listed, values_listed};
 ghost use Rattle.ini_c.specs.LookUps.{AreTexts, name_if};
 ghost use Rattle.ini_c.specs.Statuses.{absent, is_among, no_memory, no_room, not_utf8, ok};
@@ -32,7 +32,7 @@ pub(crate) fn values(
         IsSome (value_in (name_if named section.now) (chars key.now) document.now) }
     ensures listed { result ≡ ok → option_map values_listed
         (all_found_in (name_if named section.now) (chars key.now) (Some document.now))
-        ≡ Some (copied sizes.new bytes.new counts.new) }
+        ≡ Some (copied_listing sizes.new bytes.new counts.new) }
     ensures sizes { result ≡ no_room → IsSomeAnd (option_map values_listed
         (all_found_in (name_if named section.now) (chars key.now) (Some document.now)))
         (AreSizesOf sizes.new) }
@@ -70,7 +70,7 @@ pub(crate) fn pairs(
     ensures absent { result ≡ absent → first_section (name_if named section.now) document.now ≡ None }
     ensures listed { result ≡ ok → option_map pairs_listed
         (pairs_found_in (name_if named section.now) (Some document.now))
-        ≡ Some (copied sizes.new bytes.new counts.new) }
+        ≡ Some (copied_listing sizes.new bytes.new counts.new) }
     ensures sizes { result ≡ no_room → IsSomeAnd (option_map pairs_listed
         (pairs_found_in (name_if named section.now) (Some document.now))) (AreSizesOf sizes.new) }
     ensures no_room { result ≡ no_room → fits sizes.new bytes.old counts.old ≡ false }
@@ -98,7 +98,8 @@ pub(crate) fn items(
     counts: &mut [usize],
     sizes: &mut Sizes,
 ) -> u32
-    ensures listed { result ≡ ok → document_listed document.now ≡ copied sizes.new bytes.new counts.new }
+    ensures listed { result ≡ ok
+        → document_listed document.now ≡ copied_listing sizes.new bytes.new counts.new }
     ensures sizes { result ≡ no_room → AreSizesOf sizes.new (document_listed document.now) }
     ensures no_room { result ≡ no_room → fits sizes.new bytes.old counts.old ≡ false }
     ensures bytes_stay { ¬ (result ≡ ok) → bytes.new ≡ bytes.old }

@@ -16,11 +16,13 @@ module _ {o : ParseOption} {T : Text} (one : HasOneOutcome o T) where
   pub tells : (result : Result Document Error) → IfOk result (IsDocumentOf o T)
       → IfParse result (IsStopOf o T) → IfErr result IsParseOrMemory → (x : Outcome) → HasOutcome o T x
       → TellsOutcome x result
-  tells (Ok d) document fault only x h = subst (λ y. TellsOutcome y (Ok d)) (same (loaded d) x document h) refl
+  tells (Ok d) document fault only x h =
+      subst (λ y. TellsOutcome y (Ok d)) (same (loaded d) x document h) refl
   tells (Err (Parse f)) document fault only x h =
       let stop : HasOutcome o T (refused f.kind f.line f.col) =
       record { front = fault.front; stops = fault.stops; line_is = fault.line; column_is = fault.column } in
-      subst (λ y. TellsOutcome y (Err (Parse f))) (same (refused f.kind f.line f.col) x stop h) (refl, refl, refl)
+      subst (λ y. TellsOutcome y (Err (Parse f))) (same (refused f.kind f.line f.col) x stop h)
+      (refl, refl, refl)
   tells (Err (Memory e)) document fault only (loaded d) h = tt
   tells (Err (Memory e)) document fault only (refused kind line column) h = tt
   tells (Err (Io e)) document fault only x h = absurd only

@@ -2,5 +2,5 @@
 use Rattle.ini_c.specs.Listings.{Listed}
 use Rattle.ini_c.specs.declared.listing.Listing.{Listing}
 
-abbrev pub listed : Listing → Listed
-listed l = record { bytes = l.bytes.items; counts = l.counts.items }
+abbrev pub contents : Listing → Listed
+contents l = record { bytes = l.bytes.items; counts = l.counts.items }

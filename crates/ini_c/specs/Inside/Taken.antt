@@ -5,6 +5,6 @@ use Rattle.ini.specs.Documents.{Document}
 use Rattle.ini_c.specs.declared.document.Kept.{Kept}
 
 -- the document of a box, if it is there
-abbrev pub taken : Option (Box Kept) → Option Document
-taken (Some kept) = Some kept.value.document
-taken None = None
+abbrev pub kept_document : Option (Box Kept) → Option Document
+kept_document (Some kept) = Some kept.value.document
+kept_document None = None
