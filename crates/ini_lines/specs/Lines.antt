@@ -40,8 +40,8 @@ listed_pair form name p =
     ++ between_in form ∷ text_in form p.1 ++ end_in form ∷ []
 
 -- each pair, in order
-abbrev pub listed : Form → Document → Text
-listed form d = flat_map (λ s. flat_map (listed_pair form s.0) s.1) d
+abbrev pub listed_pairs : Form → Document → Text
+listed_pairs form d = flat_map (λ s. flat_map (listed_pair form s.0) s.1) d
 
 -- a text, and what ends it
 abbrev pub entry : Form → Text → Text

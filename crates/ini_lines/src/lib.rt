@@ -11,7 +11,7 @@ ghost use Rattle.ini_text.specs.Device.Watched.{IsClear, WritesBytes};
 ghost use Rattle.ini.specs.Properties.{values};
 ghost use Rattle.ini.specs.Texts.{str_name};
 ghost use Rattle.ini.specs.Inside.SentTexts.{SendsText};
-ghost use Rattle.ini_lines.specs.Lines.{entries_of_keys, entry, key_entries, listed, listed_pair, name_entries};
+ghost use Rattle.ini_lines.specs.Lines.{entries_of_keys, entry, key_entries, listed_pairs, listed_pair, name_entries};
 ghost use Rattle.ini_lines.specs.Lines.{name_entry};
 ghost use Rattle.ini_lines.specs.Prints.{Prints};
 
@@ -26,7 +26,7 @@ use std::io::Write;
 /// Writes each pair: its section's name in brackets, the key and the value. The answer is `true`.
 pub fn list<W: Write>(document: &Ini, form: Form, out: &mut Watched<'_, W>) -> Result<bool, Error>
     requires { IsClear out.old }
-    ensures { Prints W.contents out.old out.new result (Some (listed form document.now)) }
+    ensures { Prints W.contents out.old out.new result (Some (listed_pairs form document.now)) }
 {
     write_listed(document, form, out)?;
     Ok(true)
@@ -36,7 +36,7 @@ pub fn list<W: Write>(document: &Ini, form: Form, out: &mut Watched<'_, W>) -> R
 fn write_listed<W: Write>(document: &Ini, form: Form, out: &mut Watched<'_, W>) -> Result<(), Error>
     requires { IsClear out.old }
     ensures { WritesBytes W.contents out.old out.new result
-        (encode_utf8_all (listed form document.now)) }
+        (encode_utf8_all (listed_pairs form document.now)) }
 {
     let mut lines = Gatherer::new();
     list_sections(&mut lines, form, document, out)?;
@@ -52,7 +52,7 @@ fn list_sections<W: Write>(
 ) -> Result<(), Error>
     requires { IsClear out.old }
     ensures { SendsText W.contents out.old out.new (held lines.old) (held lines.new) result
-        (listed form document.now) }
+        (listed_pairs form document.now) }
 {
     for (name, pairs) in document {
         list_pairs(lines, form, name, pairs, out)?;
