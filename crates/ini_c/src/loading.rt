@@ -26,17 +26,17 @@ pub(crate) fn text_of(drop_mark: bool, bytes: &[u8]) -> &[u8]
 }
 
 // The document of bytes, in a box.
-fn load(alloc: Global, bytes: &[u8], option: ParseOption) -> Result<Box<Kept>, Error>
+fn load(alloc: Global, bytes: &[u8], read: ParseOption) -> Result<Box<Kept>, Error>
     ensures text { IfOk result (λ kept. IsUtf8 bytes.now) }
-    ensures document { IfOk result (λ kept. IsDocumentOf option (chars bytes.now) kept.value.document) }
-    ensures fault { IfParse result (IsStopOf option (chars bytes.now)) }
+    ensures document { IfOk result (λ kept. IsDocumentOf read (chars bytes.now) kept.value.document) }
+    ensures fault { IfParse result (IsStopOf read (chars bytes.now)) }
     ensures fault_of_text { IfParse result (λ refused. IsUtf8 bytes.now) }
     ensures not_utf8 { IsNotUtf8 result ↔ ¬ (IsUtf8 bytes.now) }
 {
     let Ok(text) = str::from_utf8(bytes) else {
         return Err(Error::NotUtf8);
     };
-    let document = Ini::load_from_str_opt(alloc, text, option)?;
+    let document = Ini::load_from_str_opt(alloc, text, read)?;
     let kept = Box::new(alloc, Kept { document })?;
     Ok(kept)
 }
@@ -45,19 +45,19 @@ fn load(alloc: Global, bytes: &[u8], option: ParseOption) -> Result<Box<Kept>, E
 pub(crate) fn load_into(
     alloc: Global,
     bytes: &[u8],
-    option: ParseOption,
+    read: ParseOption,
     document: &mut Document,
     fault: &mut Fault,
 ) -> u32
     ensures loaded { result ≡ ok
-        → IsSomeAnd (document_in document.new) (IsDocumentOf option (chars bytes.now)) }
-    ensures broken { result ≡ broken → IsStopAt option (chars bytes.now) fault.new }
+        → IsSomeAnd (document_in document.new) (IsDocumentOf read (chars bytes.now)) }
+    ensures broken { result ≡ broken → IsStopAt read (chars bytes.now) fault.new }
     ensures not_utf8 { result ≡ not_utf8 ↔ ¬ (IsUtf8 bytes.now) }
     ensures statuses { IsTrue (is_among result (ok ∷ broken ∷ not_utf8 ∷ no_memory ∷ [])) }
     ensures unchanged { ¬ (result ≡ ok) → document_in document.new ≡ document_in document.old }
     ensures fault_stays { ¬ (result ≡ broken) → fault.new ≡ fault.old }
 {
-    match load(alloc, bytes, option) {
+    match load(alloc, bytes, read) {
         Ok(kept) => {
             document.put(alloc, kept);
             OK

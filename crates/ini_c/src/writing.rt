@@ -39,8 +39,8 @@ pub(crate) fn write(
 }
 
 // Whether the document, written by one option, loads by the other as it is.
-pub(crate) fn is_plain(document: &Ini, choice: &WriteChoice, option: ParseOption) -> bool
-    ensures { TellsPlain choice.now option result (Some document.now) }
+pub(crate) fn is_plain(document: &Ini, choice: &WriteChoice, read: ParseOption) -> bool
+    ensures { TellsPlain choice.now read result (Some document.now) }
 {
-    document.is_plain(&choice.to_option(), option)
+    document.is_plain(&choice.to_option(), read)
 }

@@ -43,10 +43,10 @@ fn show(out: &mut String, together: &mut String, element: &PlacedElement) -> Res
 
 /// The elements in order, and behind them whether put together they are the text; or, where the text is
 /// refused, where that is told, and where the refused element begins.
-pub fn places(alloc: Global, text: &str, option: ParseOption) -> Result<String, Error> {
+pub fn places(alloc: Global, text: &str, read: ParseOption) -> Result<String, Error> {
     let mut out = String::new(alloc);
     let mut together = String::new(alloc);
-    let mut parser = Parser::new(alloc, text, option);
+    let mut parser = Parser::new(alloc, text, read);
     for _ in 0..u64::MAX {
         match parser.next_element() {
             Ok(Some(element)) => show(&mut out, &mut together, &element)?,

@@ -48,8 +48,8 @@ pub fn loaded(alloc: Global, answer: Result<Ini, Error>) -> Result<String, Error
 }
 
 /// What loading the text by the options shows.
-pub fn load(alloc: Global, text: &str, option: ParseOption) -> Result<String, Error> {
-    loaded(alloc, Ini::load_from_str_opt(alloc, text, option))
+pub fn load(alloc: Global, text: &str, read: ParseOption) -> Result<String, Error> {
+    loaded(alloc, Ini::load_from_str_opt(alloc, text, read))
 }
 
 /// The text that is written of a document.

@@ -9,13 +9,13 @@ use std::alloc::Global;
 
 // What the text loads as and, where it is another, what its bytes do. Bytes that are no text load as bytes
 // alone.
-fn loads(alloc: Global, bytes: &[u8], option: ParseOption) -> Result<String, Error> {
+fn loads(alloc: Global, bytes: &[u8], read: ParseOption) -> Result<String, Error> {
     let mut reader = bytes;
-    let by_bytes = loaded(alloc, Ini::read_from_opt(alloc, &mut reader, option))?;
+    let by_bytes = loaded(alloc, Ini::read_from_opt(alloc, &mut reader, read))?;
     let Ok(text) = str::from_utf8(bytes) else {
         return Ok(by_bytes);
     };
-    let mut answer = load(alloc, text, option)?;
+    let mut answer = load(alloc, text, read)?;
     if answer != by_bytes {
         answer.push_str(", but by bytes ")?;
         answer.push_str(by_bytes.as_str())?;
@@ -23,8 +23,8 @@ fn loads(alloc: Global, bytes: &[u8], option: ParseOption) -> Result<String, Err
     Ok(answer)
 }
 
-fn refusal(alloc: Global, text: &str, option: ParseOption) -> Result<String, Error> {
-    match Ini::load_from_str_opt(alloc, text, option) {
+fn refusal(alloc: Global, text: &str, read: ParseOption) -> Result<String, Error> {
+    match Ini::load_from_str_opt(alloc, text, read) {
         Ok(_) => Ok(String::from_str(alloc, "loaded")?),
         Err(refused) => Ok(refused.to_string(alloc)?),
     }
@@ -89,13 +89,13 @@ fn escaped_characters(alloc: Global, text: &str, policy: EscapePolicy) -> Result
 
 // How many fronts of the text's bytes cut a character. Each is to be refused as no text, and any other
 // front to load by its bytes as by its text; else the length of one that doesn't.
-fn cut_fronts(alloc: Global, text: &str, option: ParseOption) -> Result<String, Error> {
+fn cut_fronts(alloc: Global, text: &str, read: ParseOption) -> Result<String, Error> {
     let mut cut: usize = 0;
     for (end, _) in text.bytes().enumerate() {
         let mut reader = text.as_bytes().get(..end).unwrap_or(b"");
-        let by_bytes = loaded(alloc, Ini::read_from_opt(alloc, &mut reader, option))?;
+        let by_bytes = loaded(alloc, Ini::read_from_opt(alloc, &mut reader, read))?;
         let is_as_wanted = match text.get(..end) {
-            Some(front) => by_bytes == load(alloc, front, option)?,
+            Some(front) => by_bytes == load(alloc, front, read)?,
             None => {
                 cut = cut.saturating_add(1);
                 by_bytes.as_str() == "the input is not UTF-8"
@@ -109,9 +109,9 @@ fn cut_fronts(alloc: Global, text: &str, option: ParseOption) -> Result<String, 
 }
 
 // What a parser answers to four calls: items in brackets, `end`, or the refusal as it prints.
-fn items(alloc: Global, text: &str, option: ParseOption) -> Result<String, Error> {
+fn items(alloc: Global, text: &str, read: ParseOption) -> Result<String, Error> {
     let mut out = String::new(alloc);
-    let mut parser = Parser::new(alloc, text, option);
+    let mut parser = Parser::new(alloc, text, read);
     for _ in 0..4u32 {
         let shown = match parser.next_item() {
             Ok(Some(Item::Header(name))) => format!(in alloc; "[{name}] ")?,

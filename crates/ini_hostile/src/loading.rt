@@ -28,15 +28,11 @@ pub(crate) fn all_on() -> ParseOption {
 }
 
 // Loads with more and more memory until it is enough. The document, and how often it was refused.
-fn loaded_at_last(
-    rt: &(impl Abort + AllocGlobal),
-    text: &str,
-    option: ParseOption,
-) -> (Ini, usize) {
+fn loaded_at_last(rt: &(impl Abort + AllocGlobal), text: &str, read: ParseOption) -> (Ini, usize) {
     let mut famine = Famine::new(rt);
     for steps in 0..CALLS {
         let rest = famine.leave(rt, steps);
-        let answer = Ini::load_from_str_opt(rt.alloc(), text, option);
+        let answer = Ini::load_from_str_opt(rt.alloc(), text, read);
         drop(rest);
         match answer {
             Ok(document) => return (document, steps),
