@@ -26,7 +26,7 @@ import tempfile
 
 RUNS = 9
 AIM = 1.2
-EDITS = ["set_existing", "delete", "add"]
+EDITS = ["set_existing", "set", "set_pair", "set_section", "delete", "add", "add_section"]
 LAST = "[last]\nkey = its value\n"
 
 

@@ -351,6 +351,10 @@ module _ {o : ParseOption} {T : Text} {p : Place} {name : Option Text} (key : Te
       at {items = items} (EndsSection.header t first) reads =
           lacks_pair (Header t ∷ items) tt reaches.passes (reads-append first reads)
 
+  pub lacks_told : {q : Place} → ReachesEnd o T p.front q key → ReadsOn q.option q.text q.front
+      → LacksPair o T name key
+  lacks_told {q} reaches on = lacks_first reaches (told (λ o T. ReadsOn o T q.front) reaches.is_reading on)
+
   -- where the parser stands then
   pair_reads : {q : Place} {pair : FoundPair} → ReachesPair o T p.front q key pair
       → Reads o T (chars pair.front.now) (Pair key (string_text pair.value) ∷ []) q.front
@@ -361,7 +365,7 @@ module _ {o : ParseOption} {T : Text} {p : Place} {name : Option Text} (key : Te
       (Reads.step h.whole (Element.pair placed.key_front placed.some placed.separates placed.gives)
       (Reads.stay x.rest (h.whole ∙ sym (append_assoc x.front (pair_of x) x.rest))))
 
-  reached_within : (q : Place) (found : Option FoundPair)
+  pub reached_within : (q : Place) (found : Option FoundPair)
       → MatchOption found (ReachesEnd o T p.front q key) (ReachesPair o T p.front q key) → StandsWithin q
   reached_within q None h =
       stands_within

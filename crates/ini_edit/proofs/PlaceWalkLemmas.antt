@@ -21,12 +21,13 @@ use Rattle.ini.specs.Texts.{Text}
 use Rattle.ini.specs.Properties.{Pairs}
 use Rattle.ini.specs.SectionItems.{pair_items}
 use Rattle.ini_edit.specs.Endings.{IsIndentedKey}
-use Rattle.ini_edit.specs.Inside.PlaceWalks.{Chooses, IsFreeAt, IsFirstSectionEnd, IsLastPlace}
+use Rattle.ini_edit.specs.Inside.PlaceWalks.{AnswersEnd, Chooses, IsFreeAt, IsFirstSectionEnd, IsLastPlace}
 use Rattle.ini_edit.specs.Inside.PlaceWalks.{ReachesSectionEnd}
 use Rattle.ini_edit.specs.NoPlaces.{HasNoPlace}
 use Rattle.ini_edit.specs.Inside.NoPlaceWalks.{IsTakenAt, NoneChosen, NoneYet}
 use Rattle.ini_edit.specs.Inside.Walks.{Boundary, EndsSection, IsPastLast, OpensFirst, ReadsOn}
 use Rattle.ini_edit.specs.Inside.Walks.{StandsWithin, Steps}
+use Rattle.ini_edit.specs.declared.place.SectionEnd.TheVariants as ends
 use Rattle.ini_edit.specs.declared.place.TextPlace.{TextPlace}
 use Rattle.ini_edit.proofs.DocumentLemmas.{pair_items-append}
 use Rattle.ini_edit.proofs.FindLemmas.{end_reads}
@@ -259,11 +260,11 @@ module _ {o : ParseOption} {T : Text} {p : Place} {name : Option Text} (opens : 
       → StandsWithin q
   goes_on_behind h = end_within h
 
-  pub finds_end : {q : Place} {place : TextPlace} → ReachesSectionEnd o T p.front q (Some place)
+  finds_end : {q : Place} {place : TextPlace} → ReachesSectionEnd o T p.front q (Some place)
       → ReadsOn q.option q.text q.front → IsFirstSectionEnd o T name place
   finds_end {q} h on = first_end h (told (λ o T. ReadsOn o T q.front) h.is_reading on)
 
-  pub finds_no_place : {q : Place} → ReachesSectionEnd o T p.front q None → HasNoPlace o T name
+  finds_no_place : {q : Place} → ReachesSectionEnd o T p.front q None → HasNoPlace o T name
   finds_no_place h =
       let ends = h.none refl in
       record {
@@ -276,3 +277,8 @@ module _ {o : ParseOption} {T : Text} {p : Place} {name : Option Text} (opens : 
           follows = ends.follows;
         };
       }
+
+  pub section_ends : {q : Place} (found : Option TextPlace) → ReachesSectionEnd o T p.front q found
+      → ReadsOn q.option q.text q.front → AnswersEnd o T name (ends.There found)
+  section_ends None h on = finds_no_place h
+  section_ends (Some place) h on = finds_end h on

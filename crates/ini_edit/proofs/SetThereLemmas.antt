@@ -1,6 +1,5 @@
 -- A key's value set where the key is there: the walk as a whole.
 use Rattle.std.proofs.Common.{◌≡◌, ◌∙◌, [], ◌++◌, ap, sym, subst, append_assoc, Option, Some}
-use Rattle.std.proofs.Common.{MatchOption}
 use Rattle.std.proofs.lemmas.List.{append_cancel_left}
 use Rattle.ini_text.specs.Grammar.Texts.{Reads}
 use Rattle.ini_text.specs.Laws.Plain.{IsPlainValue}
@@ -15,24 +14,15 @@ use Rattle.ini_edit.specs.Places.{Stretches, pair_of, pair_with}
 use Rattle.ini_edit.specs.Quotes.{KeepsQuote, written_in}
 use Rattle.ini_edit.specs.Inside.Later.{IsAlikeBehind, TakesLater, TakesLaterOut}
 use Rattle.ini_edit.specs.Inside.Quotes.{IsOwnSource}
-use Rattle.ini_edit.specs.Inside.Walks.{OpensFirst, ReachesEnd, ReachesPair, ReadsOn}
-use Rattle.ini_edit.specs.Inside.Walks.{StandsWithin}
+use Rattle.ini_edit.specs.Inside.Walks.{OpensFirst, ReachesPair, ReadsOn, StandsWithin}
 use Rattle.ini_edit.specs.declared.find.FoundPair.{FoundPair}
-use Rattle.ini_edit.proofs.FindLemmas.{end_reads, goes_on_within}
+use Rattle.ini_edit.proofs.FindLemmas.{end_reads, reached_within}
 use Rattle.ini_edit.proofs.LaterLemmas.{set_there, value_alike}
 use Rattle.ini_edit.proofs.WalkLemmas.{stands_within, told}
 
 module _ {o : ParseOption} {T : Text} {p : Place} {name : Option Text} (key : Text)
     (opens : OpensFirst o T p name)
-    (q : Place) (found : Option FoundPair)
-    (h : MatchOption found (ReachesEnd p.option p.text p.front q key)
-    (ReachesPair p.option p.text p.front q key))
-    (x : FoundPair) (is : found ≡ Some x) where
-  reaches : ReachesPair o T p.front q key x
-  reaches = told (λ o T. ReachesPair o T p.front q key x) opens.is_reading
-      (subst (λ found. MatchOption found (ReachesEnd p.option p.text p.front q key)
-      (ReachesPair p.option p.text p.front q key)) is h)
-
+    {q : Place} {x : FoundPair} (reaches : ReachesPair o T p.front q key x) where
   abbrev pair : Stretches
   pair = stretches_of x
 
@@ -58,7 +48,7 @@ module _ {o : ParseOption} {T : Text} {p : Place} {name : Option Text} (key : Te
 
     pub taken_within : StandsWithin r
     taken_within =
-        let within = goes_on_within key opens q found h in
+        let within = reached_within key opens q (Some x) reaches in
         let reads : Reads o T [] within.items q.front =
         told (λ o T. Reads o T [] within.items q.front) reaches.is_reading within.reads in
         stands_within here.out.is_reading

@@ -96,7 +96,7 @@ refuses_to_set refusals.NoPlace plain lacks refused = (plain, (lacks, refused))
 -- the answer where the pair isn't there
 pub sets_by_adding : {Z : Type 0} {o : ParseOption} (w : WriteOption) {T key : Text} (value : Text)
     {name : Option Text} (answer : Result (String Z) EditError) → LacksPair o T name key
-    → OnOk answer (IsWritable o w key value)
+    → IsWritable o w key value
     → IfOk answer (λ new. IsAdded o (like_lines_of T w) T key value (text_of new) name)
     → IfOk answer (λ new. IsSet o (like_lines_of T w) T key value (text_of new) name)
 sets_by_adding w value (Ok new) lacks writable added =

@@ -38,6 +38,10 @@ step_stops c (Ok found) reads h = tt
 step_stops c (Err (Parse e)) reads h = stops_behind e reads h.0 h.1
 step_stops c (Err _) reads h = tt
 
+pub reading : {o : ParseOption} {T : Text} {p : Place} → p.option ≡ o → p.text ≡ T → p.refusal ≡ None
+    → IsReading o T p
+reading option text refusal = record { option = option; text = text; refusal = refusal }
+
 module _ {o : ParseOption} {T : Text} where
   -- what was said of the parser's text and options
   pub told : {p : Place} (F : ParseOption → Text → Type 0) → IsReading o T p → F p.option p.text → F o T

@@ -6,4 +6,5 @@ pub mod NoPlaceWalks
 pub mod PlaceWalks
 pub mod Quotes
 pub mod SectionWalks
+pub mod SetWalks
 pub mod Walks

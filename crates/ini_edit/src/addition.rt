@@ -8,6 +8,7 @@ ghost use Rattle.ini_edit.specs.Added.{RefusesToAdd};
 ghost use Rattle.ini_edit.specs.Endings.{front_ending};
 ghost use Rattle.ini_edit.specs.NewLines.{like_lines_of};
 ghost use Rattle.ini_edit.specs.Inside.Lines.{IsWithLine};
+ghost use Rattle.ini_edit.specs.Inside.PlaceWalks.{AnswersEnd};
 
 use crate::append::push_text;
 use crate::error::EditError;
@@ -57,21 +58,17 @@ pub fn add(
         (chars key.now) (chars value.now)) }
 {
     check_pair(key, value, read, write)?;
-    with_pair(
-        alloc,
-        text,
-        read,
-        &like_lines_of(text, write),
-        name,
-        key,
-        value,
-    )
+    let end = find_section_end(alloc, text, read, name)?;
+    with_pair(alloc, text, end, read, write, name, key, value)
 }
 
-// The same of a pair that can be written, with the options' own line ends.
-fn with_pair(
+/// The text with a pair that can be written, put in where its section ends.
+///
+/// `Name` or `NoPlace`; or where memory is refused.
+pub(crate) fn with_pair(
     alloc: Global,
     text: &str,
+    end: SectionEnd,
     read: ParseOption,
     write: &WriteOption,
     name: Option<&str>,
@@ -79,23 +76,28 @@ fn with_pair(
     value: &str,
 ) -> Result<String, EditError>
     requires writable { IsWritable read write.now (chars key.now) (chars value.now) }
-    ensures added { IfOk result (λ new. IsAdded read write.now (chars text.now) (chars key.now)
-        (chars value.now) (text_of new) (str_name name.entry)) }
+    requires end { AnswersEnd read (chars text.now) (str_name name) end }
+    ensures added { IfOk result
+        (λ new. IsAdded read (like_lines_of (chars text.now) write.now) (chars text.now)
+        (chars key.now) (chars value.now) (text_of new) (str_name name.entry)) }
     ensures refused { IfErr result
         (RefusesLine read write.now.escape_policy (chars text.now) (str_name name.entry)) }
 {
-    match find_section_end(alloc, text, read, name)? {
-        SectionEnd::Absent => match name {
-            Some(name) => with_new_section(alloc, text, read, write, name, key, value),
-            None => Err(EditError::Name),
-        },
-        SectionEnd::NoPlace => Err(EditError::NoPlace),
-        SectionEnd::At(place) => Ok(with_line(alloc, place, key, value, read, write)?),
+    let write = &like_lines_of(text, write);
+    match end {
+        SectionEnd::There(place) => {
+            let place = place.ok_or(EditError::NoPlace)?;
+            Ok(with_line(alloc, place, key, value, read, write)?)
+        }
+        SectionEnd::Absent(place) => {
+            let name = name.ok_or(EditError::Name)?;
+            with_new_section(alloc, text, place, read, write, name, key, value)
+        }
     }
 }
 
-// Whether a pair can be written so that it is read back.
-fn check_pair(
+/// Whether a pair can be written so that it is read back.
+pub(crate) fn check_pair(
     key: &str,
     value: &str,
     read: ParseOption,

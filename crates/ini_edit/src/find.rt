@@ -75,21 +75,23 @@ pub(crate) fn reach_section(parser: &mut Parser, name: Option<&str>) -> Result<b
         return Ok(true);
     };
     'elements: while let Some(element) = step(parser)? {
-        if opens(element, name) {
+        if opens(&element, name) {
             return Ok(true);
         }
+        drop(element);
     }
     Ok(false)
 }
 
 /// Whether an element is a header with the name.
-pub(crate) fn opens(element: PlacedElement, name: &str) -> bool
-    ensures yes { result ≡ true → gives element.entry.content ≡ Header (chars name.now) ∷ [] }
-    ensures no { result ≡ false → OpensNone (Some (chars name.now)) (gives element.entry.content) }
+pub(crate) fn opens(element: &PlacedElement, name: &str) -> bool
+    ensures yes { result ≡ true → gives element.now.content ≡ Header (chars name.now) ∷ [] }
+    ensures no { result ≡ false → OpensNone (Some (chars name.now)) (gives element.now.content) }
 {
-    match element.content {
+    match &element.content {
         Content::Header(header) => is_same_text(name, header.as_str()),
-        Content::Pair(_) | Content::Nothing => false,
+        Content::Pair(_) => false,
+        Content::Nothing => false,
     }
 }
 

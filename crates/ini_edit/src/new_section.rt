@@ -8,22 +8,24 @@ ghost use Rattle.ini_edit.specs.Endings.{front_ending};
 ghost use Rattle.ini_edit.specs.FirstPairs.{LacksSection};
 ghost use Rattle.ini_edit.specs.NewSections.{IsInNewSection};
 ghost use Rattle.ini_edit.specs.Inside.Lines.{IsWithSection};
+ghost use Rattle.ini_edit.specs.Inside.PlaceWalks.{AnswersTextEnd};
 
 use crate::append::push_text;
 use crate::error::EditError;
 use crate::glue::push_glue;
 use crate::line::{push_header, push_pair};
 use crate::line_end::empty_line;
-use crate::place::{TextPlace, find_text_end};
+use crate::place::TextPlace;
 use ini_text::{Error, ParseOption, WriteOption, is_plain_name};
 use std::alloc::Global;
 
-/// The text with a new section of one pair at its end, where it has no section of the name.
+/// The text with a new section of one pair at its end's place, where it has no section of the name.
 ///
-/// `Name` where the name can't be written; then `Text` or `NoPlace`.
+/// `Name` where the name can't be written; then `NoPlace` where there is no place; or where memory is refused.
 pub(crate) fn with_new_section(
     alloc: Global,
     text: &str,
+    place: Option<TextPlace>,
     read: ParseOption,
     write: &WriteOption,
     name: &str,
@@ -32,6 +34,7 @@ pub(crate) fn with_new_section(
 ) -> Result<String, EditError>
     requires writable { IsWritable read write.now (chars key.now) (chars value.now) }
     requires lacks { LacksSection read (chars text.now) (Some (chars name.now)) }
+    requires end { AnswersTextEnd read (chars text.now) place }
     ensures new { IfOk result (λ new. IsInNewSection read write.now (chars text.now) (chars name.now)
         (chars key.now) (chars value.now) (text_of new)) }
     ensures refused { IfErr result
@@ -40,7 +43,7 @@ pub(crate) fn with_new_section(
     if !is_plain_name(name, write.escape_policy, read) {
         return Err(EditError::Name);
     }
-    let Some(place) = find_text_end(alloc, text, read)? else {
+    let Some(place) = place else {
         return Err(EditError::NoPlace);
     };
     Ok(with_section(alloc, place, name, key, value, read, write)?)

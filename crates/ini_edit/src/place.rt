@@ -1,6 +1,6 @@
-//! Places of a text where a line may be put in. This file knows elements and kinds of characters, and no
+//! Places of a text where a line may be put in. This file knows elements, kinds of characters and a key, and no
 //! value.
-ghost use Rattle.std.specs.Prelude.{◌≡◌, ◌≢◌, ◌||◌, true, false, chars, None, IfOk, IfErr, IfSome};
+ghost use Rattle.std.specs.Prelude.{◌≡◌, ◌≢◌, ◌||◌, [], true, false, chars, None, IfOk, IfErr, IfSome};
 ghost use Rattle.std.specs.List.{list_all};
 ghost use Rattle.ini_text.specs.Grammar.CharacterKinds.{is_blank, is_line_end};
 ghost use Rattle.ini_text.specs.Inside.PlainTests.{begins};
@@ -9,14 +9,14 @@ ghost use Rattle.ini.specs.Texts.{str_name};
 ghost use Rattle.ini.specs.Loading.{IfParse, IsParseOrMemory, IsStopOf};
 ghost use Rattle.ini_edit.specs.Endings.{IsIndentedKey};
 ghost use Rattle.ini_text.specs.Parsing.Places.{gives};
-ghost use Rattle.ini_edit.specs.Inside.PlaceWalks.{AnswersEnd, AnswersTextEnd, Chooses, IsFree, IsFreeAt};
-ghost use Rattle.ini_edit.specs.Inside.PlaceWalks.{Keeps, NoneKept, ReachesSectionEnd};
+ghost use Rattle.ini_edit.specs.Inside.PlaceWalks.{AnswersEnd, Chooses, IsFree, IsFreeAt, Keeps, NoneKept};
+ghost use Rattle.ini_edit.specs.Inside.PlaceWalks.{Reaches, ReachesSection, ReachesSectionEnd};
 ghost use Rattle.ini_edit.specs.Inside.NoPlaceWalks.{IsTaken, IsTakenAt, LooksIndented, NoneChosen};
 ghost use Rattle.ini_edit.specs.Inside.Walks.{StandsWithin};
 
-use crate::find::reach_section;
+use crate::find::{FoundPair, opens};
 use crate::text::{begins_with_comment, is_column_one, split_first, starts_line};
-use crate::walk::{read_on, step};
+use crate::walk::{is_same_text, read_on, step};
 use ini_text::{Content, Error, ParseOption, Parser, PlacedElement, front_before};
 use std::alloc::Global;
 
@@ -31,15 +31,32 @@ pub(crate) struct TextPlace<'a> {
     pub(crate) is_behind_comment: bool,
 }
 
-/// Where the first section of a name ends.
+/// Where the first section of a name ends, and the place there where a line may be put in, if there is one.
 #[derive(Clone, Copy, Debug)]
 pub(crate) enum SectionEnd<'a> {
-    /// There is no such section.
-    Absent,
-    /// It ends where no place for a line was found.
-    NoPlace,
-    /// A line may be put in there, behind the section's last item.
-    At(TextPlace<'a>),
+    /// There is no such section. The place is the text's last one, behind all that the text gives.
+    Absent(Option<TextPlace<'a>>),
+    /// The place is behind the section's last item.
+    There(Option<TextPlace<'a>>),
+}
+
+/// What a walk to the first section of a name came to.
+#[derive(Clone, Copy, Debug)]
+pub(crate) enum Opening<'a> {
+    /// The text's end, since there is no such section; and the last place there where a line may be put in.
+    Absent(Option<TextPlace<'a>>),
+    /// What follows the section's header.
+    There,
+}
+
+/// What a walk to the first pair of a key in a section came to.
+#[derive(Debug, Drop)]
+pub(crate) enum Reached<'a> {
+    /// What follows the pair.
+    Pair(FoundPair<'a>),
+    /// What ends the section, which has no such pair; and the place where a line may be put in, if there is
+    /// one, behind the section's last item.
+    End(Option<TextPlace<'a>>),
 }
 
 /// Where the first section of a name ends. The whole text is read.
@@ -54,35 +71,84 @@ pub(crate) fn find_section_end<'a>(
     ensures only { IfErr result IsParseOrMemory }
 {
     let mut parser = Parser::new(alloc, text, read);
-    if !reach_section(&mut parser, name)? {
-        return Ok(SectionEnd::Absent);
+    if let Opening::Absent(place) = reach_section_or_end(&mut parser, text, read, name)? {
+        return Ok(SectionEnd::Absent(place));
     }
     let place = reach_section_end(&mut parser, text, read)?;
     read_on(&mut parser)?;
-    match place {
-        Some(place) => Ok(SectionEnd::At(place)),
-        None => Ok(SectionEnd::NoPlace),
-    }
+    Ok(SectionEnd::There(place))
 }
 
-/// The last place where a line may be put in behind all that the text gives: the text's end, or before a tail
-/// that is dropped. The whole text is read.
-pub(crate) fn find_text_end<'a>(
-    alloc: Global,
+/// Goes behind the header of the first section of the name; where there is none, to the text's end.
+pub(crate) fn reach_section_or_end<'a>(
+    parser: &mut Parser<'a>,
     text: &'a str,
     read: ParseOption,
-) -> Result<Option<TextPlace<'a>>, Error>
-    ensures end { IfOk result (AnswersTextEnd read (chars text.now)) }
+    name: Option<&str>,
+) -> Result<Opening<'a>, Error>
+    requires text { parser.old.text ≡ chars text.now }
+    requires option { parser.old.option ≡ read }
+    requires refusal { parser.old.refusal ≡ None }
+    requires front { parser.old.front ≡ [] }
+    ensures opening { IfOk result
+        (ReachesSection read (chars text.now) (str_name name.entry) parser.new) }
     ensures fault { IfParse result (IsStopOf read (chars text.now)) }
     ensures only { IfErr result IsParseOrMemory }
 {
-    let mut parser = Parser::new(alloc, text, read);
+    let Some(name) = name else {
+        return Ok(Opening::There);
+    };
     let mut place = free_place(text, "", parser.rest(), read);
-    'elements: while let Some(element) = step(&mut parser)? {
+    'elements: while let Some(element) = step(parser)? {
+        if opens(&element, name) {
+            return Ok(Opening::There);
+        }
         let next = free_place(text, element.source, parser.rest(), read);
         place = last_place(element, place, next);
     }
-    Ok(place)
+    Ok(Opening::Absent(place))
+}
+
+/// Goes over a section's pairs to the first of the key, and over that; or to the section's end.
+pub(crate) fn reach_pair_or_end<'a>(
+    parser: &mut Parser<'a>,
+    text: &'a str,
+    read: ParseOption,
+    key: &str,
+) -> Result<Reached<'a>, Error>
+    requires text { parser.old.text ≡ chars text.now }
+    requires option { parser.old.option ≡ read }
+    requires within { StandsWithin parser.old }
+    ensures reached { IfOk result
+        (Reaches read (chars text.now) parser.old.front (chars key.now) parser.new) }
+    ensures fault { IfParse result (IsStopOf read (chars text.now)) }
+    ensures only { IfErr result IsParseOrMemory }
+{
+    let mut place = free_place(text, "", parser.rest(), read);
+    'elements: loop {
+        let start = parser.rest();
+        let Some(element) = step(parser)? else {
+            return Ok(Reached::End(place));
+        };
+        let source = element.source;
+        let rest = parser.rest();
+        let next = free_place(text, source, rest, read);
+        match element.content {
+            Content::Header(_) => return Ok(Reached::End(place)),
+            Content::Pair(pair) => {
+                if is_same_text(key, pair.key.as_str()) {
+                    return Ok(Reached::Pair(FoundPair {
+                        front: front_before(text, start),
+                        value: pair.value,
+                        places: pair.places,
+                        rest,
+                    }));
+                }
+                place = next;
+            }
+            Content::Nothing => place = chosen(source, place, next),
+        }
+    }
 }
 
 // Goes over a section's pairs to its end: the place behind the last item where a line may be put in, on that

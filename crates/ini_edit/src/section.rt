@@ -44,13 +44,14 @@ pub(crate) fn find_header<'a>(
             return Ok(None);
         };
         let source = element.source;
-        if opens(element, name) {
+        if opens(&element, name) {
             return Ok(Some(FoundHeader {
                 front: front_before(text, start),
                 source,
                 rest: parser.rest(),
             }));
         }
+        drop(element);
     }
 }
 

@@ -15,14 +15,16 @@ ghost use Rattle.ini_edit.specs.declared.error.EditError.TheVariants as EditErro
 ghost use Rattle.ini_edit.specs.FirstPairs.{LacksPair, stretches_of};
 ghost use Rattle.ini_edit.specs.Inside.Later.{IsAlikeBehind, TakesLater};
 ghost use Rattle.ini_edit.specs.Inside.Quotes.{IsOwnSource, PutsValue};
+ghost use Rattle.ini_edit.specs.Inside.SetWalks.{ComesTo};
 ghost use Rattle.ini_edit.specs.Inside.Walks.{StandsWithin};
 
-use crate::addition::add;
+use crate::addition::{check_pair, with_pair};
 use crate::append::{push, push_text};
 use crate::cut::cut;
 use crate::error::EditError;
 use crate::escape::push_in_quote;
-use crate::find::{FoundPair, reach_pair, reach_section};
+use crate::find::FoundPair;
+use crate::place::{Opening, Reached, SectionEnd, reach_pair_or_end, reach_section_or_end};
 use crate::quote::kept_quote;
 use crate::walk::{is_same_text, read_on, step};
 use ini_text::{Content, Error, EscapePolicy, ParseOption, Parser, WriteOption, is_plain_value};
@@ -64,7 +66,10 @@ pub fn set_existing(
     if !is_plain_value(value, policy, read) {
         return Err(EditError::Value);
     }
-    Ok(set_plain(alloc, text, read, policy, name, key, value)?)
+    match set_plain(alloc, text, read, policy, name, key, value)? {
+        Setting::Made(new) => Ok(Some(new)),
+        Setting::Missing(_) => Ok(None),
+    }
 }
 
 /// Sets the value of a key in a text: in the place of the value of its first pair, as `set_existing` does;
@@ -101,37 +106,49 @@ pub fn set(
         return Err(EditError::Value);
     }
     match set_plain(alloc, text, read, write.escape_policy, name, key, value)? {
-        Some(new) => Ok(new),
-        None => add(alloc, text, read, write, name, key, value),
+        Setting::Made(new) => Ok(new),
+        Setting::Missing(end) => {
+            check_pair(key, value, read, write)?;
+            with_pair(alloc, text, end, read, write, name, key, value)
+        }
     }
 }
 
-// The same of a value that is plain.
-fn set_plain(
+// What setting a value where its key is there came to.
+#[derive(Debug, Drop)]
+enum Setting<'a> {
+    // The text in which it is set.
+    Made(String),
+    // The key isn't there, and the first section of the name ends so.
+    Missing(SectionEnd<'a>),
+}
+
+// Sets a value that is plain where its key is there, in one walk over the text.
+fn set_plain<'a>(
     alloc: Global,
-    text: &str,
+    text: &'a str,
     read: ParseOption,
     policy: EscapePolicy,
     name: Option<&str>,
     key: &str,
     value: &str,
-) -> Result<Option<String>, Error>
+) -> Result<Setting<'a>, Error>
     requires plain { IsPlainValue read policy (chars value.now) }
-    ensures edited { IfOk result (λ edited. MatchOption edited
-        (LacksPair read (chars text.now) (str_name name.entry) (chars key.now))
-        (λ new. IsSetThere read policy (chars text.now) (str_name name.entry) (chars key.now)
-        (chars value.now)
-        (string_text new))) }
+    ensures came { IfOk result (ComesTo read policy (chars text.now) (str_name name.entry) (chars key.now)
+        (chars value.now)) }
     ensures fault { IfParse result (IsStopOf read (chars text.now)) }
     ensures only { IfErr result IsParseOrMemory }
 {
     let mut parser = Parser::new(alloc, text, read);
-    if !reach_section(&mut parser, name)? {
-        return Ok(None);
+    if let Opening::Absent(place) = reach_section_or_end(&mut parser, text, read, name)? {
+        return Ok(Setting::Missing(SectionEnd::Absent(place)));
     }
-    let Some(pair) = reach_pair(&mut parser, text, key)? else {
-        read_on(&mut parser)?;
-        return Ok(None);
+    let pair = match reach_pair_or_end(&mut parser, text, read, key)? {
+        Reached::Pair(pair) => pair,
+        Reached::End(place) => {
+            read_on(&mut parser)?;
+            return Ok(Setting::Missing(SectionEnd::There(place)));
+        }
     };
     let mut edited = String::with_capacity(alloc, text.len())?;
     push_with(alloc, &mut edited, &pair, value, policy, read)?;
@@ -139,7 +156,7 @@ fn set_plain(
     let rest = parser.rest();
     read_on(&mut parser)?;
     push_text(&mut edited, rest)?;
-    Ok(Some(edited))
+    Ok(Setting::Made(edited))
 }
 
 // Appends a pair, and what stands before it, with another value in its own's place, and in its quotes.

@@ -15,12 +15,16 @@ use Rattle.ini_edit.specs.Endings.{IsIndentedKey}
 use Rattle.ini_edit.specs.NoPlaces.{HasNoEnd, HasNoPlace}
 use Rattle.ini_edit.specs.Places.{Follows}
 use Rattle.ini_edit.specs.Inside.NoPlaceWalks.{EndsInKey, NoneChosen}
-use Rattle.ini_edit.specs.Inside.Walks.{Boundary, EndsSection, IsReading}
+use Rattle.ini_edit.specs.Inside.Walks.{Boundary, EndsSection, IsReading, OpensFirst, ReachesEnd, ReachesPair}
 use Rattle.ini_edit.specs.FirstPairs.{LacksSection}
 use Rattle.ini_edit.specs.Targets.{IsSectionEnd}
 use Rattle.ini_edit.specs.declared.place.TextPlace.{TextPlace}
+use Rattle.ini_edit.specs.declared.place.Opening.{Opening}
+use Rattle.ini_edit.specs.declared.place.Opening.TheVariants as openings
+use Rattle.ini_edit.specs.declared.place.Reached.{Reached}
+use Rattle.ini_edit.specs.declared.place.Reached.TheVariants as reached
 use Rattle.ini_edit.specs.declared.place.SectionEnd.{SectionEnd}
-use Rattle.ini_edit.specs.declared.place.SectionEnd.TheVariants.{Absent, NoPlace, At}
+use Rattle.ini_edit.specs.declared.place.SectionEnd.TheVariants as ends
 
 -- what stands before a place and what follows it let a line in
 pub record IsFree (o : ParseOption) (W r : Text) : Type 0 where
@@ -81,12 +85,6 @@ pub record IsFirstSectionEnd (o : ParseOption) (T : Text) (name : Option Text)
   pub then : Reads o T (chars place.front.now) after T
   pub ends : IsSectionEnd name before after
 
--- where the first section of the name ends
-abbrev pub AnswersEnd : ParseOption → Text → Option Text → SectionEnd → Type 0
-AnswersEnd o T name Absent = LacksSection o T name
-AnswersEnd o T name NoPlace = HasNoPlace o T name
-AnswersEnd o T name (At place) = IsFirstSectionEnd o T name place
-
 -- behind all that the text gives a line may be put in there
 pub record IsTextEnd (o : ParseOption) (T : Text) (place : TextPlace) : Type 0 where
   pub items : List Given
@@ -95,3 +93,19 @@ pub record IsTextEnd (o : ParseOption) (T : Text) (place : TextPlace) : Type 0 w
 -- where the text gives nothing any more
 abbrev pub AnswersTextEnd : ParseOption → Text → Option TextPlace → Type 0
 AnswersTextEnd o T found = MatchOption found (HasNoEnd o T) (IsTextEnd o T)
+
+-- where the first section of the name ends, or the text where there is none
+abbrev pub AnswersEnd : ParseOption → Text → Option Text → SectionEnd → Type 0
+AnswersEnd o T name (ends.Absent place) = LacksSection o T name × AnswersTextEnd o T place
+AnswersEnd o T name (ends.There place) = MatchOption place (HasNoPlace o T name) (IsFirstSectionEnd o T name)
+
+-- the first section of the name opened before where the parser stands; or there is none, and the text ended
+abbrev pub ReachesSection : ParseOption → Text → Option Text → Place → Opening → Type 0
+ReachesSection o T name q openings.There = OpensFirst o T q name
+ReachesSection o T name q (openings.Absent place) = LacksSection o T name × AnswersTextEnd o T place
+
+-- behind the front b a section's first pair of the key stood before where the parser stands; or the section
+-- ended there without one
+abbrev pub Reaches : ParseOption → Text → Text → Text → Place → Reached → Type 0
+Reaches o T b key q (reached.Pair pair) = ReachesPair o T b q key pair
+Reaches o T b key q (reached.End place) = ReachesEnd o T b q key × ReachesSectionEnd o T b q place
