@@ -1,8 +1,12 @@
-//! The parts of an escape that is written: its letter, or its digits. This file knows one character, and
-//! no device.
-ghost use Rattle.std.specs.Prelude.{◌≡◌, ◌/◌, ◌%◌, ◌<◌};
+//! The escape of a character, put behind bytes that are there. This file knows one character, and no
+//! device.
+ghost use Rattle.std.specs.Prelude.{◌≡◌, ◌+◌, ◌/◌, ◌%◌, ◌<◌, ◌≤◌, ◌++◌, None, length, take};
 ghost use Rattle.std.specs.Char.{digit_char};
-ghost use Rattle.ini_text.specs.Escaping.EscapedTexts.{letter_of};
+ghost use Rattle.ini_text.specs.Escaping.EscapedTexts.{escape, escape_by, letter_of};
+ghost use Rattle.ini_text.specs.declared.write.escape.TheConstants.{LONGEST};
+
+/// How long an escape is at most: a backslash, `x` and six digits.
+pub(crate) const LONGEST: usize = 8;
 
 // What follows the backslash for each character of ASCII, or 0 where one character isn't enough.
 static LETTERS: [u8; 128] = *b"\
@@ -11,9 +15,69 @@ static LETTERS: [u8; 128] = *b"\
     \0\0\0\0\0\0\0\0\0\0\0\0\0\0\0\0\0\0\0\0\0\0\0\0\0\0\0\0\\\0\0\0\
     \0\0\0\0\0\0\0\0\0\0\0\0\0\0\0\0\0\0\0\0\0\0\0\0\0\0\0\0\0\0\0\0";
 
-/// The character that follows the backslash, where one is enough.
+/// Puts the escape of a character behind the first `len` bytes, and answers how many there are then.
 #[inline(always)]
-pub(crate) fn letter_of(c: char) -> Option<u8>
+#[tactic(auto, unfolding(crate::specs::Escaping::EscapedTexts::escape))]
+pub(crate) fn place_escape(bytes: &mut [u8], len: usize, c: char) -> usize
+    requires { len + LONGEST ≤ length bytes.old }
+    ensures placed { take result bytes.new ≡ take len bytes.old ++ escape c }
+    ensures longer { len ≤ result }
+    ensures within { result ≤ len + LONGEST }
+    ensures length { length bytes.new ≡ length bytes.old }
+{
+    if let Some(letter) = letter_of(c) {
+        return place(bytes, len, &[b'\\', letter]);
+    }
+    place_digits(bytes, len, c)
+}
+
+// The same by digits.
+#[cold]
+#[inline(never)]
+fn place_digits(bytes: &mut [u8], len: usize, c: char) -> usize
+    requires { len + LONGEST ≤ length bytes.old }
+    ensures placed { take result bytes.new ≡ take len bytes.old ++ escape_by None c }
+    ensures longer { len ≤ result }
+    ensures within { result ≤ len + LONGEST }
+    ensures length { length bytes.new ≡ length bytes.old }
+{
+    let code = u32::from(c);
+    let mut end = place(bytes, len, b"\\x");
+    if code >= 0x10_0000 {
+        end = place(bytes, end, &[hex_digit(code, 0x10_0000)]);
+    }
+    if code >= 0x1_0000 {
+        end = place(bytes, end, &[hex_digit(code, 0x1_0000)]);
+    }
+    let last = [
+        hex_digit(code, 0x1000),
+        hex_digit(code, 0x100),
+        hex_digit(code, 0x10),
+        hex_digit(code, 1),
+    ];
+    place(bytes, end, &last)
+}
+
+/// Puts a few bytes behind the first `len`, and answers how many there are then.
+#[inline(always)]
+pub(crate) fn place(bytes: &mut [u8], len: usize, few: &[u8]) -> usize
+    requires { len + length few.now ≤ length bytes.old }
+    ensures placed { take result bytes.new ≡ take len bytes.old ++ few.now }
+    ensures len { result ≡ len + length few.now }
+    ensures length { length bytes.new ≡ length bytes.old }
+{
+    let end = len + few.len();
+    if let [byte] = few {
+        bytes[len] = *byte;
+    } else {
+        bytes[len..end].copy_from_slice(few);
+    }
+    end
+}
+
+// The character that follows the backslash, where one is enough.
+#[inline(always)]
+fn letter_of(c: char) -> Option<u8>
     ensures { result ≡ letter_of c }
 {
     if !c.is_ascii() {
@@ -26,8 +90,8 @@ pub(crate) fn letter_of(c: char) -> Option<u8>
     Some(letter)
 }
 
-/// The hexadecimal digit of a number that counts this power of sixteen.
-pub(crate) fn hex_digit(number: u32, power: u32) -> u8
+// The hexadecimal digit of a number that counts this power of sixteen.
+fn hex_digit(number: u32, power: u32) -> u8
     requires { 0 < power }
     ensures { result ≡ digit_char (number / power % 16) }
 {

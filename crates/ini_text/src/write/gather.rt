@@ -12,7 +12,7 @@ use crate::device::Watched;
 use crate::error::Error;
 use crate::lanes::{Marks, run_before};
 use crate::text::split_first;
-use crate::write::escape::{hex_digit, letter_of};
+use crate::write::escape::{LONGEST, place, place_escape};
 use crate::write::policy::EscapePolicy;
 use crate::write::verbatim::{Basics, Reserved, is_verbatim, split_verbatim};
 use crate::write::write_bytes;
@@ -22,9 +22,6 @@ mod marked;
 
 // How many bytes are held back at most.
 const ROOM: usize = 16384;
-
-// How long an escape is at most: a backslash, `x` and six digits.
-const LONGEST: usize = 8;
 
 /// Holds bytes back on their way to a device, so that many short texts reach it in one call.
 ///
@@ -328,28 +325,11 @@ impl Gatherer {
     }
 
     // Holds back the escape of a character.
-    #[tactic(auto, unfolding(crate::specs::Escaping::EscapedTexts::escape))]
     fn append_escape(&mut self, c: char)
         requires { length (held self.old) + LONGEST ≤ ROOM }
         ensures { held self.new ≡ held self.old ++ escape c }
     {
-        if let Some(letter) = letter_of(c) {
-            return self.append(&[b'\\', letter]);
-        }
-        let code = u32::from(c);
-        self.append(b"\\x");
-        if code >= 0x10_0000 {
-            self.append(&[hex_digit(code, 0x10_0000)]);
-        }
-        if code >= 0x1_0000 {
-            self.append(&[hex_digit(code, 0x1_0000)]);
-        }
-        self.append(&[
-            hex_digit(code, 0x1000),
-            hex_digit(code, 0x100),
-            hex_digit(code, 0x10),
-            hex_digit(code, 1),
-        ]);
+        self.len = place_escape(&mut self.bytes, self.len, c);
     }
 
     // Holds back a few bytes.
@@ -358,12 +338,6 @@ impl Gatherer {
         ensures held { held self.new ≡ held self.old ++ bytes.now }
         ensures len { self.new.len ≡ self.old.len + length bytes.now }
     {
-        let end = self.len + bytes.len();
-        if let [byte] = bytes {
-            self.bytes[self.len] = *byte;
-        } else {
-            self.bytes[self.len..end].copy_from_slice(bytes);
-        }
-        self.len = end;
+        self.len = place(&mut self.bytes, self.len, bytes);
     }
 }

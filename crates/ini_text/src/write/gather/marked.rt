@@ -1,25 +1,20 @@
 //! Bytes that are held back, each that is marked as the escape of its character, without a call of a
 //! device. This file knows bytes and their marks, and no policy.
-ghost use Rattle.std.specs.Prelude.{◌≡◌, ℕ, ◌+◌, ◌++◌, ◌≤◌, [], ◌∷◌, length, take};
-ghost use Rattle.ini_text.specs.Grammar.CharacterKinds.{backslash};
+ghost use Rattle.std.specs.Prelude.{◌≡◌, ℕ, ◌+◌, ◌++◌, ◌≤◌, length, take};
 ghost use Rattle.ini_text.specs.Inside.Verbatim.{marked_escaped};
 ghost use Rattle.ini_text.specs.declared.lanes.TheConstants.{HALF, LANES};
 ghost use Rattle.ini_text.specs.declared.write.gather.TheConstants.{ROOM};
-ghost use Rattle.ini_text.specs.declared.write.gather.marked.TheConstants.{SHORT};
 
 use crate::lanes::{HALF, LANES, Marks, has_no_mark, marks_ahead, place_lanes};
-use crate::write::escape::letter_of;
+use crate::write::escape::{LONGEST, place_escape};
 use crate::write::gather::{Gatherer, ROOM};
 use std::simd::prelude::*;
-
-// How long an escape by one letter is.
-const SHORT: usize = 2;
 
 impl Gatherer {
     ghost use Rattle.ini_text.specs.Device.HeldBack.{held};
 
     // Holds back bytes at the front, each that is marked as the escape of its character, and answers those
-    // that are left: where there is no room, or at an escape by digits.
+    // that are left: those that have no room.
     #[inline(always)]
     pub(super) fn hold_marked<'a, M: Marks>(&mut self, bytes: &'a [u8], marks: &M) -> &'a [u8]
         ensures held { held self.new ++ marked_escaped (M.is_marked marks.now) result.now
@@ -44,7 +39,7 @@ impl Gatherer {
         let mut rest = bytes;
         let mut len = self.len;
         let mut known = 0;
-        'lanes: while rest.len() >= LANES && len <= ROOM - LANES - SHORT {
+        'lanes: while rest.len() >= LANES && len <= ROOM - LANES - LONGEST {
             known = marks_ahead(rest, known, 0, marks);
             place_lanes(&mut self.bytes, len, u8x16::from_slice(rest));
             if known == 0 {
@@ -53,11 +48,7 @@ impl Gatherer {
                 continue 'lanes;
             }
             let run = known.trailing_zeros() as usize;
-            let Some(letter) = letter_of(char::from(rest[run])) else {
-                break 'lanes;
-            };
-            place_escape(&mut self.bytes, len + run, letter);
-            len += run + SHORT;
+            len = place_escape(&mut self.bytes, len + run, char::from(rest[run]));
             rest = &rest[run + 1..];
             known >>= run + 1;
         }
@@ -74,7 +65,7 @@ impl Gatherer {
         ensures longer { self.old.len ≤ self.new.len }
         ensures shorter { length result.now ≤ length bytes.now }
     {
-        if bytes.len() >= LANES || self.len > ROOM - SHORT * LANES {
+        if bytes.len() >= LANES || self.len > ROOM - LONGEST * LANES {
             return bytes;
         }
         if has_no_mark(bytes, marks) {
@@ -86,11 +77,7 @@ impl Gatherer {
         let mut len = self.len;
         'few: while let [byte, following @ ..] = rest {
             if marks.contain(*byte) {
-                let Some(letter) = letter_of(char::from(*byte)) else {
-                    break 'few;
-                };
-                place_escape(&mut self.bytes, len, letter);
-                len += SHORT;
+                len = place_escape(&mut self.bytes, len, char::from(*byte));
             } else {
                 self.bytes[len] = *byte;
                 len += 1;
@@ -123,15 +110,4 @@ fn place_half(bytes: &mut [u8], len: usize, half: u8x8)
     ensures length { length bytes.new ≡ length bytes.old }
 {
     half.copy_to_slice(&mut bytes[len..]);
-}
-
-// Puts the escape by a letter behind those that are held back.
-#[inline(always)]
-fn place_escape(bytes: &mut [u8; ROOM], len: usize, letter: u8)
-    requires { len + SHORT ≤ ROOM }
-    ensures placed { take (len + SHORT) bytes.new ≡ take len bytes.old ++ backslash ∷ letter ∷ [] }
-    ensures kept { take len bytes.new ≡ take len bytes.old }
-{
-    bytes[len] = b'\\';
-    bytes[len + 1] = letter;
 }

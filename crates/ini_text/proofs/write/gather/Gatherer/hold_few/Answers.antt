@@ -1,10 +1,9 @@
-use Rattle.std.proofs.Common.{◌+◌, ◌++◌, ◌∙◌, ◌∷◌, [], length, ap, refl, sym, arith, length-drop}
+use Rattle.std.proofs.Common.{◌+◌, ◌++◌, ◌∙◌, length, drop, ap, refl, sym, arith, length-drop}
 use Rattle.std.proofs.lemmas.List.{take_rest}
-use Rattle.ini_text.specs.Escaping.EscapedTexts.{letter_of}
-use Rattle.ini_text.specs.Grammar.CharacterKinds.{backslash}
+use Rattle.ini_text.specs.Escaping.EscapedTexts.{escape}
 use Rattle.ini_text.specs.Device.HeldBack.{held}
 use Rattle.ini_text.specs.Inside.Verbatim.{marked_escaped}
-use Rattle.ini_text.proofs.WriteLemmas.MarkedByteLemmas.{grown_front, held_more, kept_front, marked_escaped-letter, marked_escaped-none}
+use Rattle.ini_text.proofs.WriteLemmas.MarkedByteLemmas.{grown_front, held_more, kept_front, marked_escaped-marked, marked_escaped-none}
 use Rattle.ini_text.proofs.write.gather.Gatherer.hold_few.Goals as goal
 
 pub returns-then-has_no_mark-clause-held : goal.returns-then-has_no_mark-clause-held
@@ -20,22 +19,24 @@ returns-then-has_no_mark-clause-front g c =
     grown_front c.args.self.now.len (c.args.self.now.len + length c.args.bytes.now) c.args.self.now.bytes
     c.place_few.new.bytes c.args.bytes.now (omega arith) (omega arith) c.place_few.ensures
 
-pub few-preserved-in-Some : goal.few-preserved-in-Some
-few-preserved-in-Some g c =
+pub place_escape-len-requires : goal.place_escape-len-requires
+place_escape-len-requires g c = omega (arith, c.few.invariant.within)
+
+pub few-preserved-then-contain : goal.few-preserved-then-contain
+few-preserved-then-contain g c =
     let p = g.M.Marks.is_marked c.args.marks.now in
     let rest = c.few.rest.now in
-    let piece = backslash ∷ c.in-Some.letter ∷ [] in
+    let piece = escape c.from.result in
     let left = take_rest rest 1 in
-    let marked = sym c.contain.ensures ∙ c.if-contain.true in
-    let next = marked_escaped-letter p rest 0 c.in-Some.letter (omega arith) marked
-    (sym c.in-Some.is ∙ c.letter_of.ensures ∙ ap letter_of c.from.ensures) in
+    let next = marked_escaped-marked p rest 0 (omega arith) (sym c.contain.ensures ∙ c.if-contain.true)
+    ∙ ap (λ b. escape b ++ marked_escaped p (drop 1 rest)) (sym c.from.ensures) in
     record {
-      held = held_more p _ piece rest _ c.place_escape.ensures.placed
+      held = held_more p _ piece rest _ c.place_escape-len.ensures.placed
           (next ∙ ap (λ l. piece ++ marked_escaped p l) (sym left)) c.few.invariant.held;
-      front =
-          kept_front c.args.self.now.len c.few.len _ _ c.few.invariant.longer c.place_escape.ensures.kept
-          ∙ c.few.invariant.front;
-      longer = omega (arith, c.few.invariant.longer);
-      within = omega (arith, ap length left, length-drop 1 rest, c.few.invariant.within);
+      front = kept_front c.args.self.now.len c.few.len _ _ c.few.invariant.longer
+          (grown_front c.few.len _ _ _ piece (omega (arith, c.few.invariant.within)) c.place_escape-len.ensures.longer
+          c.place_escape-len.ensures.placed) ∙ c.few.invariant.front;
+      longer = omega (arith, c.few.invariant.longer, c.place_escape-len.ensures.longer);
+      within = omega (arith, ap length left, length-drop 1 rest, c.few.invariant.within, c.place_escape-len.ensures.within);
       shorter = omega (arith, ap length left, length-drop 1 rest, c.few.invariant.shorter);
     }
