@@ -1,5 +1,5 @@
 -- Runs that are seen sixteen bytes at a time.
-use Rattle.std.proofs.Common.{◌≡◌, ℕ, zero, suc, ◌+◌, ◌-◌, ◌*◌, ◌/◌, ◌%◌, ◌^◌, ◌<◌, ◌≤◌, Bool, true, false, not, ◌&&◌, ◌||◌, cond, eqb, ltb, List, [], ◌∷◌, map, length, take, take_all, drop, replicate, ◌++◌, get_or, length-append, inl, inr, subst, refl, sym, ap, ap₂, ◌∙◌, arith}
+use Rattle.std.proofs.Common.{◌≡◌, ℕ, zero, suc, ◌+◌, ◌-◌, ◌*◌, ◌/◌, ◌%◌, ◌^◌, ◌<◌, ◌≤◌, Bool, true, false, not, ◌&&◌, ◌||◌, cond, eqb, ltb, max, List, [], ◌∷◌, map, length, take, take_all, drop, replicate, ◌++◌, get_or, length-append, inl, inr, subst, refl, sym, ap, ap₂, ◌∙◌, arith}
 use Rattle.std.proofs.lemmas.Simd.{chunk-drop, get_or-chunk, length-chunk, leading_from_mask_l, put_chunk_is, trailing_mask_l, zip2_splat, zip2_of_maps, map-map, mask_l-mod}
 use Rattle.std.proofs.lemmas.List.{get_or_append_left, get_or-append-add, length-drop, length-map, length-take-le, take-append-le}
 use Rattle.std.proofs.Math.Seq.{take-append-add}
@@ -8,7 +8,7 @@ use Rattle.std.proofs.lemmas.List.Sums.{prefix_len-le-length, prefix_len_is, pre
 use Rattle.std.proofs.lemmas.Bool.{cases_lt, eq-eqb, ne_eqb}
 use Rattle.std.proofs.Math.Nat.{div-div-eq-div-mul, div-one, mul_comm, pow-suc, zero-div}
 use Rattle.std.specs.List.{prefix_len, position_or_len}
-use lib.Bits.{bit_or}
+use lib.Bits.{bit_or, or_step}
 use lib.Lanes.{chunk, mask_l, put_chunk, top, zip2}
 use lib.Count.{count_trailing_zeros}
 use Rattle.ini_text.specs.Inside.Lanes.{Tells}
@@ -154,6 +154,27 @@ unmarked p bytes some few none =
 halved : (b : Bool) (n : ℕ) → (cond b 1 0 + 2 * n) / 2 ≡ n
 halved true n = omega arith
 halved false n = omega arith
+
+lowest : (b : Bool) (n : ℕ) → (cond b 1 0 + 2 * n) % 2 ≡ cond b 1 0
+lowest true n = omega arith
+lowest false n = omega arith
+
+or_bit : (a b : Bool) (k : ℕ) → k * 2 + max (cond a 1 0) (cond b 1 0) ≡ cond (a || b) 1 0 + 2 * k
+or_bit true true k = omega arith
+or_bit true false k = omega arith
+or_bit false true k = omega arith
+or_bit false false k = omega arith
+
+-- the bits of the elements that pass one of two tests
+pub mask_either : (p q : ℕ → Bool) (xs : List ℕ)
+    → bit_or (mask_l (map p xs)) (mask_l (map q xs)) ≡ mask_l (map (λ x. p x || q x) xs)
+mask_either p q [] = refl
+mask_either p q (x ∷ xs) =
+    let m = mask_l (map p xs) in
+    let n = mask_l (map q xs) in
+    or_step (cond (p x) 1 0 + 2 * m) (cond (q x) 1 0 + 2 * n)
+    ∙ ap₂ (λ a b. a * 2 + b) (ap₂ bit_or (halved (p x) m) (halved (q x) n)) (ap₂ max (lowest (p x) m) (lowest (q x) n))
+    ∙ or_bit (p x) (q x) (bit_or m n) ∙ ap (λ k. cond (p x || q x) 1 0 + 2 * k) (mask_either p q xs)
 
 -- the bits of the first k, past the first j of them
 pub bits_past : (p : ℕ → Bool) (j k : ℕ) (xs : List ℕ)

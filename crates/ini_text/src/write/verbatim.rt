@@ -9,7 +9,7 @@ ghost use Rattle.ini_text.specs.Inside.Verbatim.{begins_escaped};
 ghost use Rattle.ini_text.specs.declared.write.policy.EscapePolicy.TheVariants as policies;
 
 use crate::lanes::{Marks, run_before};
-use crate::write::policy::EscapePolicy;
+use crate::write::policy::{EscapePolicy, basic_bits, reserved_bits};
 use std::simd::prelude::*;
 
 /// The run at the front of a text that goes out as it is, and what follows: nothing, or a character that
@@ -40,12 +40,12 @@ fn run_len(bytes: &[u8], policy: EscapePolicy) -> usize
         EscapePolicy::Reserved => run_before(bytes, &Reserved),
         _ => bytes
             .iter()
-            .take_while(|byte| !begins_escaped(policy, **byte))
+            .take_while(|byte| !policy.begins_escaped(**byte))
             .count(),
     }
 }
 
-// What `EscapePolicy::Basics` escapes.
+/// What `EscapePolicy::Basics` escapes.
 #[derive(Clone, Copy)]
 pub(crate) struct Basics;
 
@@ -54,19 +54,16 @@ impl Marks for Basics {
 
     #[inline(always)]
     fn contain(&self, byte: u8) -> bool {
-        begins_escaped(EscapePolicy::Basics, byte)
+        EscapePolicy::Basics.begins_escaped(byte)
     }
 
     #[inline(always)]
     fn find(&self, lanes: u8x16) -> u64 {
-        let backslash = lanes.simd_eq(u8x16::splat(b'\\'));
-        let control = lanes.simd_lt(u8x16::splat(0x20));
-        let delete = lanes.simd_eq(u8x16::splat(0x7F));
-        (backslash | control | delete).to_bitmask()
+        basic_bits(lanes)
     }
 }
 
-// What `EscapePolicy::Reserved` escapes.
+/// What `EscapePolicy::Reserved` escapes.
 #[derive(Clone, Copy)]
 pub(crate) struct Reserved;
 
@@ -75,37 +72,11 @@ impl Marks for Reserved {
 
     #[inline(always)]
     fn contain(&self, byte: u8) -> bool {
-        begins_escaped(EscapePolicy::Reserved, byte)
+        EscapePolicy::Reserved.begins_escaped(byte)
     }
 
     #[inline(always)]
     fn find(&self, lanes: u8x16) -> u64 {
-        let backslash = lanes.simd_eq(u8x16::splat(b'\\'));
-        let control = lanes.simd_lt(u8x16::splat(0x20));
-        let delete = lanes.simd_eq(u8x16::splat(0x7F));
-        let semicolon = lanes.simd_eq(u8x16::splat(b';'));
-        let hash = lanes.simd_eq(u8x16::splat(b'#'));
-        let equals = lanes.simd_eq(u8x16::splat(b'='));
-        let colon = lanes.simd_eq(u8x16::splat(b':'));
-        let basic = backslash | control | delete;
-        let reserved = (semicolon | hash) | (equals | colon);
-        (basic | reserved).to_bitmask()
-    }
-}
-
-// Whether a byte begins a character that is escaped.
-fn begins_escaped(policy: EscapePolicy, byte: u8) -> bool
-    ensures { result ≡ begins_escaped policy byte }
-{
-    // What no policy escapes comes first, small letters before the rest: these are most bytes of most texts.
-    if byte > b'\\' && byte < 0x7F {
-        return false;
-    }
-    match byte {
-        b' '..=b'"' | b'$'..=b'9' | b'<' | b'>'..=b'[' => false,
-        0x00..=0x7F => policy.should_escape(char::from(byte)),
-        0x80..=0xBF => false,
-        0xC0..=0xEF => policy.should_escape('\u{80}'),
-        0xF0..=0xFF => policy.should_escape('\u{10000}'),
+        basic_bits(lanes) | reserved_bits(lanes)
     }
 }
