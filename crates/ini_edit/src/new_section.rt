@@ -21,7 +21,8 @@ use std::alloc::Global;
 
 /// The text with a new section of one pair at its end's place, where it has no section of the name.
 ///
-/// `Name` where the name can't be written; then `NoPlace` where there is no place; or where memory is refused.
+/// `Name` where the name can't be written; then `NoPlace` where there is no place; or where memory is
+/// refused.
 pub(crate) fn with_new_section(
     alloc: Global,
     text: &str,

@@ -1,5 +1,5 @@
-//! Places of a text where a line may be put in. This file knows elements, kinds of characters and a key, and no
-//! value.
+//! Places of a text where a line may be put in. This file knows elements, kinds of characters and a key, and
+//! no value.
 ghost use Rattle.std.specs.Prelude.{◌≡◌, ◌≢◌, ◌||◌, [], true, false, chars, None, IfOk, IfErr, IfSome};
 ghost use Rattle.std.specs.List.{list_all};
 ghost use Rattle.ini_text.specs.Grammar.CharacterKinds.{is_blank, is_line_end};

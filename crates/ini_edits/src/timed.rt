@@ -22,8 +22,8 @@ fn length_of(edited: Result<String, EditError>) -> Result<usize, Error> {
 }
 
 /// What a call answers: `read` the text's length, `load` the number of its sections, and `set_existing`,
-/// `delete`, `set` and `add` the new text's length, each of the key `key` in the section `last`. `set_pair` sets
-/// another key there, and `set_section` and `add_section` are about the section `new`.
+/// `delete`, `set` and `add` the new text's length, each of the key `key` in the section `last`. `set_pair`
+/// sets another key there, and `set_section` and `add_section` are about the section `new`.
 pub(crate) fn timed(alloc: Global, call: &str, text: &str) -> Result<usize, Error> {
     let read = ParseOption::default();
     let write = WriteOption::default();

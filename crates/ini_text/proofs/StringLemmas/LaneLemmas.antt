@@ -173,7 +173,8 @@ mask_either p q (x ∷ xs) =
     let m = mask_l (map p xs) in
     let n = mask_l (map q xs) in
     or_step (cond (p x) 1 0 + 2 * m) (cond (q x) 1 0 + 2 * n)
-    ∙ ap₂ (λ a b. a * 2 + b) (ap₂ bit_or (halved (p x) m) (halved (q x) n)) (ap₂ max (lowest (p x) m) (lowest (q x) n))
+    ∙ ap₂ (λ a b. a * 2 + b) (ap₂ bit_or (halved (p x) m) (halved (q x) n))
+    (ap₂ max (lowest (p x) m) (lowest (q x) n))
     ∙ or_bit (p x) (q x) (bit_or m n) ∙ ap (λ k. cond (p x || q x) 1 0 + 2 * k) (mask_either p q xs)
 
 -- the bits of the first k, past the first j of them

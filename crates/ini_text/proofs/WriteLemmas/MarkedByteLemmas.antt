@@ -31,7 +31,8 @@ module _ (p : ℕ → Bool) where
       → marked_escaped p bytes ≡ take n bytes ++ marked_escaped p (drop n bytes)
   marked_escaped-run zero bytes within = refl
   marked_escaped-run (suc n) [] within = absurd (omega arith)
-  marked_escaped-run (suc n) (c ∷ bytes) within = passed_first (p c) n (position_or_len p bytes) c _ _ within (marked_escaped-run n bytes)
+  marked_escaped-run (suc n) (c ∷ bytes) within =
+      passed_first (p c) n (position_or_len p bytes) c _ _ within (marked_escaped-run n bytes)
 
   -- and where none is in all of them
   pub marked_escaped-none : (bytes : List ℕ) → position_or_len p bytes ≡ length bytes
@@ -43,7 +44,8 @@ module _ (p : ℕ → Bool) where
   -- a byte that is marked
   pub marked_escaped-next : (c : ℕ) (bytes rest : List ℕ) → bytes ≡ c ∷ rest → p c ≡ true
       → marked_escaped p bytes ≡ escape c ++ marked_escaped p rest
-  marked_escaped-next c bytes rest parts is = ap (marked_escaped p) parts ∙ ap (λ b. cond b (escape c) (c ∷ []) ++ marked_escaped p rest) is
+  marked_escaped-next c bytes rest parts is =
+      ap (marked_escaped p) parts ∙ ap (λ b. cond b (escape c) (c ∷ []) ++ marked_escaped p rest) is
 
   -- a piece more is held, and what follows it is left
   pub held_more : (before piece rest left : List ℕ) {after whole : List ℕ} → after ≡ before ++ piece
@@ -54,14 +56,17 @@ module _ (p : ℕ → Bool) where
       ∙ ap (λ l. before ++ l) (sym next) ∙ so_far
 
   -- all is held, and nothing is left
-  pub held_all : (after left : List ℕ) {whole : List ℕ} → left ≡ [] → after ++ marked_escaped p left ≡ whole → after ≡ whole
+  pub held_all : (after left : List ℕ) {whole : List ℕ} → left ≡ [] → after ++ marked_escaped p left ≡ whole
+      → after ≡ whole
   held_all after left none all = sym (ap (λ l. after ++ marked_escaped p l) none ∙ append-nil after) ∙ all
 
   -- a byte that is marked, at its place
   pub marked_escaped-marked : (bytes : List ℕ) (at : ℕ) → at < length bytes → p (get_or bytes at 0) ≡ true
-      → marked_escaped p (drop at bytes) ≡ escape (get_or bytes at 0) ++ marked_escaped p (drop (at + 1) bytes)
+      → marked_escaped p (drop at bytes)
+      ≡ escape (get_or bytes at 0) ++ marked_escaped p (drop (at + 1) bytes)
   marked_escaped-marked bytes at within marked =
-      marked_escaped-next (get_or bytes at 0) (drop at bytes) (drop (at + 1) bytes) (drop_more bytes at 0 within) marked
+      marked_escaped-next (get_or bytes at 0) (drop at bytes) (drop (at + 1) bytes)
+      (drop_more bytes at 0 within) marked
 
   -- the same behind bytes that are not marked
   pub marked_escaped-behind : (bytes : List ℕ) (run : ℕ) → StopsAt p 0 bytes run → marked_escaped p bytes
@@ -72,7 +77,8 @@ module _ (p : ℕ → Bool) where
       (let inside = stops.within in omega (arith, inside, stops.position))) in
       marked_escaped-run run bytes (omega (arith, stops.position))
       ∙ ap (λ l. take run bytes ++ l) (marked_escaped-marked bytes run (omega (arith, stops.within)) marked)
-      ∙ sym (append_assoc (take run bytes) (escape (get_or bytes run 0)) (marked_escaped p (drop (run + 1) bytes)))
+      ∙ sym (append_assoc (take run bytes) (escape (get_or bytes run 0))
+      (marked_escaped p (drop (run + 1) bytes)))
 
   -- the bytes before the first that is marked, and what stands behind them
   pub marked_escaped-split : (bytes front back : List ℕ) (run : ℕ) → run ≡ position_or_len p bytes
@@ -83,12 +89,16 @@ module _ (p : ℕ → Bool) where
       ∙ sym (ap (λ l. l ++ marked_escaped p back) is_front
       ∙ ap (λ l. take run bytes ++ marked_escaped p l) is_back)
 
-  pub marked_escaped-at : (bytes back : List ℕ) (run : ℕ) → run ≡ position_or_len p bytes → back ≡ drop run bytes → 0 < length back
+  pub marked_escaped-at : (bytes back : List ℕ) (run : ℕ) → run ≡ position_or_len p bytes
+      → back ≡ drop run bytes → 0 < length back
       → marked_escaped p back ≡ escape (get_or back 0 0) ++ marked_escaped p (drop 1 back)
   marked_escaped-at bytes back run stops is_back some =
-      let within : position_or_len p bytes < length bytes = omega (arith, length-drop run bytes, ap length is_back) in
-      let first : get_or back 0 0 ≡ get_or bytes (position_or_len p bytes) 0 = rw (is_back, get_or-drop, add-zero, stops) refl in
-      marked_escaped-next (get_or back 0 0) back (drop 1 back) (drop_more back 0 0 some) (ap p first ∙ passes_at_first p bytes 0 within)
+      let within : position_or_len p bytes < length bytes =
+      omega (arith, length-drop run bytes, ap length is_back) in
+      let first : get_or back 0 0 ≡ get_or bytes (position_or_len p bytes) 0 =
+      rw (is_back, get_or-drop, add-zero, stops) refl in
+      marked_escaped-next (get_or back 0 0) back (drop 1 back) (drop_more back 0 0 some)
+      (ap p first ∙ passes_at_first p bytes 0 within)
 
   -- bytes beyond ASCII, of which none is marked
   marked_escaped-beyond : ((byte : ℕ) → 0x80 ≤ byte → p byte ≡ false) → (bytes : List ℕ)
@@ -105,35 +115,43 @@ unfolding encode
 encode_beyond c beyond = grind (arith, nat_tests)
 
 -- Where a policy escapes ASCII alone, each byte tells what goes out for it.
-module _ (policy : EscapePolicy) (ascii : (c : ℕ) → 0x80 ≤ c → (begins_escaped policy c ≡ false) × (is_escaped policy c ≡ false)) where
+module _ (policy : EscapePolicy)
+    (ascii : (c : ℕ) → 0x80 ≤ c → (begins_escaped policy c ≡ false) × (is_escaped policy c ≡ false)) where
   one_escaped : (c : ℕ) → marked_escaped (begins_escaped policy) (encode c) ≡ encode_utf8_all
       (cond (is_escaped policy c) (escape c) (c ∷ []))
   one_escaped c =
       elim (cases_lt c 0x80) [
         | inl below ↦ ascii_escaped (is_escaped policy c) below refl
         | inr beyond ↦
-            marked_escaped-beyond (begins_escaped policy) (λ b h. (ascii b h).0) (encode c) (encode_beyond c beyond)
-            ∙ sym (ap (λ b. encode_utf8_all (cond b (escape c) (c ∷ []))) (ascii c beyond).1 ∙ append-nil (encode c))
+            marked_escaped-beyond (begins_escaped policy) (λ b h. (ascii b h).0) (encode c)
+            (encode_beyond c beyond)
+            ∙ sym (ap (λ b. encode_utf8_all (cond b (escape c) (c ∷ []))) (ascii c beyond).1
+            ∙ append-nil (encode c))
       ]
     where
       ascii_escaped : (b : Bool) → c < 0x80 → is_escaped policy c ≡ b
           → marked_escaped (begins_escaped policy) (encode c) ≡ encode_utf8_all (cond b (escape c) (c ∷ []))
       ascii_escaped true below is =
           let same : begins_escaped policy c ≡ is_escaped policy c = grind (arith, nat_tests) in
-          ap (marked_escaped (begins_escaped policy)) (encode_ascii c below) ∙ ap (λ b. cond b (escape c) (c ∷ []) ++ []) (same ∙ is)
+          ap (marked_escaped (begins_escaped policy)) (encode_ascii c below)
+          ∙ ap (λ b. cond b (escape c) (c ∷ []) ++ []) (same ∙ is)
           ∙ append-nil (escape c) ∙ sym (encodes-IsAscii (escape c) (IsAscii-escape c))
       ascii_escaped false below is =
           let same : begins_escaped policy c ≡ is_escaped policy c = grind (arith, nat_tests) in
-          ap (marked_escaped (begins_escaped policy)) (encode_ascii c below) ∙ ap (λ b. cond b (escape c) (c ∷ []) ++ []) (same ∙ is)
+          ap (marked_escaped (begins_escaped policy)) (encode_ascii c below)
+          ∙ ap (λ b. cond b (escape c) (c ∷ []) ++ []) (same ∙ is)
           ∙ sym (ap (λ l. l ++ []) (encode_ascii c below))
 
-  chars_escaped : (text : List ℕ) → marked_escaped (begins_escaped policy) (encode_utf8_all text) ≡ encode_utf8_all (escaped policy text)
+  chars_escaped : (text : List ℕ)
+      → marked_escaped (begins_escaped policy) (encode_utf8_all text) ≡ encode_utf8_all (escaped policy text)
   chars_escaped [] = refl
   chars_escaped (c ∷ text) =
-      flat_map-append _ (encode c) (encode_utf8_all text) ∙ ap₂ (λ a b. a ++ b) (one_escaped c) (chars_escaped text)
+      flat_map-append _ (encode c) (encode_utf8_all text)
+      ∙ ap₂ (λ a b. a ++ b) (one_escaped c) (chars_escaped text)
       ∙ sym (encodes-append (cond (is_escaped policy c) (escape c) (c ∷ [])) (escaped policy text))
 
-  escaped_bytes-marked : (bytes : List ℕ) → IsUtf8 bytes → escaped_bytes policy bytes ≡ marked_escaped (begins_escaped policy) bytes
+  escaped_bytes-marked : (bytes : List ℕ) → IsUtf8 bytes
+      → escaped_bytes policy bytes ≡ marked_escaped (begins_escaped policy) bytes
   escaped_bytes-marked bytes is_text = sym (chars_escaped (chars bytes))
       ∙ ap (marked_escaped (begins_escaped policy)) (encodes-chars bytes is_text)
 
@@ -143,10 +161,12 @@ basics_ascii c beyond = (begins-basic c ∙ grind (arith, nat_tests), grind (ari
 reserved_ascii : (c : ℕ) → 0x80 ≤ c → (begins_escaped Reserved c ≡ false) × (is_escaped Reserved c ≡ false)
 reserved_ascii c beyond = (begins-reserved c ∙ grind (arith, nat_tests), grind (arith, nat_tests))
 
-pub escaped_bytes-basics : (bytes : List ℕ) → IsUtf8 bytes → escaped_bytes Basics bytes ≡ marked_escaped (begins_escaped Basics) bytes
+pub escaped_bytes-basics : (bytes : List ℕ) → IsUtf8 bytes
+    → escaped_bytes Basics bytes ≡ marked_escaped (begins_escaped Basics) bytes
 escaped_bytes-basics bytes is_text = escaped_bytes-marked Basics basics_ascii bytes is_text
 
-pub escaped_bytes-reserved : (bytes : List ℕ) → IsUtf8 bytes → escaped_bytes Reserved bytes ≡ marked_escaped (begins_escaped Reserved) bytes
+pub escaped_bytes-reserved : (bytes : List ℕ) → IsUtf8 bytes
+    → escaped_bytes Reserved bytes ≡ marked_escaped (begins_escaped Reserved) bytes
 escaped_bytes-reserved bytes is_text = escaped_bytes-marked Reserved reserved_ascii bytes is_text
 
 -- a run and a piece, put behind the first bytes
@@ -166,12 +186,16 @@ pub placed_few : (len back : ℕ) (before bytes mid after : List ℕ) → length
 placed_few len back before bytes mid after long few first second =
     let end : len + length bytes ≡ len + back + 8 = omega arith in
     let last : take 8 (take 8 (drop back bytes)) ≡ drop back bytes =
-    take-take 8 8 (drop back bytes) (omega arith) ∙ take_all 8 (drop back bytes) (omega (arith, length-drop back bytes)) in
-    ap (λ k. take k after) end ∙ second ∙ ap₂ (λ a b. a ++ b) (first ∙ ap (λ l. take len before ++ l) (take-take back 8 bytes few)) last
-    ∙ append_assoc (take len before) (take back bytes) (drop back bytes) ∙ ap (λ l. take len before ++ l) (take-append-drop back bytes)
+    take-take 8 8 (drop back bytes) (omega arith)
+    ∙ take_all 8 (drop back bytes) (omega (arith, length-drop back bytes)) in
+    ap (λ k. take k after) end ∙ second
+    ∙ ap₂ (λ a b. a ++ b) (first ∙ ap (λ l. take len before ++ l) (take-take back 8 bytes few)) last
+    ∙ append_assoc (take len before) (take back bytes) (drop back bytes)
+    ∙ ap (λ l. take len before ++ l) (take-append-drop back bytes)
 
 -- lanes of which none counts
-pub placed_none : (len : ℕ) (before after : List ℕ) → take (len + 0) after ≡ take len before ++ [] → take len after ≡ take len before
+pub placed_none : (len : ℕ) (before after : List ℕ) → take (len + 0) after ≡ take len before ++ []
+    → take len after ≡ take len before
 placed_none len before after is =
     let end : len ≡ len + 0 = omega arith in
     ap (λ k. take k after) end ∙ is ∙ append-nil (take len before)

@@ -24,7 +24,8 @@ returns-in_ok-with_line-in-There-clause-added c =
 pub returns-in_ok-name-in-Absent-clause-added : goal.returns-in_ok-name-in-Absent-clause-added
 returns-in_ok-name-in-Absent-clause-added c =
     subst (λ n. IfOk c.with_new_section.result
-    (λ new. IsAdded c.args.read (like_lines_of (chars c.args.text.now) c.args.write.now) (chars c.args.text.now)
+    (λ new.
+    IsAdded c.args.read (like_lines_of (chars c.args.text.now) c.args.write.now) (chars c.args.text.now)
     (chars c.args.key.now) (chars c.args.value.now) (text_of new) (str_name n)))
     (sym c.in_ok-name-in-Absent.ensures.ok_part)
     (subst (λ w. IfOk c.with_new_section.result

@@ -13,13 +13,13 @@ use Rattle.ini_edit.proofs.place.reach_pair_or_end.Goals as goal
 
 pub elements-init : goal.elements-init
 elements-init c =
-    let p = c.args.parser.now in
-    (
+    let p = c.args.parser.now in (
       told {p = p} (λ o T. Searches o T p.front p (chars c.args.key.now))
-      (reading c.requires.option c.requires.text c.requires.within.refusal) (search_start c.requires.within),
+          (reading c.requires.option c.requires.text c.requires.within.refusal)
+          (search_start c.requires.within),
       nears_start (chars c.rest.result.now) c.free_place-place.result c.requires.within c.requires.option
-      c.requires.text chars-none c.free_place-place.ensures.free c.free_place-place.ensures.taken
-      (c.rest.ensures ∙ c.requires.text),
+          c.requires.text chars-none c.free_place-place.ensures.free c.free_place-place.ensures.taken
+          (c.rest.ensures ∙ c.requires.text),
     )
 
 pub step-requires : goal.step-requires
@@ -53,27 +53,26 @@ returns-then-is_same_text-clause-reached c =
 pub elements-preserved-in-Pair : goal.elements-preserved-in-Pair
 elements-preserved-in-Pair c =
     let s = c.elements.invariant in
-    let t = step_some s.0.walked.is_reading c.in_ok-element.ensures.element c.in-Some.is in
-    (
+    let t = step_some s.0.walked.is_reading c.in_ok-element.ensures.element c.in-Some.is in (
       search_step s.0 t
-      (subst (λ x. PairsWithout (chars c.args.key.now) (gives x)) (sym c.in-Pair.is)
-      (PairsWithout.pair
-      (ap (is_text (chars c.args.key.now))
-      (sym (ap chars c.as_str.ensures.value ∙ ap (λ p. string_text p.key) c.in-Pair.pair-is))
-      ∙ sym c.is_same_text.ensures ∙ c.if-is_same_text.false))),
+          (subst (λ x. PairsWithout (chars c.args.key.now) (gives x)) (sym c.in-Pair.is)
+          (PairsWithout.pair
+          (ap (is_text (chars c.args.key.now))
+          (sym (ap chars c.as_str.ensures.value ∙ ap (λ p. string_text p.key) c.in-Pair.pair-is))
+          ∙ sym c.is_same_text.ensures ∙ c.if-is_same_text.false))),
       nears_pair s.1 t (chars c.rest-rest.result.now) _ _ c.free_place-next.result (ap gives c.in-Pair.is)
-      c.free_place-next.ensures.free c.free_place-next.ensures.taken
-      (c.rest-rest.ensures ∙ t.is_reading.text),
+          c.free_place-next.ensures.free c.free_place-next.ensures.taken
+          (c.rest-rest.ensures ∙ t.is_reading.text),
     )
 
 pub elements-preserved : goal.elements-preserved
 elements-preserved c =
     let s = c.elements.invariant in
-    let t = step_some s.0.walked.is_reading c.in_ok-element.ensures.element c.in-Some.is in
-    (
+    let t = step_some s.0.walked.is_reading c.in_ok-element.ensures.element c.in-Some.is in (
       search_step s.0 t
-      (subst (λ x. PairsWithout (chars c.args.key.now) (gives x)) (sym c.in-Nothing.is) PairsWithout.nothing),
+          (subst (λ x. PairsWithout (chars c.args.key.now) (gives x))
+          (sym c.in-Nothing.is) PairsWithout.nothing),
       nears_nothing s.1 t (chars c.rest-rest.result.now) c.free_place-next.result c.chosen-place.result
-      (ap gives c.in-Nothing.is) c.free_place-next.ensures.free c.free_place-next.ensures.taken
-      (c.rest-rest.ensures ∙ t.is_reading.text) c.chosen-place.ensures.place c.chosen-place.ensures.none,
+          (ap gives c.in-Nothing.is) c.free_place-next.ensures.free c.free_place-next.ensures.taken
+          (c.rest-rest.ensures ∙ t.is_reading.text) c.chosen-place.ensures.place c.chosen-place.ensures.none,
     )

@@ -20,12 +20,12 @@ returns-in_default-clause-opening c =
 
 pub elements-init : goal.elements-init
 elements-init c =
-    let is = reading c.requires.option c.requires.text c.requires.refusal in
-    (
+    let is = reading c.requires.option c.requires.text c.requires.refusal in (
       told (λ o T. PassesSections o T c.args.parser.now (Some (chars c.in-Some.name.now))) is
-      (sections_start c.requires.refusal c.requires.front (chars c.in-Some.name.now)),
+          (sections_start c.requires.refusal c.requires.front (chars c.in-Some.name.now)),
       nears_text_start (chars c.rest.result.now) c.free_place-place.result is c.requires.front chars-none
-      c.free_place-place.ensures.free c.free_place-place.ensures.taken (c.rest.ensures ∙ c.requires.text),
+          c.free_place-place.ensures.free c.free_place-place.ensures.taken
+          (c.rest.ensures ∙ c.requires.text),
     )
 
 pub step-requires : goal.step-requires
@@ -42,12 +42,13 @@ returns-then-opens-clause-opening c =
 pub elements-preserved : goal.elements-preserved
 elements-preserved c =
     let s = c.elements.invariant in
-    let t = step_some s.0.is_reading c.in_ok-element.ensures.element c.in-Some-2.is in
-    (
+    let t = step_some s.0.is_reading c.in_ok-element.ensures.element c.in-Some-2.is in (
       sections_step s.0 t (c.opens.ensures.no c.if-opens.false),
-      nears_text_step s.1 t (chars c.rest-in-Some-2.result.now) c.free_place-next.result c.last_place-place.result
-      c.free_place-next.ensures.free c.free_place-next.ensures.taken (c.rest-in-Some-2.ensures ∙ t.is_reading.text)
-      c.last_place-place.ensures.place c.last_place-place.ensures.none,
+      nears_text_step s.1 t (chars c.rest-in-Some-2.result.now) c.free_place-next.result
+          c.last_place-place.result
+          c.free_place-next.ensures.free c.free_place-next.ensures.taken
+          (c.rest-in-Some-2.ensures ∙ t.is_reading.text)
+          c.last_place-place.ensures.place c.last_place-place.ensures.none,
     )
 
 pub returns-clause-opening : goal.returns-clause-opening

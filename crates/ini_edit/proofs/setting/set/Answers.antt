@@ -9,7 +9,8 @@ use Rattle.ini_edit.proofs.setting.set.Goals as goal
 pub returns-in-Made-clause-edited : goal.returns-in-Made-clause-edited
 returns-in-Made-clause-edited c =
     IsSet.there (subst (ComesTo c.args.read c.args.write.now.escape_policy (chars c.args.text.now)
-    (str_name c.args.name) (chars c.args.key.now) (chars c.args.value.now)) c.in-Made.is c.in_ok-new.ensures.came)
+    (str_name c.args.name) (chars c.args.key.now) (chars c.args.value.now)) c.in-Made.is
+    c.in_ok-new.ensures.came)
 
 pub returns-in_ok-check_pair-in-Missing-clause-edited :
     goal.returns-in_ok-check_pair-in-Missing-clause-edited

@@ -34,9 +34,16 @@ few-preserved-then-contain g c =
       held = held_more p _ piece rest _ c.place_escape-len.ensures.placed
           (next ∙ ap (λ l. piece ++ marked_escaped p l) (sym left)) c.few.invariant.held;
       front = kept_front c.args.self.now.len c.few.len _ _ c.few.invariant.longer
-          (grown_front c.few.len _ _ _ piece (omega (arith, c.few.invariant.within)) c.place_escape-len.ensures.longer
+          (grown_front c.few.len _ _ _ piece (omega (arith, c.few.invariant.within))
+          c.place_escape-len.ensures.longer
           c.place_escape-len.ensures.placed) ∙ c.few.invariant.front;
       longer = omega (arith, c.few.invariant.longer, c.place_escape-len.ensures.longer);
-      within = omega (arith, ap length left, length-drop 1 rest, c.few.invariant.within, c.place_escape-len.ensures.within);
+      within = omega (
+        arith,
+        ap length left,
+        length-drop 1 rest,
+        c.few.invariant.within,
+        c.place_escape-len.ensures.within,
+      );
       shorter = omega (arith, ap length left, length-drop 1 rest, c.few.invariant.shorter);
     }

@@ -12,12 +12,17 @@ lanes-preserved-then-known-eq0 g c =
     let p = g.M.Marks.is_marked c.args.marks.now in
     let rest = c.lanes.rest.now in
     let left = take_rest rest 16 in
-    let next = marked_escaped-run p 16 rest (c.marks_ahead-known.ensures.none c.if-known-eq0.true (omega arith)) in
+    let next =
+    marked_escaped-run p 16 rest (c.marks_ahead-known.ensures.none c.if-known-eq0.true (omega arith)) in
     let grown = c.place_lanes.ensures.placed 16 (omega arith)
     ∙ ap (λ l. take c.lanes.len c.lanes.self.bytes ++ l) (take-take 16 16 rest (omega arith)) in
-    let kept = placed_none c.lanes.len c.lanes.self.bytes c.place_lanes.new.bytes (c.place_lanes.ensures.placed 0 (omega arith)) in
+    let kept =
+    placed_none c.lanes.len c.lanes.self.bytes c.place_lanes.new.bytes
+    (c.place_lanes.ensures.placed 0 (omega arith)) in
     record {
-      front = kept_front c.args.self.now.len c.lanes.len _ _ c.lanes.invariant.longer kept ∙ c.lanes.invariant.front;
+      front =
+          kept_front c.args.self.now.len c.lanes.len _ _ c.lanes.invariant.longer kept
+          ∙ c.lanes.invariant.front;
       longer = omega (arith, c.lanes.invariant.longer);
       held = held_more p _ (take 16 rest) rest _ grown
           (next ∙ ap (λ l. take 16 rest ++ marked_escaped p l) (sym left)) c.lanes.invariant.held;
@@ -64,13 +69,17 @@ lanes-preserved g c =
     let grown = placed_run c.lanes.len run _ c.lanes.self.bytes rest
     c.place_lanes.new.bytes c.place_escape-len.new.bytes piece (omega (arith, stops.below))
     (c.place_lanes.ensures.placed run (omega (arith, stops.below))) c.place_escape-len.ensures.placed in
-    let kept = placed_none c.lanes.len c.lanes.self.bytes c.place_lanes.new.bytes (c.place_lanes.ensures.placed 0 (omega arith)) in
+    let kept =
+    placed_none c.lanes.len c.lanes.self.bytes c.place_lanes.new.bytes
+    (c.place_lanes.ensures.placed 0 (omega arith)) in
     let start = c.args.self.now.len in
     record {
       held = held_more p _ (take run rest ++ piece) rest _ grown
-          (next ∙ ap (λ l. (take run rest ++ piece) ++ marked_escaped p l) (sym left)) c.lanes.invariant.held;
+          (next ∙ ap (λ l. (take run rest ++ piece) ++ marked_escaped p l) (sym left))
+          c.lanes.invariant.held;
       front = kept_front start (c.lanes.len + run) _ _ (omega (arith, c.lanes.invariant.longer))
-          (grown_front (c.lanes.len + run) _ _ _ piece (omega (arith, stops.below)) c.place_escape-len.ensures.longer
+          (grown_front (c.lanes.len + run) _ _ _ piece (omega (arith, stops.below))
+          c.place_escape-len.ensures.longer
           c.place_escape-len.ensures.placed) ∙ kept_front start c.lanes.len _ _ c.lanes.invariant.longer kept
           ∙ c.lanes.invariant.front;
       longer = omega (arith, c.lanes.invariant.longer, c.place_escape-len.ensures.longer);
