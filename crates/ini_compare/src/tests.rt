@@ -4,6 +4,7 @@ use ini_multimap::MapKey;
 mod both;
 mod calls;
 mod counting;
+mod from_the_front;
 mod list;
 mod look_ups;
 mod odd_keys;

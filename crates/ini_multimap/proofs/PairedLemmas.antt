@@ -80,12 +80,14 @@ module _ {K V : Type 0} where
 
   -- a value that is written where one was
   pub filled_set : (eq : K → K → Bool) (code : K → ℕ) (ks : List (Option K)) (vs : List (Option V))
-      (index : Option (Box Chains)) (holes : ℕ) (b i : Bool) (s : ℕ) (w : V) → IsSome (value_in vs s)
-      → AreFilled eq code ks vs index holes b i → AreFilled eq code ks (set vs s (Some w)) index holes b i
-  filled_set eq code ks vs index holes b i s w h filled = record {
+      (index : Option (Box Chains)) (holes leading : ℕ) (b i : Bool) (s : ℕ) (w : V) → IsSome (value_in vs s)
+      → AreFilled eq code ks vs index holes leading b i
+      → AreFilled eq code ks (set vs s (Some w)) index holes leading b i
+  filled_set eq code ks vs index holes leading b i s w h filled = record {
     long = length-set vs s (Some w) ∙ filled.long;
     indexed = filled.indexed;
     counted = filled.counted;
+    leads = filled.leads;
     paired = OnTrue_from b _ (λ e. paired_set ks vs s w h (OnTrue_at e filled.paired));
     injective = filled.injective;
   }

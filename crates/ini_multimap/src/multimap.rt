@@ -17,8 +17,8 @@ ghost use Rattle.ini_multimap.specs.Inside.Fits.{without_nth};
 use crate::iter::{IntoIter, Iter, IterMut, Keys, Removed, Values, ValuesMut};
 use crate::key::{MapKey, Probe};
 use crate::slots::{
-    Chains, close_holes, count_holes, is_injective, is_sparse, last_slot, link_last, make_room,
-    nth_slot, unlink,
+    Chains, close_holes, count_holes, count_leading, is_injective, is_sparse, last_slot, link_last,
+    make_room, nth_slot, unlink,
 };
 use std::alloc::{AllocError, Global};
 use std::marker::Model;
@@ -45,6 +45,8 @@ pub struct Multimap<K: MapKey, V> {
     index: Option<Box<Chains>>,
     // How many holes there are.
     holes: usize,
+    // So many slots at the front are known to be holes. Walks begin behind them.
+    leading: usize,
     // Whether each key is known to have its value. What a walk for writing leaves isn't followed, so it
     // forgets that, until holes are closed.
     is_paired: bool,
@@ -65,8 +67,8 @@ impl<K: MapKey, V> Model for Multimap<K, V> {
 
     ghost view = { λ m. pairs_in m.keys.items m.values.items };
 
-    ghost invariant = { λ m. AreFilled K.eq K.key_code m.keys.items m.values.items m.index m.holes m.is_paired
-        m.is_injective };
+    ghost invariant = { λ m. AreFilled K.eq K.key_code m.keys.items m.values.items m.index m.holes m.leading
+        m.is_paired m.is_injective };
 }
 
 impl<K: MapKey, V> Multimap<K, V> {
@@ -79,6 +81,7 @@ impl<K: MapKey, V> Multimap<K, V> {
             values: Vec::new(alloc),
             index: None,
             holes: 0,
+            leading: 0,
             is_paired: true,
             is_injective: false,
         }
@@ -286,6 +289,7 @@ impl<K: MapKey, V> Multimap<K, V> {
         self.values.clear();
         self.index = None;
         self.holes = 0;
+        self.leading = 0;
         self.is_paired = true;
         self.is_injective = false;
     }
@@ -294,7 +298,10 @@ impl<K: MapKey, V> Multimap<K, V> {
     pub fn iter(&self) -> Iter<'_, K, V>
         ensures { result ≡ self.now }
     {
-        Iter::new(self.keys.as_slice(), self.values.as_slice())
+        Iter::new(
+            &self.keys.as_slice()[self.leading..],
+            &self.values.as_slice()[self.leading..],
+        )
     }
 
     /// Every pair in order, its value for writing.
@@ -302,7 +309,11 @@ impl<K: MapKey, V> Multimap<K, V> {
         ensures { iter_mut_rest result ≡ self.old }
     {
         self.is_paired = false;
-        IterMut::new(self.keys.as_slice(), self.values.as_mut_slice())
+        let leading = self.leading;
+        IterMut::new(
+            &self.keys.as_slice()[leading..],
+            &mut self.values.as_mut_slice()[leading..],
+        )
     }
 
     /// Each distinct key once, in the order of first occurrence.
@@ -315,6 +326,7 @@ impl<K: MapKey, V> Multimap<K, V> {
             self.values.as_slice(),
             &self.index,
             self.is_paired,
+            self.leading,
         )
     }
 }
@@ -327,6 +339,7 @@ impl<K: MapKey + Drop, V: Drop> Drop for Multimap<K, V> {
             values,
             index,
             holes: _,
+            leading: _,
             is_paired: _,
             is_injective: _,
         } = self;
@@ -373,6 +386,7 @@ impl<K: MapKey + Drop, V: Drop> IntoIterator for Multimap<K, V> {
             values,
             index: _,
             holes: _,
+            leading: _,
             is_paired: _,
             is_injective: _,
         } = self;
@@ -423,6 +437,7 @@ impl<K: MapKey, V> Multimap<K, V> {
         unlink(self.keys.as_slice(), &mut self.index, s, q.code());
         self.keys[s] = None;
         self.holes += 1;
+        self.leading = count_leading(self.keys.as_slice(), self.leading);
         self.values[s].take()
     }
 
@@ -446,6 +461,7 @@ impl<K: MapKey, V> Multimap<K, V> {
         if is_sparse(self.keys.as_slice(), self.holes) {
             close_holes(&mut self.keys, &mut self.values, &mut self.index);
             self.holes = count_holes(self.keys.as_slice());
+            self.leading = 0;
             let pairs = Iter::new(self.keys.as_slice(), self.values.as_slice()).len_pairs();
             self.is_paired = pairs == self.keys.len() - self.holes;
         }

@@ -13,7 +13,7 @@ mod index;
 
 pub(crate) use chains::Chains;
 pub(crate) use close::{close_holes, count_holes, is_sparse};
-pub(crate) use find::{fitting_value, is_full, last_slot, nth_slot};
+pub(crate) use find::{count_leading, fitting_value, is_full, last_slot, nth_slot};
 pub(crate) use index::{
     candidate_after, candidate_before, first_candidate, is_injective, last_candidate, link_last,
     make_room, unlink,

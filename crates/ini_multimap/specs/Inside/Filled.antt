@@ -4,17 +4,18 @@ use Rattle.std.specs.Prelude.{IfSome}
 use Rattle.std.specs.Bool.{OnTrue}
 use Rattle.std.specs.Global.{Box}
 use Rattle.ini_multimap.specs.Slots.{pairs_in}
-use Rattle.ini_multimap.specs.Inside.Fits.{ArePaired, IsInjective, holes_in, fits_before}
+use Rattle.ini_multimap.specs.Inside.Fits.{ArePaired, HasLeadingHoles, IsInjective, holes_in, fits_before}
 use Rattle.ini_multimap.specs.Pairs.{values_at}
 use Rattle.ini_multimap.specs.Inside.Chains.{IsCandidate, IsIndexed}
 use Rattle.ini_multimap.specs.declared.slots.chains.Chains.{Chains}
 
 pub record AreFilled {K V : Type 0} (eq : K → K → Bool) (code : K → ℕ) (ks : List (Option K))
-    (vs : List (Option V)) (index : Option (Box Chains)) (holes : ℕ) (is_paired is_injective : Bool)
+    (vs : List (Option V)) (index : Option (Box Chains)) (holes leading : ℕ) (is_paired is_injective : Bool)
     : Type 0 where
   pub long : length vs ≡ length ks
   pub indexed : IsIndexed code ks index
   pub counted : holes ≡ holes_in ks
+  pub leads : HasLeadingHoles ks leading
   pub paired : OnTrue is_paired (ArePaired ks vs)
   pub injective : OnTrue is_injective (IsInjective eq code ks)
 

@@ -1,5 +1,5 @@
 -- Which slots hold pairs, and pairs that fit. Private functions say it.
-use Rattle.std.specs.Prelude.{◌≡◌, ℕ, zero, suc, ◌+◌, ◌-◌, ◌≤◌, Bool, true, false, cond, List, [], ◌∷◌, ◌++◌}
+use Rattle.std.specs.Prelude.{◌≡◌, ℕ, zero, suc, ◌+◌, ◌-◌, ◌<◌, ◌≤◌, Bool, true, false, cond, List, [], ◌∷◌, ◌++◌}
 use Rattle.std.specs.Prelude.{length, take, drop, Option, Some, None, MatchOption, IfSome}
 use Rattle.std.specs.Option.{option_map}
 use Rattle.ini_multimap.specs.Pairs.{without, fresh}
@@ -21,6 +21,11 @@ abbrev pub holes_in : {K : Type 0} → List (Option K) → ℕ
 holes_in [] = 0
 holes_in (None ∷ ks) = suc (holes_in ks)
 holes_in (Some k ∷ ks) = holes_in ks
+
+-- the first n slots are holes
+pub record HasLeadingHoles {K : Type 0} (ks : List (Option K)) (n : ℕ) : Type 0 where
+  pub within : n ≤ length ks
+  pub holes : (i : ℕ) → i < n → value_in ks i ≡ None
 
 -- keys of one code are equal: the code tells a key from the others
 abbrev pub IsInjective : {K : Type 0} → (K → K → Bool) → (K → ℕ) → List (Option K) → Type 0

@@ -6,7 +6,8 @@ ghost use Rattle.std.specs.Bool.{OnTrue};
 ghost use Rattle.std.specs.List.{list_any};
 ghost use Rattle.ini_multimap.specs.Pairs.{distinct_keys};
 ghost use Rattle.ini_multimap.specs.Slots.{pairs_in};
-ghost use Rattle.ini_multimap.specs.Inside.Fits.{ArePaired, code_at, fits_at, fresh_at, pair_key, value_in};
+ghost use Rattle.ini_multimap.specs.Inside.Fits.{ArePaired, HasLeadingHoles, code_at, fits_at, fresh_at};
+ghost use Rattle.ini_multimap.specs.Inside.Fits.{pair_key, value_in};
 ghost use Rattle.ini_multimap.specs.Inside.Chains.{IsIndexed};
 
 use crate::key::MapKey;
@@ -119,15 +120,18 @@ fn new_key<'a, K: MapKey, V>(
 }
 
 impl<'a, K: MapKey, V> Keys<'a, K, V> {
+    // Begins behind so many holes.
     pub(crate) fn new(
         keys: &'a [Option<K>],
         values: &'a [Option<V>],
         index: &'a Option<Box<Chains>>,
         is_paired: bool,
+        leading: usize,
     ) -> Self
         requires long { length values.now ≡ length keys.now }
         requires indexed { IsIndexed K.key_code keys.now index.now }
         requires paired { OnTrue is_paired (ArePaired keys.now values.now) }
+        requires leads { HasLeadingHoles keys.now leading }
         ensures { result ≡ distinct_keys K.eq (pairs_in keys.now values.now) }
     {
         Keys {
@@ -135,7 +139,7 @@ impl<'a, K: MapKey, V> Keys<'a, K, V> {
             values,
             index,
             is_paired,
-            passed: 0,
+            passed: leading,
             end: keys.len(),
         }
     }

@@ -1,6 +1,6 @@
 //! The walks over the slots of one code, and over all.
 ghost use Rattle.std.specs.Prelude.{◌≡◌, ◌<◌, ◌^◌, true, length, is_some, IfSome, Some};
-ghost use Rattle.ini_multimap.specs.Inside.Fits.{IsNthFit, IsLastFull, fits_at, value_in};
+ghost use Rattle.ini_multimap.specs.Inside.Fits.{HasLeadingHoles, IsNthFit, IsLastFull, fits_at, value_in};
 ghost use Rattle.ini_multimap.specs.Inside.Chains.{IsIndexed};
 
 use super::Chains;
@@ -58,6 +58,18 @@ pub(crate) fn is_full<K, V>(keys: &[Option<K>], values: &[Option<V>], s: usize) 
         (Some(_), Some(_)) => true,
         _ => false,
     }
+}
+
+// How many slots at the front are holes, where so many are known to be.
+pub(crate) fn count_leading<K>(keys: &[Option<K>], known: usize) -> usize
+    requires { HasLeadingHoles keys.now known }
+    ensures { HasLeadingHoles keys.now result }
+{
+    let mut leading = known;
+    while leading < keys.len() && keys[leading].is_none() {
+        leading += 1;
+    }
+    leading
 }
 
 // The slot of pair number n of those that fit.

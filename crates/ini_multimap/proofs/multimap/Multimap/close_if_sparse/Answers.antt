@@ -4,6 +4,7 @@ use Rattle.std.proofs.lemmas.Bool.Decides.{Decides-eqb}
 use Rattle.ini_multimap.specs.Slots.{pairs_in}
 use Rattle.ini_multimap.specs.Inside.Fits.{holes_in}
 use Rattle.ini_multimap.proofs.InjectiveLemmas.{injective_moved}
+use Rattle.ini_multimap.proofs.LeadingLemmas.{no_leading}
 use Rattle.ini_multimap.proofs.SlotLemmas.{holes_le}
 use Rattle.ini_multimap.proofs.multimap.Multimap.close_if_sparse.Goals as goal
 
@@ -36,6 +37,7 @@ invariant_of-self g c =
       long = c.close_holes.ensures.long;
       indexed = c.close_holes.ensures.indexed;
       counted = counted;
+      leads = no_leading ks;
       paired = OnTrue_from _ _ (λ e. let same = (Decides-eqb pairs (c.len.result - holes)).0 e in
           omega (arith, same, all, counted, holes_le ks, c.len.ensures, c.close_holes.new.keys.ok.0));
       injective = OnTrue_from c.self.inside.is_injective _
