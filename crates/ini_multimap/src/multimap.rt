@@ -1,5 +1,5 @@
-//! The multimap, kept as slots in list order: a look-up asks the probe only about pairs of its code, but
-//! for `get_all_mut`, which asks about each.
+//! The multimap, kept as slots in list order: where pairs are many, a look-up asks the probe only about
+//! those of its code, but for `get_all_mut`, which asks about each.
 //! A removal leaves a hole, and the holes are closed where they outnumber the pairs.
 //!
 //! A growing call makes its room before anything changes, so a refused one changes nothing.

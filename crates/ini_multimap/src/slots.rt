@@ -2,9 +2,9 @@
 //! another of the same length, so that values can be lent for writing while nothing that a look-up
 //! rests on can change.
 //!
-//! Where slots are few, a look-up goes over the codes of their keys. Where they are many, those of one
-//! code are a chain, and it goes along that. In either case it asks a probe about keys of its code
-//! alone. These files know keys and codes, and no multimap.
+//! Where slots are few, a look-up asks a probe about each key. Where they are many, those of one code are
+//! a chain, and it goes along that, so it asks about keys of that code alone. These files know keys and
+//! codes, and no multimap.
 mod anew;
 mod chains;
 mod close;

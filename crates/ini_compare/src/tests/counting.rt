@@ -14,7 +14,7 @@ use std::process::Abort;
 
 /// A text that counts the calls of `code` and `==`, together with the other keys that share the count.
 #[derive(Drop)]
-struct Key<'a> {
+pub(super) struct Key<'a> {
     text: String,
     calls: &'a Cell<u32>,
 }
@@ -52,7 +52,7 @@ impl MapKey for Key<'_> {
 }
 
 /// Pairs whose keys share a count.
-type Map<'a> = Multimap<Key<'a>, u32>;
+pub(super) type Map<'a> = Multimap<Key<'a>, u32>;
 
 /// How many pairs there are.
 const PAIRS: u32 = 2000;
@@ -61,20 +61,20 @@ const PAIRS: u32 = 2000;
 const FEW: u32 = 8;
 
 // A number as a text of four digits; no two have one code.
-fn counted<'a>(rt: &(impl Abort + AllocGlobal), calls: &'a Cell<u32>, number: u32) -> Key<'a> {
+pub(super) fn counted<'a>(rt: &(impl Abort + AllocGlobal), calls: &'a Cell<u32>, number: u32) -> Key<'a> {
     let text = format!(in rt.alloc(); "{}", number.wrapping_add(1000)).expect(rt, "memory");
     Key { text, calls }
 }
 
 /// Asks that at most so many calls were made, and counts from 0 again.
-fn expect_at_most(rt: &impl Abort, calls: &Cell<u32>, most: u32, of: &str) {
+pub(super) fn expect_at_most(rt: &impl Abort, calls: &Cell<u32>, most: u32, of: &str) {
     let made = calls.get();
     calls.set(0);
     assert!(rt; made <= most, "{of}: {made} calls");
 }
 
 // Appends the pairs from number `first` on.
-fn append<'a>(
+pub(super) fn append<'a>(
     rt: &(impl Abort + AllocGlobal),
     calls: &'a Cell<u32>,
     map: &mut Map<'a>,
@@ -88,7 +88,7 @@ fn append<'a>(
 }
 
 // Takes so many pairs out, from the first on.
-fn remove<'a>(
+pub(super) fn remove<'a>(
     rt: &(impl Abort + AllocGlobal),
     calls: &'a Cell<u32>,
     map: &mut Map<'a>,

@@ -77,7 +77,7 @@ impl<'a, K: MapKey, V, Q: Probe<K> + Copy> Iterator for Values<'a, K, V, Q> {
                 return None;
             }
             self.first = candidate_after(self.index, self.keys.len(), s);
-            if let Some(value) = fitting_value(self.keys, self.values, self.index, s, self.q) {
+            if let Some(value) = fitting_value(self.keys, self.values, s, self.q) {
                 return Some(value);
             }
         }
@@ -100,7 +100,7 @@ impl<'a, K: MapKey, V, Q: Probe<K> + Copy> DoubleEndedIterator for Values<'a, K,
                 return None;
             }
             self.last = candidate_before(self.index, s);
-            if let Some(value) = fitting_value(self.keys, self.values, self.index, s, self.q) {
+            if let Some(value) = fitting_value(self.keys, self.values, s, self.q) {
                 return Some(value);
             }
         }

@@ -7,18 +7,10 @@ use super::Chains;
 use super::index::{candidate_after, first_candidate};
 use crate::key::{MapKey, Probe};
 
-// Whether the probe stands for the key. It is asked about keys of its code alone, as all of a chain are.
-fn stands_for<K: MapKey, Q: Probe<K> + Copy>(q: Q, key: &K, is_in_chain: bool) -> bool
-    ensures { result ≡ Q.fits q key.now }
-{
-    (is_in_chain || key.code() == q.code()) && q.is(key)
-}
-
-// The value in slot s, where it holds a pair that fits.
+// The value in slot s, where it holds a pair that fits. No code is made of its key.
 pub(crate) fn fitting_value<'a, K: MapKey, V, Q: Probe<K> + Copy>(
     keys: &[Option<K>],
     values: &'a [Option<V>],
-    index: &Option<Box<Chains>>,
     s: usize,
     q: Q,
 ) -> Option<&'a V>
@@ -28,7 +20,7 @@ pub(crate) fn fitting_value<'a, K: MapKey, V, Q: Probe<K> + Copy>(
     ensures value { IfSome result (λ v. value_in values.now s ≡ Some v.now) }
 {
     match (&keys[s], &values[s]) {
-        (Some(key), Some(value)) if stands_for(q, key, index.is_some()) => Some(value),
+        (Some(key), Some(value)) if q.is(key) => Some(value),
         _ => None,
     }
 }
@@ -37,7 +29,6 @@ pub(crate) fn fitting_value<'a, K: MapKey, V, Q: Probe<K> + Copy>(
 fn fits_at<K: MapKey, V, Q: Probe<K> + Copy>(
     keys: &[Option<K>],
     values: &[Option<V>],
-    index: &Option<Box<Chains>>,
     s: usize,
     q: Q,
 ) -> bool
@@ -45,7 +36,7 @@ fn fits_at<K: MapKey, V, Q: Probe<K> + Copy>(
     requires within { s < length keys.now }
     ensures { result ≡ fits_at (Q.fits q) keys.now values.now s }
 {
-    fitting_value(keys, values, index, s, q).is_some()
+    fitting_value(keys, values, s, q).is_some()
 }
 
 // Whether slot s holds a pair.
@@ -88,7 +79,7 @@ pub(crate) fn nth_slot<K: MapKey, V, Q: Probe<K> + Copy>(
     let mut left = n;
     let mut at = first_candidate(keys, index, q);
     while let Some(s) = at {
-        if fits_at(keys, values, index, s, q) {
+        if fits_at(keys, values, s, q) {
             if left == 0 {
                 return Some(s);
             }
