@@ -33,12 +33,10 @@ use std::alloc::Global;
 /// `Separator`, `Value` or `Key`, in this order, where that can't be written; then `Text` where reading the
 /// text stops, with line and column, or memory is refused; then, where a section is new, `Name` where the
 /// name can't be written; and `NoPlace`, which comes only where an indented key that the text's end cuts
-/// short
-/// leaves no place.
+/// short leaves no place.
 ///
 /// The clauses say that the place is free and that nothing stands between it and the section's end which
-/// gives
-/// an item; which of such places it is they don't.
+/// gives an item; which of such places it is they don't.
 pub fn add(
     alloc: Global,
     text: &str,

@@ -39,8 +39,7 @@ pub struct RefusedEdit {
 /// The text with the edits made in it, one after another, each in the text that those before it made. An edit
 /// that finds nothing (a key to be deleted that isn't there) changes nothing, the others go on, and `found`
 /// tells. The new text loads as the document with the edits made in it. With no edit the text is answered as
-/// it
-/// is, and isn't read.
+/// it is, and isn't read.
 ///
 /// Each edit costs what its call does: the text is read once or more for each, and copied.
 ///

@@ -27,8 +27,7 @@ use std::alloc::Global;
 /// # Errors
 ///
 /// `Name` where the new name isn't plain, whatever the text is; `Text` where reading the text stops, with
-/// line
-/// and column, also where the header stands before that; or where memory is refused.
+/// line and column, also where the header stands before that; or where memory is refused.
 pub fn rename_section(
     alloc: Global,
     text: &str,

@@ -172,8 +172,7 @@ fn put_name<W: Write>(
 }
 
 /// Writes the key of each pair in the first section of the name. Where there is no such section, the answer
-/// is
-/// `false`, and nothing is written.
+/// is `false`, and nothing is written.
 pub fn keys<W: Write>(
     document: &Ini,
     section: Option<&str>,

@@ -10,8 +10,7 @@ use std::process::Abort;
 use std::test::Fail;
 
 /// The new text, a bar, and a sign for each edit, `+` where it found something; or the number of the edit
-/// that
-/// was refused, and why.
+/// that was refused, and why.
 fn answer(alloc: Global, text: &str, edits: &[Edit<'_>]) -> Result<String, Error> {
     match make_edits(
         alloc,
