@@ -69,14 +69,14 @@ fn gather<'a>(block: &mut [u8; BLOCK_LENGTH], text: &'a str, ends: Endpoints) ->
     let mut rest = text;
     let mut known = 0;
     'pieces: while len <= BLOCK_LENGTH - LANES - LONGEST_CHARACTER {
-        let Some((run, value, taken, bits)) = split_short(rest, known, ends) else {
+        let Some((run_length, value, taken, bits)) = split_short(rest, known, ends) else {
             break 'pieces;
         };
         place_lanes(block, len, u8x16::from_slice(rest.as_bytes()));
-        len = place(block, len + run, value);
-        let (_, behind) = rest.split_at(run + taken);
+        len = place(block, len + run_length, value);
+        let (_, behind) = rest.split_at(run_length + taken);
         rest = behind;
-        known = bits >> (run + taken);
+        known = bits >> (run_length + taken);
     }
     (len, rest)
 }

@@ -30,12 +30,13 @@ overflow_shr-known c = let piece = c.in-Some.ensures.piece in omega (arith, piec
 pub pieces-preserved : goal.pieces-preserved
 pieces-preserved c =
     let old = take c.pieces.len c.pieces.block in
-    let run = take c.in-Some.run c.pieces.rest.now in
+    let run = take c.in-Some.run_length c.pieces.rest.now in
     let piece = c.in-Some.ensures.piece in
     let scalar : IsScalar c.in-Some.value = search rules in
-    let front = c.place_lanes.ensures.placed c.in-Some.run piece.within
+    let front = c.place_lanes.ensures.placed c.in-Some.run_length piece.within
     ∙ ap (λ x. old ++ x)
-    (take-take c.in-Some.run 16 _ piece.within ∙ ap (take c.in-Some.run) c.as_bytes.ensures.value) in
+    (take-take c.in-Some.run_length 16 _ piece.within
+    ∙ ap (take c.in-Some.run_length) c.as_bytes.ensures.value) in
     let grown =
     gathered old run c.in-Some.value c.pieces.invariant.values piece.run scalar front
     c.place-len.ensures.placed in
@@ -45,7 +46,7 @@ pieces-preserved c =
       values = grown.1;
       read = and_more (chars old) (chars run ++ c.in-Some.value ∷ []) _ c.pieces.invariant.read
           (rw (c.split_at.ensures.back) piece.read) grown.0;
-      seen = Tells-past (λ x. not (is_raw (ends_of c.args.ends) x)) (c.in-Some.run + c.in-Some.taken)
+      seen = Tells-past (λ x. not (is_raw (ends_of c.args.ends) x)) (c.in-Some.run_length + c.in-Some.taken)
           c.in-Some.ensures.seen c.split_at.ensures.back;
       shorter = omega (arith, piece.shorter, ap (λ x. length (chars x)) c.split_at.ensures.back);
     }
