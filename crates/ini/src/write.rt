@@ -21,24 +21,8 @@ use ini_text::{Error, EscapePolicy, Gatherer, Watched, WriteOption};
 use std::alloc::{AllocError, Global};
 use std::io::Write;
 
-// A text escaped, and another as it is behind it.
-fn put_part<W: Write>(
-    lines: &mut Gatherer,
-    text: &str,
-    behind: &str,
-    policy: EscapePolicy,
-    out: &mut Watched<'_, W>,
-) -> Result<(), Error>
-    requires { IsClear out.old }
-    ensures { SendsText W.contents out.old out.new (held lines.old) (held lines.new) result
-        (escaped policy (chars text.now) ++ chars behind.now) }
-{
-    lines.put_escaped(text, policy, out)?;
-    lines.put(behind, out)
-}
-
 // Two texts escaped, and behind each another as it is, seen as their characters.
-fn put_line<W: Write>(
+fn write_line<W: Write>(
     lines: &mut Gatherer,
     first: &str,
     between: &str,
@@ -68,7 +52,7 @@ fn write_pair<W: Write>(
         (written_pair option.now (chars key.now, chars value.now)) }
 {
     let end = option.line_separator.as_str();
-    put_line(
+    write_line(
         lines,
         key,
         option.kv_separator,
@@ -108,7 +92,8 @@ fn write_header<W: Write>(
         (written_name option.now (Some (chars name.now))) }
 {
     lines.put("[", out)?;
-    put_part(lines, name, "]", option.escape_policy, out)?;
+    lines.put_escaped(name, option.escape_policy, out)?;
+    lines.put("]", out)?;
     lines.put(option.line_separator.as_str(), out)
 }
 

@@ -7,4 +7,4 @@ use Rattle.ini.proofs.write.write_pair.Goals as goal
 pub returns : goal.returns
 returns g c =
     let parts = pair_parts c.args.option.now (chars c.args.key.now) (chars c.args.value.now) in
-    subst (SendsText _ _ _ _ _ _) parts (simp c.as_str-end.ensures at c.put_line.ensures)
+    subst (SendsText _ _ _ _ _ _) parts (simp c.as_str-end.ensures at c.write_line.ensures)

@@ -1,5 +1,5 @@
 use Rattle.ini.proofs.WritingLemmas.{at_ok, line_bytes, line-scalars}
-use Rattle.ini.proofs.write.put_line.Goals as goal
+use Rattle.ini.proofs.write.write_line.Goals as goal
 
 pub returns : goal.returns
 returns g c = record {
