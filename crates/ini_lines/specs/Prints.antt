@@ -45,4 +45,4 @@ pub record Prints {W : Type 0} (contents : W → Option (List ℕ)) (old new : W
 
 -- what a part of an entry writes
 abbrev pub part_text : Form → Bor (List ℕ) × Bor (List ℕ) → Text
-part_text form p = chars p.0.now ++ text_in form (chars p.1.now)
+part_text form p = text_in form (chars p.0.now) ++ chars p.1.now

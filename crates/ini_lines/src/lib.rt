@@ -95,18 +95,18 @@ fn list_pair<'a, W: Write>(
     match name {
         Some(name) => {
             let parts = [
-                ("[", name),
-                ("]", ""),
-                (between, key),
-                (between, value),
-                (end, ""),
+                ("", "["),
+                (name, "]"),
+                ("", between),
+                (key, between),
+                (value, end),
             ];
             put_parts(lines, form, &parts, out)
         }
         None => put_parts(
             lines,
             form,
-            &[(between, key), (between, value), (end, "")],
+            &[("", between), (key, between), (value, end)],
             out,
         ),
     }

@@ -1,5 +1,5 @@
-//! What an entry is put together from: texts in their form, each behind one that is written as it is. This
-//! file knows no document.
+//! What an entry is put together from: texts in their form, and behind each another as it is. This file knows
+//! no document.
 ghost use Rattle.std.specs.Prelude.{◌++◌, chars, flat_map};
 ghost use Rattle.ini_text.specs.Device.HeldBack.{held};
 ghost use Rattle.ini_text.specs.Device.Watched.{IsClear};
@@ -22,10 +22,10 @@ pub(crate) fn put_entry<W: Write>(
     ensures { SendsText W.contents out.old out.new (held lines.old) (held lines.new) result
         (entry form (chars text.now)) }
 {
-    put_parts(lines, form, &[("", text), (form.end(), "")], out)
+    put_part(lines, form, text, form.end(), out)
 }
 
-// Texts, each behind one that is written as it is.
+// Texts in the form, and behind each another as it is.
 pub(crate) fn put_parts<W: Write>(
     lines: &mut Gatherer,
     form: Form,
@@ -36,26 +36,26 @@ pub(crate) fn put_parts<W: Write>(
     ensures { SendsText W.contents out.old out.new (held lines.old) (held lines.new) result
         (flat_map (part_text form) parts.now) }
 {
-    for (before, text) in parts {
-        put_part(lines, form, before, text, out)?;
+    for (text, behind) in parts {
+        put_part(lines, form, text, behind, out)?;
     }
     Ok(())
 }
 
-// A text as it is, and one in the form.
+// A text in the form, and another as it is behind it.
 fn put_part<W: Write>(
     lines: &mut Gatherer,
     form: Form,
-    before: &str,
     text: &str,
+    behind: &str,
     out: &mut Watched<'_, W>,
 ) -> Result<(), Error>
     requires { IsClear out.old }
     ensures { SendsText W.contents out.old out.new (held lines.old) (held lines.new) result
-        (chars before.now ++ text_in form (chars text.now)) }
+        (text_in form (chars text.now) ++ chars behind.now) }
 {
-    lines.put(before, out)?;
-    put_text(lines, form, text, out)
+    put_text(lines, form, text, out)?;
+    lines.put(behind, out)
 }
 
 // A text in the form.

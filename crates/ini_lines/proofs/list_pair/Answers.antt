@@ -12,11 +12,12 @@ returns-in-Some g c =
       nothing-in c.args.form,
       c.between-between.ensures,
       c.end-end.ensures,
+      append_assoc,
     ) at c.put_parts.ensures in
     rw c.in-Some.is (simp append_assoc line)
 
 pub returns-in-None : goal.returns-in-None
 returns-in-None g c =
-    let line = simp (chars-nothing, nothing-in c.args.form, c.between-between.ensures, c.end-end.ensures)
+    let line = simp (chars-nothing, nothing-in c.args.form, c.between-between.ensures, c.end-end.ensures, append_assoc)
     at c.put_parts-in-None.ensures in
     rw c.in-None.is (simp append_assoc line)

@@ -3,15 +3,15 @@ use Rattle.ini.proofs.WritingLemmas.{Writing-goes_on, Writing-stops, flat_map-dr
 use Rattle.ini_lines.specs.Prints.{part_text}
 use Rattle.ini_lines.proofs.parts.put_parts.Goals as goal
 
-pub loop-before-preserved : goal.loop-before-preserved
-loop-before-preserved g c =
-    let front = flat_map-drop (part_text c.args.form) c.args.parts.now c.loop-before.before-index _
-    c.loop-before-test.true in
-    Writing-goes_on _ front c.loop-before.invariant c.in_ok-put_part.ensures
+pub loop-text-preserved : goal.loop-text-preserved
+loop-text-preserved g c =
+    let front = flat_map-drop (part_text c.args.form) c.args.parts.now c.loop-text.text-index _
+    c.loop-text-test.true in
+    Writing-goes_on _ front c.loop-text.invariant c.in_ok-put_part.ensures
 
 pub returns-in_err-put_part : goal.returns-in_err-put_part
 returns-in_err-put_part g c =
     let p = err_from_is_err_and c.from_residual.result c.from_residual.ensures.1 in
-    let front = flat_map-drop (part_text c.args.form) c.args.parts.now c.loop-before.before-index _
-    c.loop-before-test.true in
-    rw (p.1, p.2) (Writing-stops _ front c.loop-before.invariant c.in_err-put_part.ensures)
+    let front = flat_map-drop (part_text c.args.form) c.args.parts.now c.loop-text.text-index _
+    c.loop-text-test.true in
+    rw (p.1, p.2) (Writing-stops _ front c.loop-text.invariant c.in_err-put_part.ensures)
