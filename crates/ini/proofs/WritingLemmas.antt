@@ -81,13 +81,15 @@ module _ {W : Type 0} {contents : W → Option (List ℕ)} where
   }
 
 -- a part of a whole text is written, and the rest is left
-pub record Writing {W : Type 0} (contents : W → Option (List ℕ)) (a b : Watched W) (before held : List ℕ) (whole rest : Text) : Type 0 where
+pub record Writing {W : Type 0} (contents : W → Option (List ℕ)) (a b : Watched W) (before held : List ℕ)
+    (whole rest : Text) : Type 0 where
   pub so_far : Text
   pub joined : so_far ++ rest ≡ whole
   pub done : SendsText contents a b before held (Ok (tt {0})) so_far
 
 module _ {W : Type 0} {contents : W → Option (List ℕ)} where
-  pub Writing-starts : (a : Watched W) (h : List ℕ) {whole : Text} → IsClear a → Writing contents a a h h whole whole
+  pub Writing-starts : (a : Watched W) (h : List ℕ) {whole : Text} → IsClear a
+      → Writing contents a a h h whole whole
   Writing-starts a h clear = record {
     so_far = [];
     joined = refl;
@@ -108,7 +110,8 @@ module _ {W : Type 0} {contents : W → Option (List ℕ)} where
       done = SendsText-then left.done step;
     }
 
-    pub Writing-stops : {e : Error} → SendsText contents b d i j (Err e) xs → SendsText contents a d h j (Err e) whole
+    pub Writing-stops : {e : Error} → SendsText contents b d i j (Err e) xs
+        → SendsText contents a d h j (Err e) whole
     Writing-stops {e} cut =
         subst (SendsText contents a d h j (Err e)) (ap (λ l. left.so_far ++ l) (sym front) ∙ left.joined)
         (SendsText-then left.done (SendsText-cut more cut))
@@ -135,7 +138,8 @@ chars-line_end CRLF = refl
 
 -- a line's bytes by its characters
 pub line_bytes : (policy : EscapePolicy) (first between second end : List ℕ) → IsUtf8 between → IsUtf8 end
-    → encode_utf8_all ((escaped policy (chars first) ++ chars between) ++ (escaped policy (chars second) ++ chars end))
+    → encode_utf8_all
+    ((escaped policy (chars first) ++ chars between) ++ (escaped policy (chars second) ++ chars end))
     ≡ (escaped_bytes policy first ++ between) ++ (escaped_bytes policy second ++ end)
 line_bytes policy first between second end text more =
     rw (encodes-append, encodes-append, encodes-append, encodes-chars between text, encodes-chars end more)
@@ -166,7 +170,8 @@ pub header_parts : (w : WriteOption) (name : Text)
     ++ chars (line_end w.line_separator) ≡ written_name w (Some name)
 header_parts w name =
     rw (chars-line_end w.line_separator)
-    (ap (λ l. open_bracket ∷ l) (append_assoc (escaped w.escape_policy name) (close_bracket ∷ []) (line_end w.line_separator)))
+    (ap (λ l. open_bracket ∷ l)
+    (append_assoc (escaped w.escape_policy name) (close_bracket ∷ []) (line_end w.line_separator)))
 
 -- what is written by options that say the same
 written_alike : (d : Document) (v w : WriteOption) → v.escape_policy ≡ w.escape_policy
@@ -181,7 +186,8 @@ written_alike d v w policy line separator =
     })
 
 -- by two default options
-pub same_written : (d : Document) (v w : WriteOption) → IsDefaultWriteOption v → IsDefaultWriteOption w → written d v ≡ written d w
+pub same_written : (d : Document) (v w : WriteOption) → IsDefaultWriteOption v → IsDefaultWriteOption w
+    → written d v ≡ written d w
 same_written d v w a b =
     written_alike d v w (a.escape_policy ∙ sym b.escape_policy) (a.line_separator ∙ sym b.line_separator)
     (a.kv_separator ∙ sym b.kv_separator)

@@ -18,6 +18,12 @@ returns-in-Some g c =
 
 pub returns-in-None : goal.returns-in-None
 returns-in-None g c =
-    let line = simp (chars-nothing, nothing-in c.args.form, c.between-between.ensures, c.end-end.ensures, append_assoc)
+    let line = simp (
+      chars-nothing,
+      nothing-in c.args.form,
+      c.between-between.ensures,
+      c.end-end.ensures,
+      append_assoc,
+    )
     at c.put_parts-in-None.ensures in
     rw c.in-None.is (simp append_assoc line)

@@ -13,16 +13,20 @@ returns-in_err-put g c =
 
 pub returns-in_err-put_escaped : goal.returns-in_err-put_escaped
 returns-in_err-put_escaped g c =
-    let p = err_from_is_err_and c.from_residual-in_err-put_escaped.result c.from_residual-in_err-put_escaped.ensures.1 in
+    let p =
+    err_from_is_err_and c.from_residual-in_err-put_escaped.result
+    c.from_residual-in_err-put_escaped.ensures.1 in
     rw (p.1, p.2) (subst (SendsText _ _ _ _ _ _) (header_parts c.args.option.now (chars c.args.name.now))
-    (SendsText-cut _ (SendsText-cut _ (SendsText-then (SendsText-one open_bracket (omega arith) c.in_ok-put.ensures)
+    (SendsText-cut
+    _ (SendsText-cut _ (SendsText-then (SendsText-one open_bracket (omega arith) c.in_ok-put.ensures)
     (SendsText-escaped c.args.option.now.escape_policy c.utf8.name c.in_err-put_escaped.ensures)))))
 
 pub returns-in_err-put-2 : goal.returns-in_err-put-2
 returns-in_err-put-2 g c =
     let p = err_from_is_err_and c.from_residual-in_err-put-2.result c.from_residual-in_err-put-2.ensures.1 in
     rw (p.1, p.2) (subst (SendsText _ _ _ _ _ _) (header_parts c.args.option.now (chars c.args.name.now))
-    (SendsText-cut _ (SendsText-then (SendsText-then (SendsText-one open_bracket (omega arith) c.in_ok-put.ensures)
+    (SendsText-cut
+    _ (SendsText-then (SendsText-then (SendsText-one open_bracket (omega arith) c.in_ok-put.ensures)
     (SendsText-escaped c.args.option.now.escape_policy c.utf8.name c.in_ok-put_escaped.ensures))
     (SendsText-one close_bracket (omega arith) c.in_err-put-2.ensures))))
 
