@@ -61,7 +61,11 @@ const PAIRS: u32 = 2000;
 const FEW: u32 = 8;
 
 // A number as a text of four digits; no two have one code.
-pub(super) fn counted<'a>(rt: &(impl Abort + AllocGlobal), calls: &'a Cell<u32>, number: u32) -> Key<'a> {
+pub(super) fn counted<'a>(
+    rt: &(impl Abort + AllocGlobal),
+    calls: &'a Cell<u32>,
+    number: u32,
+) -> Key<'a> {
     let text = format!(in rt.alloc(); "{}", number.wrapping_add(1000)).expect(rt, "memory");
     Key { text, calls }
 }
