@@ -6,7 +6,7 @@
 #
 #     tests/files.sh [INI_FILE]
 #
-# The program is by default the one that the crate's own folder builds.
+# The program is by default the one that its script builds.
 set -u
 LC_ALL=C
 export LC_ALL
@@ -15,7 +15,7 @@ room=$(mktemp -d)
 trap 'chmod -R u+w "$room"; rm -rf "$room"' EXIT
 program=${1:-}
 if [ -z "$program" ]; then
-    (cd "$top/crates/ini_file" && rt run -- get - key </dev/null >"$room/build" 2>&1)
+    "$top/ini_file.sh" list - </dev/null || exit 1
     program=$top/crates/ini_file/out/ini_file
 fi
 program=$(readlink -f "$program") || exit 1
