@@ -18,7 +18,7 @@ pub(crate) const HALF: usize = 8;
 pub(crate) trait Marks {
     ghost is_marked: { Self → ℕ → Bool };
 
-    fn contain(&self, byte: u8) -> bool
+    fn contains(&self, byte: u8) -> bool
         ensures { result ≡ is_marked self.now byte };
 
     /// The bits of the lanes that hold a marked byte.
@@ -74,7 +74,7 @@ fn few_before<M: Marks>(bytes: &[u8], marks: &M) -> usize
     }
     bytes
         .iter()
-        .take_while(|byte| !marks.contain(**byte))
+        .take_while(|byte| !marks.contains(**byte))
         .count()
 }
 
@@ -109,7 +109,7 @@ impl Marks for Three {
     ghost is_marked = { λ three byte. is_one_of three.0 three.1 three.2 byte };
 
     #[inline(always)]
-    fn contain(&self, byte: u8) -> bool {
+    fn contains(&self, byte: u8) -> bool {
         byte == self.0 || byte == self.1 || byte == self.2
     }
 

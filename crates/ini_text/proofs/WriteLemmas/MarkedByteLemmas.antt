@@ -12,7 +12,6 @@ use Rattle.std.specs.List.{list_all, position_or_len}
 use lib.Lanes.{chunk}
 use Rattle.ini_text.specs.Escaping.EscapedTexts.{escape, escaped, escaped_bytes}
 use Rattle.ini_text.specs.Escaping.Policies.{is_escaped}
-use Rattle.ini_text.specs.Grammar.CharacterKinds.{backslash}
 use Rattle.ini_text.specs.Inside.Verbatim.{begins_escaped, marked_escaped}
 use Rattle.ini_text.specs.declared.write.policy.EscapePolicy.{EscapePolicy}
 use Rattle.ini_text.specs.declared.write.policy.EscapePolicy.TheVariants.{Basics, Reserved}

@@ -1,12 +1,15 @@
 //! The escape of a character, put behind bytes that are there. This file knows one character, and no
 //! device.
-ghost use Rattle.std.specs.Prelude.{◌≡◌, ◌+◌, ◌/◌, ◌%◌, ◌<◌, ◌≤◌, ◌++◌, None, length, take};
+ghost use Rattle.std.specs.Prelude.{◌≡◌, ◌+◌, ◌/◌, ◌%◌, ◌<◌, ◌≤◌, ◌++◌, IfSome, None, length, take};
 ghost use Rattle.std.specs.Char.{digit_char};
 ghost use Rattle.ini_text.specs.Escaping.EscapedTexts.{escape, escape_by, letter_of};
-ghost use Rattle.ini_text.specs.declared.write.escape.TheConstants.{LONGEST};
+ghost use Rattle.ini_text.specs.declared.write.escape.TheConstants.{LETTER_ROOM, ESCAPE_ROOM};
 
 /// How long an escape is at most: a backslash, `x` and six digits.
-pub(crate) const LONGEST: usize = 8;
+pub(crate) const ESCAPE_ROOM: usize = 8;
+
+/// How long an escape by a letter is.
+pub(crate) const LETTER_ROOM: usize = 2;
 
 // What follows the backslash for each character of ASCII, or 0 where one character isn't enough.
 static LETTERS: [u8; 128] = *b"\
@@ -19,26 +22,41 @@ static LETTERS: [u8; 128] = *b"\
 #[inline(always)]
 #[tactic(auto, unfolding(crate::specs::Escaping::EscapedTexts::escape))]
 pub(crate) fn place_escape(bytes: &mut [u8], len: usize, c: char) -> usize
-    requires { len + LONGEST ≤ length bytes.old }
+    requires { len + ESCAPE_ROOM ≤ length bytes.old }
     ensures placed { take result bytes.new ≡ take len bytes.old ++ escape c }
     ensures longer { len ≤ result }
-    ensures within { result ≤ len + LONGEST }
+    ensures within { result ≤ len + ESCAPE_ROOM }
     ensures length { length bytes.new ≡ length bytes.old }
 {
-    if let Some(letter) = letter_of(c) {
-        return place(bytes, len, &[b'\\', letter]);
+    if let Some(end) = place_letter(bytes, len, c) {
+        return end;
     }
     place_digits(bytes, len, c)
+}
+
+/// The same if the escape is one by a letter.
+#[inline(always)]
+#[tactic(auto, unfolding(crate::specs::Escaping::EscapedTexts::escape))]
+pub(crate) fn place_letter(bytes: &mut [u8], len: usize, c: char) -> Option<usize>
+    requires { len + LETTER_ROOM ≤ length bytes.old }
+    ensures placed { IfSome result (λ end. take end bytes.new ≡ take len bytes.old ++ escape c) }
+    ensures end { IfSome result (λ end. end ≡ len + LETTER_ROOM) }
+    ensures digits { result ≡ None → letter_of c ≡ None }
+    ensures untouched { result ≡ None → bytes.new ≡ bytes.old }
+    ensures length { length bytes.new ≡ length bytes.old }
+{
+    let letter = letter_of(c)?;
+    Some(place(bytes, len, &[b'\\', letter]))
 }
 
 // The same by digits.
 #[cold]
 #[inline(never)]
 fn place_digits(bytes: &mut [u8], len: usize, c: char) -> usize
-    requires { len + LONGEST ≤ length bytes.old }
+    requires { len + ESCAPE_ROOM ≤ length bytes.old }
     ensures placed { take result bytes.new ≡ take len bytes.old ++ escape_by None c }
     ensures longer { len ≤ result }
-    ensures within { result ≤ len + LONGEST }
+    ensures within { result ≤ len + ESCAPE_ROOM }
     ensures length { length bytes.new ≡ length bytes.old }
 {
     let code = u32::from(c);

@@ -6,13 +6,13 @@ ghost use Rattle.ini_text.specs.Escaping.EscapedTexts.{escape, escaped_bytes};
 ghost use Rattle.ini_text.specs.Inside.Verbatim.{marked_escaped};
 ghost use Rattle.ini_text.specs.Device.Gathering.{Sends};
 ghost use Rattle.ini_text.specs.Device.Watched.{IsClear};
-ghost use Rattle.ini_text.specs.declared.write.gather.TheConstants.{ROOM};
+ghost use Rattle.ini_text.specs.declared.write.gather.TheConstants.{BUFFER_SIZE};
 
 use crate::device::Watched;
 use crate::error::Error;
 use crate::lanes::{Marks, run_before};
 use crate::text::split_first;
-use crate::write::escape::{LONGEST, place, place_escape};
+use crate::write::escape::{ESCAPE_ROOM, place, place_escape};
 use crate::write::policy::EscapePolicy;
 use crate::write::verbatim::{Basics, Reserved, is_verbatim, split_verbatim};
 use crate::write::write_bytes;
@@ -21,7 +21,7 @@ use std::io::Write;
 mod marked;
 
 // How many bytes are held back at most.
-const ROOM: usize = 16384;
+const BUFFER_SIZE: usize = 16384;
 
 /// Holds bytes back on their way to a device, so that many short texts reach it in one call.
 ///
@@ -30,9 +30,9 @@ const ROOM: usize = 16384;
 /// device is asked nothing more.
 #[derive(Drop)]
 pub struct Gatherer {
-    bytes: [u8; ROOM],
+    bytes: [u8; BUFFER_SIZE],
     len: usize,
-    ghost within: { len ≤ ROOM },
+    ghost within: { len ≤ BUFFER_SIZE },
 }
 
 impl Gatherer {
@@ -43,7 +43,7 @@ impl Gatherer {
         ensures { held result ≡ [] }
     {
         Gatherer {
-            bytes: [0; ROOM],
+            bytes: [0; BUFFER_SIZE],
             len: 0,
         }
     }
@@ -149,7 +149,7 @@ impl Gatherer {
         ensures front { take self.old.len self.new.bytes ≡ held self.old }
         ensures longer { self.old.len ≤ self.new.len }
     {
-        if !self.hold_text(text, policy) || behind.len() > ROOM - self.len {
+        if !self.hold_text(text, policy) || behind.len() > BUFFER_SIZE - self.len {
             return false;
         }
         self.append(behind.as_bytes());
@@ -163,7 +163,7 @@ impl Gatherer {
         ensures front { take self.old.len self.new.bytes ≡ held self.old }
         ensures longer { self.old.len ≤ self.new.len }
     {
-        if text.len() > ROOM - self.len {
+        if text.len() > BUFFER_SIZE - self.len {
             return false;
         }
         match policy {
@@ -176,7 +176,7 @@ impl Gatherer {
     // Holds a text back if no character of it is escaped.
     #[inline(always)]
     fn hold_verbatim(&mut self, text: &str, policy: EscapePolicy) -> bool
-        requires { self.old.len + length text.now ≤ ROOM }
+        requires { self.old.len + length text.now ≤ BUFFER_SIZE }
         ensures all { result ≡ true → held self.new ≡ held self.old ++ escaped_bytes policy text.now }
         ensures front { take self.old.len self.new.bytes ≡ held self.old }
         ensures longer { self.old.len ≤ self.new.len }
@@ -264,7 +264,9 @@ impl Gatherer {
     fn hold_escaped(&mut self, run: &str, c: char) -> bool
         ensures { held self.new ≡ held self.old ++ (if result then run.now ++ escape c else []) }
     {
-        if run.len() > ROOM - LONGEST || self.len > ROOM - LONGEST - run.len() {
+        if run.len() > BUFFER_SIZE - ESCAPE_ROOM
+            || self.len > BUFFER_SIZE - ESCAPE_ROOM - run.len()
+        {
             return false;
         }
         self.append(run.as_bytes());
@@ -288,7 +290,7 @@ impl Gatherer {
         requires { IsClear out.old }
         ensures { Sends W.contents out.old out.new (held self.old) (held self.new) result bytes.now }
     {
-        if bytes.len() <= ROOM - self.len {
+        if bytes.len() <= BUFFER_SIZE - self.len {
             self.append(bytes);
             return Ok(());
         }
@@ -303,7 +305,7 @@ impl Gatherer {
         ensures { Sends W.contents out.old out.new (held self.old) (held self.new) result bytes.now }
     {
         self.flush(out)?;
-        if bytes.len() <= ROOM - self.len {
+        if bytes.len() <= BUFFER_SIZE - self.len {
             self.append(bytes);
             return Ok(());
         }
@@ -315,7 +317,7 @@ impl Gatherer {
         requires { IsClear out.old }
         ensures { Sends W.contents out.old out.new (held self.old) (held self.new) result (escape c) }
     {
-        if self.len <= ROOM - LONGEST {
+        if self.len <= BUFFER_SIZE - ESCAPE_ROOM {
             self.append_escape(c);
             return Ok(());
         }
@@ -326,7 +328,7 @@ impl Gatherer {
 
     // Holds back the escape of a character.
     fn append_escape(&mut self, c: char)
-        requires { length (held self.old) + LONGEST ≤ ROOM }
+        requires { length (held self.old) + ESCAPE_ROOM ≤ BUFFER_SIZE }
         ensures { held self.new ≡ held self.old ++ escape c }
     {
         self.len = place_escape(&mut self.bytes, self.len, c);
@@ -334,7 +336,7 @@ impl Gatherer {
 
     // Holds back a few bytes.
     fn append(&mut self, bytes: &[u8])
-        requires { self.old.len + length bytes.now ≤ ROOM }
+        requires { self.old.len + length bytes.now ≤ BUFFER_SIZE }
         ensures held { held self.new ≡ held self.old ++ bytes.now }
         ensures len { self.new.len ≡ self.old.len + length bytes.now }
     {

@@ -46,15 +46,17 @@ impl EscapePolicy {
         }
     }
 
-    /// Whether the byte begins a character that this policy escapes. The bytes that no policy escapes come
-    /// first, small letters before the rest: these are most bytes of most texts.
+    /// Whether the byte begins a character that this policy escapes.
     #[inline(always)]
     pub(crate) fn begins_escaped(self, byte: u8) -> bool
         ensures { result ≡ begins_escaped self byte }
     {
+        // most bytes of most texts are small letters, so they are told by a test of their own
+        if byte > b'\\' && byte < 0x7F {
+            return false;
+        }
         match byte {
-            b']'..=b'~' => false,
-            b' '..=b'"' | b'$'..=b'9' | b'<' | b'>'..=b'[' => false,
+            b' '..=b'"' | b'$'..=b'9' | b'<' | b'>'..=b'[' | b']'..=b'~' => false,
             b';' | b'#' | b'=' | b':' => self.escapes_reserved(),
             b'\\' | 0x00..=0x1F | 0x7F => self.escapes_basic(),
             0x80..=0xBF => false,

@@ -53,7 +53,7 @@ impl Marks for Basics {
     ghost is_marked = { λ _ byte. begins_escaped policies.Basics byte };
 
     #[inline(always)]
-    fn contain(&self, byte: u8) -> bool {
+    fn contains(&self, byte: u8) -> bool {
         EscapePolicy::Basics.begins_escaped(byte)
     }
 
@@ -71,7 +71,7 @@ impl Marks for Reserved {
     ghost is_marked = { λ _ byte. begins_escaped policies.Reserved byte };
 
     #[inline(always)]
-    fn contain(&self, byte: u8) -> bool {
+    fn contains(&self, byte: u8) -> bool {
         EscapePolicy::Reserved.begins_escaped(byte)
     }
 

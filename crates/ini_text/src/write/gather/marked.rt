@@ -3,18 +3,18 @@
 ghost use Rattle.std.specs.Prelude.{◌≡◌, ℕ, ◌+◌, ◌++◌, ◌≤◌, length, take};
 ghost use Rattle.ini_text.specs.Inside.Verbatim.{marked_escaped};
 ghost use Rattle.ini_text.specs.declared.lanes.TheConstants.{HALF, LANES};
-ghost use Rattle.ini_text.specs.declared.write.gather.TheConstants.{ROOM};
+ghost use Rattle.ini_text.specs.declared.write.gather.TheConstants.{BUFFER_SIZE};
 
 use crate::lanes::{HALF, LANES, Marks, has_no_mark, marks_ahead, place_lanes};
-use crate::write::escape::{LONGEST, place_escape};
-use crate::write::gather::{Gatherer, ROOM};
+use crate::write::escape::{LETTER_ROOM, place_letter};
+use crate::write::gather::{BUFFER_SIZE, Gatherer};
 use std::simd::prelude::*;
 
 impl Gatherer {
     ghost use Rattle.ini_text.specs.Device.HeldBack.{held};
 
     // Holds back bytes at the front, each that is marked as the escape of its character, and answers those
-    // that are left: those that have no room.
+    // that are left: where there is no room, or at an escape by digits.
     #[inline(always)]
     pub(super) fn hold_marked<'a, M: Marks>(&mut self, bytes: &'a [u8], marks: &M) -> &'a [u8]
         ensures held { held self.new ++ marked_escaped (M.is_marked marks.now) result.now
@@ -39,7 +39,7 @@ impl Gatherer {
         let mut rest = bytes;
         let mut len = self.len;
         let mut known = 0;
-        'lanes: while rest.len() >= LANES && len <= ROOM - LANES - LONGEST {
+        'lanes: while rest.len() >= LANES && len <= BUFFER_SIZE - LANES - LETTER_ROOM {
             known = marks_ahead(rest, known, 0, marks);
             place_lanes(&mut self.bytes, len, u8x16::from_slice(rest));
             if known == 0 {
@@ -48,7 +48,10 @@ impl Gatherer {
                 continue 'lanes;
             }
             let run = known.trailing_zeros() as usize;
-            len = place_escape(&mut self.bytes, len + run, char::from(rest[run]));
+            let Some(end) = place_letter(&mut self.bytes, len + run, char::from(rest[run])) else {
+                break 'lanes;
+            };
+            len = end;
             rest = &rest[run + 1..];
             known >>= run + 1;
         }
@@ -65,7 +68,7 @@ impl Gatherer {
         ensures longer { self.old.len ≤ self.new.len }
         ensures shorter { length result.now ≤ length bytes.now }
     {
-        if bytes.len() >= LANES || self.len > ROOM - LONGEST * LANES {
+        if bytes.len() >= LANES || self.len > BUFFER_SIZE - LETTER_ROOM * LANES {
             return bytes;
         }
         if has_no_mark(bytes, marks) {
@@ -76,8 +79,11 @@ impl Gatherer {
         let mut rest = bytes;
         let mut len = self.len;
         'few: while let [byte, following @ ..] = rest {
-            if marks.contain(*byte) {
-                len = place_escape(&mut self.bytes, len, char::from(*byte));
+            if marks.contains(*byte) {
+                let Some(end) = place_letter(&mut self.bytes, len, char::from(*byte)) else {
+                    break 'few;
+                };
+                len = end;
             } else {
                 self.bytes[len] = *byte;
                 len += 1;
@@ -91,10 +97,10 @@ impl Gatherer {
 
 // Puts eight to sixteen bytes behind those that are held back: their first eight, and their last.
 #[inline(always)]
-fn place_few(bytes: &mut [u8; ROOM], len: usize, few: &[u8])
+fn place_few(bytes: &mut [u8; BUFFER_SIZE], len: usize, few: &[u8])
     requires long { HALF ≤ length few.now }
     requires within { length few.now ≤ LANES }
-    requires room { len + LANES ≤ ROOM }
+    requires room { len + LANES ≤ BUFFER_SIZE }
     ensures { take (len + length few.now) bytes.new ≡ take len bytes.old ++ few.now }
 {
     let back = few.len() - HALF;

@@ -9,7 +9,7 @@ invariant-few g l = record {
   longer : l.fn.self.len ≤ l.len;
   held : take l.len l.self.bytes ++ marked_escaped (g.M.Marks.is_marked l.marks) l.rest ≡ held l.fn.self
       ++ marked_escaped (g.M.Marks.is_marked l.fn.marks) l.fn.bytes;
-  within : l.len + 8 * length l.rest ≤ 16384;
+  within : l.len + 2 * length l.rest ≤ 16384;
   shorter : length l.rest ≤ length l.fn.bytes;
 }
 

@@ -1,10 +1,13 @@
 use Rattle.std.proofs.Common.{◌+◌, ◌++◌, ◌∙◌, length, take, drop, ap, sym, arith, length-drop}
 use Rattle.std.proofs.lemmas.List.{take-take, take_rest}
+use Rattle.std.proofs.lemmas.Option.{MatchOption-at_some}
 use lib.Count.{count_trailing_zeros}
 use Rattle.ini_text.proofs.StringLemmas.LaneLemmas.{Tells-none, Tells-past, stops_at}
 use Rattle.ini_text.proofs.WriteLemmas.MarkedByteLemmas.{grown_front, held_more, kept_front, marked_escaped-behind, marked_escaped-run, placed_none, placed_run}
 use Rattle.ini_text.specs.Inside.Verbatim.{marked_escaped}
 use Rattle.ini_text.specs.Escaping.EscapedTexts.{escape}
+use Rattle.ini_text.proofs.write.gather.Gatherer.hold_lanes.Goals.{then-lanes-test+else-len, else-lanes-test}
+use Rattle.ini_text.proofs.write.gather.Gatherer.hold_lanes.Goals.{then-lanes-test+then-len+else-known-eq0+in_default}
 use Rattle.ini_text.proofs.write.gather.Gatherer.hold_lanes.Goals as goal
 
 pub lanes-preserved-then-known-eq0 : goal.lanes-preserved-then-known-eq0
@@ -41,8 +44,8 @@ overflow_shr-known g c = let stops =
     stops_at (g.M.Marks.is_marked c.args.marks.now) c.lanes.rest.now c.marks_ahead-known.ensures.tells
     (omega arith) in omega (arith, stops.below)
 
-pub place_escape-len-requires : goal.place_escape-len-requires
-place_escape-len-requires g c = let stops =
+pub place_letter-requires : goal.place_letter-requires
+place_letter-requires g c = let stops =
     stops_at (g.M.Marks.is_marked c.args.marks.now) c.lanes.rest.now c.marks_ahead-known.ensures.tells
     (omega arith) in omega (arith, stops.below)
 
@@ -64,11 +67,13 @@ lanes-preserved g c =
     let stops = stops_at p rest c.marks_ahead-known.ensures.tells (omega arith) in
     let piece = escape c.from.result in
     let left = take_rest rest (run + 1) in
+    let placed = MatchOption-at_some _ _ _ c.in-Some.is c.place_letter.ensures.placed in
+    let end = MatchOption-at_some _ _ _ c.in-Some.is c.place_letter.ensures.end in
     let next = marked_escaped-behind p rest run stops
     ∙ ap (λ b. (take run rest ++ escape b) ++ marked_escaped p (drop (run + 1) rest)) (sym c.from.ensures) in
     let grown = placed_run c.lanes.len run _ c.lanes.self.bytes rest
-    c.place_lanes.new.bytes c.place_escape-len.new.bytes piece (omega (arith, stops.below))
-    (c.place_lanes.ensures.placed run (omega (arith, stops.below))) c.place_escape-len.ensures.placed in
+    c.place_lanes.new.bytes c.place_letter.new.bytes piece (omega (arith, stops.below))
+    (c.place_lanes.ensures.placed run (omega (arith, stops.below))) placed in
     let kept =
     placed_none c.lanes.len c.lanes.self.bytes c.place_lanes.new.bytes
     (c.place_lanes.ensures.placed 0 (omega arith)) in
@@ -78,12 +83,41 @@ lanes-preserved g c =
           (next ∙ ap (λ l. (take run rest ++ piece) ++ marked_escaped p l) (sym left))
           c.lanes.invariant.held;
       front = kept_front start (c.lanes.len + run) _ _ (omega (arith, c.lanes.invariant.longer))
-          (grown_front (c.lanes.len + run) _ _ _ piece (omega (arith, stops.below))
-          c.place_escape-len.ensures.longer
-          c.place_escape-len.ensures.placed) ∙ kept_front start c.lanes.len _ _ c.lanes.invariant.longer kept
+          (grown_front (c.lanes.len + run) _ _ _ piece (omega (arith, stops.below)) (omega (arith, end))
+          placed) ∙ kept_front start c.lanes.len _ _ c.lanes.invariant.longer kept
           ∙ c.lanes.invariant.front;
-      longer = omega (arith, c.lanes.invariant.longer, c.place_escape-len.ensures.longer);
-      within = omega (arith, stops.below, c.place_escape-len.ensures.within);
+      longer = omega (arith, c.lanes.invariant.longer, end);
+      within = omega (arith, stops.below, end);
       known = Tells-past p (run + 1) c.marks_ahead-known.ensures.tells left;
       shorter = omega (arith, ap length left, length-drop (run + 1) rest, c.lanes.invariant.shorter);
     }
+
+pub returns-clause-held : goal.returns-clause-held
+returns-clause-held g c =
+    let p = g.M.Marks.is_marked c.args.marks.now in
+    elim c.lanes-test.branch [
+      | then-lanes-test+else-len w ↦ rw w.self-is c.lanes.invariant.held
+      | else-lanes-test w ↦ rw w.self-is c.lanes.invariant.held
+      | then-lanes-test+then-len+else-known-eq0+in_default w ↦
+          let same = w.place_letter.ensures.untouched w.in_default.is in
+          let kept = placed_none c.lanes.len c.lanes.self.bytes w.place_lanes.new.bytes
+          (w.place_lanes.ensures.placed 0 (omega arith)) in
+          rw w.self-is
+          (ap (λ l. take c.lanes.len l ++ marked_escaped p c.lanes.rest.now) same
+          ∙ ap (λ l. l ++ marked_escaped p c.lanes.rest.now) kept ∙ c.lanes.invariant.held)
+    ]
+
+pub returns-clause-front : goal.returns-clause-front
+returns-clause-front g c =
+    elim c.lanes-test.branch [
+      | then-lanes-test+else-len w ↦ rw w.self-is c.lanes.invariant.front
+      | else-lanes-test w ↦ rw w.self-is c.lanes.invariant.front
+      | then-lanes-test+then-len+else-known-eq0+in_default w ↦
+          let same = w.place_letter.ensures.untouched w.in_default.is in
+          let kept = placed_none c.lanes.len c.lanes.self.bytes w.place_lanes.new.bytes
+          (w.place_lanes.ensures.placed 0 (omega arith)) in
+          rw w.self-is
+          (ap (take c.args.self.now.len) same
+          ∙ kept_front c.args.self.now.len c.lanes.len _ _ c.lanes.invariant.longer kept
+          ∙ c.lanes.invariant.front)
+    ]
