@@ -74,8 +74,8 @@ fn write_hunk(
     let mut diff = Vec::new(alloc);
     let head = head_of(alloc, from, to, first, count_lines(gone), count_lines(come))?;
     diff.extend_from_slice(head.as_bytes())?;
-    put_lines(&mut diff, b'-', gone)?;
-    put_lines(&mut diff, b'+', come)?;
+    add_signed_lines(&mut diff, b'-', gone)?;
+    add_signed_lines(&mut diff, b'+', come)?;
     Ok(diff)
 }
 
@@ -140,22 +140,22 @@ fn head_of(
     Ok(format!(in alloc; "--- {from}\n+++ {to}\n@@ -{gone_at},{gone} +{come_at},{come} @@\n")?)
 }
 
-// Puts lines last, each behind the sign.
-fn put_lines(diff: &mut Vec<u8>, sign: u8, lines: &[u8]) -> Result<(), Error>
+// Adds lines, each behind the sign.
+fn add_signed_lines(diff: &mut Vec<u8>, sign: u8, lines: &[u8]) -> Result<(), Error>
     ensures put { OnOk result (diff.new.items
         ≡ diff.old.items ++ flat_map (signed_line sign) (lines_of lines.now)) }
     ensures only { IsOkUnless result (Memory alloc_error) }
 {
     let mut rest = lines;
     'lines: while let Some((line, behind)) = split_first_line(rest) {
-        put_line(diff, sign, line)?;
+        add_signed_line(diff, sign, line)?;
         rest = behind;
     }
     Ok(())
 }
 
-// Puts a line last, behind the sign.
-fn put_line(diff: &mut Vec<u8>, sign: u8, line: &[u8]) -> Result<(), Error>
+// Adds a line behind the sign.
+fn add_signed_line(diff: &mut Vec<u8>, sign: u8, line: &[u8]) -> Result<(), Error>
     ensures put { OnOk result (diff.new.items ≡ diff.old.items ++ signed_line sign line.now) }
     ensures only { IsOkUnless result (Memory alloc_error) }
 {

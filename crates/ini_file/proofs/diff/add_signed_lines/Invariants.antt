@@ -1,6 +1,6 @@
 use Rattle.std.proofs.Common.{◌≡◌, ◌++◌, flat_map, length}
 use Rattle.ini_file.specs.Diffs.{lines_of, signed_line}
-use Rattle.ini_file.proofs.diff.put_lines.Given as goal
+use Rattle.ini_file.proofs.diff.add_signed_lines.Given as goal
 
 abbrev pub invariant-lines : goal.invariant-lines
 invariant-lines l =
