@@ -21,7 +21,8 @@ pub struct Desk {
     other: Ini,
 }
 
-fn name_of(token: &Token) -> Result<Option<&str>, Error> {
+/// The name that a row has: `general`, or a text.
+pub fn name_of(token: &Token) -> Result<Option<&str>, Error> {
     match token {
         Token::Word(word) if word.as_str() == "general" => Ok(None),
         token => Ok(Some(text_of(token)?)),

@@ -1,5 +1,5 @@
 //! Replays cases: rows of files, each with the answer that it wants beside it, asked of the public calls of
-//! `ini`.
+//! `ini` and `ini_edit`.
 //!
 //! The words of the program name the files. It prints each row that answers something else or can't be
 //! read, and last the number of rows and of those.
@@ -12,6 +12,7 @@
 #![tactic(auto)]
 
 mod document;
+mod edit;
 mod file;
 mod option;
 mod places;

@@ -41,9 +41,9 @@ fn policy_of(name: &str) -> Option<EscapePolicy> {
 }
 
 // The separators that cases write by; an option keeps one for the whole run.
-const SEPARATORS: [&'static str; 15] = [
+const SEPARATORS: [&'static str; 16] = [
     "=", ":", " = ", ": ", "\t: \t", "", " ", "==", " :=", "x=", "= x", "=x", "=\n", "\n=",
-    "\u{a0}=",
+    "\u{a0}=", "-",
 ];
 
 fn separator_of(text: &[u8]) -> Option<&'static str> {

@@ -4,7 +4,7 @@ use crate::option::Options;
 use crate::plain::count_over;
 use crate::properties::List;
 use crate::token::{Token, tokens, unreadable};
-use crate::{file, text};
+use crate::{edit, file, text};
 use ini::Error;
 use std::alloc::Global;
 use std::mem;
@@ -81,6 +81,7 @@ impl Question {
     fn answer(&self, rt: &HostRuntime, row: &[Token]) -> Result<String, Error> {
         let asks = self.asks.as_str();
         match row {
+            row if asks == "edit" => edit::answer(rt.alloc(), row, &self.options),
             [Token::Text(bytes)] if asks.contains("_file") => {
                 file::answer(rt, asks, bytes.as_slice(), &self.options)
             }
