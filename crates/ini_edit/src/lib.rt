@@ -25,8 +25,6 @@ mod section;
 mod section_deletion;
 mod section_renaming;
 mod setting;
-#[cfg(test)]
-mod tests;
 mod text;
 mod walk;
 

@@ -1,99 +1,18 @@
 //! Edits of random texts by random options: the new text loads as the edited document.
-use super::{Change, options_of, shown};
-use crate::{EditError, add, delete, set, set_existing};
+use crate::random::Random;
+use crate::show::{options_of, shown};
 use ini::{Error, EscapePolicy, Ini, LineSeparator, ParseOption, WriteOption};
+use ini_edit::{EditError, add, delete, set, set_existing};
 use std::alloc::Global;
 use std::process::Abort;
 use std::test::Fail;
 
-/// Numbers that look random, the same in each run.
-#[derive(Drop)]
-pub(super) struct Random {
-    state: u64,
-}
-
-impl Random {
-    /// The numbers that begin with this state, which isn't 0.
-    pub(super) fn new(state: u64) -> Self {
-        Random { state }
-    }
-
-    /// The next number, of sixteen bits.
-    pub(super) fn next(&mut self) -> u64 {
-        let mut x = self.state;
-        x ^= x << 13;
-        x ^= x >> 7;
-        x ^= x << 17;
-        self.state = x;
-        (x >> 24) & 0xFFFF
-    }
-
-    pub(super) fn is_even(&mut self) -> bool {
-        self.next() & 1 == 0
-    }
-
-    /// One of the pieces.
-    pub(super) fn piece(&mut self, pieces: &[&'static str]) -> &'static str {
-        let mut chosen = "";
-        let mut most = 0;
-        for piece in pieces {
-            let number = self.next();
-            if number >= most {
-                most = number;
-                chosen = *piece;
-            }
-        }
-        chosen
-    }
-
-    /// Some of the options' letters.
-    pub(super) fn letters(&mut self, alloc: Global) -> Result<String, Error> {
-        let mut letters = String::new(alloc);
-        for letter in &["q", "e", "m", "k", "b"] {
-            if self.is_even() {
-                letters.push_str(letter)?;
-            }
-        }
-        Ok(letters)
-    }
-
-    /// A text of some pieces of which INI files are made.
-    pub(super) fn text(&mut self, alloc: Global) -> Result<String, Error> {
-        let mut text = String::new(alloc);
-        text.push_str(self.piece(&["", "k=v\n", "[a]k=v", "[a]\nk=v\n"]))?;
-        for _ in 0..10 {
-            text.push_str(self.piece(&[
-                "k=v",
-                "k=",
-                "j=w",
-                "k",
-                "=",
-                ":",
-                " ",
-                "\t",
-                "\n",
-                "\n",
-                "\r",
-                "\r\n",
-                "\n ",
-                "[a]",
-                "[a]\n",
-                "[",
-                "#c",
-                "\n#c\n",
-                ";",
-                "\\",
-                "\\\n",
-                "\"",
-                "'v'",
-                "\u{a0}",
-                "\"\"\n",
-                "k='v' \n",
-                "k=\"a\\\"b\"",
-            ]))?;
-        }
-        Ok(text)
-    }
+/// An edit of a document.
+#[derive(Clone, Copy, Debug)]
+enum Change {
+    Set(Option<&'static str>, &'static str, &'static str),
+    Add(Option<&'static str>, &'static str, &'static str),
+    Delete(Option<&'static str>, &'static str),
 }
 
 /// What the document shows once it is edited, or nothing where the text is refused.

@@ -1,8 +1,8 @@
 //! Sections of random texts by random options: the new text loads as the edited document.
-use super::random::Random;
-use super::{loaded, options_of, shown, told};
-use crate::{EditError, delete_section};
+use crate::random::Random;
+use crate::show::{loaded, options_of, shown, told};
 use ini::{Error, Ini};
+use ini_edit::{EditError, delete_section};
 use std::alloc::Global;
 use std::process::Abort;
 use std::test::Fail;

@@ -1,6 +1,6 @@
 //! The examples of the page on editing, docs/EDITING.md, and its first table.
-use crate::{Edit, EditError, EditedText, RefusedEdit, make_edits, set};
 use ini::{ParseOption, WriteOption};
+use ini_edit::{Edit, EditError, EditedText, RefusedEdit, make_edits, set};
 use std::alloc::Global;
 use std::test::Fail;
 
@@ -10,9 +10,9 @@ fn with_port(alloc: Global, text: &str, port: &str) -> Result<String, EditError>
     set(alloc, text, read, &write, Some("server"), "port", port)
 }
 
-#[test]
-fn a_port(rt: HostRuntime) -> Result<(), Fail> {
-    for (text, want) in &[
+/// Texts, and what each is with the port set.
+fn ports() -> &'static [(&'static str, &'static str)] {
+    &[
         (
             "[server]\n  port\t= 80   \n# of the proxy\n",
             "[server]\n  port\t= 443   \n# of the proxy\n",
@@ -25,7 +25,12 @@ fn a_port(rt: HostRuntime) -> Result<(), Fail> {
         ("[server] port=80\r\n", "[server] port=443\r\n"),
         ("[server]\nhost=h\n", "[server]\nhost=h\nport=443\n"),
         ("host=h\n", "host=h\n\n[server]\nport=443\n"),
-    ] {
+    ]
+}
+
+#[test]
+fn a_port(rt: HostRuntime) -> Result<(), Fail> {
+    for (text, want) in ports() {
         let Ok(is) = with_port(rt.alloc(), text, "443") else {
             panic!(&rt; "{text:?} is refused");
         };

@@ -1,10 +1,10 @@
 //! Lists of edits: the bytes of the new text, which edits found something, and which was refused.
-use super::{options_of, told};
-use crate::{
+use crate::show::{options_of, told};
+use ini::{Error, WriteOption};
+use ini_edit::{
     Edit, EditError, add, delete, delete_section, make_edits, rename_key, rename_section, set,
     set_existing,
 };
-use ini::{Error, WriteOption};
 use std::alloc::Global;
 use std::process::Abort;
 use std::test::Fail;
@@ -189,6 +189,28 @@ fn by_call(alloc: Global, text: &str, edit: Edit<'_>) -> Result<Option<String>, 
     }
 }
 
+/// What a list of the edit alone is to answer.
+fn answer_of_one(alloc: Global, text: &str, edit: Edit<'_>) -> Result<String, Error> {
+    match by_call(alloc, text, edit) {
+        Ok(Some(new)) => Ok(format!(in alloc; "{new}|+")?),
+        Ok(None) => Ok(format!(in alloc; "{text}|-")?),
+        Err(refusal) => {
+            let why = told(alloc, Err(refusal))?;
+            Ok(format!(in alloc; "edit 0: {why}")?)
+        }
+    }
+}
+
+/// Asks that a list of the edit alone answers as its call does.
+fn expect_its_call(
+    rt: &(impl Abort + AllocGlobal),
+    text: &str,
+    edit: Edit<'_>,
+) -> Result<(), Fail> {
+    let want = answer_of_one(rt.alloc(), text, edit)?;
+    expect(rt, text, &[edit], want.as_str())
+}
+
 #[test]
 fn a_list_of_one_edit_is_its_call(rt: HostRuntime) -> Result<(), Fail> {
     let (name, key, value) = (Some("a"), "k", "x\ty");
@@ -217,15 +239,7 @@ fn a_list_of_one_edit_is_its_call(rt: HostRuntime) -> Result<(), Fail> {
         "[a]\nk=1\n[b",
     ] {
         for edit in &edits {
-            let want = match by_call(rt.alloc(), text, *edit) {
-                Ok(Some(new)) => format!(in rt.alloc(); "{new}|+")?,
-                Ok(None) => format!(in rt.alloc(); "{text}|-")?,
-                Err(refusal) => {
-                    let why = told(rt.alloc(), Err(refusal))?;
-                    format!(in rt.alloc(); "edit 0: {why}")?
-                }
-            };
-            expect(&rt, text, &[*edit], want.as_str())?;
+            expect_its_call(&rt, text, *edit)?;
         }
     }
     Ok(())
