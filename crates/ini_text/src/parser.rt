@@ -154,16 +154,16 @@ fn find_item<'a>(
     scratch: &mut String,
     text: &'a str,
     start: &'a str,
-    option: ParseOption,
+    read: ParseOption,
 ) -> Result<(Option<Item>, &'a str), Stop<'a>>
     requires { IsRest (chars text.now) (chars start.now) }
-    ensures item { FindsItem option (chars text.now) (chars start.now) result }
+    ensures item { FindsItem read (chars text.now) (chars start.now) result }
     ensures ended { chars start.now ≡ [] → IsOkAnd result (λ p. p.0 ≡ None) }
 {
     let mut rest = start;
     'elements: while let Some((c, after)) = split_first(rest) {
         let front = front_before(text, rest);
-        let (given, end) = read_element(alloc, scratch, front, rest, c, after, option)?;
+        let (given, end) = read_element(alloc, scratch, front, rest, c, after, read)?;
         if let Some(item) = given {
             return Ok((Some(item), end));
         }

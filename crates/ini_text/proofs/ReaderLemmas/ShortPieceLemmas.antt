@@ -120,7 +120,7 @@ twice : (b : Bool) → b ≡ not (not b)
 twice true = refl
 twice false = refl
 
--- bits of the bytes at which a string stops
+-- bits of the bytes at which a run of characters ends
 to_marks : (ends : Endpoints) (three : Three)
     → ((c : ℕ) → is_raw (ends_of ends) c ≡ not (is_one_of three.0 three.1 three.2 c)) → (c : ℕ)
     → not (is_raw (ends_of ends) c) ≡ is_one_of three.0 three.1 three.2 c

@@ -25,14 +25,14 @@ pub(crate) fn read_element<'a>(
     text: &'a str,
     c: char,
     after: &'a str,
-    option: ParseOption,
+    read: ParseOption,
 ) -> Result<(Option<Item>, &'a str), Stop<'a>>
     requires { chars text.now ≡ c ∷ chars after.now }
-    ensures { Gives given result (element option (chars front.now) (chars text.now)) }
+    ensures { Gives given result (element read (chars front.now) (chars text.now)) }
 {
     if Class::Blank.contains(c) {
         if starts_line(front) {
-            return read_indented(alloc, scratch, text, option);
+            return read_indented(alloc, scratch, text, read);
         }
         return Ok((None, after));
     }
@@ -50,7 +50,7 @@ pub(crate) fn read_element<'a>(
         return Ok((None, after_first(skip_line(after))));
     }
     if c == '[' {
-        return read_header(alloc, scratch, after, option);
+        return read_header(alloc, scratch, after, read);
     }
-    read_unindented(alloc, scratch, text, option)
+    read_unindented(alloc, scratch, text, read)
 }

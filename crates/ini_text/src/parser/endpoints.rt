@@ -35,7 +35,7 @@ impl Endpoints {
         }
     }
 
-    /// The bytes at which a string stops: a backslash, and the characters at which it ends.
+    /// The bytes at which a run of characters ends: a backslash, and the characters at which the string ends.
     #[tactic(auto, using(crate::proofs::StringLemmas::LaneLemmas::no_marks))]
     pub(crate) fn marks(self) -> Three
         ensures { (c : ℕ) → is_raw (ends_of self) c ≡ not (is_one_of result.0 result.1 result.2 c) }
@@ -81,7 +81,7 @@ fn run_len(bytes: &[u8], ends: Endpoints) -> usize
 pub(crate) fn split_run(text: &str, ends: Endpoints) -> (&str, &str)
     ensures parts { chars text.now ≡ chars result.0.now ++ chars result.1.now }
     ensures run { list_all (is_raw (ends_of ends)) (chars result.0.now) ≡ true }
-    ensures stops { BeginsWithNo (is_raw (ends_of ends)) (chars result.1.now) }
+    ensures next { BeginsWithNo (is_raw (ends_of ends)) (chars result.1.now) }
 {
     text.split_at(run_len(text.as_bytes(), ends))
 }

@@ -21,18 +21,18 @@ pub(crate) fn read_header<'a>(
     alloc: Global,
     scratch: &mut String,
     text: &'a str,
-    option: ParseOption,
+    read: ParseOption,
 ) -> Result<(Option<Item>, &'a str), Stop<'a>>
-    ensures { Gives given result (behind_bracket option (chars text.now)) }
+    ensures { Gives given result (behind_bracket read (chars text.now)) }
 {
-    if option.enabled_brackets_in_section_names {
-        return read_bracketed_header(alloc, text, option);
+    if read.enabled_brackets_in_section_names {
+        return read_bracketed_header(alloc, text, read);
     }
     let (name, rest) = read_trimmed(
         alloc,
         scratch,
         text,
-        option.enabled_escape,
+        read.enabled_escape,
         Endpoints::Name,
         true,
     )?;
@@ -44,16 +44,16 @@ pub(crate) fn read_header<'a>(
 fn read_bracketed_header<'a>(
     alloc: Global,
     text: &'a str,
-    option: ParseOption,
+    read: ParseOption,
 ) -> Result<(Option<Item>, &'a str), Stop<'a>>
     ensures { Gives given result
-        (bracketed_header (string option.enabled_escape bracketed_name_ends (chars text.now))) }
+        (bracketed_header (string read.enabled_escape bracketed_name_ends (chars text.now))) }
 {
     let mut line = String::new(alloc);
     let rest = read_string(
         &mut line,
         text,
-        option.enabled_escape,
+        read.enabled_escape,
         Endpoints::BracketedName,
     )?;
     let Some(before) = before_bracket(line.as_str()) else {

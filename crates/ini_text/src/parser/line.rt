@@ -15,11 +15,11 @@ use crate::text::{after_first, split_first, trim_from};
 use std::alloc::Global;
 
 /// Where the quoted part that begins here ends, and what follows its mark.
-fn split_quote_mark(text: &str, option: ParseOption) -> Option<(Endpoints, &str)>
-    ensures { quote_at option (chars text.now) ≡ option_map (λ p. (ends_of p.0, chars p.1.now)) result }
+fn split_quote_mark(text: &str, read: ParseOption) -> Option<(Endpoints, &str)>
+    ensures { quote_at read (chars text.now) ≡ option_map (λ p. (ends_of p.0, chars p.1.now)) result }
 {
     let (c, after) = split_first(text)?;
-    if !option.enabled_quote {
+    if !read.enabled_quote {
         return None;
     }
     match c {
@@ -35,22 +35,22 @@ pub(crate) fn read_first_line<'a>(
     alloc: Global,
     scratch: &mut String,
     text: &'a str,
-    option: ParseOption,
+    read: ParseOption,
 ) -> Result<(String, &'a str), Stop<'a>>
-    ensures { Gives string_text result (line option true (chars text.now)) }
+    ensures { Gives string_text result (line read true (chars text.now)) }
 {
-    match split_quote_mark(text, option) {
+    match split_quote_mark(text, read) {
         None => read_trimmed(
             alloc,
             scratch,
             text,
-            option.enabled_escape,
+            read.enabled_escape,
             Endpoints::Plain,
             true,
         ),
         Some(_) => {
             scratch.clear();
-            let end = read_line(alloc, scratch, text, option, true)?;
+            let end = read_line(alloc, scratch, text, read, true)?;
             Ok((String::from_str(alloc, scratch.as_str())?, end))
         }
     }
@@ -63,21 +63,21 @@ pub(crate) fn read_line<'a>(
     alloc: Global,
     out: &mut String,
     text: &'a str,
-    option: ParseOption,
+    read: ParseOption,
     is_first: bool,
 ) -> Result<&'a str, Stop<'a>>
     ensures { Appends (string_text out.new) result
-        (prepend (string_text out.old) (line option is_first (chars text.now))) }
+        (prepend (string_text out.old) (line read is_first (chars text.now))) }
 {
     let mut rest = text;
     let mut is_quoted = false;
-    'parts: while let Some((ends, after)) = split_quote_mark(rest, option) {
-        let end = read_string(out, after, option.enabled_escape, ends)?;
+    'parts: while let Some((ends, after)) = split_quote_mark(rest, read) {
+        let end = read_string(out, after, read.enabled_escape, ends)?;
         rest = after_first(end);
         is_quoted = true;
     }
     let start = out.len();
-    let end = read_string(out, rest, option.enabled_escape, Endpoints::Plain)?;
+    let end = read_string(out, rest, read.enabled_escape, Endpoints::Plain)?;
     trim_from(alloc, out, start, is_first && !is_quoted)?;
     Ok(end)
 }

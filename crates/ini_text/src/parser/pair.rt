@@ -27,20 +27,20 @@ pub(crate) fn read_unindented<'a>(
     alloc: Global,
     scratch: &mut String,
     text: &'a str,
-    option: ParseOption,
+    read: ParseOption,
 ) -> Result<(Option<Item>, &'a str), Stop<'a>>
-    ensures { Gives given result (unindented_pair option (chars text.now)) }
+    ensures { Gives given result (unindented_pair read (chars text.now)) }
 {
-    let both = !option.enabled_preserve_key_leading_whitespace;
+    let both = !read.enabled_preserve_key_leading_whitespace;
     let (key, rest) = read_trimmed(
         alloc,
         scratch,
         text,
-        option.enabled_escape,
+        read.enabled_escape,
         Endpoints::Key,
         both,
     )?;
-    read_pair(alloc, scratch, key, rest, option)
+    read_pair(alloc, scratch, key, rest, read)
 }
 
 // gap / 1*blank key separator value / dropped-tail, where blanks begin a line
@@ -49,10 +49,10 @@ pub(crate) fn read_indented<'a>(
     alloc: Global,
     scratch: &mut String,
     text: &'a str,
-    option: ParseOption,
+    read: ParseOption,
 ) -> Result<(Option<Item>, &'a str), Stop<'a>>
     ensures { Gives given result
-        (behind_blanks option (run_of is_blank (chars text.now)) (skipped is_blank (chars text.now))) }
+        (behind_blanks read (run_of is_blank (chars text.now)) (skipped is_blank (chars text.now))) }
 {
     let start = skip(text, Class::Blank);
     let Some((c, after)) = split_first(start) else {
@@ -64,21 +64,21 @@ pub(crate) fn read_indented<'a>(
     if c == '[' {
         return Ok((None, start));
     }
-    let mut key = begin_key(alloc, front_before(text, start), option)?;
-    match read_string(&mut key, start, option.enabled_escape, Endpoints::Key) {
+    let mut key = begin_key(alloc, front_before(text, start), read)?;
+    match read_string(&mut key, start, read.enabled_escape, Endpoints::Key) {
         Ok(rest) => {
-            let key = trim(alloc, key, !option.enabled_preserve_key_leading_whitespace)?;
-            read_pair(alloc, scratch, key, rest, option)
+            let key = trim(alloc, key, !read.enabled_preserve_key_leading_whitespace)?;
+            read_pair(alloc, scratch, key, rest, read)
         }
         Err(stop) => drop_tail(stop),
     }
 }
 
 /// What an indented key begins with: its blanks, where they are kept.
-fn begin_key(alloc: Global, blanks: &str, option: ParseOption) -> Result<String, AllocError>
-    ensures { IfOk result (λ key. string_text key ≡ kept_blanks option (chars blanks.now)) }
+fn begin_key(alloc: Global, blanks: &str, read: ParseOption) -> Result<String, AllocError>
+    ensures { IfOk result (λ key. string_text key ≡ kept_blanks read (chars blanks.now)) }
 {
-    if option.enabled_preserve_key_leading_whitespace {
+    if read.enabled_preserve_key_leading_whitespace {
         return String::from_str(alloc, blanks);
     }
     Ok(String::new(alloc))
@@ -106,14 +106,14 @@ fn read_pair<'a>(
     scratch: &mut String,
     key: String,
     rest: &'a str,
-    option: ParseOption,
+    read: ParseOption,
 ) -> Result<(Option<Item>, &'a str), Stop<'a>>
-    ensures { Gives given result (behind_separator option (string_text key) (drop 1 (chars rest.now))) }
+    ensures { Gives given result (behind_separator read (string_text key) (drop 1 (chars rest.now))) }
 {
     let after = after_first(rest);
     if key.is_empty() {
         return Err(Stop::new(ParseKind::MissingKey, "missing key", after));
     }
-    let (value, end) = read_value(alloc, scratch, after, option)?;
+    let (value, end) = read_value(alloc, scratch, after, read)?;
     Ok((Some(Item::Pair(key, value)), end))
 }

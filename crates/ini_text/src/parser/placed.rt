@@ -129,23 +129,23 @@ fn find_element<'a>(
     scratch: &mut String,
     text: &'a str,
     start: &'a str,
-    option: ParseOption,
+    read: ParseOption,
 ) -> Result<(Option<PlacedElement<'a>>, &'a str), Stop<'a>>
     requires { IsRest (chars text.now) (chars start.now) }
-    ensures element { FindsElement option (chars text.now) (chars start.now) result }
+    ensures element { FindsElement read (chars text.now) (chars start.now) result }
     ensures ended { chars start.now ≡ [] → IsOkAnd result (λ p. p.0 ≡ None) }
 {
     let Some((c, after)) = split_first(start) else {
         return Ok((None, start));
     };
     let front = front_before(text, start);
-    let (given, rest) = read_element(alloc, scratch, front, start, c, after, option)?;
+    let (given, rest) = read_element(alloc, scratch, front, start, c, after, read)?;
     let source = front_before(start, rest);
     let content = match given {
         None => Content::Nothing,
         Some(Item::Header(name)) => Content::Header(name),
         Some(Item::Pair(key, value)) => {
-            let places = place_pair(alloc, scratch, start, rest, option)?;
+            let places = place_pair(alloc, scratch, start, rest, read)?;
             Content::Pair(PlacedPair { key, value, places })
         }
     };
@@ -158,18 +158,18 @@ fn place_pair<'a>(
     scratch: &mut String,
     text: &'a str,
     end: &'a str,
-    option: ParseOption,
+    read: ParseOption,
 ) -> Result<PairPlaces<'a>, Stop<'a>>
-    requires { BeginsPair option (chars text.now) (chars end.now) }
+    requires { BeginsPair read (chars text.now) (chars end.now) }
     ensures { MatchResult result
-        (PlacesPair option (chars text.now) (chars end.now)) (λ stop. fault_of stop ≡ None) }
+        (PlacesPair read (chars text.now) (chars end.now)) (λ stop. fault_of stop ≡ None) }
 {
     let name = skip(text, Class::Blank);
-    let behind_key = read_string(scratch, name, option.enabled_escape, Endpoints::Key)?;
+    let behind_key = read_string(scratch, name, read.enabled_escape, Endpoints::Key)?;
     let Some((separator, after)) = split_first(behind_key) else {
         unreachable!()
     };
-    let (start, tail) = find_tail(alloc, scratch, after, option)?;
+    let (start, tail) = find_tail(alloc, scratch, after, read)?;
     let (own, pad) = split_pad(front_before(start, tail));
     Ok(PairPlaces {
         key: front_before(text, behind_key),
@@ -187,15 +187,15 @@ fn find_tail<'a>(
     alloc: Global,
     scratch: &mut String,
     text: &'a str,
-    option: ParseOption,
+    read: ParseOption,
 ) -> Result<(&'a str, &'a str), Stop<'a>>
     ensures { MatchResult result
-        (λ p. HasTail option (chars text.now) (chars p.0.now) (chars p.1.now))
-        (StopsBy (value option (chars text.now))) }
+        (λ p. HasTail read (chars text.now) (chars p.0.now) (chars p.1.now))
+        (StopsBy (value read (chars text.now))) }
 {
     let start = skip(text, Class::InlineWhite);
-    let mut tail = read_line(alloc, scratch, start, option, true)?;
-    if !option.enabled_indented_mutiline_value {
+    let mut tail = read_line(alloc, scratch, start, read, true)?;
+    if !read.enabled_indented_mutiline_value {
         return Ok((start, tail));
     }
     let Some(next) = after_line_end(tail) else {
@@ -209,13 +209,7 @@ fn find_tail<'a>(
             rest = after_cr(after)?;
         } else if Class::Blank.contains(c) {
             scratch.clear();
-            let end = read_line(
-                alloc,
-                scratch,
-                skip(rest, Class::InlineWhite),
-                option,
-                false,
-            )?;
+            let end = read_line(alloc, scratch, skip(rest, Class::InlineWhite), read, false)?;
             if let Some(_) = split_first(skip(scratch.as_str(), Class::LineFeed)) {
                 tail = end;
             }

@@ -95,8 +95,8 @@ fn split_short(text: &str, known: u64, ends: Endpoints) -> Option<(usize, char, 
         return None;
     }
     let run = bits.trailing_zeros() as usize;
-    let (_, stop) = text.split_at(run);
-    let (value, taken) = split_escape(stop)?;
+    let (_, next) = text.split_at(run);
+    let (value, taken) = split_escape(next)?;
     Some((run, value, taken, bits))
 }
 

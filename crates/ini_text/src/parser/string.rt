@@ -48,16 +48,16 @@ pub(crate) fn read_string<'a>(
 {
     let mut rest = text;
     'pieces: loop {
-        let (run, stop) = split_run(rest, ends);
+        let (run, next) = split_run(rest, ends);
         push_text(out, run)?;
-        let Some((c, after)) = split_first(stop) else {
+        let Some((c, after)) = split_first(next) else {
             if ends.contains_text_end() {
-                return Ok(stop);
+                return Ok(next);
             }
-            return Err(Stop::new(ParseKind::EndOfText, ends.expected(), stop));
+            return Err(Stop::new(ParseKind::EndOfText, ends.expected(), next));
         };
         if c != '\\' {
-            return Ok(stop);
+            return Ok(next);
         }
         let Some((d, behind)) = split_first(after) else {
             if !ends.contains_text_end() {

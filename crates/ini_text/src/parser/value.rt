@@ -21,19 +21,19 @@ pub(crate) fn read_value<'a>(
     alloc: Global,
     scratch: &mut String,
     text: &'a str,
-    option: ParseOption,
+    read: ParseOption,
 ) -> Result<(String, &'a str), Stop<'a>>
-    ensures { Gives string_text result (value option (chars text.now)) }
+    ensures { Gives string_text result (value read (chars text.now)) }
 {
     let start = skip(text, Class::InlineWhite);
-    let (mut value, end) = read_first_line(alloc, scratch, start, option)?;
-    if !option.enabled_indented_mutiline_value {
+    let (mut value, end) = read_first_line(alloc, scratch, start, read)?;
+    if !read.enabled_indented_mutiline_value {
         return Ok((value, end));
     }
     let Some(next) = after_line_end(end) else {
         return Ok((trim_line_feeds(alloc, value.as_str())?, end));
     };
-    let rest = read_more(alloc, &mut value, next, option)?;
+    let rest = read_more(alloc, &mut value, next, read)?;
     Ok((trim_line_feeds(alloc, value.as_str())?, rest))
 }
 
@@ -75,10 +75,10 @@ fn read_more<'a>(
     alloc: Global,
     out: &mut String,
     text: &'a str,
-    option: ParseOption,
+    read: ParseOption,
 ) -> Result<&'a str, Stop<'a>>
     ensures { Appends (string_text out.new) result
-        (prepend (string_text out.old) (more_lines option (chars text.now))) }
+        (prepend (string_text out.old) (more_lines read (chars text.now))) }
 {
     let mut rest = text;
     'lines: while let Some((c, after)) = split_first(rest) {
@@ -90,7 +90,7 @@ fn read_more<'a>(
             push(out, '\n')?;
         } else if Class::Blank.contains(c) {
             push(out, '\n')?;
-            let end = read_line(alloc, out, skip(rest, Class::InlineWhite), option, false)?;
+            let end = read_line(alloc, out, skip(rest, Class::InlineWhite), read, false)?;
             let Some(next) = after_line_end(end) else {
                 return Ok(end);
             };

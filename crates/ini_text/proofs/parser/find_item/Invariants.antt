@@ -12,7 +12,7 @@ abbrev pub invariant-elements : goal.invariant-elements
 invariant-elements l = record {
   text : shadow (Utf8 l.rest);
   within : IsRest (chars l.fn.text) (chars l.rest);
-  reads : Reads l.option (chars l.fn.text) (front_of (chars l.fn.text) (chars l.fn.start)) []
+  reads : Reads l.read (chars l.fn.text) (front_of (chars l.fn.text) (chars l.fn.start)) []
       (front_of (chars l.fn.text) (chars l.rest));
   left : length (chars l.rest) ≤ length (chars l.fn.start);
   front : length (front_of (chars l.fn.text) (chars l.fn.start))

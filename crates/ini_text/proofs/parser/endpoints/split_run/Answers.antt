@@ -21,7 +21,7 @@ returns-clause-run c = run_chars (is_raw (ends_of c.args.ends)) c.args.text.now 
     c.run_len.result (raw_wide c.args.ends) c.utf8.text
     (rw (c.run_len.ensures.len, c.as_bytes.ensures.value) refl) c.split_at.ensures.front
 
-pub returns-clause-stops : goal.returns-clause-stops
-returns-clause-stops c = run_stops (is_raw (ends_of c.args.ends)) c.args.text.now c.split_at.result.1.now
+pub returns-clause-next : goal.returns-clause-next
+returns-clause-next c = run_stops (is_raw (ends_of c.args.ends)) c.args.text.now c.split_at.result.1.now
     c.run_len.result (raw_wide c.args.ends) c.utf8.text
     (rw (c.run_len.ensures.len, c.as_bytes.ensures.value) refl) c.split_at.ensures.back

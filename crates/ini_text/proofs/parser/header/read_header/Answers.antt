@@ -6,4 +6,4 @@ use Rattle.ini_text.proofs.parser.header.read_header.Goals as goal
 pub returns-in_err-name : goal.returns-in_err-name
 returns-in_err-name c =
     passed _ _ _ c.from_residual.ensures.1 c.in_err-name.ensures
-    (λ r k h. rw c.if-option.false (ap header h))
+    (λ r k h. rw c.if-read.false (ap header h))

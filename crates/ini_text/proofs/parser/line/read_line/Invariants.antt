@@ -12,7 +12,7 @@ decreases-parts l = length (chars l.rest)
 abbrev pub invariant-parts : goal.invariant-parts
 invariant-parts l = record {
   text : shadow (Utf8 l.rest);
-  read : prepend (string_text l.fn.out) (parts l.option (chars l.fn.text))
-      ≡ prepend (string_text l.out) (parts l.option (chars l.rest));
-  quoted : opens_quote l.option (chars l.fn.text) ≡ (l.is_quoted || opens_quote l.option (chars l.rest));
+  read : prepend (string_text l.fn.out) (parts l.read (chars l.fn.text))
+      ≡ prepend (string_text l.out) (parts l.read (chars l.rest));
+  quoted : opens_quote l.read (chars l.fn.text) ≡ (l.is_quoted || opens_quote l.read (chars l.rest));
 }

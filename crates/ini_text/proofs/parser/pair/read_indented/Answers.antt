@@ -14,7 +14,7 @@ front_before-requires c = (blanks_front c.skip-start.ensures).1
 
 pub returns-in-Ok : goal.returns-in-Ok
 returns-in-Ok c =
-    let o = c.args.option in
+    let o = c.args.read in
     let w = run_of is_blank (chars c.args.text.now) in
     let start = chars c.skip-start.result.now in
     let read =
@@ -30,7 +30,7 @@ returns-in-Ok c =
 
 pub returns : goal.returns
 returns c =
-    let o = c.args.option in
+    let o = c.args.read in
     let w = run_of is_blank (chars c.args.text.now) in
     let start = chars c.skip-start.result.now in
     let read =

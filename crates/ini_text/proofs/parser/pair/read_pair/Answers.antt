@@ -23,8 +23,8 @@ returns-in_err-value c =
     (λ none. true≢false
     (sym (eq-eqb _ 0 (c.args.key.bytes.ok.0 ∙ none)) ∙ sym c.is_empty.ensures ∙ c.if-is_empty.false)) in
     passed _ _ _ c.from_residual.ensures.1 c.in_err-value.ensures λ r k h.
-    ap (behind_separator c.args.option (string_text c.args.key)) (sym c.after_first-after.ensures)
-    ∙ behind_key c.args.option _ _ some ∙ ap (pair_of_value (string_text c.args.key)) h
+    ap (behind_separator c.args.read (string_text c.args.key)) (sym c.after_first-after.ensures)
+    ∙ behind_key c.args.read _ _ some ∙ ap (pair_of_value (string_text c.args.key)) h
 
 pub returns : goal.returns
 returns c =
@@ -32,6 +32,6 @@ returns c =
     some_characters (string_bytes c.args.key) (IsUtf8-string_bytes c.args.key)
     (λ none. true≢false
     (sym (eq-eqb _ 0 (c.args.key.bytes.ok.0 ∙ none)) ∙ sym c.is_empty.ensures ∙ c.if-is_empty.false)) in
-    ap (behind_separator c.args.option (string_text c.args.key)) (sym c.after_first-after.ensures)
-    ∙ behind_key c.args.option _ _ some
+    ap (behind_separator c.args.read (string_text c.args.key)) (sym c.after_first-after.ensures)
+    ∙ behind_key c.args.read _ _ some
     ∙ ap (pair_of_value (string_text c.args.key)) c.in_ok-value.ensures

@@ -5,4 +5,4 @@ use Rattle.ini_text.proofs.parser.pair.read_unindented.Goals as goal
 
 pub returns-in_err-key : goal.returns-in_err-key
 returns-in_err-key c =
-    passed _ _ _ c.from_residual.ensures.1 c.in_err-key.ensures (λ r k h. ap (pair_of_key c.args.option) h)
+    passed _ _ _ c.from_residual.ensures.1 c.in_err-key.ensures (λ r k h. ap (pair_of_key c.args.read) h)

@@ -11,5 +11,5 @@ abbrev pub invariant-lines : goal.invariant-lines
 invariant-lines l = record {
   tail_text : shadow (Utf8 l.tail);
   text : shadow (Utf8 l.rest);
-  known : TailSoFar l.option (chars l.text) (chars l.start) (chars l.tail) (chars l.rest);
+  known : TailSoFar l.read (chars l.text) (chars l.start) (chars l.tail) (chars l.rest);
 }

@@ -32,7 +32,7 @@ pub returns-then-c-ne92 : goal.returns-then-c-ne92
 returns-then-c-ne92 c =
     and_found _ (and_more _ _ _ c.pieces.invariant.read
     (string_run _ _ _ _ c.split_run.ensures.parts c.split_run.ensures.run) c.in_ok-push_text.ensures)
-    (string_at_endpoint _ _ c.in-Some.ensures.characters c.if-c-ne92.true c.split_run.ensures.stops)
+    (string_at_endpoint _ _ c.in-Some.ensures.characters c.if-c-ne92.true c.split_run.ensures.next)
     (sym (append-nil _))
 
 pub returns-then-not-contains_text_end : goal.returns-then-not-contains_text_end

@@ -13,7 +13,7 @@ returns c = λ e.
     let rest = chars c.split_run.result.1.now in
     let ends : string e to rest ≡ found [] rest = elim c.match-split_first.branch [
       | in-Some+else-c-eq92 w ↦
-          string_at_endpoint e to w.in-Some.ensures.characters w.if-c-eq92.false c.split_run.ensures.stops
+          string_at_endpoint e to w.in-Some.ensures.characters w.if-c-eq92.false c.split_run.ensures.next
       | in-None+else-not-contains_text_end w ↦
           string_at_end e to w.in-None.ensures.characters (sym w.if-not-contains_text_end.false
           ∙ w.contains_text_end.ensures)

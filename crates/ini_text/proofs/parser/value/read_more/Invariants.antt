@@ -12,6 +12,6 @@ decreases-lines l = length (chars l.rest)
 abbrev pub invariant-lines : goal.invariant-lines
 invariant-lines l = record {
   text : shadow (Utf8 l.rest);
-  read : prepend (string_text l.fn.out) (more_lines l.option (chars l.fn.text))
-      ≡ prepend (string_text l.out) (more_lines l.option (chars l.rest));
+  read : prepend (string_text l.fn.out) (more_lines l.read (chars l.fn.text))
+      ≡ prepend (string_text l.out) (more_lines l.read (chars l.rest));
 }

@@ -8,23 +8,23 @@ use Rattle.ini_text.proofs.parser.value.read_value.Goals as goal
 pub returns-in_err-value : goal.returns-in_err-value
 returns-in_err-value c =
     passed _ _ _ c.from_residual.ensures.1 c.in_err-value.ensures
-    (λ r k h. value_stops c.args.option _ c.skip-start.ensures h)
+    (λ r k h. value_stops c.args.read _ c.skip-start.ensures h)
 
 pub returns-in_default : goal.returns-in_default
 returns-in_default c =
-    value_ends c.args.option _ c.skip-start.ensures c.if-not-option.false c.in_ok-value.ensures
+    value_ends c.args.read _ c.skip-start.ensures c.if-not-read.false c.in_ok-value.ensures
     c.in_default.ensures
     (c.in_ok-trim_line_feeds.ensures ∙ ap (λ b. without_outer_line_feeds (chars b)) c.as_str.ensures.value)
 
 pub returns-in_err-rest : goal.returns-in_err-rest
 returns-in_err-rest c =
     passed _ _ _ c.from_residual-in_err-rest.ensures.1 c.in_err-rest.ensures
-    (λ r k h. value_goes_on c.args.option _ c.skip-start.ensures c.if-not-option.false
+    (λ r k h. value_goes_on c.args.read _ c.skip-start.ensures c.if-not-read.false
     c.in_ok-value.ensures c.in-Some.ensures ∙ ap (altered_answer without_outer_line_feeds) h)
 
 pub returns : goal.returns
 returns c =
-    value_goes_on c.args.option _ c.skip-start.ensures c.if-not-option.false c.in_ok-value.ensures
+    value_goes_on c.args.read _ c.skip-start.ensures c.if-not-read.false c.in_ok-value.ensures
     c.in-Some.ensures
     ∙ ap (altered_answer without_outer_line_feeds) c.in_ok-rest.ensures
     ∙ ap (λ v. found v (chars c.in_ok-rest.rest.now))
