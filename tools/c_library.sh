@@ -36,14 +36,15 @@ is_built() {
     [ -f "$built" ] && [ -z "$(newer_than "$built")" ]
 }
 
-# whether `rt ci` has proved the crates below since BIGROSK_PROVED_SINCE was made, and no source is newer than that file. It leaves
-# them where there was no work of `rt lib`, and without the stamp by which `rt lib` would take them over.
+# whether `rt ci` has proved the crates below since BIGROSK_PROVED_SINCE was made, or has taken them over from an earlier run, and no
+# source is newer than that file. It leaves them where there was no work of `rt lib`, and without the stamp by which `rt lib` would
+# take them over. What it takes over it links, so that its status changes then, and its time does not.
 is_proved_below() {
     since=${BIGROSK_PROVED_SINCE:-}
     [ -n "$since" ] && [ -f "$since" ] || return 1
     for it in ini_multimap ini_text ini ini_edit; do
         made=$top/crates/$it/out/rlib
-        [ -n "$(find "$made/$it.rlib/format" -newer "$since" 2>/dev/null)" ] && [ ! -f "$made/stamp" ] || return 1
+        [ -n "$(find "$made/$it.rlib/format" -cnewer "$since" 2>/dev/null)" ] && [ ! -f "$made/stamp" ] || return 1
     done
     [ -z "$(newer_than "$since")" ]
 }
