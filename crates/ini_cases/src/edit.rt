@@ -8,8 +8,8 @@ use crate::show::{load, sections};
 use crate::token::{Token, text_of, unreadable};
 use ini::{Error, Ini, ParseOption};
 use ini_edit::{
-    Edit, EditError, add, delete, delete_section, find_pair, rename_key, rename_section, set,
-    set_existing,
+    Edit, EditError, add, delete, delete_section, find_pair, make_edits, rename_key,
+    rename_section, set, set_existing,
 };
 use std::alloc::Global;
 
@@ -80,6 +80,24 @@ fn by_call(
     }
 }
 
+// What a list of the edit alone answers: none where it finds nothing, and the text stays.
+fn by_list(
+    alloc: Global,
+    text: &str,
+    edit: Edit<'_>,
+    options: &Options,
+) -> Result<Option<String>, EditError> {
+    match make_edits(alloc, text, options.reading, &options.writing(), &[edit]) {
+        Ok(new) => match new.found.as_slice() {
+            [true] => Ok(Some(new.text)),
+            [false] if new.text.as_str() == text => Ok(None),
+            _ => Err(EditError::Text(unreadable("another list"))),
+        },
+        Err(refused) if refused.index == 0 => Err(refused.refusal),
+        Err(_) => Err(EditError::Text(unreadable("another edit's refusal"))),
+    }
+}
+
 // Makes the edit in a document, by the document's own calls.
 fn edit_document(document: &mut Ini, edit: Edit<'_>) -> Result<(), Error> {
     match edit {
@@ -126,11 +144,17 @@ fn by_hand(
 }
 
 // The new text, which has to load as the edited document; or why there is none.
-fn new_text(alloc: Global, text: &str, edit: Edit<'_>, options: &Options) -> Result<String, Error> {
-    match by_call(alloc, text, edit, options) {
+fn told(
+    alloc: Global,
+    text: &str,
+    edit: Edit<'_>,
+    read: ParseOption,
+    answer: Result<Option<String>, EditError>,
+) -> Result<String, Error> {
+    match answer {
         Ok(Some(new)) => {
-            let want = edited(alloc, text, edit, options.reading)?;
-            let is = load(alloc, new.as_str(), options.reading)?;
+            let want = edited(alloc, text, edit, read)?;
+            let is = load(alloc, new.as_str(), read)?;
             if is == want {
                 Ok(new)
             } else {
@@ -140,6 +164,18 @@ fn new_text(alloc: Global, text: &str, edit: Edit<'_>, options: &Options) -> Res
         Ok(None) => Ok(String::from_str(alloc, "none")?),
         Err(EditError::Text(refused)) => refusal(alloc, refused),
         Err(other) => Ok(format!(in alloc; "{other:?}")?),
+    }
+}
+
+// What the edit's own call answers, if a list of the edit alone answers the same; or what each does.
+fn new_text(alloc: Global, text: &str, edit: Edit<'_>, options: &Options) -> Result<String, Error> {
+    let read = options.reading;
+    let call = told(alloc, text, edit, read, by_call(alloc, text, edit, options))?;
+    let list = told(alloc, text, edit, read, by_list(alloc, text, edit, options))?;
+    if list == call {
+        Ok(call)
+    } else {
+        Ok(format!(in alloc; "{call}, and in a list {list}")?)
     }
 }
 

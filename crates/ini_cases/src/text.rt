@@ -125,17 +125,17 @@ fn items(alloc: Global, text: &str, read: ParseOption) -> Result<String, Error> 
 }
 
 fn of_text(alloc: Global, call: &str, text: &str, options: &Options) -> Result<String, Error> {
-    let (reading, policies) = (options.reading, options.policies.as_slice());
+    let (read, policies) = (options.reading, options.policies.as_slice());
     match call {
         "load_from_str" => loaded(alloc, Ini::load_from_str(alloc, text)),
         "load_from_str_noescape" => loaded(alloc, Ini::load_from_str_noescape(alloc, text)),
-        "refuse" => refusal(alloc, text, reading),
+        "refuse" => refusal(alloc, text, read),
         "write" | "write_to" | "write_to_policy" => writes(alloc, call, text, options),
-        "items" => items(alloc, text, reading),
-        "places" => places(alloc, text, reading),
+        "items" => items(alloc, text, read),
+        "places" => places(alloc, text, read),
         "escape" => escapes(alloc, text, policies),
         "write_escaped" => escaped(alloc, text, options.writing().escape_policy),
-        "cut_fronts" => cut_fronts(alloc, text, reading),
+        "cut_fronts" => cut_fronts(alloc, text, read),
         "should_escape" => { escaped_characters(alloc, text, options.writing().escape_policy) }
         _ => Err(unreadable("no such question")),
     }

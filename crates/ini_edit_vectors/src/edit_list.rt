@@ -1,10 +1,7 @@
 //! Lists of edits: the bytes of the new text, which edits found something, and which was refused.
 use crate::show::{options_of, told};
 use ini::{Error, WriteOption};
-use ini_edit::{
-    Edit, EditError, add, delete, delete_section, make_edits, rename_key, rename_section, set,
-    set_existing,
-};
+use ini_edit::{Edit, make_edits};
 use std::alloc::Global;
 use std::process::Abort;
 use std::test::Fail;
@@ -163,84 +160,5 @@ fn refused_edits(rt: HostRuntime) -> Result<(), Fail> {
         told.as_str() == "edit 1: this value can't be written so that it is read back",
         "{told}"
     );
-    Ok(())
-}
-
-/// What the edit's own call answers.
-fn by_call(alloc: Global, text: &str, edit: Edit<'_>) -> Result<Option<String>, EditError> {
-    let (read, write) = (options_of("qe"), WriteOption::default());
-    let policy = write.escape_policy;
-    match edit {
-        Edit::Set { name, key, value } => {
-            Ok(Some(set(alloc, text, read, &write, name, key, value)?))
-        }
-        Edit::SetExisting { name, key, value } => {
-            set_existing(alloc, text, read, policy, name, key, value)
-        }
-        Edit::Add { name, key, value } => {
-            Ok(Some(add(alloc, text, read, &write, name, key, value)?))
-        }
-        Edit::Delete { name, key } => delete(alloc, text, read, name, key),
-        Edit::RenameKey { name, old, new } => {
-            rename_key(alloc, text, read, policy, name, old, new)
-        }
-        Edit::DeleteSection { name } => delete_section(alloc, text, read, name),
-        Edit::RenameSection { old, new } => rename_section(alloc, text, read, policy, old, new),
-    }
-}
-
-/// What a list of the edit alone is to answer.
-fn answer_of_one(alloc: Global, text: &str, edit: Edit<'_>) -> Result<String, Error> {
-    match by_call(alloc, text, edit) {
-        Ok(Some(new)) => Ok(format!(in alloc; "{new}|+")?),
-        Ok(None) => Ok(format!(in alloc; "{text}|-")?),
-        Err(refusal) => {
-            let why = told(alloc, Err(refusal))?;
-            Ok(format!(in alloc; "edit 0: {why}")?)
-        }
-    }
-}
-
-/// Asks that a list of the edit alone answers as its call does.
-fn expect_its_call(
-    rt: &(impl Abort + AllocGlobal),
-    text: &str,
-    edit: Edit<'_>,
-) -> Result<(), Fail> {
-    let want = answer_of_one(rt.alloc(), text, edit)?;
-    expect(rt, text, &[edit], want.as_str())
-}
-
-#[test]
-fn a_list_of_one_edit_is_its_call(rt: HostRuntime) -> Result<(), Fail> {
-    let (name, key, value) = (Some("a"), "k", "x\ty");
-    let edits = [
-        Edit::Set { name, key, value },
-        Edit::SetExisting { name, key, value },
-        Edit::Add { name, key, value },
-        Edit::Delete { name, key },
-        Edit::RenameKey {
-            name,
-            old: key,
-            new: "j",
-        },
-        Edit::DeleteSection { name: "a" },
-        Edit::RenameSection { old: "a", new: "b" },
-        Edit::Set {
-            name,
-            key,
-            value: " ",
-        },
-    ];
-    for text in &[
-        "",
-        "k=1\r\n",
-        "[a]\n k = 1\n# c\nk=2\n[b]\n",
-        "[a]\nk=1\n[b",
-    ] {
-        for edit in &edits {
-            expect_its_call(&rt, text, *edit)?;
-        }
-    }
     Ok(())
 }

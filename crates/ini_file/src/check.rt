@@ -20,30 +20,25 @@ use std::alloc::Global;
 /// `NotUtf8`; `Parse` where reading the text stops, with its place; `Memory`. No line is made then.
 pub fn check_file(
     alloc: Global,
-    reading: ParseOption,
+    read: ParseOption,
     file: &str,
     input: &[u8],
 ) -> Result<Vec<u8>, Error>
-    ensures { IsChecked reading file.now input.now result }
+    ensures { IsChecked read file.now input.now result }
 {
     match text_of(input) {
-        Ok((_, text)) => warning_lines(alloc, reading, file, text),
+        Ok((_, text)) => warning_lines(alloc, read, file, text),
         Err(refused) => Err(refused),
     }
 }
 
 // The lines of the warnings of a text.
-fn warning_lines(
-    alloc: Global,
-    reading: ParseOption,
-    file: &str,
-    text: &str,
-) -> Result<Vec<u8>, Error>
-    ensures lines { IfOk result (λ lines. AreWarningLines reading file.now (chars text.now) lines.items) }
-    ensures fault { IfParse result (IsStopOf reading (chars text.now)) }
+fn warning_lines(alloc: Global, read: ParseOption, file: &str, text: &str) -> Result<Vec<u8>, Error>
+    ensures lines { IfOk result (λ lines. AreWarningLines read file.now (chars text.now) lines.items) }
+    ensures fault { IfParse result (IsStopOf read (chars text.now)) }
     ensures only { IfErr result IsParseOrMemory }
 {
-    let warnings = check(alloc, text, reading)?;
+    let warnings = check(alloc, text, read)?;
     lines_of(alloc, file, warnings.as_slice())
 }
 

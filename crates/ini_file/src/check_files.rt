@@ -40,12 +40,12 @@ pub fn check_files(rt: &HostRuntime, check: &Check<'_>) -> u8 {
 }
 
 // Puts the lines of a file's warnings last, or tells its refusal; and answers its status.
-fn check_one(rt: &HostRuntime, reading: ParseOption, file: &str, lines: &mut Vec<u8>) -> u8 {
+fn check_one(rt: &HostRuntime, read: ParseOption, file: &str, lines: &mut Vec<u8>) -> u8 {
     let input = match read_input(rt, file) {
         Ok(input) => input,
-        Err(refusal) => return refuse(rt, reading, file, &[], Outcome::from(refusal)),
+        Err(refusal) => return refuse(rt, read, file, &[], Outcome::from(refusal)),
     };
-    let checked = check_file(rt.alloc(), reading, file, input.as_slice());
+    let checked = check_file(rt.alloc(), read, file, input.as_slice());
     let found = status_of_check(&checked);
     let refusal = match checked {
         Ok(more) => match lines.extend_from_slice(more.as_slice()) {
@@ -54,5 +54,5 @@ fn check_one(rt: &HostRuntime, reading: ParseOption, file: &str, lines: &mut Vec
         },
         Err(refusal) => refusal,
     };
-    refuse(rt, reading, file, input.as_slice(), Outcome::from(refusal))
+    refuse(rt, read, file, input.as_slice(), Outcome::from(refusal))
 }

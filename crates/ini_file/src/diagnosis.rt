@@ -15,7 +15,7 @@ pub fn point_at<W: Write>(
     alloc: Global,
     file: &str,
     input: &[u8],
-    reading: ParseOption,
+    read: ParseOption,
     fault: &ParseError,
     err: &mut W,
 ) {
@@ -25,7 +25,7 @@ pub fn point_at<W: Write>(
     let text = text.strip_prefix('\u{feff}').unwrap_or(text);
     show(text, fault.line, fault.col.saturating_sub(1), err);
     if matches!(&fault.kind, ParseKind::EndOfText) {
-        let (line, column) = beginning(alloc, text, reading);
+        let (line, column) = beginning(alloc, text, read);
         let _ = writeln!(err, "{file}:{line}:{column}: what has no end begins here");
         show(text, line, column, err);
     }
@@ -43,8 +43,8 @@ fn show<W: Write>(text: &str, line: usize, column: usize, err: &mut W) {
 }
 
 // Where the element begins at which reading a text stops. Each element takes a character at least.
-fn beginning(alloc: Global, text: &str, reading: ParseOption) -> (usize, usize) {
-    let mut parser = Parser::new(alloc, text, reading);
+fn beginning(alloc: Global, text: &str, read: ParseOption) -> (usize, usize) {
+    let mut parser = Parser::new(alloc, text, read);
     for _ in 0..text.len() {
         match parser.next_element() {
             Ok(Some(_)) => {}

@@ -124,9 +124,9 @@ fn main(rt: HostRuntime) -> ExitCode {
     if let (Outcome::Refused(EditError::Text(Error::Parse(fault))), Some(asked)) = (
         &outcome, asked,
     ) {
-        let reading = asked.options.reading;
+        let read = asked.options.reading;
         let mut err = rt.stderr();
-        point_at(rt.alloc(), file, input.as_slice(), reading, fault, &mut err);
+        point_at(rt.alloc(), file, input.as_slice(), read, fault, &mut err);
     }
     ExitCode::from(status(&outcome))
 }

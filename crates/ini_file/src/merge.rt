@@ -69,16 +69,16 @@ fn merge_text(
 /// The documents of files; else the number of the file that has none, and why.
 pub fn load_all(
     alloc: Global,
-    reading: ParseOption,
+    read: ParseOption,
     files: &[Vec<u8>],
 ) -> Result<Vec<Ini>, (usize, Error)>
-    ensures loaded { IfOk result (λ documents. AreLoaded reading (bytes_of files.now) documents.items) }
+    ensures loaded { IfOk result (λ documents. AreLoaded read (bytes_of files.now) documents.items) }
     ensures refused { IfErr result
-        (λ refused. RefusesOther reading (bytes_of files.now) refused.0 refused.1) }
+        (λ refused. RefusesOther read (bytes_of files.now) refused.0 refused.1) }
 {
     let mut documents = Vec::new(alloc);
     for (index, file) in files.iter().enumerate() {
-        if let Err(refusal) = load_one(alloc, reading, file.as_slice(), &mut documents) {
+        if let Err(refusal) = load_one(alloc, read, file.as_slice(), &mut documents) {
             return Err((index, refusal));
         }
     }
@@ -88,24 +88,24 @@ pub fn load_all(
 // Puts the document of a file last.
 fn load_one(
     alloc: Global,
-    reading: ParseOption,
+    read: ParseOption,
     file: &[u8],
     documents: &mut Vec<Ini>,
 ) -> Result<(), Error>
-    ensures loaded { OnOk result ((document : Document) × Loads reading file.now document
+    ensures loaded { OnOk result ((document : Document) × Loads read file.now document
         × (documents.new.items ≡ documents.old.items ++ document ∷ [])) }
-    ensures refused { IfErr result (RefusesFile reading file.now) }
+    ensures refused { IfErr result (RefusesFile read file.now) }
 {
-    let document = load(alloc, reading, file)?;
+    let document = load(alloc, read, file)?;
     documents.push(document).map_err(AllocError::from)?;
     Ok(())
 }
 
 // The document of a file.
-fn load(alloc: Global, reading: ParseOption, file: &[u8]) -> Result<Ini, Error>
-    ensures loaded { IfOk result (Loads reading file.now) }
-    ensures refused { IfErr result (RefusesFile reading file.now) }
+fn load(alloc: Global, read: ParseOption, file: &[u8]) -> Result<Ini, Error>
+    ensures loaded { IfOk result (Loads read file.now) }
+    ensures refused { IfErr result (RefusesFile read file.now) }
 {
     let (_, text) = text_of(file)?;
-    Ini::load_from_str_opt(alloc, text, reading)
+    Ini::load_from_str_opt(alloc, text, read)
 }

@@ -16,7 +16,7 @@ use std::alloc::{AllocError, Global};
 ///
 /// No contract says what a disk gets; `tests/files.sh` tests it.
 pub fn merge_files(rt: &HostRuntime, merging: &Merging<'_>) -> u8 {
-    let reading = merging.options.reading;
+    let read = merging.options.reading;
     let mut others = Vec::new(rt.alloc());
     for other in merging.others {
         let refused = match read_input(rt, other.as_str()) {
@@ -27,13 +27,13 @@ pub fn merge_files(rt: &HostRuntime, merging: &Merging<'_>) -> u8 {
             Err(refusal) => Some(refusal),
         };
         if let Some(refusal) = refused {
-            return refuse(rt, reading, other.as_str(), &[], Outcome::from(refusal));
+            return refuse(rt, read, other.as_str(), &[], Outcome::from(refusal));
         }
     }
     match read_input(rt, merging.file) {
         Ok(input) => merge_read(rt, merging, Some(input.as_slice()), others.as_slice()),
         Err(refusal) if is_missing(&refusal) => merge_read(rt, merging, None, others.as_slice()),
-        Err(refusal) => refuse(rt, reading, merging.file, &[], Outcome::from(refusal)),
+        Err(refusal) => refuse(rt, read, merging.file, &[], Outcome::from(refusal)),
     }
 }
 
@@ -44,7 +44,7 @@ fn merge_read(
     read: Option<&[u8]>,
     others: &[Vec<u8>],
 ) -> u8 {
-    let (reading, file) = (merging.options.reading, merging.file);
+    let (read, file) = (merging.options.reading, merging.file);
     let input = read.unwrap_or(&[]);
     match merge(rt.alloc(), merging.options, input, others) {
         MergeEnd::Done(bytes) => {
@@ -55,20 +55,20 @@ fn merge_read(
             };
             match hand_on(rt, target, read, bytes.as_slice()) {
                 Ok(()) => 0,
-                Err(refusal) => refuse(rt, reading, file, &[], Outcome::from(refusal)),
+                Err(refusal) => refuse(rt, read, file, &[], Outcome::from(refusal)),
             }
         }
         MergeEnd::Other(index, refusal) => {
             let name = merging.others.get(index).map_or("", |name| name.as_str());
             let bytes = others.get(index).map_or(input, |bytes| bytes.as_slice());
-            refuse(rt, reading, name, bytes, Outcome::from(refusal))
+            refuse(rt, read, name, bytes, Outcome::from(refusal))
         }
-        MergeEnd::File(refusal) => refuse(rt, reading, file, input, Outcome::from(refusal)),
+        MergeEnd::File(refusal) => refuse(rt, read, file, input, Outcome::from(refusal)),
         MergeEnd::Edit(refused) => match refused.refusal {
-            EditError::Text(refusal) => { refuse(rt, reading, file, input, Outcome::from(refusal)) }
+            EditError::Text(refusal) => { refuse(rt, read, file, input, Outcome::from(refusal)) }
             refusal => match setting_at(rt.alloc(), merging, others, refused.index) {
-                Ok(name) => refuse(rt, reading, name.as_str(), input, Outcome::Refused(refusal)),
-                Err(_) => refuse(rt, reading, file, input, Outcome::Refused(refusal)),
+                Ok(name) => refuse(rt, read, name.as_str(), input, Outcome::Refused(refusal)),
+                Err(_) => refuse(rt, read, file, input, Outcome::Refused(refusal)),
             },
         },
     }

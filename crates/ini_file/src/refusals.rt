@@ -10,14 +10,14 @@ use ini_edit::EditError;
 /// No contract says what is printed; `tests/files.sh` tests it.
 pub fn refuse(
     rt: &HostRuntime,
-    reading: ParseOption,
+    read: ParseOption,
     file: &str,
     input: &[u8],
     outcome: Outcome,
 ) -> u8 {
     tell(file, &outcome, &mut rt.stderr());
     if let Outcome::Refused(EditError::Text(Error::Parse(fault))) = &outcome {
-        point_at(rt.alloc(), file, input, reading, fault, &mut rt.stderr());
+        point_at(rt.alloc(), file, input, read, fault, &mut rt.stderr());
     }
     status(&outcome)
 }

@@ -68,13 +68,13 @@ fn push_file<R: Files>(
     rt: &R,
     alloc: Global,
     path: &str,
-    reading: ParseOption,
+    read: ParseOption,
     layers: &mut Layers,
 ) -> Result<(), Error>
-    ensures { OnOk result ((document : Document) × IsDocumentOfFile R.File.remaining reading document
+    ensures { OnOk result ((document : Document) × IsDocumentOfFile R.File.remaining read document
         × (layers.new ≡ layers.old ++ document ∷ [])) }
 {
-    let document = Ini::load_from_file_opt(rt, alloc, Path::new(path), reading)?;
+    let document = Ini::load_from_file_opt(rt, alloc, Path::new(path), read)?;
     match layers.push(document) {
         Ok(()) => Ok(()),
         Err(NoLayer { doc: _ }) => Err(Error::Memory(AllocError)),
@@ -86,15 +86,15 @@ fn load_files<R: Files>(
     rt: &R,
     alloc: Global,
     paths: &[String],
-    reading: ParseOption,
+    read: ParseOption,
 ) -> Result<Layers, (usize, Error)>
     ensures layers { IfOk result (λ layers. length layers ≡ length paths.now) }
-    ensures loaded { IfOk result (λ layers. All (IsDocumentOfFile R.File.remaining reading) layers) }
+    ensures loaded { IfOk result (λ layers. All (IsDocumentOfFile R.File.remaining read) layers) }
     ensures file { IfErr result (λ refused. refused.0 < length paths.now) }
 {
     let mut layers = Layers::new(alloc);
     for (at, path) in paths.iter().enumerate() {
-        if let Err(refusal) = push_file(rt, alloc, path.as_str(), reading, &mut layers) {
+        if let Err(refusal) = push_file(rt, alloc, path.as_str(), read, &mut layers) {
             return Err((at, refusal));
         }
     }

@@ -80,8 +80,8 @@ fn words_in(rt: &(impl Abort + AllocGlobal), line: &str) -> Vec<String> {
 fn options_end_at_a_word_that_is_none(rt: HostRuntime) {
     let words = words_in(&rt, "--brackets --policy Nothing --crlf get --noquote");
     let (options, behind) = Options::of_words(words.as_slice()).expect(&rt, "options");
-    let reading = options.reading;
-    assert!(rt; reading.enabled_brackets_in_section_names && reading.enabled_quote);
+    let read = options.reading;
+    assert!(rt; read.enabled_brackets_in_section_names && read.enabled_quote);
     assert!(rt;
         behind.len() == 2 && behind[0].as_str() == "get" && behind[1].as_str() == "--noquote"
     );

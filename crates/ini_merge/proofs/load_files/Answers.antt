@@ -5,7 +5,7 @@ use Rattle.ini_merge.proofs.load_files.Goals as goal
 
 pub loop-at-preserved : goal.loop-at-preserved
 loop-at-preserved g c =
-    let P = IsDocumentOfFile g.R.File.Read.remaining c.args.reading in
+    let P = IsDocumentOfFile g.R.File.Read.remaining c.args.read in
     let pushed = c.in_default.ensures in
     let before = c.loop-at.layers in
     record {

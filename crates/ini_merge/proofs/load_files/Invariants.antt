@@ -7,5 +7,5 @@ use Rattle.ini_merge.proofs.load_files.Given as goal
 abbrev pub invariant-loop-at : goal.invariant-loop-at
 invariant-loop-at g l = record {
   as_many : length l.layers ≡ l.at;
-  loaded : All (IsDocumentOfFile g.R.File.Read.remaining l.reading) l.layers;
+  loaded : All (IsDocumentOfFile g.R.File.Read.remaining l.read) l.layers;
 }
