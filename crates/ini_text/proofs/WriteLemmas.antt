@@ -1,4 +1,5 @@
 -- Bytes on their way to a device.
+pub mod BufferLemmas
 pub mod EscapeByteLemmas
 pub mod MarkedByteLemmas
 pub mod ProgressLemmas

@@ -1,5 +1,6 @@
 -- What a call does to a device that is watched.
 pub mod DeviceRefusals
 pub mod Watched
+pub mod Buffered
 pub mod HeldBack
 pub mod Gathering

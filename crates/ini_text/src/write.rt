@@ -9,6 +9,7 @@ use crate::write::gather::Gatherer;
 use crate::write::policy::EscapePolicy;
 use std::io::Write;
 
+mod buffer;
 mod escape;
 pub(crate) mod gather;
 pub(crate) mod option;

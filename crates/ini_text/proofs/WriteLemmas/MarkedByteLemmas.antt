@@ -6,10 +6,9 @@ use Rattle.std.proofs.lemmas.Bool.Decides.{nat_tests}
 use Rattle.std.proofs.lemmas.Grind.{flat_map-append}
 use Rattle.std.proofs.lemmas.Str.{encode_ascii, encodes-IsAscii, encodes-append, encodes-chars}
 use Rattle.std.proofs.lemmas.Bool.{and_parts, cases_lt}
-use Rattle.std.proofs.lemmas.List.{drop_more, get_or-drop, length-drop, length-take-le, take-append-le, take-append-drop, take-take, take_all}
+use Rattle.std.proofs.lemmas.List.{drop_more, get_or-drop, length-drop}
 use Rattle.std.proofs.lemmas.List.Sums.{passes_at_first}
 use Rattle.std.specs.List.{list_all, position_or_len}
-use lib.Lanes.{chunk}
 use Rattle.ini_text.specs.Escaping.EscapedTexts.{escape, escaped, escaped_bytes}
 use Rattle.ini_text.specs.Escaping.Policies.{is_escaped}
 use Rattle.ini_text.specs.Inside.Verbatim.{begins_escaped, marked_escaped}
@@ -46,18 +45,18 @@ module _ (p : ℕ → Bool) where
   marked_escaped-next c bytes rest parts is =
       ap (marked_escaped p) parts ∙ ap (λ b. cond b (escape c) (c ∷ []) ++ marked_escaped p rest) is
 
-  -- a piece more is held, and what follows it is left
-  pub held_more : (before piece rest left : List ℕ) {after whole : List ℕ} → after ≡ before ++ piece
+  -- a piece more is pushed, and what follows it is left
+  pub pushed_more : (before piece rest left : List ℕ) {after whole : List ℕ} → after ≡ before ++ piece
       → marked_escaped p rest ≡ piece ++ marked_escaped p left
       → before ++ marked_escaped p rest ≡ whole → after ++ marked_escaped p left ≡ whole
-  held_more before piece rest left grown next so_far =
+  pushed_more before piece rest left grown next so_far =
       ap (λ l. l ++ marked_escaped p left) grown ∙ append_assoc before piece (marked_escaped p left)
       ∙ ap (λ l. before ++ l) (sym next) ∙ so_far
 
-  -- all is held, and nothing is left
-  pub held_all : (after left : List ℕ) {whole : List ℕ} → left ≡ [] → after ++ marked_escaped p left ≡ whole
+  -- all is pushed, and nothing is left
+  pub pushed_all : (after left : List ℕ) {whole : List ℕ} → left ≡ [] → after ++ marked_escaped p left ≡ whole
       → after ≡ whole
-  held_all after left none all = sym (ap (λ l. after ++ marked_escaped p l) none ∙ append-nil after) ∙ all
+  pushed_all after left none all = sym (ap (λ l. after ++ marked_escaped p l) none ∙ append-nil after) ∙ all
 
   -- a byte that is marked, at its place
   pub marked_escaped-marked : (bytes : List ℕ) (at : ℕ) → at < length bytes → p (get_or bytes at 0) ≡ true
@@ -167,48 +166,3 @@ escaped_bytes-basics bytes is_text = escaped_bytes-marked Basics basics_ascii by
 pub escaped_bytes-reserved : (bytes : List ℕ) → IsUtf8 bytes
     → escaped_bytes Reserved bytes ≡ marked_escaped (begins_escaped Reserved) bytes
 escaped_bytes-reserved bytes is_text = escaped_bytes-marked Reserved reserved_ascii bytes is_text
-
--- a run and a piece, put behind the first bytes
-pub placed_run : (len run end : ℕ) (before bytes lanes after piece : List ℕ) → run ≤ 16
-    → take (len + run) lanes ≡ take len before ++ take run (chunk 0 16 bytes)
-    → take end after ≡ take (len + run) lanes ++ piece
-    → take end after ≡ take len before ++ (take run bytes ++ piece)
-placed_run len run end before bytes lanes after piece below first second =
-    second ∙ ap (λ l. l ++ piece) (first ∙ ap (λ l. take len before ++ l) (take-take run 16 bytes below))
-    ∙ append_assoc (take len before) (take run bytes) piece
-
--- eight to sixteen bytes, put by their first eight and their last
-pub placed_few : (len back : ℕ) (before bytes mid after : List ℕ) → length bytes ≡ back + 8 → back ≤ 8
-    → take (len + back) mid ≡ take len before ++ take back (chunk 0 8 bytes)
-    → take (len + back + 8) after ≡ take (len + back) mid ++ take 8 (chunk 0 8 (drop back bytes))
-    → take (len + length bytes) after ≡ take len before ++ bytes
-placed_few len back before bytes mid after long few first second =
-    let end : len + length bytes ≡ len + back + 8 = omega arith in
-    let last : take 8 (take 8 (drop back bytes)) ≡ drop back bytes =
-    take-take 8 8 (drop back bytes) (omega arith)
-    ∙ take_all 8 (drop back bytes) (omega (arith, length-drop back bytes)) in
-    ap (λ k. take k after) end ∙ second
-    ∙ ap₂ (λ a b. a ++ b) (first ∙ ap (λ l. take len before ++ l) (take-take back 8 bytes few)) last
-    ∙ append_assoc (take len before) (take back bytes) (drop back bytes)
-    ∙ ap (λ l. take len before ++ l) (take-append-drop back bytes)
-
--- lanes of which none counts
-pub placed_none : (len : ℕ) (before after : List ℕ) → take (len + 0) after ≡ take len before ++ []
-    → take len after ≡ take len before
-placed_none len before after is =
-    let end : len ≡ len + 0 = omega arith in
-    ap (λ k. take k after) end ∙ is ∙ append-nil (take len before)
-
--- what stands before a place is kept where more is
-pub kept_front : (fewer len : ℕ) (before after : List ℕ) → fewer ≤ len → take len after ≡ take len before
-    → take fewer after ≡ take fewer before
-kept_front fewer len before after within same = sym (take-take fewer len after within)
-    ∙ ap (take fewer) same ∙ take-take fewer len before within
-
--- what was held before a piece is the front of what is held with it
-pub grown_front : (fewer len : ℕ) (before after piece : List ℕ) → fewer ≤ length before → fewer ≤ len
-    → take len after ≡ take fewer before ++ piece → take fewer after ≡ take fewer before
-grown_front fewer len before after piece within more is =
-    sym (take-take fewer len after more) ∙ ap (take fewer) is
-    ∙ take-append-le fewer (take fewer before) piece (omega (arith, length-take-le fewer before within))
-    ∙ take-take fewer fewer before (omega arith)

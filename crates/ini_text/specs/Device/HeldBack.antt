@@ -1,6 +1,7 @@
 -- What a gatherer holds back.
-use Rattle.std.specs.Prelude.{ℕ, List, take}
+use Rattle.std.specs.Prelude.{ℕ, List}
+use Rattle.ini_text.specs.Device.Buffered.{buffered}
 use Rattle.ini_text.specs.declared.write.gather.Gatherer.{Gatherer}
 
 abbrev pub held : Gatherer → List ℕ
-held gatherer = take gatherer.len gatherer.bytes
+held gatherer = buffered gatherer.buffer

@@ -1,27 +1,21 @@
 //! Texts on their way to a device, gathered so that many of them reach it together. This file knows
 //! bytes and escapes, and no section, key or value.
-ghost use Rattle.std.specs.Prelude.{◌≡◌, true, ◌+◌, ◌≤◌, OnOk, if◌then◌else◌};
-ghost use Rattle.std.specs.Prelude.{[], ◌++◌, length, take};
+ghost use Rattle.std.specs.Prelude.{◌≡◌, OnOk, [], ◌++◌};
 ghost use Rattle.ini_text.specs.Escaping.EscapedTexts.{escape, escaped_bytes};
 ghost use Rattle.ini_text.specs.Inside.Verbatim.{marked_escaped};
 ghost use Rattle.ini_text.specs.Device.Gathering.{Sends};
 ghost use Rattle.ini_text.specs.Device.Watched.{IsClear};
-ghost use Rattle.ini_text.specs.declared.write.gather.TheConstants.{BUFFER_SIZE};
 
 use crate::device::Watched;
 use crate::error::Error;
 use crate::lanes::{Marks, run_before};
 use crate::text::split_first;
-use crate::write::escape::{ESCAPE_ROOM, place, place_escape};
+use crate::write::buffer::Buffer;
+use crate::write::escape::ESCAPE_ROOM;
 use crate::write::policy::EscapePolicy;
-use crate::write::verbatim::{Basics, Reserved, is_verbatim, split_verbatim};
+use crate::write::verbatim::{Basics, Reserved, split_verbatim};
 use crate::write::write_bytes;
 use std::io::Write;
-
-mod marked;
-
-// How many bytes are held back at most.
-const BUFFER_SIZE: usize = 16384;
 
 /// Holds bytes back on their way to a device, so that many short texts reach it in one call.
 ///
@@ -30,9 +24,7 @@ const BUFFER_SIZE: usize = 16384;
 /// device is asked nothing more.
 #[derive(Drop)]
 pub struct Gatherer {
-    bytes: [u8; BUFFER_SIZE],
-    len: usize,
-    ghost within: { len ≤ BUFFER_SIZE },
+    buffer: Buffer,
 }
 
 impl Gatherer {
@@ -43,8 +35,7 @@ impl Gatherer {
         ensures { held result ≡ [] }
     {
         Gatherer {
-            bytes: [0; BUFFER_SIZE],
-            len: 0,
+            buffer: Buffer::new(),
         }
     }
 
@@ -94,7 +85,7 @@ impl Gatherer {
             ((escaped_bytes policy first.now ++ between.now)
             ++ (escaped_bytes policy second.now ++ end.now)) }
     {
-        if self.hold_line(first, between, second, end, policy) {
+        if self.buffer.push_line(first, between, second, end, policy) {
             return Ok(());
         }
         self.put_part(first, between, policy, out)?;
@@ -118,76 +109,6 @@ impl Gatherer {
         self.put(behind, out)
     }
 
-    // Holds a line back if each escape has a letter and there is room.
-    #[inline(never)]
-    fn hold_line(
-        &mut self,
-        first: &str,
-        between: &str,
-        second: &str,
-        end: &str,
-        policy: EscapePolicy,
-    ) -> bool
-        ensures { held self.new ≡ held self.old ++ (if result
-            then (escaped_bytes policy first.now ++ between.now)
-            ++ (escaped_bytes policy second.now ++ end.now)
-            else []) }
-    {
-        let len = self.len;
-        if self.hold_part(first, between, policy) && self.hold_part(second, end, policy) {
-            return true;
-        }
-        self.len = len;
-        false
-    }
-
-    // Holds a text back escaped, and another as it is behind it, or a front of the two.
-    #[inline(always)]
-    fn hold_part(&mut self, text: &str, behind: &str, policy: EscapePolicy) -> bool
-        ensures all { result ≡ true → held self.new
-            ≡ held self.old ++ (escaped_bytes policy text.now ++ behind.now) }
-        ensures front { take self.old.len self.new.bytes ≡ held self.old }
-        ensures longer { self.old.len ≤ self.new.len }
-    {
-        if !self.hold_text(text, policy) || behind.len() > BUFFER_SIZE - self.len {
-            return false;
-        }
-        self.append(behind.as_bytes());
-        true
-    }
-
-    // Holds a text back escaped, or a front of it.
-    #[inline(always)]
-    fn hold_text(&mut self, text: &str, policy: EscapePolicy) -> bool
-        ensures all { result ≡ true → held self.new ≡ held self.old ++ escaped_bytes policy text.now }
-        ensures front { take self.old.len self.new.bytes ≡ held self.old }
-        ensures longer { self.old.len ≤ self.new.len }
-    {
-        if text.len() > BUFFER_SIZE - self.len {
-            return false;
-        }
-        match policy {
-            EscapePolicy::Basics => self.hold_marked(text.as_bytes(), &Basics).is_empty(),
-            EscapePolicy::Reserved => self.hold_marked(text.as_bytes(), &Reserved).is_empty(),
-            _ => self.hold_verbatim(text, policy),
-        }
-    }
-
-    // Holds a text back if no character of it is escaped.
-    #[inline(always)]
-    fn hold_verbatim(&mut self, text: &str, policy: EscapePolicy) -> bool
-        requires { self.old.len + length text.now ≤ BUFFER_SIZE }
-        ensures all { result ≡ true → held self.new ≡ held self.old ++ escaped_bytes policy text.now }
-        ensures front { take self.old.len self.new.bytes ≡ held self.old }
-        ensures longer { self.old.len ≤ self.new.len }
-    {
-        if !is_verbatim(text, policy) {
-            return false;
-        }
-        self.append(text.as_bytes());
-        true
-    }
-
     // Sends bytes, each that is marked as the escape of its character.
     #[inline(always)]
     fn put_marked<M: Marks, W: Write>(
@@ -200,7 +121,7 @@ impl Gatherer {
         ensures { Sends W.contents out.old out.new (held self.old) (held self.new) result
             (marked_escaped (M.is_marked marks.now) bytes.now) }
     {
-        let rest = self.hold_marked(bytes, marks);
+        let rest = self.buffer.push_marked(bytes, marks);
         if rest.is_empty() {
             return Ok(());
         }
@@ -227,7 +148,7 @@ impl Gatherer {
                 return Ok(());
             };
             self.put_escape(char::from(*marked), out)?;
-            rest = self.hold_marked(following, marks);
+            rest = self.buffer.push_marked(following, marks);
         }
     }
 
@@ -249,7 +170,7 @@ impl Gatherer {
             let Some((c, following)) = split_first(after) else {
                 return self.put(run, out);
             };
-            if self.hold_escaped(run, c) {
+            if self.buffer.push_run(run, c) {
                 rest = following;
                 continue 'runs;
             }
@@ -259,29 +180,14 @@ impl Gatherer {
         }
     }
 
-    // Holds back a run and the escape of the character behind it, if there is room.
-    #[inline(always)]
-    fn hold_escaped(&mut self, run: &str, c: char) -> bool
-        ensures { held self.new ≡ held self.old ++ (if result then run.now ++ escape c else []) }
-    {
-        if run.len() > BUFFER_SIZE - ESCAPE_ROOM
-            || self.len > BUFFER_SIZE - ESCAPE_ROOM - run.len()
-        {
-            return false;
-        }
-        self.append(run.as_bytes());
-        self.append_escape(c);
-        true
-    }
-
     /// Sends all that is held back. The errors are those of `put`.
     pub fn flush<W: Write>(&mut self, out: &mut Watched<'_, W>) -> Result<(), Error>
         requires { IsClear out.old }
         ensures sends { Sends W.contents out.old out.new (held self.old) (held self.new) result [] }
         ensures empty { OnOk result (held self.new ≡ []) }
     {
-        write_bytes(&self.bytes[..self.len], out)?;
-        self.len = 0;
+        write_bytes(self.buffer.as_bytes(), out)?;
+        self.buffer.truncate(0);
         Ok(())
     }
 
@@ -290,8 +196,8 @@ impl Gatherer {
         requires { IsClear out.old }
         ensures { Sends W.contents out.old out.new (held self.old) (held self.new) result bytes.now }
     {
-        if bytes.len() <= BUFFER_SIZE - self.len {
-            self.append(bytes);
+        if self.buffer.has_room(bytes.len()) {
+            self.buffer.push(bytes);
             return Ok(());
         }
         self.put_through(bytes, out)
@@ -305,8 +211,8 @@ impl Gatherer {
         ensures { Sends W.contents out.old out.new (held self.old) (held self.new) result bytes.now }
     {
         self.flush(out)?;
-        if bytes.len() <= BUFFER_SIZE - self.len {
-            self.append(bytes);
+        if self.buffer.has_room(bytes.len()) {
+            self.buffer.push(bytes);
             return Ok(());
         }
         write_bytes(bytes, out)
@@ -317,29 +223,12 @@ impl Gatherer {
         requires { IsClear out.old }
         ensures { Sends W.contents out.old out.new (held self.old) (held self.new) result (escape c) }
     {
-        if self.len <= BUFFER_SIZE - ESCAPE_ROOM {
-            self.append_escape(c);
+        if self.buffer.has_room(ESCAPE_ROOM) {
+            self.buffer.push_escape(c);
             return Ok(());
         }
         self.flush(out)?;
-        self.append_escape(c);
+        self.buffer.push_escape(c);
         Ok(())
-    }
-
-    // Holds back the escape of a character.
-    fn append_escape(&mut self, c: char)
-        requires { length (held self.old) + ESCAPE_ROOM ≤ BUFFER_SIZE }
-        ensures { held self.new ≡ held self.old ++ escape c }
-    {
-        self.len = place_escape(&mut self.bytes, self.len, c);
-    }
-
-    // Holds back a few bytes.
-    fn append(&mut self, bytes: &[u8])
-        requires { self.old.len + length bytes.now ≤ BUFFER_SIZE }
-        ensures held { held self.new ≡ held self.old ++ bytes.now }
-        ensures len { self.new.len ≡ self.old.len + length bytes.now }
-    {
-        self.len = place(&mut self.bytes, self.len, bytes);
     }
 }

@@ -63,6 +63,6 @@ pieces-preserved g c =
     let left = Leaving-goes_on _ _ (ap (λ l. held c.put_bytes.new.self ++ l) next)
     (after_run g (goal.at.pieces-preserved g c).In_ok-put_bytes) c.in_ok-put_escape.ensures in
     let same =
-    c.hold_marked-rest.ensures.held
+    c.push_marked-rest.ensures.pushed
     ∙ ap (λ l. held c.put_escape.new.self ++ marked_escaped marks l) (take_rest back 1) in
     record { leaving = subst (Leaving _ _ _ _) (sym same) left }

@@ -15,7 +15,7 @@ after_run : (g : given.Over) (c : In_ok-put g)
     (held c.put-in-runs.new.self)
     (escaped_bytes c.args.policy c.args.text.now) (escaped_bytes c.args.policy c.split_verbatim.result.1.now)
 after_run g c = Sending-goes_on _ c.split_verbatim.ensures.bytes
-    (Sending-stays (rw c.if-hold_escaped.false at c.hold_escaped.ensures) c.runs.invariant.sending)
+    (Sending-stays (rw c.if-push_run.false at c.push_run.ensures) c.runs.invariant.sending)
     c.in_ok-put.ensures
 
 pub runs-init : goal.runs-init
@@ -26,7 +26,7 @@ pub returns-in_err-put : goal.returns-in_err-put
 returns-in_err-put g c =
     let p = err_from_is_err_and c.from_residual.result c.from_residual.ensures.1 in
     rw (p.1, p.2) (Sending-stops _ c.split_verbatim.ensures.bytes
-    (Sending-stays (rw c.if-hold_escaped.false at c.hold_escaped.ensures) c.runs.invariant.sending)
+    (Sending-stays (rw c.if-push_run.false at c.push_run.ensures) c.runs.invariant.sending)
     c.in_err-put.ensures)
 
 pub returns-in_default : goal.returns-in_default
@@ -39,8 +39,8 @@ returns-in_default g c =
     subst (Sends g.W.Write.contents c.args.out.now c.put.new.out _ _ c.put.result)
     (ap (λ x. sending.so_far ++ x) (sym ended) ∙ sending.joined) (Sends-then sending.sent c.put.ensures)
 
-pub runs-preserved-then-hold_escaped : goal.runs-preserved-then-hold_escaped
-runs-preserved-then-hold_escaped g c =
+pub runs-preserved-then-push_run : goal.runs-preserved-then-push_run
+runs-preserved-then-push_run g c =
     let run = c.split_verbatim.result.0.now in
     let parts = c.in-Some.ensures.characters in
     let next = escaped-next c.args.policy c.in-Some.c _ _ parts
@@ -48,7 +48,7 @@ runs-preserved-then-hold_escaped g c =
     let whole =
     c.split_verbatim.ensures.bytes ∙ ap (λ x. run ++ x) next
     ∙ sym (append_assoc run (escape c.in-Some.c) _) in
-    let grown = rw c.if-hold_escaped.true at c.hold_escaped.ensures in
+    let grown = rw c.if-push_run.true at c.push_run.ensures in
     record {
       is_text = search rules;
       clear = search rules;

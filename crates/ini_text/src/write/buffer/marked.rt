@@ -1,39 +1,37 @@
-//! Bytes that are held back, each that is marked as the escape of its character, without a call of a
-//! device. This file knows bytes and their marks, and no policy.
+//! Bytes that are appended to a buffer, each that is marked as the escape of its character. This file knows
+//! bytes and their marks, and no policy.
 ghost use Rattle.std.specs.Prelude.{◌≡◌, ℕ, ◌+◌, ◌++◌, ◌≤◌, length, take};
 ghost use Rattle.ini_text.specs.Inside.Verbatim.{marked_escaped};
 ghost use Rattle.ini_text.specs.declared.lanes.TheConstants.{HALF, LANES};
-ghost use Rattle.ini_text.specs.declared.write.gather.TheConstants.{BUFFER_SIZE};
+ghost use Rattle.ini_text.specs.declared.write.buffer.TheConstants.{BUFFER_SIZE};
 
 use crate::lanes::{HALF, LANES, Marks, has_no_mark, marks_ahead, place_lanes};
+use crate::write::buffer::{BUFFER_SIZE, Buffer};
 use crate::write::escape::{LETTER_ROOM, place_letter};
-use crate::write::gather::{BUFFER_SIZE, Gatherer};
 use std::simd::prelude::*;
 
-impl Gatherer {
-    ghost use Rattle.ini_text.specs.Device.HeldBack.{held};
+impl Buffer {
+    ghost use Rattle.ini_text.specs.Device.Buffered.{buffered};
 
-    // Holds back bytes at the front, each that is marked as the escape of its character, and answers those
-    // that are left: where there is no room, or at an escape by digits.
+    /// Appends bytes, each that is marked as the escape of its character, and answers those that are left:
+    /// where there is no room, or at an escape by digits.
     #[inline(always)]
-    pub(super) fn hold_marked<'a, M: Marks>(&mut self, bytes: &'a [u8], marks: &M) -> &'a [u8]
-        ensures held { held self.new ++ marked_escaped (M.is_marked marks.now) result.now
-            ≡ held self.old ++ marked_escaped (M.is_marked marks.now) bytes.now }
-        ensures front { take self.old.len self.new.bytes ≡ held self.old }
-        ensures longer { self.old.len ≤ self.new.len }
+    pub(crate) fn push_marked<'a, M: Marks>(&mut self, bytes: &'a [u8], marks: &M) -> &'a [u8]
+        ensures pushed { buffered self.new ++ marked_escaped (M.is_marked marks.now) result.now
+            ≡ buffered self.old ++ marked_escaped (M.is_marked marks.now) bytes.now }
+        ensures longer { length (buffered self.old) ≤ length (buffered self.new) }
         ensures shorter { length result.now ≤ length bytes.now }
     {
-        let rest = self.hold_lanes(bytes, marks);
-        self.hold_few(rest, marks)
+        let rest = self.push_lanes(bytes, marks);
+        self.push_few(rest, marks)
     }
 
     // The same, sixteen bytes at a time, of which those before the first that is marked count.
     #[inline(always)]
-    fn hold_lanes<'a, M: Marks>(&mut self, bytes: &'a [u8], marks: &M) -> &'a [u8]
-        ensures held { held self.new ++ marked_escaped (M.is_marked marks.now) result.now
-            ≡ held self.old ++ marked_escaped (M.is_marked marks.now) bytes.now }
-        ensures front { take self.old.len self.new.bytes ≡ held self.old }
-        ensures longer { self.old.len ≤ self.new.len }
+    fn push_lanes<'a, M: Marks>(&mut self, bytes: &'a [u8], marks: &M) -> &'a [u8]
+        ensures pushed { buffered self.new ++ marked_escaped (M.is_marked marks.now) result.now
+            ≡ buffered self.old ++ marked_escaped (M.is_marked marks.now) bytes.now }
+        ensures longer { length (buffered self.old) ≤ length (buffered self.new) }
         ensures shorter { length result.now ≤ length bytes.now }
     {
         let mut rest = bytes;
@@ -61,11 +59,10 @@ impl Gatherer {
 
     // The same of fewer bytes than sixteen.
     #[inline(always)]
-    fn hold_few<'a, M: Marks>(&mut self, bytes: &'a [u8], marks: &M) -> &'a [u8]
-        ensures held { held self.new ++ marked_escaped (M.is_marked marks.now) result.now
-            ≡ held self.old ++ marked_escaped (M.is_marked marks.now) bytes.now }
-        ensures front { take self.old.len self.new.bytes ≡ held self.old }
-        ensures longer { self.old.len ≤ self.new.len }
+    fn push_few<'a, M: Marks>(&mut self, bytes: &'a [u8], marks: &M) -> &'a [u8]
+        ensures pushed { buffered self.new ++ marked_escaped (M.is_marked marks.now) result.now
+            ≡ buffered self.old ++ marked_escaped (M.is_marked marks.now) bytes.now }
+        ensures longer { length (buffered self.old) ≤ length (buffered self.new) }
         ensures shorter { length result.now ≤ length bytes.now }
     {
         if bytes.len() >= LANES || self.len > BUFFER_SIZE - LETTER_ROOM * LANES {
@@ -95,7 +92,7 @@ impl Gatherer {
     }
 }
 
-// Puts eight to sixteen bytes behind those that are held back: their first eight, and their last.
+// Puts eight to sixteen bytes behind the first `len`: their first eight, and their last.
 #[inline(always)]
 fn place_few(bytes: &mut [u8; BUFFER_SIZE], len: usize, few: &[u8])
     requires long { HALF ≤ length few.now }
@@ -108,7 +105,7 @@ fn place_few(bytes: &mut [u8; BUFFER_SIZE], len: usize, few: &[u8])
     place_half(bytes, len + back, u8x8::from_slice(&few[back..]));
 }
 
-// Puts eight bytes behind those that are held back.
+// Puts eight bytes behind the first `len`.
 #[inline(always)]
 fn place_half(bytes: &mut [u8], len: usize, half: u8x8)
     requires { len + HALF ≤ length bytes.old }

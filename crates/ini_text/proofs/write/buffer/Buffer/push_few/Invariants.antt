@@ -1,13 +1,12 @@
 use Rattle.std.proofs.Common.{◌≡◌, ◌+◌, ◌*◌, ◌++◌, ◌≤◌, length, take}
 use Rattle.ini_text.specs.Inside.Verbatim.{marked_escaped}
-use Rattle.ini_text.specs.Device.HeldBack.{held}
-use Rattle.ini_text.proofs.write.gather.Gatherer.hold_few.Given as goal
+use Rattle.ini_text.specs.Device.Buffered.{buffered}
+use Rattle.ini_text.proofs.write.buffer.Buffer.push_few.Given as goal
 
 abbrev pub invariant-few : goal.invariant-few
 invariant-few g l = record {
-  front : take l.fn.self.len l.self.bytes ≡ held l.fn.self;
   longer : l.fn.self.len ≤ l.len;
-  held : take l.len l.self.bytes ++ marked_escaped (g.M.Marks.is_marked l.marks) l.rest ≡ held l.fn.self
+  pushed : take l.len l.self.bytes ++ marked_escaped (g.M.Marks.is_marked l.marks) l.rest ≡ buffered l.fn.self
       ++ marked_escaped (g.M.Marks.is_marked l.fn.marks) l.fn.bytes;
   within : l.len + 2 * length l.rest ≤ 16384;
   shorter : length l.rest ≤ length l.fn.bytes;

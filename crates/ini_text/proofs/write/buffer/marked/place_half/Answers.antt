@@ -1,6 +1,6 @@
 use Rattle.std.proofs.Common.{arith}
 use Rattle.ini_text.proofs.StringLemmas.LaneLemmas.{placed}
-use Rattle.ini_text.proofs.write.gather.marked.place_half.Goals as goal
+use Rattle.ini_text.proofs.write.buffer.marked.place_half.Goals as goal
 
 pub returns-clause-placed : goal.returns-clause-placed
 returns-clause-placed c =

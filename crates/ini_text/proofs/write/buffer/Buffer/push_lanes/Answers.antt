@@ -1,14 +1,15 @@
-use Rattle.std.proofs.Common.{◌+◌, ◌++◌, ◌∙◌, length, take, drop, ap, sym, arith, length-drop}
-use Rattle.std.proofs.lemmas.List.{take-take, take_rest}
+use Rattle.std.proofs.Common.{◌+◌, ◌++◌, ◌∙◌, length, take, drop, ap, sym, arith, ℕ, length-drop}
+use Rattle.std.proofs.lemmas.List.{length-take, take-take, take_rest}
 use Rattle.std.proofs.lemmas.Option.{MatchOption-at_some}
 use lib.Count.{count_trailing_zeros}
 use Rattle.ini_text.proofs.StringLemmas.LaneLemmas.{Tells-none, Tells-past, stops_at}
-use Rattle.ini_text.proofs.WriteLemmas.MarkedByteLemmas.{grown_front, held_more, kept_front, marked_escaped-behind, marked_escaped-run, placed_none, placed_run}
+use Rattle.ini_text.proofs.WriteLemmas.BufferLemmas.{placed_none, placed_run}
+use Rattle.ini_text.proofs.WriteLemmas.MarkedByteLemmas.{marked_escaped-behind, marked_escaped-run, pushed_more}
 use Rattle.ini_text.specs.Inside.Verbatim.{marked_escaped}
 use Rattle.ini_text.specs.Escaping.EscapedTexts.{escape}
-use Rattle.ini_text.proofs.write.gather.Gatherer.hold_lanes.Goals.{then-lanes-test+else-len, else-lanes-test}
-use Rattle.ini_text.proofs.write.gather.Gatherer.hold_lanes.Goals.{then-lanes-test+then-len+else-known-eq0+in_default}
-use Rattle.ini_text.proofs.write.gather.Gatherer.hold_lanes.Goals as goal
+use Rattle.ini_text.proofs.write.buffer.Buffer.push_lanes.Goals.{then-lanes-test+else-len, else-lanes-test}
+use Rattle.ini_text.proofs.write.buffer.Buffer.push_lanes.Goals.{then-lanes-test+then-len+else-known-eq0+in_default}
+use Rattle.ini_text.proofs.write.buffer.Buffer.push_lanes.Goals as goal
 
 pub lanes-preserved-then-known-eq0 : goal.lanes-preserved-then-known-eq0
 lanes-preserved-then-known-eq0 g c =
@@ -19,17 +20,12 @@ lanes-preserved-then-known-eq0 g c =
     marked_escaped-run p 16 rest (c.marks_ahead-known.ensures.none c.if-known-eq0.true (omega arith)) in
     let grown = c.place_lanes.ensures.placed 16 (omega arith)
     ∙ ap (λ l. take c.lanes.len c.lanes.self.bytes ++ l) (take-take 16 16 rest (omega arith)) in
-    let kept =
-    placed_none c.lanes.len c.lanes.self.bytes c.place_lanes.new.bytes
-    (c.place_lanes.ensures.placed 0 (omega arith)) in
     record {
-      front =
-          kept_front c.args.self.now.len c.lanes.len _ _ c.lanes.invariant.longer kept
-          ∙ c.lanes.invariant.front;
       longer = omega (arith, c.lanes.invariant.longer);
-      held = held_more p _ (take 16 rest) rest _ grown
-          (next ∙ ap (λ l. take 16 rest ++ marked_escaped p l) (sym left)) c.lanes.invariant.held;
+      pushed = pushed_more p _ (take 16 rest) rest _ grown
+          (next ∙ ap (λ l. take 16 rest ++ marked_escaped p l) (sym left)) c.lanes.invariant.pushed;
       within = omega arith;
+      long = omega (arith, c.lanes.invariant.long);
       shorter = omega (arith, ap length left, length-drop 16 rest, c.lanes.invariant.shorter);
       known = rw c.if-known-eq0.true (Tells-none p 0 _);
     }
@@ -74,50 +70,39 @@ lanes-preserved g c =
     let grown = placed_run c.lanes.len run _ c.lanes.self.bytes rest
     c.place_lanes.new.bytes c.place_letter.new.bytes piece (omega (arith, stops.below))
     (c.place_lanes.ensures.placed run (omega (arith, stops.below))) placed in
-    let kept =
-    placed_none c.lanes.len c.lanes.self.bytes c.place_lanes.new.bytes
-    (c.place_lanes.ensures.placed 0 (omega arith)) in
-    let start = c.args.self.now.len in
     record {
-      held = held_more p _ (take run rest ++ piece) rest _ grown
+      pushed = pushed_more p _ (take run rest ++ piece) rest _ grown
           (next ∙ ap (λ l. (take run rest ++ piece) ++ marked_escaped p l) (sym left))
-          c.lanes.invariant.held;
-      front = kept_front start (c.lanes.len + run) _ _ (omega (arith, c.lanes.invariant.longer))
-          (grown_front (c.lanes.len + run) _ _ _ piece (omega (arith, stops.below)) (omega (arith, end))
-          placed) ∙ kept_front start c.lanes.len _ _ c.lanes.invariant.longer kept
-          ∙ c.lanes.invariant.front;
+          c.lanes.invariant.pushed;
       longer = omega (arith, c.lanes.invariant.longer, end);
       within = omega (arith, stops.below, end);
+      long = omega (arith, c.lanes.invariant.long);
       known = Tells-past p (run + 1) c.marks_ahead-known.ensures.tells left;
       shorter = omega (arith, ap length left, length-drop (run + 1) rest, c.lanes.invariant.shorter);
     }
 
-pub returns-clause-held : goal.returns-clause-held
-returns-clause-held g c =
+pub returns-clause-pushed : goal.returns-clause-pushed
+returns-clause-pushed g c =
     let p = g.M.Marks.is_marked c.args.marks.now in
     elim c.lanes-test.branch [
-      | then-lanes-test+else-len w ↦ rw w.self-is c.lanes.invariant.held
-      | else-lanes-test w ↦ rw w.self-is c.lanes.invariant.held
+      | then-lanes-test+else-len w ↦ rw w.self-is c.lanes.invariant.pushed
+      | else-lanes-test w ↦ rw w.self-is c.lanes.invariant.pushed
       | then-lanes-test+then-len+else-known-eq0+in_default w ↦
           let same = w.place_letter.ensures.untouched w.in_default.is in
           let kept = placed_none c.lanes.len c.lanes.self.bytes w.place_lanes.new.bytes
           (w.place_lanes.ensures.placed 0 (omega arith)) in
           rw w.self-is
           (ap (λ l. take c.lanes.len l ++ marked_escaped p c.lanes.rest.now) same
-          ∙ ap (λ l. l ++ marked_escaped p c.lanes.rest.now) kept ∙ c.lanes.invariant.held)
+          ∙ ap (λ l. l ++ marked_escaped p c.lanes.rest.now) kept ∙ c.lanes.invariant.pushed)
     ]
 
-pub returns-clause-front : goal.returns-clause-front
-returns-clause-front g c =
+pub returns-clause-longer : goal.returns-clause-longer
+returns-clause-longer g c =
     elim c.lanes-test.branch [
-      | then-lanes-test+else-len w ↦ rw w.self-is c.lanes.invariant.front
-      | else-lanes-test w ↦ rw w.self-is c.lanes.invariant.front
+      | then-lanes-test+else-len w ↦
+          rw w.self-is (omega (arith, length-take {A = ℕ}, c.lanes.invariant.longer, c.lanes.invariant.long))
+      | else-lanes-test w ↦
+          rw w.self-is (omega (arith, length-take {A = ℕ}, c.lanes.invariant.longer, c.lanes.invariant.long))
       | then-lanes-test+then-len+else-known-eq0+in_default w ↦
-          let same = w.place_letter.ensures.untouched w.in_default.is in
-          let kept = placed_none c.lanes.len c.lanes.self.bytes w.place_lanes.new.bytes
-          (w.place_lanes.ensures.placed 0 (omega arith)) in
-          rw w.self-is
-          (ap (take c.args.self.now.len) same
-          ∙ kept_front c.args.self.now.len c.lanes.len _ _ c.lanes.invariant.longer kept
-          ∙ c.lanes.invariant.front)
+          rw w.self-is (omega (arith, length-take {A = ℕ}, c.lanes.invariant.longer, c.lanes.invariant.long))
     ]

@@ -1,6 +1,6 @@
 use Rattle.std.proofs.Common.{◌-◌, arith, length}
-use Rattle.ini_text.proofs.WriteLemmas.MarkedByteLemmas.{placed_few}
-use Rattle.ini_text.proofs.write.gather.marked.place_few.Goals as goal
+use Rattle.ini_text.proofs.WriteLemmas.BufferLemmas.{placed_few}
+use Rattle.ini_text.proofs.write.buffer.marked.place_few.Goals as goal
 
 pub returns : goal.returns
 returns c =

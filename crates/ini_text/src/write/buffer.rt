@@ -1,0 +1,164 @@
+//! Bytes that are held back on their way to a device. This file knows bytes and escapes, and no device.
+ghost use Rattle.std.specs.Prelude.{◌≡◌, true, ◌+◌, ◌≤◌, if◌then◌else◌, [], ◌++◌, length, take};
+ghost use Rattle.ini_text.specs.Escaping.EscapedTexts.{escape, escaped_bytes};
+ghost use Rattle.ini_text.specs.declared.write.buffer.TheConstants.{BUFFER_SIZE};
+
+use crate::write::escape::{ESCAPE_ROOM, place, place_escape};
+use crate::write::policy::EscapePolicy;
+use crate::write::verbatim::{Basics, Reserved, is_verbatim};
+
+mod marked;
+
+// How many bytes are held back at most.
+const BUFFER_SIZE: usize = 16384;
+
+/// The bytes that are held back. It takes no memory.
+#[derive(Drop)]
+pub(crate) struct Buffer {
+    bytes: [u8; BUFFER_SIZE],
+    len: usize,
+    ghost within: { len ≤ BUFFER_SIZE },
+}
+
+impl Buffer {
+    ghost use Rattle.ini_text.specs.Device.Buffered.{IsFront, buffered};
+
+    /// No bytes.
+    #[inline(always)]
+    pub(crate) fn new() -> Buffer
+        ensures { buffered result ≡ [] }
+    {
+        Buffer {
+            bytes: [0; BUFFER_SIZE],
+            len: 0,
+        }
+    }
+
+    /// The bytes.
+    pub(crate) fn as_bytes(&self) -> &[u8]
+        ensures { result.now ≡ buffered self.now }
+    {
+        &self.bytes[..self.len]
+    }
+
+    // How many bytes there are.
+    fn len(&self) -> usize
+        ensures { result ≡ length (buffered self.now) }
+    {
+        self.len
+    }
+
+    /// Whether there is room for so many more.
+    pub(crate) fn has_room(&self, count: usize) -> bool
+        ensures { result ≡ true → length (buffered self.now) + count ≤ BUFFER_SIZE }
+    {
+        count <= BUFFER_SIZE - self.len
+    }
+
+    /// Appends a few bytes.
+    pub(crate) fn push(&mut self, bytes: &[u8])
+        requires { length (buffered self.old) + length bytes.now ≤ BUFFER_SIZE }
+        ensures { buffered self.new ≡ buffered self.old ++ bytes.now }
+    {
+        self.len = place(&mut self.bytes, self.len, bytes);
+    }
+
+    /// Appends the escape of a character.
+    pub(crate) fn push_escape(&mut self, c: char)
+        requires { length (buffered self.old) + ESCAPE_ROOM ≤ BUFFER_SIZE }
+        ensures { buffered self.new ≡ buffered self.old ++ escape c }
+    {
+        self.len = place_escape(&mut self.bytes, self.len, c);
+    }
+
+    /// Keeps the first `len` bytes.
+    pub(crate) fn truncate(&mut self, len: usize)
+        requires { len ≤ length (buffered self.old) }
+        ensures { buffered self.new ≡ take len (buffered self.old) }
+    {
+        self.len = len;
+    }
+
+    /// Appends two texts escaped, and behind each another as it is, if each escape has a letter and there is
+    /// room.
+    #[inline(never)]
+    pub(crate) fn push_line(
+        &mut self,
+        first: &str,
+        between: &str,
+        second: &str,
+        end: &str,
+        policy: EscapePolicy,
+    ) -> bool
+        ensures { buffered self.new ≡ buffered self.old ++ (if result
+            then (escaped_bytes policy first.now ++ between.now)
+            ++ (escaped_bytes policy second.now ++ end.now)
+            else []) }
+    {
+        let len = self.len();
+        if self.push_part(first, between, policy) && self.push_part(second, end, policy) {
+            return true;
+        }
+        self.truncate(len);
+        false
+    }
+
+    // Appends a text escaped, and another as it is behind it, or a front of the two.
+    #[inline(always)]
+    fn push_part(&mut self, text: &str, behind: &str, policy: EscapePolicy) -> bool
+        ensures all { result ≡ true → buffered self.new
+            ≡ buffered self.old ++ (escaped_bytes policy text.now ++ behind.now) }
+        ensures front { IsFront (buffered self.old) (buffered self.new) }
+    {
+        if !self.push_text(text, policy) || !self.has_room(behind.len()) {
+            return false;
+        }
+        self.push(behind.as_bytes());
+        true
+    }
+
+    // Appends a text escaped, or a front of it.
+    #[inline(always)]
+    fn push_text(&mut self, text: &str, policy: EscapePolicy) -> bool
+        ensures all { result ≡ true → buffered self.new
+            ≡ buffered self.old ++ escaped_bytes policy text.now }
+        ensures front { IsFront (buffered self.old) (buffered self.new) }
+    {
+        if !self.has_room(text.len()) {
+            return false;
+        }
+        match policy {
+            EscapePolicy::Basics => self.push_marked(text.as_bytes(), &Basics).is_empty(),
+            EscapePolicy::Reserved => self.push_marked(text.as_bytes(), &Reserved).is_empty(),
+            _ => self.push_verbatim(text, policy),
+        }
+    }
+
+    // Appends a text if no character of it is escaped.
+    #[inline(always)]
+    fn push_verbatim(&mut self, text: &str, policy: EscapePolicy) -> bool
+        requires { length (buffered self.old) + length text.now ≤ BUFFER_SIZE }
+        ensures { buffered self.new
+            ≡ buffered self.old ++ (if result then escaped_bytes policy text.now else []) }
+    {
+        if !is_verbatim(text, policy) {
+            return false;
+        }
+        self.push(text.as_bytes());
+        true
+    }
+
+    /// Appends a run and the escape of the character behind it, if there is room.
+    #[inline(always)]
+    pub(crate) fn push_run(&mut self, run: &str, c: char) -> bool
+        ensures { buffered self.new
+            ≡ buffered self.old ++ (if result then run.now ++ escape c else []) }
+    {
+        if run.len() > BUFFER_SIZE - ESCAPE_ROOM || !self.has_room(run.len() + ESCAPE_ROOM) {
+            return false;
+        }
+        self.push(run.as_bytes());
+        self.push_escape(c);
+        true
+    }
+}
