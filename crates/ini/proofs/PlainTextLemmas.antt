@@ -18,7 +18,7 @@ use Rattle.ini_text.proofs.LawLemmas.ExportedLemmas as text_laws
 use Rattle.ini.specs.Texts.{Text}
 use Rattle.ini.specs.Properties.{Pairs}
 use Rattle.ini.specs.Documents.{Document, document_of, with_item, with_pair}
-use Rattle.ini.specs.SectionItems.{items_of, name_items, pair_items}
+use Rattle.ini.specs.SectionItems.{items_of, pair_items}
 use Rattle.ini.specs.Written.{has_pairs, written_name, written_pair, written_pairs, written_sections}
 use Rattle.ini.proofs.EachLemmas.{Each}
 use Rattle.ini.proofs.ReadingLemmas.{Reads-append, with_item-some}

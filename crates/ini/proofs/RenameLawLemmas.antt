@@ -1,5 +1,5 @@
 -- The laws of sections and keys that get another name.
-use Rattle.std.proofs.Common.{◌≡◌, false, [], ◌∷◌, Option, None, Some, IsSome, refl, ap, arith}
+use Rattle.std.proofs.Common.{◌≡◌, false, [], ◌∷◌, Option, None, Some, refl, arith}
 use Rattle.std.proofs.lemmas.Bool.{false≢true}
 use Rattle.std.specs.Map.{values_of}
 use Rattle.ini.specs.Texts.{Text, is_name, is_text}

@@ -3,5 +3,4 @@ pub mod InnerLends
 pub mod LentNames
 pub mod Passing
 pub mod ReadBytes
-pub mod SentTexts
 pub mod PlainSections

@@ -1,10 +1,10 @@
 //! Documents on their way to a device. This file knows in which order the parts of a document are
 //! written, and leaves escapes and the device to `ini_text`.
-ghost use Rattle.std.specs.Prelude.{◌≡◌, OnOk, IfErr, IfOk, IsOkUnless, ◌++◌, Some, alloc_error, chars};
+ghost use Rattle.std.specs.Prelude.{◌≡◌, OnOk, IfErr, IfOk, IsOkUnless, Some, alloc_error, chars};
 ghost use Rattle.std.specs.Prelude.{encode_utf8_all, true};
 ghost use Rattle.std.specs.Str.{all_scalars};
-ghost use Rattle.ini_text.specs.Escaping.EscapedTexts.{escaped};
 ghost use Rattle.ini_text.specs.Device.DeviceRefusals.{IsIoOrNoProgress};
+ghost use Rattle.ini_text.specs.Device.Gathering.{Sends};
 ghost use Rattle.ini_text.specs.Device.Watched.{IsClear, WritesBytes};
 ghost use Rattle.ini_text.specs.Options.WriteOptions.{IsDefaultWriteOption, with_policy};
 ghost use Rattle.ini_text.specs.declared.write.option.WriteOption.{WriteOption};
@@ -12,32 +12,12 @@ ghost use Rattle.ini.specs.Texts.{str_name, text_of};
 ghost use Rattle.ini.specs.Written.{written, written_gap, written_name, written_pair};
 ghost use Rattle.ini.specs.Written.{written_pairs, written_section};
 ghost use Rattle.ini.specs.WrittenTo.{IsFrontWrittenTo, IsWrittenTo};
-ghost use Rattle.ini.specs.Inside.SentTexts.{SendsText};
-ghost use Rattle.ini_text.specs.Device.HeldBack.{held};
 
 use crate::document::Ini;
 use crate::properties::Properties;
 use ini_text::{Error, EscapePolicy, Gatherer, Watched, WriteOption};
 use std::alloc::{AllocError, Global};
 use std::io::Write;
-
-// Two texts escaped, and behind each another as it is, seen as their characters.
-fn write_line<W: Write>(
-    lines: &mut Gatherer,
-    first: &str,
-    between: &str,
-    second: &str,
-    end: &str,
-    policy: EscapePolicy,
-    out: &mut Watched<'_, W>,
-) -> Result<(), Error>
-    requires { IsClear out.old }
-    ensures { SendsText W.contents out.old out.new (held lines.old) (held lines.new) result
-        ((escaped policy (chars first.now) ++ chars between.now)
-        ++ (escaped policy (chars second.now) ++ chars end.now)) }
-{
-    lines.put_line(first, between, second, end, policy, out)
-}
 
 // The key, the separator and the value, on a line of their own.
 fn write_pair<W: Write>(
@@ -48,12 +28,11 @@ fn write_pair<W: Write>(
     out: &mut Watched<'_, W>,
 ) -> Result<(), Error>
     requires { IsClear out.old }
-    ensures { SendsText W.contents out.old out.new (held lines.old) (held lines.new) result
+    ensures { Sends W.contents out.old out.new lines.old lines.new result
         (written_pair option.now (chars key.now, chars value.now)) }
 {
     let end = option.line_separator.as_str();
-    write_line(
-        lines,
+    lines.put_line(
         key,
         option.kv_separator,
         value,
@@ -71,7 +50,7 @@ fn write_pairs<W: Write>(
     out: &mut Watched<'_, W>,
 ) -> Result<(), Error>
     requires { IsClear out.old }
-    ensures { SendsText W.contents out.old out.new (held lines.old) (held lines.new) result
+    ensures { Sends W.contents out.old out.new lines.old lines.new result
         (written_pairs option.now pairs.now) }
 {
     for (key, value) in pairs {
@@ -88,7 +67,7 @@ fn write_header<W: Write>(
     out: &mut Watched<'_, W>,
 ) -> Result<(), Error>
     requires { IsClear out.old }
-    ensures { SendsText W.contents out.old out.new (held lines.old) (held lines.new) result
+    ensures { Sends W.contents out.old out.new lines.old lines.new result
         (written_name option.now (Some (chars name.now))) }
 {
     lines.put("[", out)?;
@@ -105,7 +84,7 @@ fn write_name<W: Write>(
     out: &mut Watched<'_, W>,
 ) -> Result<(), Error>
     requires { IsClear out.old }
-    ensures { SendsText W.contents out.old out.new (held lines.old) (held lines.new) result
+    ensures { Sends W.contents out.old out.new lines.old lines.new result
         (written_name option.now (str_name name.entry)) }
 {
     match name {
@@ -124,7 +103,7 @@ fn write_gap<W: Write>(
     out: &mut Watched<'_, W>,
 ) -> Result<(), Error>
     requires { IsClear out.old }
-    ensures { SendsText W.contents out.old out.new (held lines.old) (held lines.new) result
+    ensures { Sends W.contents out.old out.new lines.old lines.new result
         (written_gap option.now earlier pairs.now) }
 {
     if earlier && !pairs.is_empty() {
@@ -144,7 +123,7 @@ fn write_section<W: Write>(
     out: &mut Watched<'_, W>,
 ) -> Result<(), Error>
     requires { IsClear out.old }
-    ensures { SendsText W.contents out.old out.new (held lines.old) (held lines.new) result
+    ensures { Sends W.contents out.old out.new lines.old lines.new result
         (written_section option.now earlier (str_name name.entry, pairs.now)) }
 {
     write_gap(lines, earlier, pairs, option, out)?;
@@ -238,7 +217,7 @@ fn write_sections<W: Write>(
     out: &mut Watched<'_, W>,
 ) -> Result<(), Error>
     requires { IsClear out.old }
-    ensures { SendsText W.contents out.old out.new (held lines.old) (held lines.new) result
+    ensures { Sends W.contents out.old out.new lines.old lines.new result
         (written document.now option.now) }
 {
     let mut earlier = false;

@@ -6,11 +6,10 @@
 
 ghost use Rattle.std.specs.Prelude.{Some, chars, encode_utf8_all, flat_map};
 ghost use Rattle.std.specs.Option.{option_map};
-ghost use Rattle.ini_text.specs.Device.HeldBack.{held};
+ghost use Rattle.ini_text.specs.Device.Gathering.{Sends};
 ghost use Rattle.ini_text.specs.Device.Watched.{IsClear, WritesBytes};
 ghost use Rattle.ini.specs.Properties.{values};
 ghost use Rattle.ini.specs.Texts.{str_name};
-ghost use Rattle.ini.specs.Inside.SentTexts.{SendsText};
 ghost use Rattle.ini_lines.specs.Lines.{entries_of_keys, entry, key_entries, listed_pairs, listed_pair, name_entries};
 ghost use Rattle.ini_lines.specs.Lines.{name_entry};
 ghost use Rattle.ini_lines.specs.Prints.{Prints};
@@ -51,7 +50,7 @@ fn list_sections<W: Write>(
     out: &mut Watched<'_, W>,
 ) -> Result<(), Error>
     requires { IsClear out.old }
-    ensures { SendsText W.contents out.old out.new (held lines.old) (held lines.new) result
+    ensures { Sends W.contents out.old out.new lines.old lines.new result
         (listed_pairs form document.now) }
 {
     for (name, pairs) in document {
@@ -69,7 +68,7 @@ fn list_pairs<W: Write>(
     out: &mut Watched<'_, W>,
 ) -> Result<(), Error>
     requires { IsClear out.old }
-    ensures { SendsText W.contents out.old out.new (held lines.old) (held lines.new) result
+    ensures { Sends W.contents out.old out.new lines.old lines.new result
         (flat_map (listed_pair form (str_name name.entry)) pairs.now) }
 {
     for (key, value) in pairs {
@@ -88,7 +87,7 @@ fn list_pair<'a, W: Write>(
     out: &mut Watched<'_, W>,
 ) -> Result<(), Error>
     requires { IsClear out.old }
-    ensures { SendsText W.contents out.old out.new (held lines.old) (held lines.new) result
+    ensures { Sends W.contents out.old out.new lines.old lines.new result
         (listed_pair form (str_name name.entry) (chars key.now, chars value.now)) }
 {
     let (between, end) = (form.between(), form.end());
@@ -145,7 +144,7 @@ fn put_names<W: Write>(
     out: &mut Watched<'_, W>,
 ) -> Result<(), Error>
     requires { IsClear out.old }
-    ensures { SendsText W.contents out.old out.new (held lines.old) (held lines.new) result
+    ensures { Sends W.contents out.old out.new lines.old lines.new result
         (name_entries form document.now) }
 {
     for name in document.sections() {
@@ -162,7 +161,7 @@ fn put_name<W: Write>(
     out: &mut Watched<'_, W>,
 ) -> Result<(), Error>
     requires { IsClear out.old }
-    ensures { SendsText W.contents out.old out.new (held lines.old) (held lines.new) result
+    ensures { Sends W.contents out.old out.new lines.old lines.new result
         (name_entry form (str_name name.entry)) }
 {
     match name {
@@ -213,7 +212,7 @@ fn put_keys<W: Write>(
     out: &mut Watched<'_, W>,
 ) -> Result<(), Error>
     requires { IsClear out.old }
-    ensures { SendsText W.contents out.old out.new (held lines.old) (held lines.new) result
+    ensures { Sends W.contents out.old out.new lines.old lines.new result
         (entries_of_keys form pairs.now) }
 {
     for (key, _) in pairs {
@@ -290,7 +289,7 @@ fn put_values<W: Write>(
     out: &mut Watched<'_, W>,
 ) -> Result<(), Error>
     requires { IsClear out.old }
-    ensures { SendsText W.contents out.old out.new (held lines.old) (held lines.new) result
+    ensures { Sends W.contents out.old out.new lines.old lines.new result
         (flat_map (entry form) (values (chars key.now) pairs.now)) }
 {
     for value in pairs.get_all(key) {

@@ -1,9 +1,8 @@
 //! What an entry is put together from: texts in their form, and behind each another as it is. This file knows
 //! no document.
 ghost use Rattle.std.specs.Prelude.{◌++◌, chars, flat_map};
-ghost use Rattle.ini_text.specs.Device.HeldBack.{held};
+ghost use Rattle.ini_text.specs.Device.Gathering.{Sends};
 ghost use Rattle.ini_text.specs.Device.Watched.{IsClear};
-ghost use Rattle.ini.specs.Inside.SentTexts.{SendsText};
 ghost use Rattle.ini_lines.specs.Lines.{entry, text_in};
 ghost use Rattle.ini_lines.specs.Prints.{part_text};
 
@@ -19,7 +18,7 @@ pub(crate) fn put_entry<W: Write>(
     out: &mut Watched<'_, W>,
 ) -> Result<(), Error>
     requires { IsClear out.old }
-    ensures { SendsText W.contents out.old out.new (held lines.old) (held lines.new) result
+    ensures { Sends W.contents out.old out.new lines.old lines.new result
         (entry form (chars text.now)) }
 {
     put_part(lines, form, text, form.end(), out)
@@ -33,7 +32,7 @@ pub(crate) fn put_parts<W: Write>(
     out: &mut Watched<'_, W>,
 ) -> Result<(), Error>
     requires { IsClear out.old }
-    ensures { SendsText W.contents out.old out.new (held lines.old) (held lines.new) result
+    ensures { Sends W.contents out.old out.new lines.old lines.new result
         (flat_map (part_text form) parts.now) }
 {
     for (text, behind) in parts {
@@ -51,7 +50,7 @@ fn put_part<W: Write>(
     out: &mut Watched<'_, W>,
 ) -> Result<(), Error>
     requires { IsClear out.old }
-    ensures { SendsText W.contents out.old out.new (held lines.old) (held lines.new) result
+    ensures { Sends W.contents out.old out.new lines.old lines.new result
         (text_in form (chars text.now) ++ chars behind.now) }
 {
     put_text(lines, form, text, out)?;
@@ -66,7 +65,7 @@ fn put_text<W: Write>(
     out: &mut Watched<'_, W>,
 ) -> Result<(), Error>
     requires { IsClear out.old }
-    ensures { SendsText W.contents out.old out.new (held lines.old) (held lines.new) result
+    ensures { Sends W.contents out.old out.new lines.old lines.new result
         (text_in form (chars text.now)) }
 {
     match form {

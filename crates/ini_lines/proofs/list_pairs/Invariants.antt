@@ -1,12 +1,11 @@
 use Rattle.std.proofs.Common.{flat_map}
 use Rattle.ini.specs.Texts.{str_name}
 use Rattle.ini_lines.specs.Lines.{listed_pair}
-use Rattle.ini_text.specs.Device.HeldBack.{held}
-use Rattle.ini.proofs.WritingLemmas.{Writing}
+use Rattle.ini_text.proofs.WriteLemmas.SendLemmas.{Sending}
 use Rattle.ini_lines.proofs.list_pairs.Given as goal
 
 abbrev pub invariant-loop-key : goal.invariant-loop-key
 invariant-loop-key g l =
-    Writing g.W.Write.contents l.fn.out l.out (held l.fn.lines) (held l.lines)
+    Sending g.W.Write.contents l.fn.out l.out l.fn.lines l.lines
     (flat_map (listed_pair l.form (str_name l.name)) l.pairs)
     (flat_map (listed_pair l.form (str_name l.name)) l.key-iterator)

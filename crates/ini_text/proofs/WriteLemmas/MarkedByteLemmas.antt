@@ -159,10 +159,16 @@ basics_ascii c beyond = (begins-basic c ∙ grind (arith, nat_tests), grind (ari
 reserved_ascii : (c : ℕ) → 0x80 ≤ c → (begins_escaped Reserved c ≡ false) × (is_escaped Reserved c ≡ false)
 reserved_ascii c beyond = (begins-reserved c ∙ grind (arith, nat_tests), grind (arith, nat_tests))
 
-pub escaped_bytes-basics : (bytes : List ℕ) → IsUtf8 bytes
-    → escaped_bytes Basics bytes ≡ marked_escaped (begins_escaped Basics) bytes
-escaped_bytes-basics bytes is_text = escaped_bytes-marked Basics basics_ascii bytes is_text
+-- what goes out for a text by these policies
+pub marked-basics : {policy : EscapePolicy} {bytes text : List ℕ} → bytes ≡ text → IsUtf8 text
+    → policy ≡ Basics → marked_escaped (begins_escaped Basics) bytes ≡ escaped_bytes policy text
+marked-basics {text = text} same is_text is =
+    ap (marked_escaped (begins_escaped Basics)) same
+    ∙ sym (escaped_bytes-marked Basics basics_ascii text is_text) ∙ ap (λ p. escaped_bytes p text) (sym is)
 
-pub escaped_bytes-reserved : (bytes : List ℕ) → IsUtf8 bytes
-    → escaped_bytes Reserved bytes ≡ marked_escaped (begins_escaped Reserved) bytes
-escaped_bytes-reserved bytes is_text = escaped_bytes-marked Reserved reserved_ascii bytes is_text
+pub marked-reserved : {policy : EscapePolicy} {bytes text : List ℕ} → bytes ≡ text → IsUtf8 text
+    → policy ≡ Reserved → marked_escaped (begins_escaped Reserved) bytes ≡ escaped_bytes policy text
+marked-reserved {text = text} same is_text is =
+    ap (marked_escaped (begins_escaped Reserved)) same
+    ∙ sym (escaped_bytes-marked Reserved reserved_ascii text is_text)
+    ∙ ap (λ p. escaped_bytes p text) (sym is)

@@ -4,8 +4,13 @@ use Rattle.std.proofs.Math.Seq.{take-append-add}
 use Rattle.std.proofs.lemmas.List.{take-append-le}
 use Rattle.std.proofs.KnownBytes.{Appends-trans}
 use Rattle.std.specs.Io.KnownBytes.{Appends, Keeps}
-use Rattle.ini_text.specs.Device.Gathering.{IsUnderWay}
 use Rattle.ini_text.specs.Device.Watched.{AppendsFront}
+
+-- a part of the whole was appended, and the rest is to come
+pub record IsUnderWay (old new : Option (List ℕ)) (whole rest : List ℕ) : Type 0 where
+  pub done : List ℕ
+  pub appended : Appends old new done
+  pub parts : whole ≡ done ++ rest
 
 pub Appends-kept : (a b : Option (List ℕ)) → Keeps a b → Appends a b []
 Appends-kept None b kept = tt

@@ -1,261 +1,302 @@
--- Texts that are sent one after another by way of a gatherer.
-use Rattle.std.proofs.Common.{◌≡◌, ℕ, List, [], ◌++◌, Option, Result, Ok, Err, OnOk, OnErr, refl, sym, ap, ◌∙◌, subst, append_assoc, append-nil, length, take, arith, length-append, rules}
+-- Bytes and texts that are sent one after another by way of a gatherer.
+use Rattle.std.proofs.Common.{◌≡◌, ℕ, true, List, [], ◌++◌, Option, Result, Ok, Err, OnOk, refl, sym, ap, ◌∙◌, subst, append_assoc, append-nil, arith, length-append, rules, chars, encode_utf8_all}
 use Rattle.std.proofs.KnownBytes.{Appends-nil, Appends-trans}
-use Rattle.std.proofs.Math.Seq.{take-append_seam}
 use Rattle.std.proofs.lemmas.List.{take-append-le}
-use Rattle.ini_text.specs.Device.Gathering.{IsUnderWay, Sends}
-use Rattle.std.specs.Io.KnownBytes.{Appends}
-use Rattle.ini_text.specs.Device.Watched.{AppendsFront, IsClear, SameDevice, WritesBytes}
-use Rattle.ini_text.specs.declared.error.Error.{Error}
+use Rattle.std.proofs.lemmas.Result.{on_ok_weaker}
+use Rattle.std.proofs.lemmas.Str.{encodes-append, encodes-chars, scalars-chars}
+use Rattle.std.specs.Str.{IsUtf8, all_scalars}
+use Rattle.ini_text.specs.Device.Gathering.{Sends, SendsBytes}
+use Rattle.ini_text.specs.Device.HeldBack.{held}
+use Rattle.ini_text.specs.Device.Watched.{IsClear, WritesBytes}
+use Rattle.ini_text.specs.Escaping.EscapedTexts.{escaped, escaped_bytes}
 use Rattle.ini_text.specs.declared.device.Watched.{Watched}
+use Rattle.ini_text.specs.declared.error.Error.{Error}
+use Rattle.ini_text.specs.declared.write.gather.Gatherer.{Gatherer}
+use Rattle.ini_text.specs.declared.write.policy.EscapePolicy.{EscapePolicy}
+use Rattle.ini_text.proofs.PlainLemmas.ScalarLemmas.{escaped-scalars, scalars-append}
 use Rattle.ini_text.proofs.WriteLemmas.ProgressLemmas.{under_way_front}
 
--- what is held after a first text, and a second
-under_way-behind : {a b : Option (List ℕ)} {held : List ℕ} (before xs ys : List ℕ)
-    → IsUnderWay a b (before ++ xs) held → IsUnderWay a b (before ++ (xs ++ ys)) (held ++ ys)
-under_way-behind {a} {b} {held} before xs ys first = record {
-  done = first.done;
-  appended = first.appended;
-  parts = sym (append_assoc before xs ys) ∙ ap (λ l. l ++ ys) first.parts ∙ append_assoc first.done held ys;
-}
+-- what holds anyway holds at Ok
+pub at_ok : {P : Type 0} (r : Result (Unit {0}) Error) → P → OnOk r P
+at_ok (Ok x) holds = holds
+at_ok (Err e) holds = tt
 
-under_way-then : {a b c : Option (List ℕ)} {whole rest after : List ℕ} → IsUnderWay a b whole rest
-    → IsUnderWay b c rest after → IsUnderWay a c whole after
-under_way-then {a} {b} {c} {whole} {rest} {after} first second = record {
-  done = first.done ++ second.done;
-  appended = Appends-trans a b c first.done second.done first.appended second.appended;
-  parts =
-      first.parts ∙ ap (λ l. first.done ++ l) second.parts ∙ sym (append_assoc first.done second.done after);
-}
+-- a text escaped, and another as it is behind it
+part-bytes : (policy : EscapePolicy) (text behind : List ℕ) → IsUtf8 behind
+    → encode_utf8_all (escaped policy (chars text) ++ chars behind) ≡ escaped_bytes policy text ++ behind
+part-bytes policy text behind utf8 = rw (encodes-append, encodes-chars behind utf8) refl
 
--- a front of the first part is one of both
-front-more : (a b : Option (List ℕ)) (xs ys : List ℕ) → AppendsFront a b xs → AppendsFront a b (xs ++ ys)
-front-more a b xs ys (n, within, some) =
-    (n, omega (arith, within, length-append xs ys), rw (take-append-le n xs ys within) some)
+part-scalars : (policy : EscapePolicy) (text behind : List ℕ) → IsUtf8 text → IsUtf8 behind
+    → all_scalars (escaped policy (chars text) ++ chars behind) ≡ true
+part-scalars policy text behind u v =
+    scalars-append (escaped policy (chars text)) (chars behind)
+    (escaped-scalars policy (chars text) (scalars-chars text u)) (scalars-chars behind v)
 
 module _ {W : Type 0} {contents : W → Option (List ℕ)} where
-  -- nothing is sent
-  pub Sends-nil : {a : Watched W} (h : List ℕ) → IsClear a → Sends contents a a h h (Ok (tt {0})) []
-  Sends-nil h clear = record {
+  pub WritesBytes-nil : {a : Watched W} → IsClear a → WritesBytes contents a a (Ok (tt {0})) []
+  WritesBytes-nil clear = record {
     same_device = refl;
-    sent = record { done = []; appended = Appends-nil _; parts = append-nil h };
-    front = tt;
+    bytes = Appends-nil _;
+    front = (0, omega arith, Appends-nil _);
     failures = clear.0;
     stalls = clear.1;
+    io = search rules;
+    no_progress = search rules;
     only = tt;
   }
 
+  -- the second bytes behind the first
+  WritesBytes-then : {a b c : Watched W} {xs ys : List ℕ} {r : Result (Unit {0}) Error} → IsClear a
+      → WritesBytes contents a b (Ok (tt {0})) xs → WritesBytes contents b c r ys
+      → WritesBytes contents a c r (xs ++ ys)
+  WritesBytes-then {a} {b} {c} {xs} {ys} {r} clear first second = record {
+    same_device = second.same_device ∙ first.same_device;
+    bytes = on_ok_weaker r (λ more. Appends-trans _ _ _ xs ys first.bytes more) second.bytes;
+    front = under_way_front _ ys [] (record { done = xs; appended = first.bytes; parts = refl })
+        (sym (append-nil ys)) second.front;
+    failures = second.failures;
+    stalls = second.stalls;
+    io = search (clear.0, second.failures, rules);
+    no_progress = search (clear.1, second.stalls, rules);
+    only = second.only;
+  }
+
+  -- bytes that were cut short, and what should have followed
+  WritesBytes-cut : {a b : Watched W} {xs : List ℕ} {e : Error} (ys : List ℕ)
+      → WritesBytes contents a b (Err e) xs → WritesBytes contents a b (Err e) (xs ++ ys)
+  WritesBytes-cut {xs = xs} ys cut =
+      let (n, within, some) = cut.front in
+      record {
+        same_device = cut.same_device;
+        bytes = tt;
+        front = (
+          n,
+          omega (arith, within, length-append xs ys),
+          rw (take-append-le n xs ys within) some,
+        );
+        failures = cut.failures;
+        stalls = cut.stalls;
+        io = cut.io;
+        no_progress = cut.no_progress;
+        only = cut.only;
+      }
+
   -- bytes that are held back
-  pub Sends-held : {a : Watched W} {before after xs : List ℕ} → IsClear a → after ≡ before ++ xs
-      → Sends contents a a before after (Ok (tt {0})) xs
-  Sends-held clear held = record {
-    same_device = refl;
-    sent = record { done = []; appended = Appends-nil _; parts = sym held };
-    front = tt;
-    failures = clear.0;
-    stalls = clear.1;
-    only = tt;
+  pub SendsBytes-held : {a : Watched W} {g h : Gatherer} {xs : List ℕ} → IsClear a
+      → held h ≡ held g ++ xs → SendsBytes contents a a g h (Ok (tt {0})) xs
+  SendsBytes-held {g = g} {xs = xs} clear is = record {
+    done = [];
+    rest = held g ++ xs;
+    parts = refl;
+    written = WritesBytes-nil clear;
+    held_back = is;
+  }
+
+  -- what is held back already, and the bytes that are left
+  pub SendsBytes-behind : {a b : Watched W} {g h i : Gatherer} {xs ys : List ℕ}
+      {r : Result (Unit {0}) Error} → held g ++ xs ≡ held h ++ ys → SendsBytes contents a b h i r ys
+      → SendsBytes contents a b g i r xs
+  SendsBytes-behind same sent = record {
+    done = sent.done;
+    rest = sent.rest;
+    parts = same ∙ sent.parts;
+    written = sent.written;
+    held_back = sent.held_back;
   }
 
   -- bytes that go out while nothing is held back
-  pub Sends-direct : {a b : Watched W} {h xs : List ℕ} {r : Result (Unit {0}) Error} → h ≡ []
-      → WritesBytes contents a b r xs → Sends contents a b h h r xs
-  Sends-direct {a} {b} {h} {xs} {r} empty all = record {
-    same_device = all.same_device;
-    sent = at r all.bytes;
-    front = stopped r;
-    failures = all.failures;
-    stalls = all.stalls;
-    only = all.only;
+  pub SendsBytes-direct : {a b : Watched W} {g : Gatherer} {xs : List ℕ} {r : Result (Unit {0}) Error}
+      → held g ≡ [] → WritesBytes contents a b r xs → SendsBytes contents a b g g r xs
+  SendsBytes-direct {xs = xs} {r = r} none all = record {
+    done = xs;
+    rest = [];
+    parts = ap (λ l. l ++ xs) none ∙ sym (append-nil xs);
+    written = all;
+    held_back = at_ok r none;
   }
-    where
-      at : (r : Result (Unit {0}) Error)
-          → OnOk r (Appends (contents a.device.now) (contents b.device.now) xs)
-          → OnOk r (IsUnderWay (contents a.device.now) (contents b.device.now) (h ++ xs) h)
-      at (Ok x) all = record { done = xs; appended = all; parts = rw empty (sym (append-nil xs)) }
-      at (Err e) all = tt
 
-      stopped : (r : Result (Unit {0}) Error)
-          → OnErr r (AppendsFront (contents a.device.now) (contents b.device.now) (h ++ xs))
-      stopped (Ok x) = tt
-      stopped (Err e) = rw empty all.front
+  -- the second bytes behind the first
+  pub SendsBytes-then : {a b c : Watched W} {g h i : Gatherer} {xs ys : List ℕ}
+      {r : Result (Unit {0}) Error} → IsClear a → SendsBytes contents a b g h (Ok (tt {0})) xs
+      → SendsBytes contents b c h i r ys → SendsBytes contents a c g i r (xs ++ ys)
+  SendsBytes-then {g = g} {xs = xs} {ys = ys} clear first second = record {
+    done = first.done ++ second.done;
+    rest = second.rest;
+    parts = sym (append_assoc (held g) xs ys) ∙ ap (λ l. l ++ ys) first.parts
+        ∙ append_assoc first.done first.rest ys ∙ ap (λ l. first.done ++ (l ++ ys)) (sym first.held_back)
+        ∙ ap (λ l. first.done ++ l) second.parts ∙ sym (append_assoc first.done second.done second.rest);
+    written = WritesBytes-then clear first.written second.written;
+    held_back = second.held_back;
+  }
+
+  -- bytes that were cut short, and what should have followed
+  pub SendsBytes-cut : {a b : Watched W} {g h : Gatherer} {xs : List ℕ} {e : Error} (ys : List ℕ)
+      → SendsBytes contents a b g h (Err e) xs → SendsBytes contents a b g h (Err e) (xs ++ ys)
+  SendsBytes-cut {g = g} {xs = xs} ys cut = record {
+    done = cut.done;
+    rest = cut.rest ++ ys;
+    parts = sym (append_assoc (held g) xs ys) ∙ ap (λ l. l ++ ys) cut.parts
+        ∙ append_assoc cut.done cut.rest ys;
+    written = cut.written;
+    held_back = tt;
+  }
+
+  -- all that was sent was written, where nothing was held before, and nothing is held after
+  SendsBytes-all : {a b : Watched W} {g h : Gatherer} {xs : List ℕ} (r : Result (Unit {0}) Error)
+      → held g ≡ [] → SendsBytes contents a b g h r xs → OnOk r (held h ≡ [])
+      → WritesBytes contents a b r xs
+  SendsBytes-all {a} {b} {xs = xs} (Ok x) none sent empty =
+      subst (WritesBytes contents a b (Ok x))
+      (sym (append-nil sent.done) ∙ ap (λ l. sent.done ++ l) (sym empty ∙ sent.held_back)
+      ∙ sym sent.parts ∙ ap (λ l. l ++ xs) none) sent.written
+  SendsBytes-all {a} {b} {xs = xs} (Err e) none sent empty =
+      subst (WritesBytes contents a b (Err e)) (sym sent.parts ∙ ap (λ l. l ++ xs) none)
+      (WritesBytes-cut sent.rest sent.written)
+
+  -- a text as it is
+  pub Sends-put : {a b : Watched W} {g h : Gatherer} {bytes : List ℕ} {r : Result (Unit {0}) Error}
+      → IsUtf8 bytes → SendsBytes contents a b g h r bytes → Sends contents a b g h r (chars bytes)
+  Sends-put {bytes = bytes} {r = r} utf8 sent = record {
+    bytes = rw (encodes-chars bytes utf8) sent;
+    characters = at_ok r (scalars-chars bytes utf8);
+  }
+
+  -- a text escaped
+  pub Sends-escaped : {a b : Watched W} {g h : Gatherer} {bytes : List ℕ} {r : Result (Unit {0}) Error}
+      (policy : EscapePolicy) → IsUtf8 bytes → SendsBytes contents a b g h r (escaped_bytes policy bytes)
+      → Sends contents a b g h r (escaped policy (chars bytes))
+  Sends-escaped {bytes = bytes} {r = r} policy utf8 sent = record {
+    bytes = sent;
+    characters = at_ok r (escaped-scalars policy (chars bytes) (scalars-chars bytes utf8));
+  }
+
+  -- a line
+  pub Sends-line : {a b : Watched W} {g h : Gatherer} {r : Result (Unit {0}) Error} (policy : EscapePolicy)
+      (first between second end : List ℕ) → IsUtf8 first → IsUtf8 between → IsUtf8 second → IsUtf8 end
+      → SendsBytes contents a b g h r
+      ((escaped_bytes policy first ++ between) ++ (escaped_bytes policy second ++ end))
+      → Sends contents a b g h r
+      ((escaped policy (chars first) ++ chars between) ++ (escaped policy (chars second) ++ chars end))
+  Sends-line {r = r} policy first between second end u v w x sent = record {
+    bytes = rw (encodes-append, part-bytes policy first between v, part-bytes policy second end x) sent;
+    characters = at_ok r (scalars-append (escaped policy (chars first) ++ chars between) _
+        (part-scalars policy first between u v) (part-scalars policy second end w x));
+  }
+
+  -- nothing is sent
+  pub Sends-nil : {a : Watched W} {g h : Gatherer} → IsClear a → held h ≡ held g ++ []
+      → Sends contents a a g h (Ok (tt {0})) []
+  Sends-nil clear is = record { bytes = SendsBytes-held clear is; characters = refl }
 
   -- the second text behind the first
-  pub Sends-then : {a b c : Watched W} {before between after xs ys : List ℕ} {r : Result (Unit {0}) Error}
-      → Sends contents a b before between (Ok (tt {0})) xs
-      → Sends contents b c between after r ys → Sends contents a c before after r (xs ++ ys)
-  Sends-then {a} {b} {c} {before} {between} {after} {xs} {ys} {r} first second = record {
-    same_device = second.same_device ∙ first.same_device;
-    sent = at r second.sent;
-    front = stopped r second.front;
-    failures = second.failures;
-    stalls = second.stalls;
-    only = second.only;
+  pub Sends-then : {a b c : Watched W} {g h i : Gatherer} {xs ys : List ℕ} {r : Result (Unit {0}) Error}
+      → IsClear a → Sends contents a b g h (Ok (tt {0})) xs → Sends contents b c h i r ys
+      → Sends contents a c g i r (xs ++ ys)
+  Sends-then {xs = xs} {ys = ys} {r = r} clear first second = record {
+    bytes = rw encodes-append (SendsBytes-then clear first.bytes second.bytes);
+    characters = on_ok_weaker r (scalars-append xs ys first.characters) second.characters;
   }
-    where
-      at : (r : Result (Unit {0}) Error)
-          → OnOk r (IsUnderWay (contents b.device.now) (contents c.device.now) (between ++ ys) after)
-          → OnOk r (IsUnderWay (contents a.device.now) (contents c.device.now) (before ++ (xs ++ ys)) after)
-      at (Ok y) more = under_way-then (under_way-behind before xs ys first.sent) more
-      at (Err e) more = tt
-
-      stopped : (r : Result (Unit {0}) Error)
-          → OnErr r (AppendsFront (contents b.device.now) (contents c.device.now) (between ++ ys))
-          → OnErr r (AppendsFront (contents a.device.now) (contents c.device.now) (before ++ (xs ++ ys)))
-      stopped (Ok y) more = tt
-      stopped (Err e) more =
-          under_way_front _ (between ++ ys) [] (under_way-behind before xs ys first.sent)
-          (sym (append-nil (between ++ ys))) more
-
-  -- whether or not all was sent, a front of it went out
-  pub Sends-front : {a b : Watched W} {before after xs : List ℕ} (r : Result (Unit {0}) Error)
-      → Sends contents a b before after r xs
-      → AppendsFront (contents a.device.now) (contents b.device.now) (before ++ xs)
-  Sends-front {a} {b} {before} {after} {xs} (Ok x) sends =
-      let done = sends.sent.done in (
-        length done,
-        omega (arith, ap length sends.sent.parts, length-append done after),
-        subst (Appends _ _) (sym (ap (take (length done)) sends.sent.parts ∙ take-append_seam done after))
-            sends.sent.appended,
-      )
-  Sends-front (Err e) sends = sends.front
-
-  -- by way of a gatherer that held nothing before, and after `Ok` holds nothing
-  pub Sends-all : {a b : Watched W} {before after xs : List ℕ} {r : Result (Unit {0}) Error} → IsClear a
-      → before ≡ []
-      → Sends contents a b before after r xs → OnOk r (after ≡ []) → WritesBytes contents a b r xs
-  Sends-all {a} {b} {before} {after} {xs} {r} clear none sends empty = record {
-    same_device = sends.same_device;
-    bytes = at r sends.sent empty;
-    front = subst (AppendsFront _ _) (ap (λ l. l ++ xs) none) (Sends-front r sends);
-    failures = sends.failures;
-    stalls = sends.stalls;
-    io = search (clear.0, sends.failures, rules);
-    no_progress = search (clear.1, sends.stalls, rules);
-    only = sends.only;
-  }
-    where
-      at : (r : Result (Unit {0}) Error)
-          → OnOk r (IsUnderWay (contents a.device.now) (contents b.device.now) (before ++ xs) after)
-          → OnOk r (after ≡ [])
-          → OnOk r (Appends (contents a.device.now) (contents b.device.now) xs)
-      at (Ok x) sent end =
-          subst (Appends _ _) (sym (append-nil sent.done) ∙ ap (λ l. sent.done ++ l) (sym end)
-          ∙ sym sent.parts ∙ ap (λ l. l ++ xs) none) sent.appended
-      at (Err e) sent end = tt
-
-  -- the same, once it is flushed
-  pub Sends-flushed : {a b c : Watched W} {before between after xs : List ℕ} {r : Result (Unit {0}) Error}
-      → IsClear a → before ≡ []
-      → Sends contents a b before between (Ok (tt {0})) xs → Sends contents b c between after r []
-      → OnOk r (after ≡ []) → WritesBytes contents a c r xs
-  Sends-flushed {a} {b} {c} {xs = xs} {r = r} clear none first second empty =
-      subst (WritesBytes contents a c r) (append-nil xs)
-      (Sends-all clear none (Sends-then first second) empty)
 
   -- a text that was cut short, and what should have followed
-  pub Sends-cut : {a b : Watched W} {before after xs : List ℕ} {e : Error} (ys : List ℕ)
-      → Sends contents a b before after (Err e) xs → Sends contents a b before after (Err e) (xs ++ ys)
-  Sends-cut {a} {b} {before} {after} {xs} {e} ys cut = record {
-    same_device = cut.same_device;
-    sent = tt;
-    front =
-        subst (AppendsFront _ _) (append_assoc before xs ys) (front-more _ _ (before ++ xs) ys cut.front);
-    failures = cut.failures;
-    stalls = cut.stalls;
-    only = cut.only;
+  pub Sends-cut : {a b : Watched W} {g h : Gatherer} {xs : List ℕ} {e : Error} (ys : List ℕ)
+      → Sends contents a b g h (Err e) xs → Sends contents a b g h (Err e) (xs ++ ys)
+  Sends-cut ys cut = record {
+    bytes = rw encodes-append (SendsBytes-cut (encode_utf8_all ys) cut.bytes);
+    characters = tt;
   }
 
--- a part of the whole was sent, and the rest is left
-pub record Sending {W : Type 0} (contents : W → Option (List ℕ)) (a b : Watched W)
-    (before held whole rest : List ℕ) : Type 0 where
-  pub so_far : List ℕ
-  pub joined : so_far ++ rest ≡ whole
-  pub sent : Sends contents a b before held (Ok (tt {0})) so_far
+  -- a text that is sent from an empty gatherer, up to a refusal
+  pub Sends-refused : {a b : Watched W} {g h : Gatherer} {xs : List ℕ} {e : Error} → held g ≡ []
+      → Sends contents a b g h (Err e) xs → WritesBytes contents a b (Err e) (encode_utf8_all xs)
+  Sends-refused {e = e} none sent = SendsBytes-all (Err e) none sent.bytes tt
 
-module _ {W : Type 0} {contents : W → Option (List ℕ)} where
-  pub Sending-starts : {a : Watched W} (h : List ℕ) {whole : List ℕ} → IsClear a
-      → Sending contents a a h h whole whole
-  Sending-starts h clear = record { so_far = []; joined = refl; sent = Sends-nil h clear }
+  -- the same, once it is flushed
+  pub Sends-flushed : {a b c : Watched W} {g h i : Gatherer} {xs : List ℕ} {r : Result (Unit {0}) Error}
+      → IsClear a → held g ≡ [] → Sends contents a b g h (Ok (tt {0})) xs → Sends contents b c h i r []
+      → OnOk r (held i ≡ []) → WritesBytes contents a c r (encode_utf8_all xs)
+  Sends-flushed {a} {c = c} {xs = xs} {r = r} clear none first second empty =
+      subst (WritesBytes contents a c r) (append-nil (encode_utf8_all xs))
+      (SendsBytes-all r none (SendsBytes-then clear first.bytes second.bytes) empty)
 
-  -- nothing more is held
-  pub Sending-stays : {a b : Watched W} {before held after whole rest : List ℕ} → after ≡ held ++ []
-      → Sending contents a b before held whole rest → Sending contents a b before after whole rest
-  Sending-stays {a} {b} {before} {held} {after} {whole} {rest} same sending =
-      subst (λ h. Sending contents a b before h whole rest) (sym (same ∙ append-nil held)) sending
-
-  pub Sending-ends : {a b : Watched W} {before held whole : List ℕ}
-      → Sending contents a b before held whole [] → Sends contents a b before held (Ok (tt {0})) whole
-  Sending-ends {a} {b} {before} {held} left =
-      subst (Sends contents a b before held (Ok (tt {0}))) (sym (append-nil left.so_far) ∙ left.joined)
-      left.sent
-
-  -- a call that was to send the front xs of the rest
-  module _ {a b c : Watched W} {before held after whole rest xs : List ℕ} (more : List ℕ)
-      (front : rest ≡ xs ++ more) (left : Sending contents a b before held whole rest) where
-    pub Sending-goes_on : Sends contents b c held after (Ok (tt {0})) xs
-        → Sending contents a c before after whole more
-    Sending-goes_on step = record {
-      so_far = left.so_far ++ xs;
-      joined = append_assoc left.so_far xs more ∙ ap (λ l. left.so_far ++ l) (sym front) ∙ left.joined;
-      sent = Sends-then left.sent step;
-    }
-
-    pub Sending-stops : {e : Error} → Sends contents b c held after (Err e) xs
-        → Sends contents a c before after (Err e) whole
-    Sending-stops {e} cut =
-        subst (Sends contents a c before after (Err e))
-        (ap (λ l. left.so_far ++ l) (sym front) ∙ left.joined)
-        (Sends-then left.sent (Sends-cut more cut))
-
--- a part of the whole went out, and the rest is held back or is to come
+-- a front of the whole was written, and the rest is held back or is to come
 pub record Leaving {W : Type 0} (contents : W → Option (List ℕ)) (a b : Watched W) (whole left : List ℕ)
     : Type 0 where
-  pub clear : IsClear b
-  pub same_device : SameDevice a b
-  pub under_way : IsUnderWay (contents a.device.now) (contents b.device.now) whole left
+  pub done : List ℕ
+  pub parts : whole ≡ done ++ left
+  pub written : WritesBytes contents a b (Ok (tt {0})) done
 
 module _ {W : Type 0} {contents : W → Option (List ℕ)} where
   pub Leaving-starts : {a : Watched W} (whole : List ℕ) → IsClear a → Leaving contents a a whole whole
-  Leaving-starts whole clear =
-      record {
-        clear = clear;
-        same_device = refl;
-        under_way =
-            record { done = []; appended = Appends-nil _; parts = refl };
-      }
+  Leaving-starts whole clear = record { done = []; parts = refl; written = WritesBytes-nil clear }
 
-  pub Leaving-ends : {a b : Watched W} (before after xs : List ℕ)
-      → Leaving contents a b (before ++ xs) after → Sends contents a b before after (Ok (tt {0})) xs
-  Leaving-ends before after xs all = record {
-    same_device = all.same_device;
-    sent = all.under_way;
-    front = tt;
-    failures = all.clear.0;
-    stalls = all.clear.1;
-    only = tt;
+  pub Leaving-ends : {a b : Watched W} {g h : Gatherer} (xs : List ℕ)
+      → Leaving contents a b (held g ++ xs) (held h) → SendsBytes contents a b g h (Ok (tt {0})) xs
+  Leaving-ends {h = h} xs all = record {
+    done = all.done;
+    rest = held h;
+    parts = all.parts;
+    written = all.written;
+    held_back = refl;
   }
 
-  -- a call that was to send the bytes xs behind what is held
-  module _ {a b c : Watched W} {held after whole left : List ℕ} (xs more : List ℕ)
-      (front : left ≡ held ++ (xs ++ more)) (so_far : Leaving contents a b whole left) where
-    pub Leaving-goes_on : Sends contents b c held after (Ok (tt {0})) xs
-        → Leaving contents a c whole (after ++ more)
-    Leaving-goes_on step = record {
-      clear = (step.failures, step.stalls);
-      same_device = step.same_device ∙ so_far.same_device;
-      under_way = under_way-then so_far.under_way (rw front (under_way-behind held xs more step.sent));
+  module _ {a b c : Watched W} {h i : Gatherer} {whole left : List ℕ} (clear : IsClear a) (xs : List ℕ)
+      (so_far : Leaving contents a b whole left) where
+    -- a call that was to send the bytes xs behind what is held
+    pub Leaving-goes_on : (more : List ℕ) → left ≡ held h ++ (xs ++ more)
+        → SendsBytes contents b c h i (Ok (tt {0})) xs → Leaving contents a c whole (held i ++ more)
+    Leaving-goes_on more front step = record {
+      done = so_far.done ++ step.done;
+      parts = so_far.parts
+          ∙ ap (λ l. so_far.done ++ l) (front ∙ sym (append_assoc (held h) xs more)
+          ∙ ap (λ l. l ++ more) step.parts ∙ append_assoc step.done step.rest more
+          ∙ ap (λ l. step.done ++ (l ++ more)) (sym step.held_back))
+          ∙ sym (append_assoc so_far.done step.done (held i ++ more));
+      written = WritesBytes-then clear so_far.written step.written;
     }
 
-    pub Leaving-stops : {e : Error} (before ys : List ℕ) → before ++ ys ≡ whole
-        → Sends contents b c held after (Err e) xs → Sends contents a c before after (Err e) ys
-    Leaving-stops before ys all cut = record {
-      same_device = cut.same_device ∙ so_far.same_device;
-      sent = tt;
-      front = subst (AppendsFront _ _) (sym all)
-          (under_way_front _ (held ++ xs) more so_far.under_way (front ∙ sym (append_assoc held xs more))
-          cut.front);
-      failures = cut.failures;
-      stalls = cut.stalls;
-      only = cut.only;
+    -- and one that was to send all that is left
+    pub Leaving-last : {g : Gatherer} {r : Result (Unit {0}) Error} (ys : List ℕ) → held g ++ ys ≡ whole
+        → left ≡ held h ++ xs → SendsBytes contents b c h i r xs → SendsBytes contents a c g i r ys
+    Leaving-last ys all front step = record {
+      done = so_far.done ++ step.done;
+      rest = step.rest;
+      parts = all ∙ so_far.parts ∙ ap (λ l. so_far.done ++ l) (front ∙ step.parts)
+          ∙ sym (append_assoc so_far.done step.done step.rest);
+      written = WritesBytes-then clear so_far.written step.written;
+      held_back = step.held_back;
     }
+
+-- a part of a whole text was sent, and the rest is left
+pub record Sending {W : Type 0} (contents : W → Option (List ℕ)) (a b : Watched W) (before after : Gatherer)
+    (whole rest : List ℕ) : Type 0 where
+  pub so_far : List ℕ
+  pub joined : so_far ++ rest ≡ whole
+  pub clear : IsClear a
+  pub sent : Sends contents a b before after (Ok (tt {0})) so_far
+
+module _ {W : Type 0} {contents : W → Option (List ℕ)} where
+  pub Sending-starts : (a : Watched W) (g : Gatherer) {whole : List ℕ} → IsClear a
+      → Sending contents a a g g whole whole
+  Sending-starts a g clear = record {
+    so_far = [];
+    joined = refl;
+    clear = clear;
+    sent = Sends-nil clear (sym (append-nil (held g)));
+  }
+
+  -- a call that was to send the front xs of the rest
+  module _ {a b c : Watched W} {g h i : Gatherer} {whole rest xs : List ℕ} (more : List ℕ)
+      (front : rest ≡ xs ++ more) (left : Sending contents a b g h whole rest) where
+    pub Sending-goes_on : Sends contents b c h i (Ok (tt {0})) xs → Sending contents a c g i whole more
+    Sending-goes_on step = record {
+      so_far = left.so_far ++ xs;
+      joined = append_assoc left.so_far xs more ∙ ap (λ l. left.so_far ++ l) (sym front) ∙ left.joined;
+      clear = left.clear;
+      sent = Sends-then left.clear left.sent step;
+    }
+
+    pub Sending-stops : {e : Error} → Sends contents b c h i (Err e) xs
+        → Sends contents a c g i (Err e) whole
+    Sending-stops {e} cut =
+        subst (Sends contents a c g i (Err e)) (ap (λ l. left.so_far ++ l) (sym front) ∙ left.joined)
+        (Sends-then left.clear left.sent (Sends-cut more cut))

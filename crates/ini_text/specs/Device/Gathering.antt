@@ -1,26 +1,23 @@
--- What a call did that was to send bytes by way of a gatherer, which holds some back.
-use Rattle.std.specs.Prelude.{◌≡◌, ℕ, List, ◌++◌, Option, Result, OnOk, OnErr, IfErr}
-use Rattle.std.specs.Io.KnownBytes.{Appends}
-use Rattle.ini_text.specs.Device.DeviceRefusals.{IsIoOrNoProgress, failures_in, stalls_in}
-use Rattle.ini_text.specs.Device.Watched.{AppendsFront, SameDevice, device_now, failure_count, stall_count}
+-- What a call did that was to send a text by way of a gatherer, which holds some bytes back.
+use Rattle.std.specs.Prelude.{◌≡◌, ℕ, true, List, ◌++◌, Option, Result, OnOk, encode_utf8_all}
+use Rattle.std.specs.Str.{all_scalars}
+use Rattle.ini_text.specs.Device.HeldBack.{held}
+use Rattle.ini_text.specs.Device.Watched.{WritesBytes}
 use Rattle.ini_text.specs.declared.error.Error.{Error}
 use Rattle.ini_text.specs.declared.device.Watched.{Watched}
+use Rattle.ini_text.specs.declared.write.gather.Gatherer.{Gatherer}
 
--- a part of the whole was appended, and the rest is to come
-pub record IsUnderWay (old new : Option (List ℕ)) (whole rest : List ℕ) : Type 0 where
-  pub done : List ℕ
-  pub appended : Appends old new done
-  pub parts : whole ≡ done ++ rest
+module _ {W : Type 0} (contents : W → Option (List ℕ)) (old new : Watched W) (before after : Gatherer)
+    (result : Result (Unit {0}) Error) where
+  -- of what was held before and the bytes, a front was written, and the rest is held after `Ok`
+  pub record SendsBytes (bytes : List ℕ) : Type 0 where
+    pub done : List ℕ
+    pub rest : List ℕ
+    pub parts : held before ++ bytes ≡ done ++ rest
+    pub written : WritesBytes contents old new result done
+    pub held_back : OnOk result (held after ≡ rest)
 
--- at `Ok` what was held before and the bytes went out, but for what is held after; else a front of them
--- went out. A fault of the device is the answer, and is counted
-pub record Sends {W : Type 0} (contents : W → Option (List ℕ)) (old new : Watched W) (before after : List ℕ)
-    (result : Result (Unit {0}) Error) (bytes : List ℕ) : Type 0 where
-  pub same_device : SameDevice old new
-  pub sent : OnOk result (IsUnderWay (contents (device_now old)) (contents (device_now new))
-      (before ++ bytes) after)
-  pub front : OnErr result (AppendsFront (contents (device_now old)) (contents (device_now new))
-      (before ++ bytes))
-  pub failures : failure_count new ≡ failures_in result
-  pub stalls : stall_count new ≡ stalls_in result
-  pub only : IfErr result IsIoOrNoProgress
+  -- the same of a text; one that was sent whole is made of characters
+  pub record Sends (text : List ℕ) : Type 0 where
+    pub bytes : SendsBytes (encode_utf8_all text)
+    pub characters : OnOk result (all_scalars text ≡ true)

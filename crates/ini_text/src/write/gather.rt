@@ -1,9 +1,10 @@
 //! Texts on their way to a device, gathered so that many of them reach it together. This file knows
 //! bytes and escapes, and no section, key or value.
-ghost use Rattle.std.specs.Prelude.{◌≡◌, OnOk, [], ◌++◌};
-ghost use Rattle.ini_text.specs.Escaping.EscapedTexts.{escape, escaped_bytes};
+ghost use Rattle.std.specs.Prelude.{◌≡◌, OnOk, [], ◌++◌, chars};
+ghost use Rattle.ini_text.specs.Escaping.EscapedTexts.{escape, escaped, escaped_bytes};
 ghost use Rattle.ini_text.specs.Inside.Verbatim.{marked_escaped};
-ghost use Rattle.ini_text.specs.Device.Gathering.{Sends};
+ghost use Rattle.ini_text.specs.Device.Gathering.{Sends, SendsBytes};
+ghost use Rattle.ini_text.specs.Device.HeldBack.{held};
 ghost use Rattle.ini_text.specs.Device.Watched.{IsClear};
 
 use crate::device::Watched;
@@ -28,8 +29,6 @@ pub struct Gatherer {
 }
 
 impl Gatherer {
-    ghost use Rattle.ini_text.specs.Device.HeldBack.{held};
-
     /// Nothing is held back.
     pub fn new() -> Gatherer
         ensures { held result ≡ [] }
@@ -46,7 +45,7 @@ impl Gatherer {
     /// `Io` where the device answers a fault, `NoProgress` where it takes no bytes.
     pub fn put<W: Write>(&mut self, text: &str, out: &mut Watched<'_, W>) -> Result<(), Error>
         requires { IsClear out.old }
-        ensures { Sends W.contents out.old out.new (held self.old) (held self.new) result text.now }
+        ensures { Sends W.contents out.old out.new self.old self.new result (chars text.now) }
     {
         self.put_bytes(text.as_bytes(), out)
     }
@@ -59,8 +58,8 @@ impl Gatherer {
         out: &mut Watched<'_, W>,
     ) -> Result<(), Error>
         requires { IsClear out.old }
-        ensures { Sends W.contents out.old out.new (held self.old) (held self.new) result
-            (escaped_bytes policy text.now) }
+        ensures { Sends W.contents out.old out.new self.old self.new result
+            (escaped policy (chars text.now)) }
     {
         match policy {
             EscapePolicy::Basics => self.put_marked(text.as_bytes(), &Basics, out),
@@ -81,9 +80,9 @@ impl Gatherer {
         out: &mut Watched<'_, W>,
     ) -> Result<(), Error>
         requires { IsClear out.old }
-        ensures { Sends W.contents out.old out.new (held self.old) (held self.new) result
-            ((escaped_bytes policy first.now ++ between.now)
-            ++ (escaped_bytes policy second.now ++ end.now)) }
+        ensures { Sends W.contents out.old out.new self.old self.new result
+            ((escaped policy (chars first.now) ++ chars between.now)
+            ++ (escaped policy (chars second.now) ++ chars end.now)) }
     {
         if self.buffer.push_line(first, between, second, end, policy) {
             return Ok(());
@@ -102,8 +101,8 @@ impl Gatherer {
         out: &mut Watched<'_, W>,
     ) -> Result<(), Error>
         requires { IsClear out.old }
-        ensures { Sends W.contents out.old out.new (held self.old) (held self.new) result
-            (escaped_bytes policy text.now ++ behind.now) }
+        ensures { Sends W.contents out.old out.new self.old self.new result
+            (escaped policy (chars text.now) ++ chars behind.now) }
     {
         self.put_escaped(text, policy, out)?;
         self.put(behind, out)
@@ -118,7 +117,7 @@ impl Gatherer {
         out: &mut Watched<'_, W>,
     ) -> Result<(), Error>
         requires { IsClear out.old }
-        ensures { Sends W.contents out.old out.new (held self.old) (held self.new) result
+        ensures { SendsBytes W.contents out.old out.new self.old self.new result
             (marked_escaped (M.is_marked marks.now) bytes.now) }
     {
         let rest = self.buffer.push_marked(bytes, marks);
@@ -137,7 +136,7 @@ impl Gatherer {
         out: &mut Watched<'_, W>,
     ) -> Result<(), Error>
         requires { IsClear out.old }
-        ensures { Sends W.contents out.old out.new (held self.old) (held self.new) result
+        ensures { SendsBytes W.contents out.old out.new self.old self.new result
             (marked_escaped (M.is_marked marks.now) bytes.now) }
     {
         let mut rest = bytes;
@@ -161,20 +160,20 @@ impl Gatherer {
         out: &mut Watched<'_, W>,
     ) -> Result<(), Error>
         requires { IsClear out.old }
-        ensures { Sends W.contents out.old out.new (held self.old) (held self.new) result
+        ensures { SendsBytes W.contents out.old out.new self.old self.new result
             (escaped_bytes policy text.now) }
     {
         let mut rest = text;
         'runs: loop {
             let (run, after) = split_verbatim(rest, policy);
             let Some((c, following)) = split_first(after) else {
-                return self.put(run, out);
+                return self.put_bytes(run.as_bytes(), out);
             };
             if self.buffer.push_run(run, c) {
                 rest = following;
                 continue 'runs;
             }
-            self.put(run, out)?;
+            self.put_bytes(run.as_bytes(), out)?;
             self.put_escape(c, out)?;
             rest = following;
         }
@@ -183,7 +182,7 @@ impl Gatherer {
     /// Sends all that is held back. The errors are those of `put`.
     pub fn flush<W: Write>(&mut self, out: &mut Watched<'_, W>) -> Result<(), Error>
         requires { IsClear out.old }
-        ensures sends { Sends W.contents out.old out.new (held self.old) (held self.new) result [] }
+        ensures sends { Sends W.contents out.old out.new self.old self.new result [] }
         ensures empty { OnOk result (held self.new ≡ []) }
     {
         write_bytes(self.buffer.as_bytes(), out)?;
@@ -194,7 +193,7 @@ impl Gatherer {
     // Sends bytes: they are held back if they have room, else behind what is held back.
     fn put_bytes<W: Write>(&mut self, bytes: &[u8], out: &mut Watched<'_, W>) -> Result<(), Error>
         requires { IsClear out.old }
-        ensures { Sends W.contents out.old out.new (held self.old) (held self.new) result bytes.now }
+        ensures { SendsBytes W.contents out.old out.new self.old self.new result bytes.now }
     {
         if self.buffer.has_room(bytes.len()) {
             self.buffer.push(bytes);
@@ -208,7 +207,7 @@ impl Gatherer {
     #[inline(never)]
     fn put_through<W: Write>(&mut self, bytes: &[u8], out: &mut Watched<'_, W>) -> Result<(), Error>
         requires { IsClear out.old }
-        ensures { Sends W.contents out.old out.new (held self.old) (held self.new) result bytes.now }
+        ensures { SendsBytes W.contents out.old out.new self.old self.new result bytes.now }
     {
         self.flush(out)?;
         if self.buffer.has_room(bytes.len()) {
@@ -221,7 +220,7 @@ impl Gatherer {
     // Sends the escape of a character.
     fn put_escape<W: Write>(&mut self, c: char, out: &mut Watched<'_, W>) -> Result<(), Error>
         requires { IsClear out.old }
-        ensures { Sends W.contents out.old out.new (held self.old) (held self.new) result (escape c) }
+        ensures { SendsBytes W.contents out.old out.new self.old self.new result (escape c) }
     {
         if self.buffer.has_room(ESCAPE_ROOM) {
             self.buffer.push_escape(c);

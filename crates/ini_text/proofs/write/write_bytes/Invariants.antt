@@ -1,6 +1,6 @@
 use Rattle.std.proofs.Common.{◌≡◌, [], length}
 use Rattle.ini_text.specs.Device.Watched.{IsClear, SameDevice, device_now}
-use Rattle.ini_text.specs.Device.Gathering.{IsUnderWay}
+use Rattle.ini_text.proofs.WriteLemmas.ProgressLemmas.{IsUnderWay}
 use Rattle.ini_text.proofs.write.write_bytes.Given as goal
 
 abbrev pub invariant-pieces : goal.invariant-pieces

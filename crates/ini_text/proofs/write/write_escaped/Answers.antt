@@ -5,7 +5,7 @@ use Rattle.std.specs.Str.{chars}
 use Rattle.ini_text.specs.declared.write.policy.EscapePolicy.{EscapePolicy}
 use Rattle.ini_text.specs.Escaping.EscapedTexts.{escaped_bytes}
 use Rattle.ini_text.specs.Device.Watched.{WritesBytes}
-use Rattle.ini_text.proofs.WriteLemmas.SendLemmas.{Sends-all, Sends-flushed, Sends-nil}
+use Rattle.ini_text.proofs.WriteLemmas.SendLemmas.{Sends-flushed, Sends-refused, WritesBytes-nil}
 use Rattle.ini_text.proofs.write.write_escaped.Goals as goal
 
 nothing_escaped : (policy : EscapePolicy) → escaped_bytes policy [] ≡ []
@@ -17,12 +17,12 @@ returns-then-is_empty-clause-written g c =
     let nothing : c.args.text.now ≡ [] = nil_from_length _ (grind (arith)) in
     subst (WritesBytes _ _ _ _)
     (sym (ap (escaped_bytes c.args.policy) nothing ∙ nothing_escaped c.args.policy))
-    (Sends-all c.requires refl (Sends-nil [] c.requires) refl)
+    (WritesBytes-nil c.requires)
 
 pub returns-in_err-put_escaped-clause-written : goal.returns-in_err-put_escaped-clause-written
 returns-in_err-put_escaped-clause-written g c =
     let p = err_from_is_err_and c.from_residual.result c.from_residual.ensures.1 in
-    rw (p.1, p.2) (Sends-all c.requires c.new-gatherer.ensures c.in_err-put_escaped.ensures tt)
+    rw (p.1, p.2) (Sends-refused c.new-gatherer.ensures c.in_err-put_escaped.ensures)
 
 pub returns-clause-written : goal.returns-clause-written
 returns-clause-written g c =

@@ -1,24 +1,19 @@
-use Rattle.std.proofs.Common.{◌∙◌, ap, subst, sym}
-use Rattle.ini_text.specs.Device.Gathering.{Sends}
-use Rattle.ini_text.specs.Escaping.EscapedTexts.{escaped_bytes}
-use Rattle.ini_text.specs.Inside.Verbatim.{begins_escaped, marked_escaped}
-use Rattle.ini_text.specs.declared.write.policy.EscapePolicy.TheVariants.{Basics, Reserved}
-use Rattle.ini_text.proofs.WriteLemmas.MarkedByteLemmas.{escaped_bytes-basics, escaped_bytes-reserved}
+use Rattle.std.proofs.Common.{subst}
+use Rattle.ini_text.specs.Device.Gathering.{SendsBytes}
+use Rattle.ini_text.proofs.WriteLemmas.MarkedByteLemmas.{marked-basics, marked-reserved}
+use Rattle.ini_text.proofs.WriteLemmas.SendLemmas.{Sends-escaped}
 use Rattle.ini_text.proofs.write.gather.Gatherer.put_escaped.Goals as goal
 
 pub returns-in-Basics : goal.returns-in-Basics
 returns-in-Basics g c =
-    let text = c.args.text.now in
-    let bytes =
-    ap (marked_escaped (begins_escaped Basics)) c.as_bytes.ensures.value
-    ∙ sym (escaped_bytes-basics text c.utf8.text)
-    ∙ ap (λ policy. escaped_bytes policy text) (sym c.in-Basics.is) in
-    subst (Sends _ _ _ _ _ _) bytes c.put_marked.ensures
+    Sends-escaped c.args.policy c.utf8.text (subst (SendsBytes _ _ _ _ _ _)
+    (marked-basics c.as_bytes.ensures.value c.utf8.text c.in-Basics.is) c.put_marked.ensures)
 
 pub returns-in-Reserved : goal.returns-in-Reserved
 returns-in-Reserved g c =
-    let text = c.args.text.now in
-    let bytes = ap (marked_escaped (begins_escaped Reserved)) c.as_bytes-in-Reserved.ensures.value
-    ∙ sym (escaped_bytes-reserved text c.utf8.text)
-    ∙ ap (λ policy. escaped_bytes policy text) (sym c.in-Reserved.is) in
-    subst (Sends _ _ _ _ _ _) bytes c.put_marked-in-Reserved.ensures
+    Sends-escaped c.args.policy c.utf8.text (subst (SendsBytes _ _ _ _ _ _)
+    (marked-reserved c.as_bytes-in-Reserved.ensures.value c.utf8.text c.in-Reserved.is)
+    c.put_marked-in-Reserved.ensures)
+
+pub returns-in_default : goal.returns-in_default
+returns-in_default g c = Sends-escaped c.args.policy c.utf8.text c.put_runs.ensures

@@ -8,4 +8,4 @@ returns-in_err-put_escaped g c =
     rw (p.1, p.2) (Sends-cut _ c.in_err-put_escaped.ensures)
 
 pub returns : goal.returns
-returns g c = Sends-then c.in_ok-put_escaped.ensures c.put.ensures
+returns g c = Sends-then c.requires c.in_ok-put_escaped.ensures c.put.ensures
