@@ -7,7 +7,8 @@ use super::Chains;
 use super::index::{candidate_after, first_candidate};
 use crate::key::{MapKey, Probe};
 
-// The value in slot s, where it holds a pair that fits. No code is made of its key.
+// The value in slot s, where it holds a pair that fits. No code is made of its key, and a value is read only
+// where its key fits: most keys that are looked at don't, and values lie elsewhere.
 pub(crate) fn fitting_value<'a, K: MapKey, V, Q: Probe<K> + Copy>(
     keys: &[Option<K>],
     values: &'a [Option<V>],
@@ -19,8 +20,9 @@ pub(crate) fn fitting_value<'a, K: MapKey, V, Q: Probe<K> + Copy>(
     ensures fits { is_some result ≡ fits_at (Q.fits q) keys.now values.now s }
     ensures value { IfSome result (λ v. value_in values.now s ≡ Some v.now) }
 {
-    match (&keys[s], &values[s]) {
-        (Some(key), Some(value)) if q.is(key) => Some(value),
+    let value = &values[s];
+    match &keys[s] {
+        Some(key) if q.is(key) => value.as_ref(),
         _ => None,
     }
 }
