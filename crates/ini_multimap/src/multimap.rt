@@ -166,6 +166,7 @@ impl<K: MapKey, V> Multimap<K, V> {
     }
 
     /// The first value of the key.
+    #[inline(always)]
     pub fn get<Q: Probe<K> + Copy>(&self, q: Q) -> Option<&V>
         ensures { option_copied result ≡ lookup (Q.fits q) self.now }
     {

@@ -9,6 +9,7 @@ use crate::key::{MapKey, Probe};
 
 // The value in slot s, where it holds a pair that fits. No code is made of its key, and a value is read only
 // where its key fits: most keys that are looked at don't, and values lie elsewhere.
+#[inline(always)]
 pub(crate) fn fitting_value<'a, K: MapKey, V, Q: Probe<K> + Copy>(
     keys: &[Option<K>],
     values: &'a [Option<V>],
@@ -28,6 +29,7 @@ pub(crate) fn fitting_value<'a, K: MapKey, V, Q: Probe<K> + Copy>(
 }
 
 // Whether slot s holds a pair that fits.
+#[inline(always)]
 fn fits_at<K: MapKey, V, Q: Probe<K> + Copy>(
     keys: &[Option<K>],
     values: &[Option<V>],
@@ -66,6 +68,7 @@ pub(crate) fn count_leading<K>(keys: &[Option<K>], known: usize) -> usize
 }
 
 // The slot of pair number n of those that fit.
+#[inline(always)]
 pub(crate) fn nth_slot<K: MapKey, V, Q: Probe<K> + Copy>(
     keys: &[Option<K>],
     values: &[Option<V>],

@@ -18,6 +18,7 @@ const FEW: usize = 16;
 const FIRST: usize = 8;
 
 // The first candidate for the code that the probe has.
+#[inline(always)]
 pub(crate) fn first_candidate<K: MapKey, Q: Probe<K> + Copy>(
     keys: &[Option<K>],
     index: &Option<Box<Chains>>,
@@ -47,6 +48,7 @@ pub(crate) fn last_candidate<K: MapKey, Q: Probe<K> + Copy>(
 }
 
 // The candidate after s, of so many slots.
+#[inline(always)]
 pub(crate) fn candidate_after(index: &Option<Box<Chains>>, slots: usize, s: usize) -> Option<usize>
     requires within { s < slots }
     requires linked { IfSome index.now (λ chains. s < length chains.value.links.items) }
