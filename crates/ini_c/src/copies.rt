@@ -21,6 +21,7 @@ pub struct Sizes {
 
 // Copies bytes out, and a 0 behind them, where they fit, and tells whether they did; their count in any
 // case.
+#[inline(always)]
 pub(crate) fn copy_out(bytes: &[u8], out: &mut [u8], count: &mut usize) -> bool
     ensures fits { IsTrue result ↔ (length bytes.now < length out.old) }
     ensures count { count.new ≡ length bytes.now }
@@ -39,6 +40,7 @@ pub(crate) fn copy_out(bytes: &[u8], out: &mut [u8], count: &mut usize) -> bool
 }
 
 // Copies a text out, and a 0 behind it; the status of that, and the text's number of bytes in any case.
+#[inline(always)]
 pub(crate) fn give(text: &str, out: &mut [u8], count: &mut usize) -> u32
     ensures text { result ≡ ok → take count.new out.new ≡ text.now }
     ensures zero { result ≡ ok → slice_get out.new count.new ≡ Some 0 }
@@ -55,6 +57,7 @@ pub(crate) fn give(text: &str, out: &mut [u8], count: &mut usize) -> u32
 }
 
 // A section's name, of UTF-8; without `named` it is the general section's.
+#[inline(always)]
 pub(crate) fn name_of<'a>(named: bool, section: &'a str) -> Option<&'a str>
     ensures { str_name result ≡ name_if named section.now }
 {
@@ -62,6 +65,7 @@ pub(crate) fn name_of<'a>(named: bool, section: &'a str) -> Option<&'a str>
 }
 
 // A section's name and a key, of UTF-8.
+#[inline(always)]
 pub(crate) fn place_of<'a>(
     named: bool,
     section: &'a [u8],

@@ -25,6 +25,7 @@ impl Model for Handle {
 
 impl Handle {
     // No box.
+    #[inline(always)]
     pub(crate) fn closed(alloc: Global) -> Handle
         ensures { result.is_open ≡ false }
     {
@@ -35,6 +36,7 @@ impl Handle {
     }
 
     // The box.
+    #[inline(always)]
     pub(crate) fn of(kept: Box<Kept>) -> Handle
         ensures { (result.is_open ≡ true) × (result.value ≡ kept.value) }
     {
@@ -42,6 +44,7 @@ impl Handle {
     }
 
     // The box again.
+    #[inline(always)]
     pub(crate) fn into_box(self) -> Box<Kept>
         requires { self.is_open ≡ true }
         ensures { result.value ≡ self.value }
@@ -50,12 +53,14 @@ impl Handle {
     }
 
     // Lets it go, where there is no box.
+    #[inline(always)]
     pub(crate) fn end(self)
         requires { self.is_open ≡ false }
     {
         let Handle { at: _, alloc: _ } = self;
     }
 
+    #[inline(always)]
     fn of_parts(parts: Parts<Kept, Global>) -> Handle
         ensures { (result.is_open ≡ true) × (result.value ≡ parts.value) }
     {
@@ -66,6 +71,7 @@ impl Handle {
         }
     }
 
+    #[inline(always)]
     fn into_parts(self) -> Parts<Kept, Global>
         requires { self.is_open ≡ true }
         ensures { result.value ≡ self.value }

@@ -10,6 +10,7 @@ use std::mem;
 
 impl Document {
     // Takes the document out, which leaves none.
+    #[inline(always)]
     pub(crate) fn take(&mut self, alloc: Global) -> Option<Box<Kept>>
         ensures left { document_in self.new ≡ None }
         ensures taken { kept_document result ≡ document_in self.old }
@@ -28,6 +29,7 @@ impl Document {
     }
 
     // Puts a document in, in place of the one that is here, which is freed.
+    #[inline(always)]
     pub(crate) fn put(&mut self, alloc: Global, kept: Box<Kept>)
         ensures { document_in self.new ≡ Some kept.value.document }
     {

@@ -11,6 +11,7 @@ use crate::{ABSENT, NOT_UTF8, OK};
 use ini::Ini;
 
 // Copies the first value of the key in the first section of the name out, and a 0 behind it.
+#[inline(always)]
 pub(crate) fn find(
     document: &Ini,
     named: bool,
