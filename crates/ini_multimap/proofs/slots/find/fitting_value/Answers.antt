@@ -28,6 +28,7 @@ returns-in_default-clause-fits g c =
     c.requires.within c.requires.long c.index-keys-s.is c.index-values-s.is in
     elim c.in_default.branch [
       | in_default-via-in-Some+else-is w ↦
-          sym (read ∙ (λ j. fit test (w.in-Some.is j) value) ∙ fit_other test w.in-Some.key value w.if-is.ensures)
+          sym (read ∙ (λ j. fit test (w.in-Some.is j) value)
+          ∙ fit_other test w.in-Some.key value w.if-is.ensures)
       | in_default-via-in_default w ↦ sym (read ∙ (λ j. fit test (w.in_default.is j) value))
     ]
