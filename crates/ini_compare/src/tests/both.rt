@@ -1,8 +1,8 @@
 //! A multimap and the plain list beside it: each call is made on both, and the replies are compared.
 use super::TextKey;
-use super::calls::text;
+use super::calls::{Call, expect_answer, text};
 use super::list::PlainList;
-use super::walks::{ORDERS, Order, same_items, same_keys, same_pairs, same_pairs_mut, same_values};
+use super::walks::{ORDERS, Order, same_values, same_walk};
 use ini_multimap::{Multimap, Probe};
 use std::alloc::Global;
 use std::mem;
@@ -35,93 +35,24 @@ impl<K: TextKey> Both<K> {
         }
     }
 
-    pub fn append(&mut self, rt: &(impl Abort + AllocGlobal), text: &str, value: u32) {
-        let appended = self.map.append(key(rt, text), value).is_ok();
-        expect(rt, appended, "append", text);
-        self.list.append(key(rt, text), value).expect(rt, "memory");
-    }
-
-    pub fn insert(&mut self, rt: &(impl Abort + AllocGlobal), text: &str, value: u32) {
-        let want = self.list.insert(key(rt, text), value).expect(rt, "memory");
-        let same = match self.map.insert(key(rt, text), value) {
-            Ok(old) => old == want,
-            Err(_) => false,
-        };
-        expect(rt, same, "insert", text);
-    }
-
-    pub fn remove<'t>(&mut self, rt: &(impl Abort + AllocGlobal), text: &'t str)
+    /// Makes the call at the key of a text.
+    pub fn call<'t>(&mut self, rt: &(impl Abort + AllocGlobal), call: Call, text: &'t str)
     where
         &'t str: Probe<K>,
     {
-        let want = self.list.remove(&key(rt, text));
-        expect(rt, self.map.remove(text) == want, "remove", text);
+        let want = self.list.ask(rt, call, key(rt, text));
+        expect_answer(rt, &mut self.map, call, text, want);
     }
 
     pub fn remove_all<'t>(&mut self, rt: &(impl Abort + AllocGlobal), text: &'t str)
     where
         &'t str: Probe<K>,
     {
-        let want = self
-            .list
-            .remove_past(&key(rt, text), 0)
-            .expect(rt, "memory");
-        let mut removed = self.map.remove_all(text).expect(rt, "memory");
-        for value in want {
-            expect(rt, removed.next() == Some(value), "remove_all", text);
-        }
-        expect(rt, removed.next().is_none(), "remove_all", text);
-    }
-
-    pub fn clear(&mut self) {
-        self.map.clear();
-        self.list.clear();
-    }
-
-    /// Writes the first value of the key.
-    pub fn set_first<'t>(&mut self, rt: &(impl Abort + AllocGlobal), text: &'t str, value: u32)
-    where
-        &'t str: Probe<K>,
-    {
-        let at = self.list.find(&key(rt, text));
-        let place = self.map.get_mut(text);
-        expect(rt, place.is_some() == at.is_some(), "get_mut", text);
-        if let (Some(place), Some(at)) = (place, at) {
-            *place = value;
-            self.list.set_at(at, value);
-        }
-    }
-
-    /// Writes the last value.
-    pub fn set_last(&mut self, rt: &impl Abort, value: u32) {
-        let len = self.list.pairs().len();
-        let place = self.map.get_last_mut();
-        expect(rt, place.is_some() == (len > 0), "get_last_mut", "");
-        if let Some(place) = place {
-            *place = value;
-            self.list.set_at(len.saturating_sub(1), value);
-        }
-    }
-
-    /// Writes the value of the key's pair number `n`.
-    pub fn set_nth<'t>(
-        &mut self,
-        rt: &(impl Abort + AllocGlobal),
-        text: &'t str,
-        n: usize,
-        value: u32,
-    )
-    where
-        &'t str: Probe<K>,
-    {
-        let places = self.list.places(&key(rt, text)).expect(rt, "memory");
-        let at = places.get(n).copied();
-        let place = self.map.get_nth_mut(text, n);
-        expect(rt, place.is_some() == at.is_some(), "get_nth_mut", text);
-        if let (Some(place), Some(at)) = (place, at) {
-            *place = value;
-            self.list.set_at(at, value);
-        }
+        let key: K = key(rt, text);
+        let places = self.list.places(&key).expect(rt, "memory");
+        let removed = self.map.remove_all(text).expect(rt, "memory");
+        same_walk(rt, Order::Front, removed, &self.list, places.as_slice());
+        self.list.remove_past(&key, 0).expect(rt, "memory");
     }
 
     /// Writes each value of the key.
@@ -141,16 +72,15 @@ impl<K: TextKey> Both<K> {
     }
 
     /// Asks for the key by its text, and walks over its values from each end.
-    pub fn look_up<'t>(&self, rt: &(impl Abort + AllocGlobal), text: &'t str)
+    pub fn look_up<'t>(&mut self, rt: &(impl Abort + AllocGlobal), text: &'t str)
     where
         &'t str: Probe<K>,
     {
+        self.call(rt, Call::Get, text);
         let same: K = key(rt, text);
-        let value = self.map.get(text).copied();
-        expect(rt, value == self.list.get(&same), "get", text);
-        let values = self.list.get_all(&same).expect(rt, "memory");
+        let places = self.list.places(&same).expect(rt, "memory");
         for order in ORDERS {
-            same_values(rt, order, &self.map, text, values.as_slice());
+            same_values(rt, order, &self.map, text, &self.list, places.as_slice());
         }
     }
 
@@ -162,22 +92,33 @@ impl<K: TextKey> Both<K> {
     }
 
     /// Compares the numbers and the walks from each end.
-    pub fn same_walks(&mut self, rt: &impl Abort) {
-        let keys = self.list.keys().expect(rt, "memory");
-        let pairs = self.list.pairs();
-        assert!(rt; self.map.len_pairs() == pairs.len());
-        assert!(rt; self.map.len_keys() == keys.len());
-        assert!(rt; self.map.is_empty() == pairs.is_empty());
+    pub fn same_walks<'t>(&mut self, rt: &(impl Abort + AllocGlobal), text: &'t str)
+    where
+        &'t str: Probe<K>,
+    {
+        self.call(rt, Call::LenPairs, text);
+        self.call(rt, Call::LenKeys, text);
+        self.call(rt, Call::IsEmpty, text);
+        let all = self.list.all_places().expect(rt, "memory");
+        let keys = self.list.key_places().expect(rt, "memory");
+        let Both { map, list } = self;
         for order in ORDERS {
-            same_keys(rt, order, &self.map, keys.as_slice());
-            same_pairs(rt, order, &self.map, pairs);
-            same_pairs_mut(rt, order, &mut self.map, pairs);
+            same_walk(rt, order, map.keys(), list, keys.as_slice());
+            same_walk(rt, order, map.iter(), list, all.as_slice());
+            same_walk(rt, order, map.iter_mut(), list, all.as_slice());
         }
     }
 
     /// Compares the pairs as they are handed out from both ends, which ends the two.
     pub fn same_items(self, rt: &impl Abort) {
         let Both { map, list } = self;
-        same_items(rt, Order::BothInTurn, map, list.pairs());
+        let all = list.all_places().expect(rt, "memory");
+        same_walk(
+            rt,
+            Order::BothInTurn,
+            map.into_iter(),
+            &list,
+            all.as_slice(),
+        );
     }
 }

@@ -61,58 +61,130 @@ const PAIRS: u32 = 2000;
 const FEW: u32 = 8;
 
 // A number as a text of four digits; no two have one code.
-pub(super) fn counted<'a>(
-    rt: &(impl Abort + AllocGlobal),
-    calls: &'a Cell<u32>,
-    number: u32,
-) -> Key<'a> {
+fn counted<'a>(rt: &(impl Abort + AllocGlobal), calls: &'a Cell<u32>, number: u32) -> Key<'a> {
     let text = format!(in rt.alloc(); "{}", number.wrapping_add(1000)).expect(rt, "memory");
     Key { text, calls }
 }
 
-/// Asks that at most so many calls were made, and counts from 0 again.
-pub(super) fn expect_at_most(rt: &impl Abort, calls: &Cell<u32>, most: u32, of: &str) {
+// Asks that at most so many calls were made, and counts from 0 again.
+fn expect_at_most(rt: &impl Abort, calls: &Cell<u32>, most: u32, of: &str) {
     let made = calls.get();
     calls.set(0);
     assert!(rt; made <= most, "{of}: {made} calls");
 }
 
-// Appends the pairs from number `first` on.
-pub(super) fn append<'a>(
+/// A call at the key of a number.
+#[derive(Debug, Clone, Copy)]
+pub(super) enum Call {
+    /// Answers the number, which is the value.
+    Append,
+    /// Answers the number, which is the value.
+    Insert,
+    Remove,
+    /// Answers how many values were removed.
+    RemoveAll,
+    Get,
+    /// Answers how many values there are.
+    GetAll,
+    GetMut,
+    /// `get_nth_mut` of the second pair.
+    GetSecond,
+}
+
+// A value that is lent for writing.
+fn lent(value: Option<&mut u32>) -> Option<u32> {
+    match value {
+        Some(value) => Some(*value),
+        None => None,
+    }
+}
+
+// A number of values.
+fn many(count: usize) -> Option<u32> {
+    u32::try_from(count).ok()
+}
+
+// Puts the pair last.
+fn append<'a>(map: &mut Map<'a>, key: Key<'a>, value: u32) -> Option<u32> {
+    match map.append(key, value) {
+        Ok(()) => Some(value),
+        Err(_) => None,
+    }
+}
+
+// Inserts the pair.
+fn insert<'a>(map: &mut Map<'a>, key: Key<'a>, value: u32) -> Option<u32> {
+    match map.insert(key, value) {
+        Ok(_) => Some(value),
+        Err(_) => None,
+    }
+}
+
+// Takes out all pairs of the key.
+fn remove_all<'a>(map: &mut Map<'a>, key: &Key<'a>) -> Option<u32> {
+    match map.remove_all(key) {
+        Ok(removed) => many(removed.count()),
+        Err(_) => None,
+    }
+}
+
+// Makes the call at the key, which is the one of the number.
+fn ask<'a>(map: &mut Map<'a>, call: Call, key: Key<'a>, number: u32) -> Option<u32> {
+    match call {
+        Call::Append => append(map, key, number),
+        Call::Insert => insert(map, key, number),
+        Call::Remove => map.remove(&key),
+        Call::RemoveAll => remove_all(map, &key),
+        Call::Get => map.get(&key).copied(),
+        Call::GetAll => many(map.get_all(&key).count()),
+        Call::GetMut => lent(map.get_mut(&key)),
+        Call::GetSecond => lent(map.get_nth_mut(&key, 1)),
+    }
+}
+
+/// Asks that the call at the key of the number answers so, by at most so many calls of `code` and `==`.
+pub(super) fn expect_few<'a>(
     rt: &(impl Abort + AllocGlobal),
     calls: &'a Cell<u32>,
     map: &mut Map<'a>,
+    call: Call,
+    number: u32,
+    want: Option<u32>,
+    most: u32,
+) {
+    let key = counted(rt, calls, number);
+    calls.set(0);
+    let got = ask(map, call, key, number);
+    let made = calls.get();
+    assert!(rt; got == want, "{call:?} {number}: {got:?}");
+    assert!(rt; made <= most, "{call:?} {number}: {made} calls");
+}
+
+/// Makes the call at so many keys, from number `first` on, where each answers its number.
+pub(super) fn each<'a>(
+    rt: &(impl Abort + AllocGlobal),
+    calls: &'a Cell<u32>,
+    map: &mut Map<'a>,
+    call: Call,
     first: u32,
     count: u32,
 ) {
     for number in 0..count {
         let number = first.wrapping_add(number);
-        assert!(rt; map.append(counted(rt, calls, number), number).is_ok());
-    }
-}
-
-// Takes so many pairs out, from the first on.
-pub(super) fn remove<'a>(
-    rt: &(impl Abort + AllocGlobal),
-    calls: &'a Cell<u32>,
-    map: &mut Map<'a>,
-    count: u32,
-) {
-    for number in 0..count {
-        assert!(rt; map.remove(&counted(rt, calls, number)) == Some(number));
+        let got = ask(map, call, counted(rt, calls, number), number);
+        assert!(rt; got == Some(number), "{call:?} {number}: {got:?}");
     }
 }
 
 // Asks for a key that is there, and for one that isn't.
-fn expect_few_for_looks(rt: &(impl Abort + AllocGlobal), calls: &Cell<u32>, map: &Map<'_>) {
-    let (there, none) = (counted(rt, calls, 1900), counted(rt, calls, 5000));
-    calls.set(0);
-    assert!(rt; map.get(&there).copied() == Some(1900));
-    expect_at_most(rt, calls, FEW, "get");
-    assert!(rt; map.get(&none).is_none());
-    expect_at_most(rt, calls, FEW, "get of a key that isn't there");
-    assert!(rt; map.get_all(&there).count() == 1);
-    expect_at_most(rt, calls, FEW, "get_all");
+fn expect_few_for_looks<'a>(
+    rt: &(impl Abort + AllocGlobal),
+    calls: &'a Cell<u32>,
+    map: &mut Map<'a>,
+) {
+    expect_few(rt, calls, map, Call::Get, 1900, Some(1900), FEW);
+    expect_few(rt, calls, map, Call::Get, 5000, None, FEW);
+    expect_few(rt, calls, map, Call::GetAll, 1900, Some(1), FEW);
 }
 
 // The same of look-ups for writing.
@@ -121,12 +193,8 @@ fn expect_few_for_writing<'a>(
     calls: &'a Cell<u32>,
     map: &mut Map<'a>,
 ) {
-    let there = counted(rt, calls, 1900);
-    calls.set(0);
-    assert!(rt; map.get_mut(&there).is_some());
-    expect_at_most(rt, calls, FEW, "get_mut");
-    assert!(rt; map.get_nth_mut(&there, 1).is_none());
-    expect_at_most(rt, calls, FEW, "get_nth_mut");
+    expect_few(rt, calls, map, Call::GetMut, 1900, Some(1900), FEW);
+    expect_few(rt, calls, map, Call::GetSecond, 1900, None, FEW);
 }
 
 // The same of edits; the pairs are as many as before.
@@ -135,20 +203,10 @@ fn expect_few_for_edits<'a>(
     calls: &'a Cell<u32>,
     map: &mut Map<'a>,
 ) {
-    let (there, new, asked) = (
-        counted(rt, calls, 1900),
-        counted(rt, calls, 6000),
-        counted(rt, calls, 6000),
-    );
-    calls.set(0);
-    assert!(rt; map.insert(there, 1900).is_ok());
-    expect_at_most(rt, calls, 2 * FEW, "insert of a key that is there");
-    assert!(rt; map.insert(new, 1).is_ok());
-    expect_at_most(rt, calls, 2 * FEW, "insert");
-    assert!(rt; map.remove(&asked) == Some(1));
-    expect_at_most(rt, calls, FEW, "remove");
-    assert!(rt; map.remove_all(&asked).is_ok());
-    expect_at_most(rt, calls, FEW, "remove_all");
+    expect_few(rt, calls, map, Call::Insert, 1900, Some(1900), 2 * FEW);
+    expect_few(rt, calls, map, Call::Insert, 6000, Some(6000), 2 * FEW);
+    expect_few(rt, calls, map, Call::Remove, 6000, Some(6000), FEW);
+    expect_few(rt, calls, map, Call::RemoveAll, 6000, Some(0), FEW);
 }
 
 // The same of each key of a walk over the keys.
@@ -164,9 +222,9 @@ fn expect_few_for_keys(rt: &impl Abort, calls: &Cell<u32>, map: &Map<'_>, count:
 fn calls_on_many_pairs_ask_few_keys(rt: HostRuntime) {
     let calls = Cell::new(0);
     let mut map: Map<'_> = Multimap::new(rt.alloc());
-    append(&rt, &calls, &mut map, 0, PAIRS);
+    each(&rt, &calls, &mut map, Call::Append, 0, PAIRS);
     expect_at_most(&rt, &calls, FEW * PAIRS, "append");
-    expect_few_for_looks(&rt, &calls, &map);
+    expect_few_for_looks(&rt, &calls, &mut map);
     expect_few_for_writing(&rt, &calls, &mut map);
     expect_few_for_edits(&rt, &calls, &mut map);
     expect_few_for_keys(&rt, &calls, &map, PAIRS);
@@ -177,14 +235,14 @@ fn calls_on_many_pairs_ask_few_keys(rt: HostRuntime) {
 fn calls_on_what_removals_leave_ask_few_keys(rt: HostRuntime) {
     let calls = Cell::new(0);
     let mut map: Map<'_> = Multimap::new(rt.alloc());
-    append(&rt, &calls, &mut map, 0, PAIRS);
+    each(&rt, &calls, &mut map, Call::Append, 0, PAIRS);
     for gone in [600, 1000, 1001, 1002, 1800] {
         let left = PAIRS.saturating_sub(gone);
         map.clear();
-        append(&rt, &calls, &mut map, 0, PAIRS);
-        remove(&rt, &calls, &mut map, gone);
+        each(&rt, &calls, &mut map, Call::Append, 0, PAIRS);
+        each(&rt, &calls, &mut map, Call::Remove, 0, gone);
         expect_at_most(&rt, &calls, 2 * FEW * PAIRS, "append and remove");
-        expect_few_for_looks(&rt, &calls, &map);
+        expect_few_for_looks(&rt, &calls, &mut map);
         expect_few_for_keys(&rt, &calls, &map, left);
     }
 }
@@ -198,8 +256,8 @@ fn append_and_remove<'a>(
 ) {
     for number in 0..times {
         let number = 3000 + number % 5000;
-        assert!(rt; map.append(counted(rt, calls, number), number).is_ok());
-        assert!(rt; map.remove(&counted(rt, calls, number)) == Some(number));
+        each(rt, calls, map, Call::Append, number, 1);
+        each(rt, calls, map, Call::Remove, number, 1);
     }
 }
 
@@ -207,11 +265,11 @@ fn append_and_remove<'a>(
 fn calls_after_many_appends_and_removals_ask_few_keys(rt: HostRuntime) {
     let calls = Cell::new(0);
     let mut map: Map<'_> = Multimap::new(rt.alloc());
-    append(&rt, &calls, &mut map, 0, PAIRS);
+    each(&rt, &calls, &mut map, Call::Append, 0, PAIRS);
     calls.set(0);
     append_and_remove(&rt, &calls, &mut map, 100_000);
     expect_at_most(&rt, &calls, 2 * FEW * 100_000, "append and remove");
-    expect_few_for_looks(&rt, &calls, &map);
+    expect_few_for_looks(&rt, &calls, &mut map);
     expect_few_for_writing(&rt, &calls, &mut map);
     expect_few_for_edits(&rt, &calls, &mut map);
     expect_few_for_keys(&rt, &calls, &map, PAIRS);

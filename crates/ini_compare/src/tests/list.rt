@@ -2,10 +2,14 @@
 ghost use Rattle.std.specs.Prelude.{◌≡◌, ◌++◌, ◌∷◌, [], OnOk};
 ghost use Rattle.std.specs.List.{position};
 
+use super::TextKey;
+use super::calls::{Call, number};
 use ini_multimap::MapKey;
 use std::alloc::{AllocError, Global};
 use std::marker::Model;
 use std::mem;
+use std::panic::Expect;
+use std::process::Abort;
 
 /// Pairs of a key and a number in the order of insertion. Seen as the list of its pairs.
 #[derive(Debug, Drop)]
@@ -31,13 +35,6 @@ impl<K: MapKey + Drop> PlainList<K> {
         }
     }
 
-    /// The pairs in order.
-    pub fn pairs(&self) -> &[(K, u32)]
-        ensures { result.now ≡ self.now }
-    {
-        self.pairs.as_slice()
-    }
-
     /// Puts the pair last.
     pub fn append(&mut self, key: K, value: u32) -> Result<(), AllocError>
         ensures { OnOk result (self.new ≡ self.old ++ (key, value) ∷ []) }
@@ -61,17 +58,6 @@ impl<K: MapKey + Drop> PlainList<K> {
         Some(self.pairs[at].1)
     }
 
-    /// The values of the key in order.
-    pub fn get_all(&self, key: &K) -> Result<Vec<u32>, AllocError> {
-        let mut values = Vec::new(*self.pairs.allocator());
-        for (k, value) in &self.pairs {
-            if *k == *key {
-                values.push(*value)?;
-            }
-        }
-        Ok(values)
-    }
-
     /// Where the pairs of the key stand.
     pub fn places(&self, key: &K) -> Result<Vec<usize>, AllocError> {
         let mut places = Vec::new(*self.pairs.allocator());
@@ -83,15 +69,24 @@ impl<K: MapKey + Drop> PlainList<K> {
         Ok(places)
     }
 
-    /// The keys that are equal to none before them.
-    pub fn keys(&self) -> Result<Vec<&K>, AllocError> {
-        let mut keys = Vec::new(*self.pairs.allocator());
+    /// Where the pairs stand whose keys are equal to none before them.
+    pub fn key_places(&self) -> Result<Vec<usize>, AllocError> {
+        let mut places = Vec::new(*self.pairs.allocator());
         for (at, (key, _)) in self.pairs.iter().enumerate() {
             if self.find(key) == Some(at) {
-                keys.push(key)?;
+                places.push(at)?;
             }
         }
-        Ok(keys)
+        Ok(places)
+    }
+
+    /// Where all pairs stand.
+    pub fn all_places(&self) -> Result<Vec<usize>, AllocError> {
+        let mut places = Vec::new(*self.pairs.allocator());
+        for at in 0..self.pairs.len() {
+            places.push(at)?;
+        }
+        Ok(places)
     }
 
     /// Sets the value of the pair at `at`, where there is one.
@@ -121,26 +116,74 @@ impl<K: MapKey + Drop> PlainList<K> {
         Some(self.pairs.remove(at).1)
     }
 
-    /// Takes out the pairs of the key but for the first `kept`, and hands out their values in order.
-    pub fn remove_past(&mut self, key: &K, kept: usize) -> Result<Vec<u32>, AllocError> {
+    /// Takes out the pairs of the key but for the first `kept`.
+    pub fn remove_past(&mut self, key: &K, kept: usize) -> Result<(), AllocError> {
         let alloc = *self.pairs.allocator();
-        let mut removed = Vec::new(alloc);
         let mut seen: usize = 0;
         for (k, value) in mem::replace(&mut self.pairs, Vec::new(alloc)) {
             if k == *key {
                 seen = seen.saturating_add(1);
             }
-            if k == *key && kept < seen {
-                removed.push(value)?;
-            } else {
+            if k != *key || seen <= kept {
                 self.append(k, value)?;
             }
         }
-        Ok(removed)
+        Ok(())
     }
 
-    /// Takes out every pair.
-    pub fn clear(&mut self) {
-        self.pairs.clear();
+    // Sets the value of the key's pair number `n`, and answers the old one.
+    fn set_nth(&mut self, rt: &impl Abort, key: &K, n: usize, value: u32) -> Option<u32> {
+        let places = self.places(key).expect(rt, "memory");
+        match places.get(n) {
+            Some(at) => self.set_at(*at, value),
+            None => None,
+        }
+    }
+
+    // Sets the last value, and answers the old one.
+    fn set_last(&mut self, value: u32) -> Option<u32> {
+        let last = self.pairs.len().saturating_sub(1);
+        self.set_at(last, value)
+    }
+
+    // Puts the pair last.
+    fn put(&mut self, rt: &impl Abort, key: K, value: u32) -> Option<usize> {
+        self.append(key, value).expect(rt, "memory");
+        Some(0)
+    }
+
+    // How many keys there are.
+    fn len_keys(&self, rt: &impl Abort) -> usize {
+        self.key_places().expect(rt, "memory").len()
+    }
+
+    /// Answers the call as the multimap is to answer it.
+    pub fn ask(&mut self, rt: &impl Abort, call: Call, key: K) -> Option<usize> {
+        match call {
+            Call::Append(value) => self.put(rt, key, value),
+            Call::Insert(value) => number(self.insert(key, value).expect(rt, "memory")),
+            Call::Remove => number(self.remove(&key)),
+            Call::Get => number(self.get(&key)),
+            Call::SetFirst(value) => number(self.set_nth(rt, &key, 0, value)),
+            Call::SetNth(n, value) => number(self.set_nth(rt, &key, n, value)),
+            Call::SetLast(value) => number(self.set_last(value)),
+            Call::LenPairs => Some(self.pairs.len()),
+            Call::LenKeys => Some(self.len_keys(rt)),
+            Call::IsEmpty => Some(usize::from(self.pairs.is_empty())),
+            Call::Clear => {
+                self.pairs.clear();
+                Some(0)
+            }
+        }
+    }
+}
+
+impl<K: TextKey> PlainList<K> {
+    /// The text of the key and the value of the pair at `at`, where there is one.
+    pub fn told(&self, at: usize) -> Option<(&str, u32)> {
+        match self.pairs.get(at) {
+            Some((key, value)) => Some((key.text(), *value)),
+            None => None,
+        }
     }
 }

@@ -8,7 +8,7 @@ ghost use Rattle.std.specs.Cmp.Lexicographic.{nat_list_eq_equiv};
 ghost use Rattle.ini_multimap.specs.Keys.{text_code};
 ghost use Rattle.ini_multimap.specs.KeyLaws.{text_code-eq};
 
-use super::counting::{Map, append, counted, expect_at_most, remove};
+use super::counting::{Call, Map, each, expect_few};
 use ini_multimap::{MapKey, Multimap, Probe};
 use std::cell::Cell;
 use std::panic::Expect;
@@ -111,34 +111,35 @@ fn a_look_up_among_many_asks_at_most_once(rt: HostRuntime) {
     expect_few_questions(&rt, 1000);
 }
 
-// Asks for the key of a number, which has that value or none, by at most so many calls of `code` and `==`.
-fn compare(
-    rt: &(impl Abort + AllocGlobal),
-    calls: &Cell<u32>,
-    map: &Map<'_>,
-    number: u32,
-    want: Option<u32>,
-    most: u32,
-) {
-    let key = counted(rt, calls, number);
-    calls.set(0);
-    assert!(rt; map.get(&key).copied() == want);
-    expect_at_most(rt, calls, most, "get among few");
-}
-
 // A key that is there is compared after those before it, and one that isn't there after all.
 #[test]
 fn a_look_up_among_few_compares_each_key_once(rt: HostRuntime) {
     let calls = Cell::new(0);
     let mut map: Map<'_> = Multimap::new(rt.alloc());
-    append(&rt, &calls, &mut map, 0, 16);
+    each(&rt, &calls, &mut map, Call::Append, 0, 16);
     for number in 0..16 {
-        compare(&rt, &calls, &map, number, Some(number), number + 1);
+        expect_few(
+            &rt,
+            &calls,
+            &mut map,
+            Call::Get,
+            number,
+            Some(number),
+            number + 1,
+        );
     }
-    compare(&rt, &calls, &map, 16, None, 16);
-    remove(&rt, &calls, &mut map, 7);
+    expect_few(&rt, &calls, &mut map, Call::Get, 16, None, 16);
+    each(&rt, &calls, &mut map, Call::Remove, 0, 7);
     for number in 7..16 {
-        compare(&rt, &calls, &map, number, Some(number), number - 6);
+        expect_few(
+            &rt,
+            &calls,
+            &mut map,
+            Call::Get,
+            number,
+            Some(number),
+            number - 6,
+        );
     }
-    compare(&rt, &calls, &map, 6, None, 9);
+    expect_few(&rt, &calls, &mut map, Call::Get, 6, None, 9);
 }

@@ -1,6 +1,7 @@
 //! The comparison over one thousand keys, and a long run of calls that are drawn by a fixed generator.
 use super::TextKey;
 use super::both::Both;
+use super::calls::Call;
 use crate::{Flat, NoCase};
 use ini_multimap::Probe;
 use std::panic::Expect;
@@ -35,16 +36,16 @@ where
 {
     let mut both: Both<K> = Both::new(rt.alloc());
     for (number, text) in (0..).zip(texts) {
-        both.append(rt, text.as_str(), number);
+        both.call(rt, Call::Append(number), text.as_str());
     }
     for text in texts.iter().step_by(3) {
-        both.remove(rt, text.as_str());
+        both.call(rt, Call::Remove, text.as_str());
     }
-    both.same_walks(rt);
+    both.same_walks(rt, "");
     for (number, text) in (0..).zip(texts).step_by(5) {
-        both.insert(rt, text.as_str(), number);
+        both.call(rt, Call::Insert(number), text.as_str());
     }
-    both.same_walks(rt);
+    both.same_walks(rt, "");
     for text in texts {
         both.look_up(rt, text.as_str());
         both.look_up_key(rt, text.as_str());
@@ -99,14 +100,14 @@ where
     &'t str: Probe<K>,
 {
     match chance.below(1000) {
-        0 => both.clear(),
-        1..20 => both.set_last(rt, value),
-        20..300 => both.append(rt, text, value),
-        300..500 => both.insert(rt, text, value),
-        500..650 => both.remove(rt, text),
+        0 => both.call(rt, Call::Clear, text),
+        1..20 => both.call(rt, Call::SetLast(value), text),
+        20..300 => both.call(rt, Call::Append(value), text),
+        300..500 => both.call(rt, Call::Insert(value), text),
+        500..650 => both.call(rt, Call::Remove, text),
         650..750 => both.remove_all(rt, text),
-        750..800 => both.set_first(rt, text, value),
-        800..850 => both.set_nth(rt, text, chance.below(4), value),
+        750..800 => both.call(rt, Call::SetFirst(value), text),
+        800..850 => both.call(rt, Call::SetNth(chance.below(4), value), text),
         850..900 => both.set_all(rt, text, value),
         900..950 => both.look_up(rt, text),
         _ => both.look_up_key(rt, text),
@@ -126,7 +127,7 @@ where
         };
         call(rt, &mut both, &mut chance, text.as_str(), number);
         if number % 100 == 99 {
-            both.same_walks(rt);
+            both.same_walks(rt, "");
         }
     }
     both.same_items(rt);

@@ -1,7 +1,149 @@
-//! Walks of a multimap beside the items that they are to give, read from either end or from both in turn.
+//! Walks of a multimap under one trait, read from either end or from both in turn.
 use super::TextKey;
-use ini_multimap::{Multimap, Probe};
+use super::list::PlainList;
+use ini_multimap::{IntoIter, Iter, IterMut, Keys, Multimap, Probe, Removed, Values, ValuesMut};
 use std::process::Abort;
+
+/// The key and the value of an item that is wanted, or none where the walk is to have ended.
+pub type Wanted<'w> = Option<(&'w str, u32)>;
+
+// Whether this pair is wanted.
+fn is_pair(want: Wanted<'_>, key: &str, value: u32) -> bool {
+    match want {
+        Some(want) => want.0 == key && want.1 == value,
+        None => false,
+    }
+}
+
+// Whether a pair with this key is wanted.
+fn is_key(want: Wanted<'_>, key: &str) -> bool {
+    match want {
+        Some(want) => want.0 == key,
+        None => false,
+    }
+}
+
+// Whether a pair with this value is wanted.
+fn is_value(want: Wanted<'_>, value: u32) -> bool {
+    match want {
+        Some(want) => want.1 == value,
+        None => false,
+    }
+}
+
+/// A walk over pairs, keys or values.
+pub trait Walk: Drop {
+    /// Takes an item from the front or the back. Whether it is the one that is wanted, in its key and its
+    /// value as far as the walk gives them.
+    fn gives(&mut self, from_back: bool, want: Wanted<'_>) -> bool;
+}
+
+impl<K: TextKey> Walk for Iter<'_, K, u32> {
+    fn gives(&mut self, from_back: bool, want: Wanted<'_>) -> bool {
+        let item = if from_back {
+            self.next_back()
+        } else {
+            self.next()
+        };
+        match item {
+            Some((key, value)) => is_pair(want, key.text(), *value),
+            None => want.is_none(),
+        }
+    }
+}
+
+impl<K: TextKey> Walk for IterMut<'_, K, u32> {
+    fn gives(&mut self, from_back: bool, want: Wanted<'_>) -> bool {
+        let item = if from_back {
+            self.next_back()
+        } else {
+            self.next()
+        };
+        match item {
+            Some((key, value)) => is_pair(want, key.text(), *value),
+            None => want.is_none(),
+        }
+    }
+}
+
+impl<K: TextKey> Walk for IntoIter<K, u32> {
+    fn gives(&mut self, from_back: bool, want: Wanted<'_>) -> bool {
+        let item = if from_back {
+            self.next_back()
+        } else {
+            self.next()
+        };
+        match item {
+            Some((key, value)) => is_pair(want, key.text(), value),
+            None => want.is_none(),
+        }
+    }
+}
+
+impl<K: TextKey> Walk for Keys<'_, K, u32> {
+    fn gives(&mut self, from_back: bool, want: Wanted<'_>) -> bool {
+        let item = if from_back {
+            self.next_back()
+        } else {
+            self.next()
+        };
+        match item {
+            Some(key) => is_key(want, key.text()),
+            None => want.is_none(),
+        }
+    }
+}
+
+impl<K: TextKey, Q: Probe<K> + Copy> Walk for Values<'_, K, u32, Q> {
+    fn gives(&mut self, from_back: bool, want: Wanted<'_>) -> bool {
+        let item = if from_back {
+            self.next_back()
+        } else {
+            self.next()
+        };
+        match item {
+            Some(value) => is_value(want, *value),
+            None => want.is_none(),
+        }
+    }
+}
+
+impl<K: TextKey, Q: Probe<K> + Copy> Walk for ValuesMut<'_, K, u32, Q> {
+    fn gives(&mut self, from_back: bool, want: Wanted<'_>) -> bool {
+        let item = if from_back {
+            self.next_back()
+        } else {
+            self.next()
+        };
+        match item {
+            Some(value) => is_value(want, *value),
+            None => want.is_none(),
+        }
+    }
+}
+
+impl Walk for Removed<u32> {
+    fn gives(&mut self, from_back: bool, want: Wanted<'_>) -> bool {
+        let item = if from_back {
+            self.next_back()
+        } else {
+            self.next()
+        };
+        match item {
+            Some(value) => is_value(want, value),
+            None => want.is_none(),
+        }
+    }
+}
+
+/// Asks that the walk gives these items, each from the end that its letter names: `f` the front, `b` the
+/// back. It gives none where there are more letters.
+pub fn expect_walk<W: Walk>(rt: &impl Abort, walk: &mut W, ends: &str, want: &[(&str, u32)]) {
+    for (turn, end) in ends.bytes().enumerate() {
+        let same = walk.gives(end == b'b', want.get(turn).copied());
+        assert!(rt; same, "{ends} at {turn}");
+    }
+}
 
 /// From which end a walk is read.
 #[derive(Debug, Clone, Copy)]
@@ -23,18 +165,6 @@ impl Order {
         }
     }
 
-    // Item number `turn` of the reading.
-    fn take<I: DoubleEndedIterator>(self, walk: &mut I, turn: usize) -> Option<I::Item>
-        requires front { I.can_next walk.old }
-        requires back { I.can_next_back walk.old }
-    {
-        if self.is_from_back(turn) {
-            walk.next_back()
-        } else {
-            walk.next()
-        }
-    }
-
     // Where that item stands among `len` items.
     fn index(self, turn: usize, len: usize) -> usize {
         let from_its_end = match self {
@@ -49,107 +179,35 @@ impl Order {
     }
 }
 
-// Asks that this held at the item of the reading.
-fn expect(rt: &impl Abort, held: bool, order: Order, turn: usize) {
-    assert!(rt; held, "{order:?} at {turn}");
-}
-
-/// The pairs, lent.
-pub fn same_pairs<K: TextKey>(
+/// Asks that the walk gives the pairs that stand at these places of the list, as far as it gives them, and
+/// then none from either end.
+pub fn same_walk<K: TextKey, W: Walk>(
     rt: &impl Abort,
     order: Order,
-    map: &Multimap<K, u32>,
-    want: &[(K, u32)],
+    mut walk: W,
+    list: &PlainList<K>,
+    places: &[usize],
 ) {
-    let mut got = map.iter();
-    for turn in 0..want.len() {
-        let item = order.take(&mut got, turn);
-        let same = match (item, want.get(order.index(turn, want.len()))) {
-            (Some((key, value)), Some(want)) => key.text() == want.0.text() && *value == want.1,
-            _ => false,
+    for turn in 0..places.len() {
+        let want = match places.get(order.index(turn, places.len())) {
+            Some(at) => list.told(*at),
+            None => None,
         };
-        expect(rt, same, order, turn);
+        let same = want.is_some() && walk.gives(order.is_from_back(turn), want);
+        assert!(rt; same, "{order:?} at {turn}");
     }
-    let ends = got.next().is_none() && got.next_back().is_none();
-    expect(rt, ends, order, want.len());
+    let ends = walk.gives(false, None) && walk.gives(true, None);
+    assert!(rt; ends, "{order:?} at the end");
 }
 
-/// The pairs, lent for writing.
-pub fn same_pairs_mut<K: TextKey>(
-    rt: &impl Abort,
-    order: Order,
-    map: &mut Multimap<K, u32>,
-    want: &[(K, u32)],
-) {
-    let mut got = map.iter_mut();
-    for turn in 0..want.len() {
-        let item = order.take(&mut got, turn);
-        let same = match (item, want.get(order.index(turn, want.len()))) {
-            (Some((key, value)), Some(want)) => key.text() == want.0.text() && *value == want.1,
-            _ => false,
-        };
-        expect(rt, same, order, turn);
-    }
-    let ends = got.next().is_none() && got.next_back().is_none();
-    expect(rt, ends, order, want.len());
-}
-
-/// The distinct keys.
-pub fn same_keys<K: TextKey>(rt: &impl Abort, order: Order, map: &Multimap<K, u32>, want: &[&K]) {
-    let mut got = map.keys();
-    for turn in 0..want.len() {
-        let item = order.take(&mut got, turn);
-        let same = match (item, want.get(order.index(turn, want.len()))) {
-            (Some(key), Some(want)) => key.text() == want.text(),
-            _ => false,
-        };
-        expect(rt, same, order, turn);
-    }
-    let ends = got.next().is_none() && got.next_back().is_none();
-    expect(rt, ends, order, want.len());
-}
-
-/// The values of one key.
+/// The same of the walk over the values of what a probe asks for.
 pub fn same_values<K: TextKey, Q: Probe<K> + Copy>(
     rt: &impl Abort,
     order: Order,
     map: &Multimap<K, u32>,
     q: Q,
-    want: &[u32],
+    list: &PlainList<K>,
+    places: &[usize],
 ) {
-    let mut got = map.get_all(q);
-    for turn in 0..want.len() {
-        let item = if order.is_from_back(turn) {
-            got.next_back()
-        } else {
-            got.next()
-        };
-        let same = match (item, want.get(order.index(turn, want.len()))) {
-            (Some(value), Some(want)) => *value == *want,
-            _ => false,
-        };
-        expect(rt, same, order, turn);
-    }
-    let ends = got.next().is_none() && got.next_back().is_none();
-    expect(rt, ends, order, want.len());
-}
-
-/// The pairs, by value.
-pub fn same_items<K: TextKey>(
-    rt: &impl Abort,
-    order: Order,
-    map: Multimap<K, u32>,
-    want: &[(K, u32)],
-) {
-    let mut got = map.into_iter();
-    for turn in 0..want.len() {
-        let item = order.take(&mut got, turn);
-        let same = match (item, want.get(order.index(turn, want.len()))) {
-            (Some((key, value)), Some(want)) => key.text() == want.0.text() && value == want.1,
-            _ => false,
-        };
-        expect(rt, same, order, turn);
-    }
-    let ends = got.next().is_none() && got.next_back().is_none();
-    expect(rt, ends, order, want.len());
+    same_walk(rt, order, map.get_all(q), list, places);
 }

@@ -1,5 +1,5 @@
 //! A walk for writing changes what it lends: keys, order, number and all other values stay.
-use super::calls::{add, expect_pairs};
+use super::calls::{Call, expect_answer, expect_pairs};
 use ini_multimap::Multimap;
 use std::panic::Expect;
 use std::process::Abort;
@@ -10,13 +10,13 @@ const KEYS: [&'static str; 2] = ["y z a y z a z y", "- y z a y - z a z y -"];
 
 // Pairs of the keys, numbered from 1 on; where dashes stand there are holes.
 fn sample(rt: &(impl Abort + AllocGlobal), keys: &str) -> Multimap<String, u32> {
-    let mut m = Multimap::new(rt.alloc());
+    let mut m: Multimap<String, u32> = Multimap::new(rt.alloc());
     let mut number: u32 = 0;
     for key in keys.split(' ') {
         if key != "-" {
             number = number.saturating_add(1);
         }
-        add(rt, &mut m, key, number);
+        expect_answer(rt, &mut m, Call::Append(number), key, Some(0));
     }
     for _ in 0..3 {
         let _ = m.remove("-");
