@@ -55,17 +55,17 @@ pub(crate) fn print(rt: &HostRuntime, output: &[u8]) -> Result<(), Error> {
 pub(crate) fn hand_on(
     rt: &HostRuntime,
     target: Target<'_>,
-    read: Option<&[u8]>,
+    old: Option<&[u8]>,
     output: &[u8],
 ) -> Result<(), Error> {
     if target.shows_change {
-        return show_change(rt, target, read, output);
+        return show_change(rt, target, old, output);
     }
     if target.place == "-" {
         return print(rt, output);
     }
     if target.place == target.file {
-        return match read {
+        return match old {
             Some(there) => replace(rt, target.place, there, output),
             None => save(rt, rt.alloc(), target.place, None, output),
         };
@@ -81,12 +81,12 @@ pub(crate) fn hand_on(
 fn show_change(
     rt: &HostRuntime,
     target: Target<'_>,
-    read: Option<&[u8]>,
+    old: Option<&[u8]>,
     output: &[u8],
 ) -> Result<(), Error> {
     let place = target.place;
     let change = if place == "-" || place == target.file {
-        diff(rt.alloc(), target.file, read, output)?
+        diff(rt.alloc(), target.file, old, output)?
     } else {
         match fs::read(rt, place) {
             Ok(there) => diff(rt.alloc(), place, Some(there.as_slice()), output)?,

@@ -82,7 +82,7 @@ fn run_here(rt: &HostRuntime, words: &[String], input: &mut Vec<u8>) -> Outcome 
     let outcome = run(rt.alloc(), words, input.as_slice());
     let refused = match &outcome {
         Outcome::Done(output) => {
-            let read = if is_there {
+            let old = if is_there {
                 Some(input.as_slice())
             } else {
                 None
@@ -92,7 +92,7 @@ fn run_here(rt: &HostRuntime, words: &[String], input: &mut Vec<u8>) -> Outcome 
                 place: place_of(&asked),
                 shows_change: asked.choices.switches.dry_run,
             };
-            hand_on(rt, target, read, output.as_slice()).err()
+            hand_on(rt, target, old, output.as_slice()).err()
         }
         _ => None,
     };

@@ -41,11 +41,11 @@ pub fn merge_files(rt: &HostRuntime, merging: &Merging<'_>) -> u8 {
 fn merge_read(
     rt: &HostRuntime,
     merging: &Merging<'_>,
-    read: Option<&[u8]>,
+    old: Option<&[u8]>,
     others: &[Vec<u8>],
 ) -> u8 {
     let (read, file) = (merging.options.reading, merging.file);
-    let input = read.unwrap_or(&[]);
+    let input = old.unwrap_or(&[]);
     match merge(rt.alloc(), merging.options, input, others) {
         MergeEnd::Done(bytes) => {
             let target = Target {
@@ -53,7 +53,7 @@ fn merge_read(
                 place: merging.choices.output.unwrap_or(file),
                 shows_change: merging.choices.switches.dry_run,
             };
-            match hand_on(rt, target, read, bytes.as_slice()) {
+            match hand_on(rt, target, old, bytes.as_slice()) {
                 Ok(()) => 0,
                 Err(refusal) => refuse(rt, read, file, &[], Outcome::from(refusal)),
             }

@@ -24,10 +24,10 @@ pub fn save<R: Files + AllocGlobal>(
     rt: &R,
     alloc: Global,
     path: &str,
-    read: Option<&[u8]>,
+    old: Option<&[u8]>,
     bytes: &[u8],
 ) -> Result<(), Error> {
-    let Some(read) = read else {
+    let Some(old) = old else {
         return make(rt, alloc, path, bytes);
     };
     let target = fs::canonicalize(rt, path).map_err(Error::Io)?;
@@ -38,7 +38,7 @@ pub fn save<R: Files + AllocGlobal>(
     let beside = format!(in alloc; "{}.lock", target.as_str())?;
     let file = File::create_new(rt, beside.as_str()).map_err(Error::Io)?;
     let saved = match fill(file, Some(metadata.permissions()), bytes) {
-        Ok(()) => take_name(rt, beside.as_str(), target.as_str(), read),
+        Ok(()) => take_name(rt, beside.as_str(), target.as_str(), old),
         Err(fault) => Err(fault),
     };
     if saved.is_err() {
@@ -83,10 +83,10 @@ fn take_name<R: Files + AllocGlobal>(
     rt: &R,
     beside: &str,
     target: &str,
-    read: &[u8],
+    old: &[u8],
 ) -> io::Result<()> {
     let now = fs::read(rt, target)?;
-    if now.as_slice() != read {
+    if now.as_slice() != old {
         return Err(io::Error::new(io::ErrorKind::Other, "changed since it was read"));
     }
     fs::rename(rt, beside, target)
