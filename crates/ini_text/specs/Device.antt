@@ -1,6 +1,5 @@
 -- What a call does to a device that is watched.
 pub mod DeviceRefusals
 pub mod Watched
-pub mod Buffered
 pub mod HeldBack
 pub mod Gathering

@@ -3,6 +3,7 @@ pub mod Escaping
 pub mod Options
 pub mod Errors
 pub mod Parsing
+pub mod Buffered
 pub mod Device
 pub mod Laws
 pub mod Inside

@@ -1,6 +1,7 @@
 //! The text of INI files: read one item at a time, and written, escaped, to devices that are watched.
 #![tactic(auto)]
 
+mod buffer;
 mod device;
 mod error;
 mod item;

@@ -20,7 +20,6 @@ use std::alloc::{AllocError, Global};
 use std::borrow::CowStr;
 use std::marker::Model;
 
-mod block;
 mod element;
 mod endpoints;
 mod fault;

@@ -3,7 +3,7 @@ use Rattle.std.proofs.Common.{◌≡◌, ℕ, ◌+◌, ◌≤◌, List, [], ◌+
 use lib.Lanes.{chunk}
 use Rattle.std.proofs.Math.Seq.{take-append_seam}
 use Rattle.std.proofs.lemmas.List.{length-drop, length-take, take-append-drop, take-append-le, take-take, take_all}
-use Rattle.ini_text.specs.Device.Buffered.{IsFront}
+use Rattle.ini_text.specs.Buffered.{IsFront}
 
 -- a run and a piece, put behind the first bytes
 pub placed_run : (len run end : ℕ) (before bytes lanes after piece : List ℕ) → run ≤ 16

@@ -2,22 +2,25 @@
 //! file knows escapes, and nothing of lines, keys or names.
 ghost use Rattle.std.specs.Prelude.{◌≡◌, ◌∷◌, ◌≤◌, [], true, chars, drop, length, take, IfOk, IfSome};
 ghost use Rattle.std.specs.Str.{IsCharBoundary};
+ghost use Rattle.ini_text.specs.Buffered.{buffered};
 ghost use Rattle.ini_text.specs.Inside.Endpoints.{ends_of};
 ghost use Rattle.ini_text.specs.Inside.Reading.{found, prepend};
 ghost use Rattle.ini_text.specs.Inside.ShortPieces.{IsEscape, IsShort, Sees};
 ghost use Rattle.ini_text.specs.Inside.StringReader.{coded_character, string};
 ghost use Rattle.ini_text.specs.Parsing.Items.{string_text};
 ghost use Rattle.ini_text.specs.declared.lanes.TheConstants.{LANES};
-ghost use Rattle.ini_text.specs.declared.parser.block.TheConstants.{BLOCK_LENGTH};
-ghost use Rattle.ini_text.specs.declared.parser.short.TheConstants.{CODE, LONGEST_ESCAPE};
+ghost use Rattle.ini_text.specs.declared.parser.short.TheConstants.{BLOCK_LENGTH, CODE, LONGEST_ESCAPE};
 
+use crate::buffer::{Buffer, LONGEST_CHARACTER, place_char};
 use crate::lanes::{LANES, marks_ahead, place_lanes};
-use crate::parser::block::{BLOCK_LENGTH, LONGEST_CHARACTER, place};
 use crate::parser::endpoints::Endpoints;
 use crate::parser::tables::{digit, letter_value};
 use crate::text::push_text;
 use std::alloc::AllocError;
 use std::simd::prelude::*;
+
+// How many bytes are gathered at most, so that short parts of a string are appended together.
+const BLOCK_LENGTH: usize = 128;
 
 // How many bytes the longest escape has that is read here.
 const LONGEST_ESCAPE: usize = 6;
@@ -42,12 +45,13 @@ pub(crate) fn read_short<'a>(
     if !escapes {
         return Ok(text);
     }
-    let mut block = [0; BLOCK_LENGTH];
-    let (len, rest) = gather(&mut block, text, ends);
-    if len == 0 {
+    let mut block: Buffer<BLOCK_LENGTH> = Buffer::new();
+    let rest = block.push_pieces(text, ends);
+    let bytes = block.as_bytes();
+    if bytes.is_empty() {
         return Ok(text);
     }
-    match str::from_utf8(&block[..len]) {
+    match str::from_utf8(bytes) {
         Ok(values) => {
             push_text(out, values)?;
             Ok(rest)
@@ -57,28 +61,31 @@ pub(crate) fn read_short<'a>(
     }
 }
 
-/// Gathers the values of some short pieces, and gives how many bytes these are, and what follows the pieces.
-#[inline(always)]
-fn gather<'a>(block: &mut [u8; BLOCK_LENGTH], text: &'a str, ends: Endpoints) -> (usize, &'a str)
-    ensures within { result.0 ≤ BLOCK_LENGTH }
-    ensures read { string true (ends_of ends) (chars text.now)
-        ≡ prepend (chars (take result.0 block.new)) (string true (ends_of ends) (chars result.1.now)) }
-    ensures shorter { length (chars result.1.now) ≤ length (chars text.now) }
-{
-    let mut len = 0;
-    let mut rest = text;
-    let mut known = 0;
-    'pieces: while len <= BLOCK_LENGTH - LANES - LONGEST_CHARACTER {
-        let Some((run_length, value, taken, bits)) = split_short(rest, known, ends) else {
-            break 'pieces;
-        };
-        place_lanes(block, len, u8x16::from_slice(rest.as_bytes()));
-        len = place(block, len + run_length, value);
-        let (_, behind) = rest.split_at(run_length + taken);
-        rest = behind;
-        known = bits >> (run_length + taken);
+impl Buffer<BLOCK_LENGTH> {
+    // Puts in the values of some short pieces, and gives what follows the pieces.
+    #[inline(always)]
+    fn push_pieces<'a>(&mut self, text: &'a str, ends: Endpoints) -> &'a str
+        requires { buffered self.old ≡ [] }
+        ensures read { string true (ends_of ends) (chars text.now)
+            ≡ prepend (chars (buffered self.new)) (string true (ends_of ends) (chars result.now)) }
+        ensures shorter { length (chars result.now) ≤ length (chars text.now) }
+    {
+        let mut len = self.len;
+        let mut rest = text;
+        let mut known = 0;
+        'pieces: while len <= BLOCK_LENGTH - LANES - LONGEST_CHARACTER {
+            let Some((run_length, value, taken, bits)) = split_short(rest, known, ends) else {
+                break 'pieces;
+            };
+            place_lanes(&mut self.bytes, len, u8x16::from_slice(rest.as_bytes()));
+            len = place_char(&mut self.bytes, len + run_length, value);
+            let (_, behind) = rest.split_at(run_length + taken);
+            rest = behind;
+            known = bits >> (run_length + taken);
+        }
+        self.len = len;
+        rest
     }
-    (len, rest)
 }
 
 /// How many bytes of a run stand before an escape, what that stands for, and how many bytes it has, with the

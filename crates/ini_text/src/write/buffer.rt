@@ -1,82 +1,28 @@
-//! Bytes that are held back on their way to a device. This file knows bytes and escapes, and no device.
-ghost use Rattle.std.specs.Prelude.{◌≡◌, true, ◌+◌, ◌≤◌, if◌then◌else◌, [], ◌++◌, length, take};
+//! Texts that are put into a buffer on their way to a device. This file knows bytes and escapes, and no
+//! device.
+ghost use Rattle.std.specs.Prelude.{◌≡◌, true, ◌+◌, ◌≤◌, ◌↔◌, if◌then◌else◌, [], ◌++◌, length, IsTrue};
+ghost use Rattle.ini_text.specs.Buffered.{IsFront, buffered};
 ghost use Rattle.ini_text.specs.Escaping.EscapedTexts.{escape, escaped_bytes};
 ghost use Rattle.ini_text.specs.declared.write.buffer.TheConstants.{BUFFER_SIZE};
+ghost use Rattle.ini_text.specs.declared.write.escape.TheConstants.{ESCAPE_ROOM};
 
-use crate::write::escape::{ESCAPE_ROOM, place, place_escape};
+use crate::buffer::Buffer;
+use crate::write::escape::{ESCAPE_ROOM, place_escape};
 use crate::write::policy::EscapePolicy;
 use crate::write::verbatim::{Basics, Reserved, is_verbatim};
 
 mod marked;
 
-// How many bytes are held back at most.
-const BUFFER_SIZE: usize = 16384;
+/// How many bytes are held back at most.
+pub(crate) const BUFFER_SIZE: usize = 16384;
 
-/// The bytes that are held back. It takes no memory.
-#[derive(Drop)]
-pub(crate) struct Buffer {
-    bytes: [u8; BUFFER_SIZE],
-    len: usize,
-    ghost within: { len ≤ BUFFER_SIZE },
-}
-
-impl Buffer {
-    ghost use Rattle.ini_text.specs.Device.Buffered.{IsFront, buffered};
-
-    /// No bytes.
-    #[inline(always)]
-    pub(crate) fn new() -> Buffer
-        ensures { buffered result ≡ [] }
-    {
-        Buffer {
-            bytes: [0; BUFFER_SIZE],
-            len: 0,
-        }
-    }
-
-    /// The bytes.
-    pub(crate) fn as_bytes(&self) -> &[u8]
-        ensures { result.now ≡ buffered self.now }
-    {
-        &self.bytes[..self.len]
-    }
-
-    // How many bytes there are.
-    fn len(&self) -> usize
-        ensures { result ≡ length (buffered self.now) }
-    {
-        self.len
-    }
-
-    /// Whether there is room for so many more.
-    pub(crate) fn has_room(&self, count: usize) -> bool
-        ensures { result ≡ true → length (buffered self.now) + count ≤ BUFFER_SIZE }
-    {
-        count <= BUFFER_SIZE - self.len
-    }
-
-    /// Appends a few bytes.
-    pub(crate) fn push(&mut self, bytes: &[u8])
-        requires { length (buffered self.old) + length bytes.now ≤ BUFFER_SIZE }
-        ensures { buffered self.new ≡ buffered self.old ++ bytes.now }
-    {
-        self.len = place(&mut self.bytes, self.len, bytes);
-    }
-
+impl Buffer<BUFFER_SIZE> {
     /// Appends the escape of a character.
     pub(crate) fn push_escape(&mut self, c: char)
         requires { length (buffered self.old) + ESCAPE_ROOM ≤ BUFFER_SIZE }
         ensures { buffered self.new ≡ buffered self.old ++ escape c }
     {
         self.len = place_escape(&mut self.bytes, self.len, c);
-    }
-
-    /// Keeps the first `len` bytes.
-    pub(crate) fn truncate(&mut self, len: usize)
-        requires { len ≤ length (buffered self.old) }
-        ensures { buffered self.new ≡ take len (buffered self.old) }
-    {
-        self.len = len;
     }
 
     /// Appends two texts escaped, and behind each another as it is, if each escape has a letter and there is
@@ -151,8 +97,10 @@ impl Buffer {
     /// Appends a run and the escape of the character behind it, if there is room.
     #[inline(always)]
     pub(crate) fn push_run(&mut self, run: &str, c: char) -> bool
-        ensures { buffered self.new
+        ensures pushed { buffered self.new
             ≡ buffered self.old ++ (if result then run.now ++ escape c else []) }
+        ensures room { IsTrue result
+            ↔ (length (buffered self.old) + (length run.now + ESCAPE_ROOM) ≤ BUFFER_SIZE) }
     {
         if run.len() > BUFFER_SIZE - ESCAPE_ROOM || !self.has_room(run.len() + ESCAPE_ROOM) {
             return false;

@@ -5,6 +5,8 @@ ghost use Rattle.std.specs.Char.{digit_char};
 ghost use Rattle.ini_text.specs.Escaping.EscapedTexts.{escape, escape_by, letter_of};
 ghost use Rattle.ini_text.specs.declared.write.escape.TheConstants.{LETTER_ROOM, ESCAPE_ROOM};
 
+use crate::buffer::place;
+
 /// How long an escape is at most: a backslash, `x` and six digits.
 pub(crate) const ESCAPE_ROOM: usize = 8;
 
@@ -74,23 +76,6 @@ fn place_digits(bytes: &mut [u8], len: usize, c: char) -> usize
         hex_digit(code, 1),
     ];
     place(bytes, end, &last)
-}
-
-/// Puts a few bytes behind the first `len`, and answers how many there are then.
-#[inline(always)]
-pub(crate) fn place(bytes: &mut [u8], len: usize, few: &[u8]) -> usize
-    requires { len + length few.now ≤ length bytes.old }
-    ensures placed { take result bytes.new ≡ take len bytes.old ++ few.now }
-    ensures len { result ≡ len + length few.now }
-    ensures length { length bytes.new ≡ length bytes.old }
-{
-    let end = len + few.len();
-    if let [byte] = few {
-        bytes[len] = *byte;
-    } else {
-        bytes[len..end].copy_from_slice(few);
-    }
-    end
 }
 
 // The character that follows the backslash, where one is enough.

@@ -7,11 +7,12 @@ ghost use Rattle.ini_text.specs.Device.Gathering.{Sends, SendsBytes};
 ghost use Rattle.ini_text.specs.Device.HeldBack.{held};
 ghost use Rattle.ini_text.specs.Device.Watched.{IsClear};
 
+use crate::buffer::Buffer;
 use crate::device::Watched;
 use crate::error::Error;
 use crate::lanes::{Marks, run_before};
 use crate::text::split_first;
-use crate::write::buffer::Buffer;
+use crate::write::buffer::BUFFER_SIZE;
 use crate::write::escape::ESCAPE_ROOM;
 use crate::write::policy::EscapePolicy;
 use crate::write::verbatim::{Basics, Reserved, split_verbatim};
@@ -25,7 +26,7 @@ use std::io::Write;
 /// device is asked nothing more.
 #[derive(Drop)]
 pub struct Gatherer {
-    buffer: Buffer,
+    buffer: Buffer<BUFFER_SIZE>,
 }
 
 impl Gatherer {

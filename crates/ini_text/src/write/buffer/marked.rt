@@ -1,18 +1,18 @@
 //! Bytes that are appended to a buffer, each that is marked as the escape of its character. This file knows
 //! bytes and their marks, and no policy.
 ghost use Rattle.std.specs.Prelude.{◌≡◌, ℕ, ◌+◌, ◌++◌, ◌≤◌, length, take};
+ghost use Rattle.ini_text.specs.Buffered.{buffered};
 ghost use Rattle.ini_text.specs.Inside.Verbatim.{marked_escaped};
 ghost use Rattle.ini_text.specs.declared.lanes.TheConstants.{HALF, LANES};
 ghost use Rattle.ini_text.specs.declared.write.buffer.TheConstants.{BUFFER_SIZE};
 
+use crate::buffer::Buffer;
 use crate::lanes::{HALF, LANES, Marks, has_no_mark, marks_ahead, place_lanes};
-use crate::write::buffer::{BUFFER_SIZE, Buffer};
+use crate::write::buffer::BUFFER_SIZE;
 use crate::write::escape::{LETTER_ROOM, place_letter};
 use std::simd::prelude::*;
 
-impl Buffer {
-    ghost use Rattle.ini_text.specs.Device.Buffered.{buffered};
-
+impl Buffer<BUFFER_SIZE> {
     /// Appends bytes, each that is marked as the escape of its character, and answers those that are left:
     /// where there is no room, or at an escape by digits.
     #[inline(always)]

@@ -1,6 +1,6 @@
 use Rattle.std.proofs.Common.{◌∙◌, sym, eqb-true}
 use Rattle.std.proofs.lemmas.List.{nil_from_length}
-use Rattle.ini_text.specs.Device.Buffered.{buffered}
+use Rattle.ini_text.specs.Buffered.{buffered}
 use Rattle.ini_text.proofs.WriteLemmas.MarkedByteLemmas.{pushed_all}
 use Rattle.ini_text.proofs.WriteLemmas.SendLemmas.{SendsBytes-behind, SendsBytes-held}
 use Rattle.ini_text.proofs.write.gather.Gatherer.put_marked.Goals as goal

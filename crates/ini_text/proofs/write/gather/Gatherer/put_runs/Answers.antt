@@ -1,7 +1,7 @@
 use Rattle.std.proofs.Common.{◌≡◌, ℕ, List, [], ◌++◌, ◌∙◌, ap, refl, append-nil, append_assoc, encode_utf8_all, rules, subst, sym}
 use Rattle.std.proofs.lemmas.Result.{err_from_is_err_and}
 use Rattle.ini_text.specs.Escaping.EscapedTexts.{escape, escaped, escaped_bytes}
-use Rattle.ini_text.specs.Device.Buffered.{buffered}
+use Rattle.ini_text.specs.Buffered.{buffered}
 use Rattle.ini_text.specs.Device.Gathering.{SendsBytes}
 use Rattle.ini_text.specs.Device.HeldBack.{held}
 use Rattle.ini_text.proofs.WriteLemmas.EscapeByteLemmas.{escaped-first, escaped-next}
@@ -25,7 +25,7 @@ after_run g c =
     Leaving-goes_on c.requires _ c.runs.invariant.leaving _
     (in_front (held c.runs.self) (buffered c.push_run.new.self) c.split_verbatim.result.0.now
     (escaped_bytes c.args.policy c.split_verbatim.result.1.now)
-    (rw c.if-push_run.false at c.push_run.ensures) c.split_verbatim.ensures.bytes)
+    (rw c.if-push_run.false at c.push_run.ensures.pushed) c.split_verbatim.ensures.bytes)
     (subst (SendsBytes _ _ _ _ _ _) c.as_bytes-in-runs.ensures.value c.in_ok-put_bytes.ensures)
 
 pub returns-in_err-put_bytes : goal.returns-in_err-put_bytes
@@ -35,7 +35,7 @@ returns-in_err-put_bytes g c =
     rw (p.1, p.2) (Leaving-last c.requires _ c.runs.invariant.leaving _ refl
     (in_front (held c.runs.self) (buffered c.push_run.new.self) c.split_verbatim.result.0.now
     (escaped_bytes c.args.policy c.split_verbatim.result.1.now)
-    (rw c.if-push_run.false at c.push_run.ensures) c.split_verbatim.ensures.bytes)
+    (rw c.if-push_run.false at c.push_run.ensures.pushed) c.split_verbatim.ensures.bytes)
     (SendsBytes-cut (escaped_bytes c.args.policy c.split_verbatim.result.1.now) sent))
 
 pub returns-in_default : goal.returns-in_default
@@ -57,7 +57,7 @@ runs-preserved-then-push_run g c =
     (escaped-first c.args.policy c.in-Some.c _ _ parts c.split_verbatim.ensures.next) in
     let whole = c.split_verbatim.ensures.bytes ∙ ap (λ x. run ++ x) next
     ∙ sym (append_assoc run (escape c.in-Some.c) _) in
-    let grown = rw c.if-push_run.true at c.push_run.ensures in
+    let grown = rw c.if-push_run.true at c.push_run.ensures.pushed in
     record {
       is_text = search rules;
       leaving =

@@ -1,4 +1,4 @@
-use Rattle.std.proofs.Common.{◌∷◌, ◌++◌, ◌∙◌, ◌+◌, [], ap, arith, chars, length, not, refl, rules, sym, take}
+use Rattle.std.proofs.Common.{◌∷◌, ◌++◌, ◌∙◌, ◌+◌, [], ap, arith, chars, length, not, rules, subst, sym, take, IsUtf8}
 use Rattle.std.specs.Char.{IsScalar}
 use Rattle.std.proofs.lemmas.List.{take-take}
 use Rattle.std.proofs.lemmas.Str.{IsUtf8-nil}
@@ -7,15 +7,14 @@ use Rattle.ini_text.proofs.ReaderLemmas.ReaderLemmas.{and_more, from_nothing}
 use Rattle.ini_text.proofs.ReaderLemmas.ShortPieceLemmas.{gathered}
 use Rattle.ini_text.proofs.StringLemmas.LaneLemmas.{Tells-none, Tells-past}
 use Rattle.ini_text.specs.Inside.Scans.{is_raw}
-use Rattle.ini_text.proofs.parser.short.gather.Goals as goal
+use Rattle.ini_text.proofs.parser.short.Buffer+BLOCK_LENGTH.push_pieces.Goals as goal
 
 pub pieces-init : goal.pieces-init
 pieces-init c = record {
   text = search rules;
   within = omega arith;
-  values = IsUtf8-nil;
-  read =
-      sym (from_nothing _ refl);
+  values = subst IsUtf8 (sym c.requires) IsUtf8-nil;
+  read = sym (from_nothing _ c.requires);
   seen =
       Tells-none (λ x. not (is_raw (ends_of c.args.ends) x)) 16 c.args.text.now;
   shorter = omega arith;
@@ -29,7 +28,7 @@ overflow_shr-known c = let piece = c.in-Some.ensures.piece in omega (arith, piec
 
 pub pieces-preserved : goal.pieces-preserved
 pieces-preserved c =
-    let old = take c.pieces.len c.pieces.block in
+    let old = take c.pieces.len c.pieces.self.bytes in
     let run = take c.in-Some.run_length c.pieces.rest.now in
     let piece = c.in-Some.ensures.piece in
     let scalar : IsScalar c.in-Some.value = search rules in
@@ -39,10 +38,10 @@ pieces-preserved c =
     ∙ ap (take c.in-Some.run_length) c.as_bytes.ensures.value) in
     let grown =
     gathered old run c.in-Some.value c.pieces.invariant.values piece.run scalar front
-    c.place-len.ensures.placed in
+    c.place_char-len.ensures.placed in
     record {
       text = search rules;
-      within = c.place-len.ensures.within;
+      within = omega (arith, piece.within, c.place_char-len.ensures.within);
       values = grown.1;
       read = and_more (chars old) (chars run ++ c.in-Some.value ∷ []) _ c.pieces.invariant.read
           (rw (c.split_at.ensures.back) piece.read) grown.0;

@@ -7,9 +7,9 @@ use Rattle.ini_text.proofs.WriteLemmas.BufferLemmas.{placed_none, placed_run}
 use Rattle.ini_text.proofs.WriteLemmas.MarkedByteLemmas.{marked_escaped-behind, marked_escaped-run, pushed_more}
 use Rattle.ini_text.specs.Inside.Verbatim.{marked_escaped}
 use Rattle.ini_text.specs.Escaping.EscapedTexts.{escape}
-use Rattle.ini_text.proofs.write.buffer.Buffer.push_lanes.Goals.{then-lanes-test+else-len, else-lanes-test}
-use Rattle.ini_text.proofs.write.buffer.Buffer.push_lanes.Goals.{then-lanes-test+then-len+else-known-eq0+in_default}
-use Rattle.ini_text.proofs.write.buffer.Buffer.push_lanes.Goals as goal
+use Rattle.ini_text.proofs.write.buffer.marked.Buffer+BUFFER_SIZE.push_lanes.Goals.{then-lanes-test+else-len, else-lanes-test}
+use Rattle.ini_text.proofs.write.buffer.marked.Buffer+BUFFER_SIZE.push_lanes.Goals.{then-lanes-test+then-len+else-known-eq0+in_default}
+use Rattle.ini_text.proofs.write.buffer.marked.Buffer+BUFFER_SIZE.push_lanes.Goals as goal
 
 pub lanes-preserved-then-known-eq0 : goal.lanes-preserved-then-known-eq0
 lanes-preserved-then-known-eq0 g c =

@@ -1,6 +1,6 @@
-use Rattle.ini_text.specs.Device.Buffered.{buffered}
+use Rattle.ini_text.specs.Buffered.{buffered}
 use Rattle.ini_text.proofs.WriteLemmas.BufferLemmas.{front-appended, front-then}
-use Rattle.ini_text.proofs.write.buffer.Buffer.push_part.Goals as goal
+use Rattle.ini_text.proofs.write.buffer.Buffer+BUFFER_SIZE.push_part.Goals as goal
 
 pub returns-clause-front : goal.returns-clause-front
 returns-clause-front c =

@@ -5,7 +5,7 @@ use Rattle.ini_text.specs.Inside.Endpoints.{ends_of}
 use Rattle.ini_text.specs.Inside.Reading.{prepend}
 use Rattle.ini_text.specs.Inside.ShortPieces.{Sees}
 use Rattle.ini_text.specs.Inside.StringReader.{string}
-use Rattle.ini_text.proofs.parser.short.gather.Given as goal
+use Rattle.ini_text.proofs.parser.short.Buffer+BLOCK_LENGTH.push_pieces.Given as goal
 
 abbrev pub decreases-pieces : goal.decreases-pieces
 decreases-pieces l = length (chars l.rest)
@@ -14,8 +14,8 @@ abbrev pub invariant-pieces : goal.invariant-pieces
 invariant-pieces l = record {
   text : shadow (Utf8 l.rest);
   within : l.len ≤ 128;
-  values : IsUtf8 (take l.len l.block);
-  read : string true (ends_of l.ends) (chars l.fn.text) ≡ prepend (chars (take l.len l.block))
+  values : IsUtf8 (take l.len l.self.bytes);
+  read : string true (ends_of l.ends) (chars l.fn.text) ≡ prepend (chars (take l.len l.self.bytes))
       (string true (ends_of l.ends) (chars l.rest));
   seen : Sees (ends_of l.ends) l.known l.rest;
   shorter : length (chars l.rest) ≤ length (chars l.fn.text);

@@ -1,7 +1,7 @@
 use Rattle.std.proofs.Common.{◌≡◌, ◌+◌, ◌*◌, ◌++◌, ◌≤◌, length, take}
 use Rattle.ini_text.specs.Inside.Verbatim.{marked_escaped}
-use Rattle.ini_text.specs.Device.Buffered.{buffered}
-use Rattle.ini_text.proofs.write.buffer.Buffer.push_few.Given as goal
+use Rattle.ini_text.specs.Buffered.{buffered}
+use Rattle.ini_text.proofs.write.buffer.marked.Buffer+BUFFER_SIZE.push_few.Given as goal
 
 abbrev pub invariant-few : goal.invariant-few
 invariant-few g l = record {

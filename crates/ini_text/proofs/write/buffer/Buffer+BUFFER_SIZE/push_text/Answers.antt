@@ -1,11 +1,11 @@
 use Rattle.std.proofs.Common.{◌++◌, ◌∙◌, ap, sym, eqb-true}
 use Rattle.std.proofs.lemmas.List.{nil_from_length}
-use Rattle.ini_text.specs.Device.Buffered.{buffered}
+use Rattle.ini_text.specs.Buffered.{buffered}
 use Rattle.ini_text.specs.Inside.Verbatim.{begins_escaped}
 use Rattle.ini_text.specs.declared.write.policy.EscapePolicy.TheVariants.{Basics, Reserved}
 use Rattle.ini_text.proofs.WriteLemmas.BufferLemmas.{front-appended, front-pushed}
 use Rattle.ini_text.proofs.WriteLemmas.MarkedByteLemmas.{marked-basics, marked-reserved, pushed_all}
-use Rattle.ini_text.proofs.write.buffer.Buffer.push_text.Goals as goal
+use Rattle.ini_text.proofs.write.buffer.Buffer+BUFFER_SIZE.push_text.Goals as goal
 
 pub returns-in-Basics-clause-all : goal.returns-in-Basics-clause-all
 returns-in-Basics-clause-all c all =

@@ -1,8 +1,8 @@
 -- The bytes that a buffer holds.
 use Rattle.std.specs.Prelude.{◌≡◌, ℕ, List, length, take}
-use Rattle.ini_text.specs.declared.write.buffer.Buffer.{Buffer}
+use Rattle.ini_text.specs.declared.buffer.Buffer.{Buffer}
 
-abbrev pub buffered : Buffer → List ℕ
+abbrev pub buffered : {size : ℕ} → Buffer size → List ℕ
 buffered buffer = take buffer.len buffer.bytes
 
 -- the first bytes are a front of the others

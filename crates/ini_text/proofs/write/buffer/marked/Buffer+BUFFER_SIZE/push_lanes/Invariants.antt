@@ -1,8 +1,8 @@
 use Rattle.std.proofs.Common.{◌≡◌, ◌++◌, ◌≤◌, length, take}
 use Rattle.ini_text.specs.Inside.Lanes.{Tells}
 use Rattle.ini_text.specs.Inside.Verbatim.{marked_escaped}
-use Rattle.ini_text.specs.Device.Buffered.{buffered}
-use Rattle.ini_text.proofs.write.buffer.Buffer.push_lanes.Given as goal
+use Rattle.ini_text.specs.Buffered.{buffered}
+use Rattle.ini_text.proofs.write.buffer.marked.Buffer+BUFFER_SIZE.push_lanes.Given as goal
 
 abbrev pub invariant-lanes : goal.invariant-lanes
 invariant-lanes g l = record {
