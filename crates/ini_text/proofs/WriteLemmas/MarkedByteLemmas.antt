@@ -1,5 +1,5 @@
 -- Bytes of which each that is marked goes out as the escape of its character.
-use Rattle.std.proofs.Common.{◌≡◌, ℕ, zero, suc, ◌+◌, ◌<◌, ◌≤◌, Bool, true, false, not, cond, List, [], ◌∷◌, ◌++◌, length, take, drop, get_or, inl, inr, leb, refl, ap, ap₂, ◌∙◌, sym, arith, append_assoc, append-nil, IsUtf8, chars, encode_utf8_all, add-zero}
+use Rattle.std.proofs.Common.{◌≡◌, ◌≢◌, ℕ, None, zero, suc, ◌+◌, ◌<◌, ◌≤◌, Bool, true, false, not, cond, List, [], ◌∷◌, ◌++◌, length, take, drop, get_or, inl, inr, leb, refl, ap, ap₂, ◌∙◌, sym, arith, append_assoc, append-nil, IsUtf8, chars, encode_utf8_all, add-zero}
 use lib.Utf8.{encode}
 use Rattle.std.proofs.Math.Seq.{take-length}
 use Rattle.std.proofs.lemmas.Bool.Decides.{nat_tests}
@@ -9,9 +9,10 @@ use Rattle.std.proofs.lemmas.Bool.{and_parts, cases_lt}
 use Rattle.std.proofs.lemmas.List.{drop_more, get_or-drop, length-drop}
 use Rattle.std.proofs.lemmas.List.Sums.{passes_at_first}
 use Rattle.std.specs.List.{list_all, position_or_len}
-use Rattle.ini_text.specs.Escaping.EscapedTexts.{escape, escaped, escaped_bytes}
+use Rattle.ini_text.specs.Escaping.EscapedTexts.{escape, letter_of, escaped, escaped_bytes}
 use Rattle.ini_text.specs.Escaping.Policies.{is_escaped}
-use Rattle.ini_text.specs.Inside.Verbatim.{begins_escaped, marked_escaped}
+use Rattle.std.proofs.lemmas.List.Elements.{All-drop}
+use Rattle.ini_text.specs.Inside.Verbatim.{HaveLetters, begins_escaped, marked_escaped}
 use Rattle.ini_text.specs.declared.write.policy.EscapePolicy.{EscapePolicy}
 use Rattle.ini_text.specs.declared.write.policy.EscapePolicy.TheVariants.{Basics, Reserved}
 use Rattle.ini_text.proofs.WriteLemmas.EscapeByteLemmas.{IsAscii-escape}
@@ -58,6 +59,12 @@ module _ (p : ℕ → Bool) where
       → after ≡ whole
   pushed_all after left none all = sym (ap (λ l. after ++ marked_escaped p l) none ∙ append-nil after) ∙ all
 
+  -- escapes have letters, also those of what follows
+  pub letters-past : (n : ℕ) (bytes : List ℕ) {left : List ℕ} → left ≡ drop n bytes → HaveLetters p bytes
+      → HaveLetters p left
+  letters-past n bytes is letters =
+      rw is (All-drop (λ byte. p byte ≡ true → letter_of byte ≢ None) n bytes letters)
+
   -- a byte that is marked, at its place
   pub marked_escaped-marked : (bytes : List ℕ) (at : ℕ) → at < length bytes → p (get_or bytes at 0) ≡ true
       → marked_escaped p (drop at bytes)
@@ -66,15 +73,18 @@ module _ (p : ℕ → Bool) where
       marked_escaped-next (get_or bytes at 0) (drop at bytes) (drop (at + 1) bytes)
       (drop_more bytes at 0 within) marked
 
+  -- the first byte that is marked
+  pub stopped_at_mark : (bytes : List ℕ) (run : ℕ) → StopsAt p 0 bytes run → p (get_or bytes run 0) ≡ true
+  stopped_at_mark bytes run stops = rw stops.position (passes_at_first p bytes 0
+      (let inside = stops.within in omega (arith, inside, stops.position)))
+
   -- the same behind bytes that are not marked
   pub marked_escaped-behind : (bytes : List ℕ) (run : ℕ) → StopsAt p 0 bytes run → marked_escaped p bytes
       ≡ (take run bytes ++ escape (get_or bytes run 0)) ++ marked_escaped p (drop (run + 1) bytes)
   marked_escaped-behind bytes run stops =
-      let marked : p (get_or bytes run 0) ≡ true =
-      rw stops.position (passes_at_first p bytes 0
-      (let inside = stops.within in omega (arith, inside, stops.position))) in
       marked_escaped-run run bytes (omega (arith, stops.position))
-      ∙ ap (λ l. take run bytes ++ l) (marked_escaped-marked bytes run (omega (arith, stops.within)) marked)
+      ∙ ap (λ l. take run bytes ++ l) (marked_escaped-marked bytes run (omega (arith, stops.within))
+      (stopped_at_mark bytes run stops))
       ∙ sym (append_assoc (take run bytes) (escape (get_or bytes run 0))
       (marked_escaped p (drop (run + 1) bytes)))
 

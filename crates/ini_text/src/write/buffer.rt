@@ -1,10 +1,13 @@
 //! Texts that are put into a buffer on their way to a device. This file knows bytes and escapes, and no
 //! device.
-ghost use Rattle.std.specs.Prelude.{◌≡◌, true, ◌+◌, ◌≤◌, ◌↔◌, if◌then◌else◌, [], ◌++◌, length, IsTrue};
+ghost use Rattle.std.specs.Prelude.{◌≡◌, true, false, ◌+◌, ◌*◌, ◌≤◌, ◌↔◌, if◌then◌else◌};
+ghost use Rattle.std.specs.Prelude.{[], ◌++◌, length, All, IsTrue};
 ghost use Rattle.ini_text.specs.Buffered.{IsFront, buffered};
 ghost use Rattle.ini_text.specs.Escaping.EscapedTexts.{escape, escaped_bytes};
+ghost use Rattle.ini_text.specs.Inside.Verbatim.{HaveShortEscapes, begins_escaped};
+ghost use Rattle.ini_text.specs.declared.lanes.TheConstants.{LANES};
 ghost use Rattle.ini_text.specs.declared.write.buffer.TheConstants.{BUFFER_SIZE};
-ghost use Rattle.ini_text.specs.declared.write.escape.TheConstants.{ESCAPE_ROOM};
+ghost use Rattle.ini_text.specs.declared.write.escape.TheConstants.{ESCAPE_ROOM, LETTER_ROOM};
 
 use crate::buffer::Buffer;
 use crate::write::escape::{ESCAPE_ROOM, place_escape};
@@ -25,8 +28,8 @@ impl Buffer<BUFFER_SIZE> {
         self.len = place_escape(&mut self.bytes, self.len, c);
     }
 
-    /// Appends two texts escaped, and behind each another as it is, if each escape has a letter and there is
-    /// room.
+    /// Appends two texts escaped, and behind each another as it is, or nothing: where there is no room, at
+    /// an escape by digits, and at any escape by a policy that is neither `Basics` nor `Reserved`.
     #[inline(never)]
     pub(crate) fn push_line(
         &mut self,
@@ -36,10 +39,13 @@ impl Buffer<BUFFER_SIZE> {
         end: &str,
         policy: EscapePolicy,
     ) -> bool
-        ensures { buffered self.new ≡ buffered self.old ++ (if result
+        ensures pushed { buffered self.new ≡ buffered self.old ++ (if result
             then (escaped_bytes policy first.now ++ between.now)
             ++ (escaped_bytes policy second.now ++ end.now)
             else []) }
+        ensures whole { HaveShortEscapes policy first.now → HaveShortEscapes policy second.now
+            → length (buffered self.old) + (LETTER_ROOM * (length first.now + length second.now + LANES)
+            + length between.now + length end.now) ≤ BUFFER_SIZE → result ≡ true }
     {
         let len = self.len();
         if self.push_part(first, between, policy) && self.push_part(second, end, policy) {
@@ -55,6 +61,10 @@ impl Buffer<BUFFER_SIZE> {
         ensures all { result ≡ true → buffered self.new
             ≡ buffered self.old ++ (escaped_bytes policy text.now ++ behind.now) }
         ensures front { IsFront (buffered self.old) (buffered self.new) }
+        ensures grown { length (buffered self.new)
+            ≤ length (buffered self.old) + (LETTER_ROOM * length text.now + length behind.now) }
+        ensures whole { HaveShortEscapes policy text.now → length (buffered self.old)
+            + (LETTER_ROOM * (length text.now + LANES) + length behind.now) ≤ BUFFER_SIZE → result ≡ true }
     {
         if !self.push_text(text, policy) || !self.has_room(behind.len()) {
             return false;
@@ -69,6 +79,11 @@ impl Buffer<BUFFER_SIZE> {
         ensures all { result ≡ true → buffered self.new
             ≡ buffered self.old ++ escaped_bytes policy text.now }
         ensures front { IsFront (buffered self.old) (buffered self.new) }
+        ensures grown { length (buffered self.new)
+            ≤ length (buffered self.old) + LETTER_ROOM * length text.now }
+        ensures whole { HaveShortEscapes policy text.now
+            → length (buffered self.old) + LETTER_ROOM * (length text.now + LANES) ≤ BUFFER_SIZE
+            → result ≡ true }
     {
         if !self.has_room(text.len()) {
             return false;
@@ -84,8 +99,10 @@ impl Buffer<BUFFER_SIZE> {
     #[inline(always)]
     fn push_verbatim(&mut self, text: &str, policy: EscapePolicy) -> bool
         requires { length (buffered self.old) + length text.now ≤ BUFFER_SIZE }
-        ensures { buffered self.new
+        ensures pushed { buffered self.new
             ≡ buffered self.old ++ (if result then escaped_bytes policy text.now else []) }
+        ensures grown { length (buffered self.new) ≤ length (buffered self.old) + length text.now }
+        ensures whole { All (λ byte. begins_escaped policy byte ≡ false) text.now → result ≡ true }
     {
         if !is_verbatim(text, policy) {
             return false;

@@ -1,6 +1,6 @@
 //! Runs of characters that a policy leaves as they are, found by their bytes. This file knows no device
 //! and no escape's text.
-ghost use Rattle.std.specs.Prelude.{◌≡◌, ◌++◌, ◌+◌, not, true, length, chars};
+ghost use Rattle.std.specs.Prelude.{◌≡◌, ◌++◌, ◌+◌, not, true, false, length, chars, All};
 ghost use Rattle.std.specs.List.{position_or_len};
 ghost use Rattle.ini_text.specs.Grammar.CharacterKinds.{BeginsWithNo};
 ghost use Rattle.ini_text.specs.Escaping.EscapedTexts.{escaped_bytes};
@@ -26,7 +26,8 @@ pub(crate) fn split_verbatim(text: &str, policy: EscapePolicy) -> (&str, &str)
 /// Whether the whole text goes out as it is.
 #[inline(always)]
 pub(crate) fn is_verbatim(text: &str, policy: EscapePolicy) -> bool
-    ensures { result ≡ true → escaped_bytes policy text.now ≡ text.now }
+    ensures same { result ≡ true → escaped_bytes policy text.now ≡ text.now }
+    ensures told { All (λ byte. begins_escaped policy byte ≡ false) text.now → result ≡ true }
 {
     run_len(text.as_bytes(), policy) == text.len()
 }

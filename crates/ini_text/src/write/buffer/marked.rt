@@ -1,10 +1,11 @@
 //! Bytes that are appended to a buffer, each that is marked as the escape of its character. This file knows
 //! bytes and their marks, and no policy.
-ghost use Rattle.std.specs.Prelude.{◌≡◌, ℕ, ◌+◌, ◌++◌, ◌≤◌, length, take};
+ghost use Rattle.std.specs.Prelude.{◌≡◌, ℕ, ◌+◌, ◌*◌, ◌++◌, ◌<◌, ◌≤◌, [], length, take};
 ghost use Rattle.ini_text.specs.Buffered.{buffered};
-ghost use Rattle.ini_text.specs.Inside.Verbatim.{marked_escaped};
+ghost use Rattle.ini_text.specs.Inside.Verbatim.{HaveLetters, marked_escaped};
 ghost use Rattle.ini_text.specs.declared.lanes.TheConstants.{HALF, LANES};
 ghost use Rattle.ini_text.specs.declared.write.buffer.TheConstants.{BUFFER_SIZE};
+ghost use Rattle.ini_text.specs.declared.write.escape.TheConstants.{LETTER_ROOM};
 
 use crate::buffer::Buffer;
 use crate::lanes::{HALF, LANES, Marks, has_no_mark, marks_ahead, place_lanes};
@@ -21,6 +22,11 @@ impl Buffer<BUFFER_SIZE> {
             ≡ buffered self.old ++ marked_escaped (M.is_marked marks.now) bytes.now }
         ensures longer { length (buffered self.old) ≤ length (buffered self.new) }
         ensures shorter { length result.now ≤ length bytes.now }
+        ensures grown { length (buffered self.new) + LETTER_ROOM * length result.now
+            ≤ length (buffered self.old) + LETTER_ROOM * length bytes.now }
+        ensures whole { HaveLetters (M.is_marked marks.now) bytes.now
+            → length (buffered self.old) + LETTER_ROOM * (length bytes.now + LANES) ≤ BUFFER_SIZE
+            → result.now ≡ [] }
     {
         let rest = self.push_lanes(bytes, marks);
         self.push_few(rest, marks)
@@ -33,6 +39,13 @@ impl Buffer<BUFFER_SIZE> {
             ≡ buffered self.old ++ marked_escaped (M.is_marked marks.now) bytes.now }
         ensures longer { length (buffered self.old) ≤ length (buffered self.new) }
         ensures shorter { length result.now ≤ length bytes.now }
+        ensures grown { length (buffered self.new) + LETTER_ROOM * length result.now
+            ≤ length (buffered self.old) + LETTER_ROOM * length bytes.now }
+        ensures few { HaveLetters (M.is_marked marks.now) bytes.now
+            → length (buffered self.old) + LETTER_ROOM * (length bytes.now + LANES) ≤ BUFFER_SIZE
+            → length result.now < LANES }
+        ensures letters { HaveLetters (M.is_marked marks.now) bytes.now
+            → HaveLetters (M.is_marked marks.now) result.now }
     {
         let mut rest = bytes;
         let mut len = self.len;
@@ -64,6 +77,10 @@ impl Buffer<BUFFER_SIZE> {
             ≡ buffered self.old ++ marked_escaped (M.is_marked marks.now) bytes.now }
         ensures longer { length (buffered self.old) ≤ length (buffered self.new) }
         ensures shorter { length result.now ≤ length bytes.now }
+        ensures grown { length (buffered self.new) + LETTER_ROOM * length result.now
+            ≤ length (buffered self.old) + LETTER_ROOM * length bytes.now }
+        ensures whole { HaveLetters (M.is_marked marks.now) bytes.now → length bytes.now < LANES
+            → length (buffered self.old) + LETTER_ROOM * LANES ≤ BUFFER_SIZE → result.now ≡ [] }
     {
         if bytes.len() >= LANES || self.len > BUFFER_SIZE - LETTER_ROOM * LANES {
             return bytes;

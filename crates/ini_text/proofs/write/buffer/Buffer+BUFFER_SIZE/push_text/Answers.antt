@@ -35,4 +35,5 @@ returns-in-Reserved-clause-front c =
     c.push_marked-in-Reserved.ensures.longer c.push_marked-in-Reserved.ensures.pushed
 
 pub returns-in_default-clause-front : goal.returns-in_default-clause-front
-returns-in_default-clause-front c = front-appended (buffered c.args.self.now) _ c.push_verbatim.ensures
+returns-in_default-clause-front c =
+    front-appended (buffered c.args.self.now) _ c.push_verbatim.ensures.pushed

@@ -4,7 +4,7 @@ use Rattle.std.proofs.lemmas.Option.{MatchOption-at_some}
 use Rattle.ini_text.specs.Escaping.EscapedTexts.{escape}
 use Rattle.ini_text.specs.Buffered.{buffered}
 use Rattle.ini_text.specs.Inside.Verbatim.{marked_escaped}
-use Rattle.ini_text.proofs.WriteLemmas.MarkedByteLemmas.{marked_escaped-marked, marked_escaped-none, pushed_more}
+use Rattle.ini_text.proofs.WriteLemmas.MarkedByteLemmas.{letters-past, marked_escaped-marked, marked_escaped-none, pushed_more}
 use Rattle.ini_text.proofs.write.buffer.marked.Buffer+BUFFER_SIZE.push_few.Goals as goal
 
 pub returns-then-has_no_mark-clause-pushed : goal.returns-then-has_no_mark-clause-pushed
@@ -31,4 +31,6 @@ few-preserved-in-Some g c =
       longer = omega (arith, c.few.invariant.longer, end);
       within = omega (arith, ap length left, length-drop 1 rest, c.few.invariant.within, end);
       shorter = omega (arith, ap length left, length-drop 1 rest, c.few.invariant.shorter);
+      grown = omega (arith, ap length left, length-drop 1 rest, c.few.invariant.grown, end);
+      letters = λ all. letters-past p 1 rest left (c.few.invariant.letters all);
     }

@@ -1,5 +1,5 @@
 use Rattle.std.proofs.Common.{◌≡◌, ◌+◌, ◌*◌, ◌++◌, ◌≤◌, length, take}
-use Rattle.ini_text.specs.Inside.Verbatim.{marked_escaped}
+use Rattle.ini_text.specs.Inside.Verbatim.{HaveLetters, marked_escaped}
 use Rattle.ini_text.specs.Buffered.{buffered}
 use Rattle.ini_text.proofs.write.buffer.marked.Buffer+BUFFER_SIZE.push_few.Given as goal
 
@@ -10,6 +10,9 @@ invariant-few g l = record {
       ++ marked_escaped (g.M.Marks.is_marked l.fn.marks) l.fn.bytes;
   within : l.len + 2 * length l.rest ≤ 16384;
   shorter : length l.rest ≤ length l.fn.bytes;
+  grown : l.len + 2 * length l.rest ≤ l.fn.self.len + 2 * length l.fn.bytes;
+  letters : HaveLetters (g.M.Marks.is_marked l.fn.marks) l.fn.bytes
+      → HaveLetters (g.M.Marks.is_marked l.marks) l.rest;
 }
 
 abbrev pub decreases-few : goal.decreases-few

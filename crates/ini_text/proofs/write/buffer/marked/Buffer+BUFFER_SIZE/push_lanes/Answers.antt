@@ -4,9 +4,9 @@ use Rattle.std.proofs.lemmas.Option.{MatchOption-at_some}
 use lib.Count.{count_trailing_zeros}
 use Rattle.ini_text.proofs.StringLemmas.LaneLemmas.{Tells-none, Tells-past, stops_at}
 use Rattle.ini_text.proofs.WriteLemmas.BufferLemmas.{placed_none, placed_run}
-use Rattle.ini_text.proofs.WriteLemmas.MarkedByteLemmas.{marked_escaped-behind, marked_escaped-run, pushed_more}
+use Rattle.ini_text.proofs.WriteLemmas.MarkedByteLemmas.{letters-past, marked_escaped-behind, marked_escaped-run, pushed_more, stopped_at_mark}
 use Rattle.ini_text.specs.Inside.Verbatim.{marked_escaped}
-use Rattle.ini_text.specs.Escaping.EscapedTexts.{escape}
+use Rattle.ini_text.specs.Escaping.EscapedTexts.{escape, letter_of}
 use Rattle.ini_text.proofs.write.buffer.marked.Buffer+BUFFER_SIZE.push_lanes.Goals.{then-lanes-test+else-len, else-lanes-test}
 use Rattle.ini_text.proofs.write.buffer.marked.Buffer+BUFFER_SIZE.push_lanes.Goals.{then-lanes-test+then-len+else-known-eq0+in_default}
 use Rattle.ini_text.proofs.write.buffer.marked.Buffer+BUFFER_SIZE.push_lanes.Goals as goal
@@ -27,6 +27,8 @@ lanes-preserved-then-known-eq0 g c =
       within = omega arith;
       long = omega (arith, c.lanes.invariant.long);
       shorter = omega (arith, ap length left, length-drop 16 rest, c.lanes.invariant.shorter);
+      grown = omega (arith, ap length left, length-drop 16 rest, c.lanes.invariant.grown);
+      letters = λ all. letters-past p 16 rest left (c.lanes.invariant.letters all);
       known = rw c.if-known-eq0.true (Tells-none p 0 _);
     }
 
@@ -79,6 +81,15 @@ lanes-preserved g c =
       long = omega (arith, c.lanes.invariant.long);
       known = Tells-past p (run + 1) c.marks_ahead-known.ensures.tells left;
       shorter = omega (arith, ap length left, length-drop (run + 1) rest, c.lanes.invariant.shorter);
+      grown = omega (
+        arith,
+        stops.within,
+        end,
+        ap length left,
+        length-drop (run + 1) rest,
+        c.lanes.invariant.grown,
+      );
+      letters = λ all. letters-past p (run + 1) rest left (c.lanes.invariant.letters all);
     }
 
 pub returns-clause-pushed : goal.returns-clause-pushed
@@ -105,4 +116,30 @@ returns-clause-longer g c =
           rw w.self-is (omega (arith, length-take {A = ℕ}, c.lanes.invariant.longer, c.lanes.invariant.long))
       | then-lanes-test+then-len+else-known-eq0+in_default w ↦
           rw w.self-is (omega (arith, length-take {A = ℕ}, c.lanes.invariant.longer, c.lanes.invariant.long))
+    ]
+
+pub returns-clause-grown : goal.returns-clause-grown
+returns-clause-grown g c =
+    elim c.lanes-test.branch [
+      | then-lanes-test+else-len w ↦
+          rw w.self-is (omega (arith, length-take {A = ℕ}, c.lanes.invariant.grown, c.lanes.invariant.long))
+      | else-lanes-test w ↦
+          rw w.self-is (omega (arith, length-take {A = ℕ}, c.lanes.invariant.grown, c.lanes.invariant.long))
+      | then-lanes-test+then-len+else-known-eq0+in_default w ↦
+          rw w.self-is (omega (arith, length-take {A = ℕ}, c.lanes.invariant.grown, c.lanes.invariant.long))
+    ]
+
+pub returns-clause-few : goal.returns-clause-few
+returns-clause-few g c letters room =
+    let p = g.M.Marks.is_marked c.args.marks.now in
+    let rest = c.lanes.rest.now in
+    elim c.lanes-test.branch [
+      | then-lanes-test+else-len w ↦
+          absurd (omega (arith, length-take {A = ℕ}, c.lanes.invariant.grown, c.lanes.invariant.long, room))
+      | else-lanes-test w ↦ omega arith
+      | then-lanes-test+then-len+else-known-eq0+in_default w ↦
+          let stops = stops_at p rest w.marks_ahead-known.ensures.tells (omega arith) in
+          absurd (c.lanes.invariant.letters letters _ 0 (omega (arith, stops.within))
+          (stopped_at_mark p rest _ stops)
+          (sym (ap letter_of w.from.ensures) ∙ w.place_letter.ensures.digits w.in_default.is))
     ]

@@ -1,6 +1,6 @@
-use Rattle.std.proofs.Common.{◌≡◌, ◌++◌, ◌≤◌, length, take}
+use Rattle.std.proofs.Common.{◌≡◌, ◌+◌, ◌*◌, ◌++◌, ◌≤◌, length, take}
 use Rattle.ini_text.specs.Inside.Lanes.{Tells}
-use Rattle.ini_text.specs.Inside.Verbatim.{marked_escaped}
+use Rattle.ini_text.specs.Inside.Verbatim.{HaveLetters, marked_escaped}
 use Rattle.ini_text.specs.Buffered.{buffered}
 use Rattle.ini_text.proofs.write.buffer.marked.Buffer+BUFFER_SIZE.push_lanes.Given as goal
 
@@ -13,6 +13,9 @@ invariant-lanes g l = record {
   long : length l.self.bytes ≡ 16384;
   known : Tells (g.M.Marks.is_marked l.marks) 0 l.known l.rest;
   shorter : length l.rest ≤ length l.fn.bytes;
+  grown : l.len + 2 * length l.rest ≤ l.fn.self.len + 2 * length l.fn.bytes;
+  letters : HaveLetters (g.M.Marks.is_marked l.fn.marks) l.fn.bytes
+      → HaveLetters (g.M.Marks.is_marked l.marks) l.rest;
 }
 
 abbrev pub decreases-lanes : goal.decreases-lanes
