@@ -1,5 +1,5 @@
 -- Keys that their codes tell from one another.
-use Rattle.std.proofs.Common.{◌≡◌, ◌≢◌, ℕ, zero, suc, ◌+◌, ◌<◌, Bool, true, List, [], ◌∷◌, ◌++◌, length, length-append, Option, None, Some, IfSome, refl, sym, ap, ◌∙◌, subst, arith, inl, inr}
+use Rattle.std.proofs.Common.{◌≡◌, ◌≢◌, ℕ, zero, suc, ◌<◌, Bool, true, List, [], ◌∷◌, ◌++◌, length, length-append, Option, None, Some, IfSome, refl, sym, ap, ◌∙◌, subst, arith, inl, inr}
 use Rattle.std.specs.Cmp.{IsEquivalence}
 use Rattle.std.specs.Option.{option_map}
 use Rattle.std.proofs.lemmas.Bool.{cases_eq}
@@ -7,7 +7,7 @@ use Rattle.std.proofs.Math.ListN.{set}
 use Rattle.ini_multimap.specs.Inside.Fits.{IsInjective, IsKeyOf, IsToldBy, value_in, code_at}
 use Rattle.ini_multimap.specs.Inside.Chains.{IsPrev}
 use Rattle.ini_multimap.specs.Inside.Moves.{MovesDown}
-use Rattle.ini_multimap.proofs.SlotLemmas.{none_is_some, same_some, value_push, value_before, value_within}
+use Rattle.ini_multimap.proofs.SlotLemmas.{none_is_some, same_some, value_push, value_before, value_hole, value_within}
 use Rattle.ini_multimap.proofs.MoveLemmas.{code_key}
 
 module _ {K : Type 0} (eq : K → K → Bool) (code : K → ℕ) where
@@ -51,29 +51,6 @@ module _ {K : Type 0} (eq : K → K → Bool) (code : K → ℕ) where
           ]
         ]
 
-  -- one more slot, which is a hole
-  pub one_hole : (at : ℕ → Option K) (n : ℕ) → IsInjectiveTo at n → at n ≡ None → IsInjectiveTo at (suc n)
-  one_hole at n told hole i j x y a b e f c = told i j x y (differs i x a e) (differs j y b f) e f c
-    where
-      differs : (i : ℕ) (x : K) → i < suc n → at i ≡ Some x → i < n
-      differs i x a e = elim (cases_eq i n) [
-        | inl is ↦ absurd (none_is_some (sym hole ∙ sym (ap at is) ∙ e))
-        | inr not ↦ (let d : i ≢ n = not in omega arith)
-      ]
-
-  -- slot n, whose key is that of the slot before it of its code
-  pub one_slot : IsEquivalence eq → (ks : List (Option K)) (n : ℕ) (last : Option ℕ)
-      → IsInjectiveTo (value_in ks) n
-      → ((c : ℕ) → code_at code ks n ≡ Some c → IsPrev (code_at code ks) c n last)
-      → ((x : K) → value_in ks n ≡ Some x → IsKeyOf eq ks last x) → IsInjectiveTo (value_in ks) (n + 1)
-  one_slot laws ks n last told is_last same =
-      subst (IsInjectiveTo (value_in ks)) (omega arith) (at (value_in ks n) refl)
-    where
-      at : (o : Option K) → value_in ks n ≡ o → IsInjectiveTo (value_in ks) (suc n)
-      at None e = one_hole (value_in ks) n told e
-      at (Some x) e =
-          one_more laws (value_in ks) n told x e last (is_last (code x) (ap (option_map code) e)) (same x e)
-
   pub whole : (ks : List (Option K)) → IsInjectiveTo (value_in ks) (length ks) → IsInjective eq code ks
   whole ks told i j x y e f c = told i j x y (value_within ks i x e) (value_within ks j y f) e f c
 
@@ -102,10 +79,14 @@ module _ {K : Type 0} (eq : K → K → Bool) (code : K → ℕ) where
       → IsInjective eq code (set ks s None)
   injective_without ks s = injective_kept ks (set ks s None) (λ j x e. (j, still ks s j x e))
 
+  -- a hole goes last
+  pub injective_hole : (ks : List (Option K)) → IsToldBy eq code ks None
+  injective_hole ks = injective_kept ks (ks ++ None ∷ []) (λ j x e. (j, sym (value_hole ks j) ∙ e))
+
   -- a key goes last
   pub injective_push : IsEquivalence eq → (ks : List (Option K)) (key : K) (last : Option ℕ)
       → IsPrev (code_at code ks) (code key) (length ks) last → IsKeyOf eq ks last key
-      → IsToldBy eq code ks key
+      → IsToldBy eq code ks (Some key)
   injective_push laws ks key last is_last same told = whole (ks ++ Some key ∷ []) (all told)
     where
       old : (i : ℕ) → i < (length ks) → value_in (ks ++ Some key ∷ []) i ≡ value_in ks i

@@ -17,8 +17,8 @@ ghost use Rattle.ini_multimap.specs.Inside.Fits.{without_nth};
 use crate::iter::{IntoIter, Iter, IterMut, Keys, Removed, Values, ValuesMut};
 use crate::key::{MapKey, Probe};
 use crate::slots::{
-    Chains, close_holes, count_holes, count_leading, is_injective, is_sparse, last_slot, link_last,
-    make_room, nth_slot, unlink,
+    Chains, FEW, chain_from, close_holes, count_holes, count_leading, is_sparse, last_slot,
+    link_last, make_room, nth_slot, unlink,
 };
 use std::alloc::{AllocError, Global};
 use std::marker::Model;
@@ -122,18 +122,45 @@ impl<K: MapKey, V> Multimap<K, V> {
         ensures key_handed_back { IfErr result (λ refused. refused.key ≡ key) }
         ensures value_handed_back { IfErr result (λ refused. refused.value ≡ value) }
     {
-        let had_none = self.index.is_none();
+        let Ok(is_injective) = chain_from(FEW, &self.keys, &mut self.index, self.is_injective)
+        else {
+            return Err(Refused { key, value });
+        };
+        self.is_injective = is_injective;
+        self.append_unindexed(key, value)
+    }
+
+    /// Puts the pair last, as by `append`, but makes no index where there is none yet. A look-up then goes
+    /// over all pairs, until `make_index` or `append` makes the index of all of them at once: for many pairs
+    /// that goes faster than pair by pair. Where there is an index already, the pair goes into it.
+    ///
+    /// Refused, it hands back key and value, and the pairs stay.
+    pub fn append_unindexed(&mut self, key: K, value: V) -> Result<(), Refused<K, V>>
+        ensures ok { OnOk result (self.new ≡ self.old ++ (key, value) ∷ []) }
+        ensures unchanged_if_refused { OnErr result (self.new ≡ self.old) }
+        ensures key_handed_back { IfErr result (λ refused. refused.key ≡ key) }
+        ensures value_handed_back { IfErr result (λ refused. refused.value ≡ value) }
+    {
         match make_room(&mut self.keys, &mut self.values, &mut self.index) {
             Err(_) => Err(Refused { key, value }),
             Ok(()) => {
                 let keys = self.keys.as_slice();
-                let is_known = is_injective(keys, &self.index, had_none, self.is_injective);
-                self.is_injective = link_last(keys, &mut self.index, &key, is_known);
+                self.is_injective = link_last(keys, &mut self.index, &key, self.is_injective);
                 self.keys.push_reserved(Some(key));
                 self.values.push_reserved(Some(value));
                 Ok(())
             }
         }
+    }
+
+    /// Makes the index by which look-ups find a key among many, where there is none yet. Few pairs need none.
+    /// The pairs stay. It is refused for want of memory alone, and the pairs then are as they were, too.
+    pub fn make_index(&mut self) -> Result<(), AllocError>
+        ensures { self.new ≡ self.old }
+    {
+        let is_injective = chain_from(FEW + 1, &self.keys, &mut self.index, self.is_injective)?;
+        self.is_injective = is_injective;
+        Ok(())
     }
 
     /// Sets the value of the key: its first pair keeps place and key and takes the value, its later
@@ -350,30 +377,6 @@ impl<K: MapKey + Drop, V: Drop> Drop for Multimap<K, V> {
     }
 }
 
-impl<'a, K: MapKey, V> IntoIterator for &'a Multimap<K, V> {
-    type Item = (&'a K, &'a V);
-
-    type IntoIter = Iter<'a, K, V>;
-
-    ghost into_iter_gives = { λ m it. it ≡ m.now };
-
-    fn into_iter(self) -> Iter<'a, K, V> {
-        self.iter()
-    }
-}
-
-impl<'a, K: MapKey, V> IntoIterator for &'a mut Multimap<K, V> {
-    type Item = (&'a K, &'a mut V);
-
-    type IntoIter = IterMut<'a, K, V>;
-
-    ghost into_iter_gives = { λ m it. iter_mut_rest it ≡ m.now };
-
-    fn into_iter(self) -> IterMut<'a, K, V> {
-        self.iter_mut()
-    }
-}
-
 impl<K: MapKey + Drop, V: Drop> IntoIterator for Multimap<K, V> {
     type Item = (K, V);
 
@@ -408,11 +411,12 @@ impl<K: MapKey + Clone, V: Clone> Clone for Multimap<K, V> {
         let mut copy = Multimap::new(*self.values.allocator());
         let mut rest = self.iter();
         while let Some((key, value)) = rest.next() {
-            match copy.append(key.clone()?, value.clone()?) {
+            match copy.append_unindexed(key.clone()?, value.clone()?) {
                 Ok(()) => {}
                 Err(_) => return Err(AllocError),
             }
         }
+        copy.make_index()?;
         Ok(copy)
     }
 }

@@ -15,6 +15,6 @@ pub(crate) use chains::Chains;
 pub(crate) use close::{close_holes, count_holes, is_sparse};
 pub(crate) use find::{count_leading, fitting_value, is_full, last_slot, nth_slot};
 pub(crate) use index::{
-    candidate_after, candidate_before, first_candidate, is_injective, last_candidate, link_last,
+    FEW, candidate_after, candidate_before, chain_from, first_candidate, last_candidate, link_last,
     make_room, unlink,
 };

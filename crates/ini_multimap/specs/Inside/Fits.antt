@@ -36,13 +36,9 @@ IsInjective {K} eq code ks = (i j : ℕ) (x y : K) → value_in ks i ≡ Some x 
 abbrev pub IsKeyOf : {K : Type 0} → (K → K → Bool) → List (Option K) → Option ℕ → K → Type 0
 IsKeyOf {K} eq ks s key = IfSome s (λ i. (x : K) → value_in ks i ≡ Some x → eq x key ≡ true)
 
--- the key in slot s, where there is one, is equal to that in slot `before`
-abbrev pub IsTold : {K : Type 0} → (K → K → Bool) → List (Option K) → Option ℕ → ℕ → Type 0
-IsTold {K} eq ks before s = (x : K) → value_in ks s ≡ Some x → IsKeyOf eq ks before x
-
--- where its code tells each key from the others, it still does behind this key
-abbrev pub IsToldBy : {K : Type 0} → (K → K → Bool) → (K → ℕ) → List (Option K) → K → Type 0
-IsToldBy eq code ks key = IsInjective eq code ks → IsInjective eq code (ks ++ Some key ∷ [])
+-- where its code tells each key from the others, it still does with this slot behind them
+abbrev pub IsToldBy : {K : Type 0} → (K → K → Bool) → (K → ℕ) → List (Option K) → Option K → Type 0
+IsToldBy eq code ks slot = IsInjective eq code ks → IsInjective eq code (ks ++ slot ∷ [])
 
 -- the code in slot k
 abbrev pub code_at : {K : Type 0} → (K → ℕ) → List (Option K) → ℕ → Option ℕ

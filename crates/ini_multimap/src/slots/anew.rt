@@ -1,14 +1,19 @@
-//! Chains that are made whole: for keys that have none yet, and for keys that have moved down.
-ghost use Rattle.std.specs.Prelude.{◌≡◌, ◌<◌, ◌≤◌, length, nat_eq, IfOk, IsSome, OnOk, Some};
-ghost use Rattle.std.specs.HashMap.{get};
-ghost use Rattle.ini_multimap.specs.Inside.Fits.{code_at};
-ghost use Rattle.ini_multimap.specs.Inside.Chains.{AreChained, AreSet, last_of, no_slot};
+//! Chains that are made whole: for keys that have none yet, in one walk, and for keys that have moved down.
+ghost use Rattle.std.specs.Prelude.{◌≡◌, ◌<◌, ◌≤◌, ℕ, ◌∷◌, ◌++◌, [], length, nat_eq, vec_capacity};
+ghost use Rattle.std.specs.Prelude.{IfOk, IsSome, OnOk};
+ghost use Rattle.std.specs.Bool.{OnTrue};
+ghost use Rattle.std.specs.HashMap.{get, spare};
+ghost use Rattle.ini_multimap.specs.Inside.Fits.{IsInjective, IsToldBy, code_at};
+ghost use Rattle.ini_multimap.specs.Inside.Chains.{AreChained, HasRoom, last_of, no_slot};
 ghost use Rattle.ini_multimap.specs.Inside.Moves.{IsPutAnew, IsStale, known};
 
 use super::chains::{Chains, Link, NO_SLOT, link_after, link_to, replace_ends};
 use crate::key::MapKey;
 use std::alloc::{AllocError, Global};
 use std::collections::HashMap;
+
+// So many codes have room at first.
+const CODES: usize = 32;
 
 // The code of the key in slot s.
 fn code_in<K: MapKey>(keys: &[Option<K>], s: usize) -> Option<u64>
@@ -42,41 +47,65 @@ fn put_anew(ends: &mut HashMap<u64, (u32, u32)>, code: u64, at: u32) -> Option<u
     }
 }
 
-// The code has the slot `at` for its ends.
-fn put_alone(ends: &mut HashMap<u64, (u32, u32)>, code: u64, at: u32) -> Result<(), AllocError>
-    ensures { OnOk result (AreSet (get nat_eq ends.old) (get nat_eq ends.new) code (Some (at, at))) }
-{
-    match ends.insert(code, (at, at)) {
-        Ok(_) => Ok(()),
-        Err(_) => Err(AllocError),
-    }
-}
-
 impl Chains {
-    // The chains of keys that have none yet, with room for as many slots more.
+    // The chains of keys that have none yet, and whether each code is that of one key.
     pub(super) fn of_keys<K: MapKey>(
         alloc: Global,
         keys: &[Option<K>],
-    ) -> Result<Chains, AllocError>
-        ensures { IfOk result (λ chains. AreChained K.key_code keys.now chains) }
+    ) -> Result<(Chains, bool), AllocError>
+        ensures chained { IfOk result (λ both. AreChained K.key_code keys.now both.0) }
+        ensures known { IfOk result (λ both. OnTrue both.1 (IsInjective K.eq K.key_code keys.now)) }
     {
         if keys.len() > NO_SLOT as usize {
             return Err(AllocError);
         }
-        let mut ends = HashMap::with_capacity(alloc, 2 * keys.len())?;
-        let mut links = Vec::with_capacity(alloc, 2 * keys.len())?;
+        let mut chains = Chains {
+            links: Vec::with_capacity(alloc, keys.len())?,
+            ends: HashMap::with_capacity(alloc, CODES)?,
+        };
+        let mut is_injective = true;
         for s in 0..keys.len() {
-            links.push_reserved(Link {
-                prev: NO_SLOT,
-                next: NO_SLOT,
-            });
-            if let Some(code) = code_in(keys, s) {
-                put_alone(&mut ends, code, s as u32)?;
+            chains.make_code_room(keys.len() - s)?;
+            let is_told = chains.push_slot(&keys[..s], &keys[s]);
+            is_injective = is_injective && is_told;
+        }
+        Ok((chains, is_injective))
+    }
+
+    // Room for one more code. Where there is none, it is made for all that may come, so that the map grows
+    // once where codes are many, and isn't large where keys come again and again.
+    fn make_code_room(&mut self, codes: usize) -> Result<(), AllocError>
+        requires { 0 < codes }
+        ensures links { self.new.links ≡ self.old.links }
+        ensures ends { (c : ℕ) → get nat_eq self.new.ends c ≡ get nat_eq self.old.ends c }
+        ensures room { OnOk result (0 < spare self.new.ends) }
+    {
+        if self.ends.len() < self.ends.capacity() {
+            return Ok(());
+        }
+        self.ends.reserve(codes)?;
+        Ok(())
+    }
+
+    // A slot comes after the others. Whether its key, where there is one, is that of the last before it of
+    // its code comes back.
+    fn push_slot<K: MapKey>(&mut self, keys: &[Option<K>], slot: &Option<K>) -> bool
+        requires chained { AreChained K.key_code keys.now self.old }
+        requires room { HasRoom self.old }
+        ensures chained { AreChained K.key_code (keys.now ++ slot.now ∷ []) self.new }
+        ensures same { OnTrue result (IsToldBy K.eq K.key_code keys.now slot.now) }
+        ensures capacity { vec_capacity self.new.links ≡ vec_capacity self.old.links }
+    {
+        match slot {
+            Some(key) => self.link_last(keys, key),
+            None => {
+                self.links.push_reserved(Link {
+                    prev: NO_SLOT,
+                    next: NO_SLOT,
+                });
+                true
             }
         }
-        let mut chains = Chains { links, ends };
-        chains.relink(keys);
-        Ok(chains)
     }
 
     // Makes the chains anew, where the map has each code with a place that is no earlier than its first.

@@ -5,7 +5,7 @@ ghost use Rattle.std.specs.Prelude.{OnOk, IfSome};
 ghost use Rattle.std.specs.Prelude.{IsSome, vec_capacity};
 ghost use Rattle.std.specs.Bool.{OnTrue};
 ghost use Rattle.std.specs.HashMap.{IsUnique, get, hash_map_len, spare};
-ghost use Rattle.ini_multimap.specs.Inside.Fits.{IsInjective, IsKeyOf, IsTold, IsToldBy, code_at};
+ghost use Rattle.ini_multimap.specs.Inside.Fits.{IsKeyOf, IsToldBy, code_at};
 ghost use Rattle.ini_multimap.specs.Inside.Chains.{AreChained, AreClosed, AreSet, HasRoom, IsNextSet};
 ghost use Rattle.ini_multimap.specs.Inside.Chains.{IsPrevSet, IsPutLast};
 ghost use Rattle.ini_multimap.specs.Inside.Chains.{first_of, last_of, named, next_at, no_slot, prev_at};
@@ -13,6 +13,7 @@ ghost use Rattle.ini_multimap.specs.Inside.Chains.{first_of, last_of, named, nex
 use crate::key::MapKey;
 use std::alloc::AllocError;
 use std::collections::HashMap;
+use std::collections::hash_map::Entry;
 
 // The link that names no slot.
 pub(super) const NO_SLOT: u32 = 4294967295;
@@ -79,13 +80,16 @@ fn put_last(ends: &mut HashMap<u64, (u32, u32)>, code: u64, at: u32) -> Option<u
     ensures last { result ≡ last_of (get nat_eq ends.old) code }
     ensures ends { IsPutLast (get nat_eq ends.old) (get nat_eq ends.new) code at }
 {
-    if let Some(both) = ends.get_mut(&code) {
-        let last = both.1;
-        both.1 = at;
-        return Some(last);
-    }
-    match ends.insert(code, (at, at)) {
-        Ok(_) => None,
+    match ends.entry(code) {
+        Ok(Entry::Occupied(mut entry)) => {
+            let (first, last) = *entry.get();
+            entry.insert((first, at));
+            Some(last)
+        }
+        Ok(Entry::Vacant(entry)) => {
+            entry.insert((at, at));
+            None
+        }
         Err(_) => unreachable!(),
     }
 }
@@ -189,31 +193,6 @@ impl Chains {
         self.ends.len()
     }
 
-    // Whether each code is that of one key.
-    pub(super) fn is_injective<K: MapKey>(&self, keys: &[Option<K>]) -> bool
-        requires { AreChained K.key_code keys.now self.now }
-        ensures { OnTrue result (IsInjective K.eq K.key_code keys.now) }
-    {
-        for s in 0..keys.len() {
-            if !self.is_told(keys, s) {
-                return false;
-            }
-        }
-        true
-    }
-
-    // Whether the key in slot s, where there is one, is that in the slot before it of its code.
-    fn is_told<K: MapKey>(&self, keys: &[Option<K>], s: usize) -> bool
-        requires chained { AreChained K.key_code keys.now self.now }
-        requires within { s < length keys.now }
-        ensures { OnTrue result (IsTold K.eq keys.now (prev_at self.now.links.items s) s) }
-    {
-        match &keys[s] {
-            Some(key) => is_key_of(keys, slot_of(self.links[s].prev), key),
-            None => true,
-        }
-    }
-
     // Room for one more slot. A number names so many slots and no more.
     pub(super) fn make_room(&mut self) -> Result<(), AllocError>
         ensures links { self.new.links.items ≡ self.old.links.items }
@@ -234,7 +213,8 @@ impl Chains {
         requires chained { AreChained K.key_code keys.now self.old }
         requires room { HasRoom self.old }
         ensures chained { AreChained K.key_code (keys.now ++ Some key.now ∷ []) self.new }
-        ensures same { OnTrue result (IsToldBy K.eq K.key_code keys.now key.now) }
+        ensures same { OnTrue result (IsToldBy K.eq K.key_code keys.now (Some key.now)) }
+        ensures capacity { vec_capacity self.new.links ≡ vec_capacity self.old.links }
     {
         let at = keys.len() as u32;
         let code = key.code();

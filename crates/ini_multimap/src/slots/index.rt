@@ -1,7 +1,7 @@
 //! Which slots are to be looked at for a code, the candidates: those of its chain where there are chains,
 //! and else each of the few. Whoever asks doesn't know of it.
 ghost use Rattle.std.specs.Prelude.{◌≡◌, ◌<◌, ◌≤◌, ◌^◌, ◌∷◌, ◌++◌, [], Some, None, suc, length, slice_set};
-ghost use Rattle.std.specs.Prelude.{IfSome, OnOk, vec_len, vec_capacity};
+ghost use Rattle.std.specs.Prelude.{IfOk, IfSome, OnOk, vec_len, vec_capacity};
 ghost use Rattle.std.specs.Bool.{OnTrue};
 ghost use Rattle.ini_multimap.specs.Inside.Fits.{IsInjective, code_at};
 ghost use Rattle.ini_multimap.specs.Inside.Chains.{HasRoom, IsIndexed};
@@ -11,8 +11,8 @@ use super::Chains;
 use crate::key::{MapKey, Probe};
 use std::alloc::AllocError;
 
-// So many slots have no chains.
-const FEW: usize = 16;
+// So many slots need no chains.
+pub(crate) const FEW: usize = 16;
 
 // So many slots have room at first.
 const FIRST: usize = 8;
@@ -72,7 +72,34 @@ pub(crate) fn candidate_before(index: &Option<Box<Chains>>, s: usize) -> Option<
     }
 }
 
-// Room for one more slot, before anything changes. Where there are no longer few, they are chained.
+// Chains the slots, where they are as many as that and have no chains yet. Whether each code is known to be
+// that of one key comes back: where nothing is done, as it was known.
+pub(crate) fn chain_from<K: MapKey>(
+    slots: usize,
+    keys: &Vec<Option<K>>,
+    index: &mut Option<Box<Chains>>,
+    was_injective: bool,
+) -> Result<bool, AllocError>
+    requires indexed { IsIndexed K.key_code keys.now.items index.old }
+    requires known { OnTrue was_injective (IsInjective K.eq K.key_code keys.now.items) }
+    ensures indexed { IsIndexed K.key_code keys.now.items index.new }
+    ensures known { IfOk result (λ is_known. OnTrue is_known (IsInjective K.eq K.key_code keys.now.items)) }
+{
+    if keys.len() < slots || index.is_some() {
+        return Ok(was_injective);
+    }
+    let alloc = *keys.allocator();
+    let (chains, is_injective) = Chains::of_keys(alloc, keys.as_slice())?;
+    match Box::new(alloc, chains) {
+        Ok(chains) => {
+            *index = Some(chains);
+            Ok(is_injective)
+        }
+        Err(_) => Err(AllocError),
+    }
+}
+
+// Room for one more slot, before anything changes, and for its link where there are chains.
 pub(crate) fn make_room<K: MapKey, V>(
     keys: &mut Vec<Option<K>>,
     values: &mut Vec<Option<V>>,
@@ -89,39 +116,9 @@ pub(crate) fn make_room<K: MapKey, V>(
     let more = if keys.is_empty() { FIRST } else { 1 };
     keys.reserve(more)?;
     values.reserve(more)?;
-    if let Some(chains) = index {
-        return chains.make_room();
-    }
-    if keys.len() < FEW {
-        return Ok(());
-    }
-    let alloc = *keys.allocator();
-    let mut chains = Chains::of_keys(alloc, keys.as_slice())?;
-    chains.make_room()?;
-    match Box::new(alloc, chains) {
-        Ok(chains) => {
-            *index = Some(chains);
-            Ok(())
-        }
-        Err(_) => Err(AllocError),
-    }
-}
-
-// Whether each code is known to be that of one key: as it was known, or by a look at chains that are new.
-// Nothing is known without chains.
-pub(crate) fn is_injective<K: MapKey>(
-    keys: &[Option<K>],
-    index: &Option<Box<Chains>>,
-    is_new: bool,
-    was_injective: bool,
-) -> bool
-    requires indexed { IsIndexed K.key_code keys.now index.now }
-    requires known { OnTrue was_injective (IsInjective K.eq K.key_code keys.now) }
-    ensures { OnTrue result (IsInjective K.eq K.key_code keys.now) }
-{
     match index {
-        Some(chains) if is_new => chains.is_injective(keys),
-        _ => was_injective,
+        Some(chains) => chains.make_room(),
+        None => Ok(()),
     }
 }
 

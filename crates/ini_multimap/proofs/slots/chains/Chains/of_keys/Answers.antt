@@ -1,34 +1,35 @@
-use Rattle.std.proofs.Common.{◌≡◌, ℕ, add-one, sym, ◌∙◌, ap, subst, arith, length, length-append, nat_eq}
-use Rattle.std.specs.HashMap.{get}
-use Rattle.ini_multimap.specs.Inside.Moves.{IsStale}
-use Rattle.ini_multimap.proofs.SlotLemmas.{not_some}
-use Rattle.ini_multimap.proofs.RelinkLemmas.{stale_hole, stale_put}
+use Rattle.std.proofs.Common.{◌≡◌, ◌+◌, ◌++◌, ◌∷◌, [], List, Option, true, true≢false, add-one, sym, ◌∙◌, ap, subst, arith, take, vec_capacity}
+use Rattle.std.proofs.lemmas.Bool.{OnTrue_at, OnTrue_from}
+use Rattle.std.proofs.Math.Seq.{take-suc}
+use Rattle.ini_multimap.specs.Inside.Fits.{IsInjective}
+use Rattle.ini_multimap.specs.Inside.Chains.{AreChained}
 use Rattle.ini_multimap.proofs.slots.chains.Chains.of_keys.Goals as goal
-use Rattle.ini_multimap.proofs.slots.chains.Chains.of_keys.Goals.{in-Some+in_ok-put_alone, in_default}
+use Rattle.ini_multimap.proofs.slots.chains.Chains.of_keys.Goals.{then-is_injective, else-is_injective}
 
 pub loop-s-preserved : goal.loop-s-preserved
 loop-s-preserved g c =
     let code = g.K.MapKey.key_code in
     let ks = c.args.keys.now in
     let n = c.loop-s.s in
-    let ends = get nat_eq c.loop-s.ends in
-    let inv = c.loop-s.invariant in
+    let slot = c.index-keys-s.result in
+    let all = take n ks ++ slot ∷ [] in
+    let next : take (n + 1) ks ≡ all =
+    rw add-one (take-suc ks n slot c.loop-s-test.true ∙ ap (λ x. take n ks ++ x ∷ []) (sym c.index-keys-s.is)) in
+    let pushed = c.push_slot-is_told.ensures in
+    let P : List (Option g.row.K.Denot) → Type 0 = λ l. AreChained code l c.push_slot-is_told.new.self in
+    let Q : List (Option g.row.K.Denot) → Type 0 = IsInjective g.K.PartialEq.eq code in
+    let told : c.if-is_injective.is_injective ≡ true → Q all = λ e. elim c.if-is_injective.branch [
+      | then-is_injective w ↦ OnTrue_at (sym w.is_injective-is ∙ e) pushed.same
+          (OnTrue_at w.if-is_injective.true c.loop-s.invariant.known)
+      | else-is_injective w ↦ absurd (true≢false (sym e ∙ w.is_injective-is ∙ w.if-is_injective.false))
+    ] in
     record {
-      long = ap length c.push_reserved.ensures.items ∙ simp length-append (omega (arith, inv.long));
-      room = omega (arith, inv.room, c.push_reserved.ensures.capacity);
-      stale = elim c.match-code_in.branch [
-        | in-Some+in_ok-put_alone w ↦
-            rw (w.ends-is, add-one) (stale_put code ks ends (get nat_eq w.put_alone.new.ends) n
-            w.in-Some.code inv.stale (sym c.code_in.ensures ∙ w.in-Some.is) w.in_ok-put_alone.ensures)
-        | in_default w ↦ rw (w.ends-is, add-one)
-            (stale_hole code ks ends n inv.stale
-            (sym c.code_in.ensures ∙ not_some c.code_in.result w.in_default.not-Some))
-      ];
+      chained = subst P (sym next) pushed.chained;
+      known = OnTrue_from c.if-is_injective.is_injective _ (λ e. subst Q (sym next) (told e));
+      room = omega (
+        arith,
+        c.loop-s.invariant.room,
+        pushed.capacity,
+        ap vec_capacity c.make_code_room.ensures.links,
+      );
     }
-
-pub relink-requires-clause-stale : goal.relink-requires-clause-stale
-relink-requires-clause-stale g c =
-    let end : c.loop-s.s ≡ length c.args.keys.now =
-    omega (arith, c.loop-s-test.false, c.loop-s.auto.s-end) in
-    let P : ℕ → Type 0 = λ n. IsStale n g.K.MapKey.key_code c.args.keys.now (get nat_eq c.loop-s.ends) in
-    subst P end c.loop-s.invariant.stale

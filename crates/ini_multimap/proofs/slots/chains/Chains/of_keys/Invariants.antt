@@ -1,11 +1,13 @@
-use Rattle.std.proofs.Common.{◌≡◌, ◌≤◌, length, nat_eq, vec_capacity}
-use Rattle.std.specs.HashMap.{get}
-use Rattle.ini_multimap.specs.Inside.Moves.{IsStale}
+use Rattle.std.proofs.Common.{◌≤◌, length, take, vec_capacity}
+use Rattle.std.specs.Bool.{OnTrue}
+use Rattle.ini_multimap.specs.Inside.Fits.{IsInjective}
+use Rattle.ini_multimap.specs.Inside.Chains.{AreChained}
 use Rattle.ini_multimap.proofs.slots.chains.Chains.of_keys.Given as goal
 
+-- the first slots are chained
 abbrev pub invariant-loop-s : goal.invariant-loop-s
 invariant-loop-s g l = record {
-  long : length l.links.items ≡ l.s;
-  room : length l.keys ≤ vec_capacity l.links;
-  stale : IsStale l.s g.K.MapKey.key_code l.keys (get nat_eq l.ends);
+  chained : AreChained g.K.MapKey.key_code (take l.s l.keys) l.chains;
+  known : OnTrue l.is_injective (IsInjective g.K.PartialEq.eq g.K.MapKey.key_code (take l.s l.keys));
+  room : length l.keys ≤ vec_capacity l.chains.links;
 }
