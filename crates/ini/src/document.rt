@@ -11,12 +11,14 @@ ghost use Rattle.ini.specs.Texts.{Text, name_of, str_name, str_text, text_of};
 ghost use Rattle.ini.specs.Properties.{Pairs};
 ghost use Rattle.ini.specs.Documents.{all_sections_removed, first_section, names, section_removed};
 ghost use Rattle.ini.specs.Documents.{sections_named};
-ghost use Rattle.ini.specs.Documents.{value_in, with_pair};
+ghost use Rattle.ini.specs.Documents.{value_in};
 ghost use Rattle.ini.specs.Edits.{add_in, delete_in, delete_in_all, replace_in, section_set, set_in};
 ghost use Rattle.ini.specs.Lends.{lends_found_section, lends_section};
 ghost use Rattle.ini.specs.Inside.InnerLends.{lends_last_section, lends_new_section};
 ghost use Rattle.ini.specs.Lends.{lends_value_in, lent_text};
 ghost use Rattle.ini.specs.Walks.{section_all_mut_rest, section_iter_mut_rest};
+
+mod loading;
 
 use crate::entry::NoRoom;
 use crate::iter::{
@@ -355,16 +357,6 @@ impl Ini {
         ensures section { first_section (name_of name.now) self.old ≡ Some result.now }
     {
         self.section_mut(lent(name)).unwrap()
-    }
-
-    // Puts a pair last in the last section.
-    pub(crate) fn push_pair(&mut self, key: String, value: String) -> Result<(), Error>
-        requires { 0 < length self.old }
-        ensures pushed { OnOk result (self.new ≡ with_pair (text_of key) (text_of value) self.old) }
-        ensures unchanged { OnErr result (self.new ≡ self.old) }
-        ensures only_memory { IsOkUnless result (Error.Memory alloc_error) }
-    {
-        self.last_section_mut().push(key, value)
     }
 
     /// An equal copy. Refused for want of memory alone.

@@ -10,11 +10,10 @@ ghost use Rattle.ini.specs.Inside.ReadBytes.{IsMemory};
 ghost use Rattle.ini.specs.Inside.Passing.{Makes, Settles, StopsLater};
 
 use crate::document::Ini;
-use crate::properties::Properties;
 use ini_text::{Error, Item, ParseOption, Parser};
 use std::alloc::Global;
 
-// All items of what is left of a text.
+// All items of what is left of a text, which are the document's last.
 pub(crate) fn push_items(
     alloc: Global,
     document: &mut Ini,
@@ -32,8 +31,9 @@ pub(crate) fn push_items(
 {
     let mut parser = Parser::behind(alloc, text, rest, opt);
     'items: while let Some(item) = parser.next_item()? {
-        push_item(alloc, document, item)?;
+        push_item(document, item)?;
     }
+    document.end()?;
     Ok(())
 }
 
@@ -66,7 +66,7 @@ pub(crate) fn push_settled<'a>(
         if behind.is_empty() {
             return Ok(behind_trivia(alloc, text, left, opt));
         }
-        push_item(alloc, document, item)?;
+        push_item(document, item)?;
         left = behind;
     }
 }
@@ -86,13 +86,13 @@ fn behind_trivia<'a>(alloc: Global, text: &'a str, left: &'a str, opt: ParseOpti
 
 // A header opens a section last, a pair goes last in the last section.
 #[inline(always)]
-fn push_item(alloc: Global, document: &mut Ini, item: Item) -> Result<(), Error>
+fn push_item(document: &mut Ini, item: Item) -> Result<(), Error>
     requires { 0 < length document.old }
     ensures pushed { OnOk result (document.new ≡ with_item document.old (item_of item)) }
     ensures only_memory { IsOkUnless result (Error.Memory alloc_error) }
 {
     match item {
-        Item::Header(name) => document.append_or_error(Some(name), Properties::new(alloc)),
+        Item::Header(name) => document.open_section(Some(name)),
         Item::Pair(key, value) => document.push_pair(key, value),
     }
 }

@@ -197,6 +197,27 @@ impl Properties {
             Err(_) => Err(Error::Memory(AllocError)),
         }
     }
+
+    // As `push`, but makes no index where there is none yet.
+    pub(crate) fn push_unindexed(&mut self, key: String, value: String) -> Result<(), Error>
+        ensures appended { OnOk result (self.new ≡ self.old ++ (text_of key, text_of value) ∷ []) }
+        ensures unchanged { OnErr result (self.new ≡ self.old) }
+        ensures only_memory { IsOkUnless result (Error.Memory alloc_error) }
+    {
+        match self.pairs.append_unindexed(key, value) {
+            Ok(()) => Ok(()),
+            Err(_) => Err(Error::Memory(AllocError)),
+        }
+    }
+
+    // Makes the index of the keys, where pairs are many and have none yet.
+    pub(crate) fn make_index(&mut self) -> Result<(), Error>
+        ensures same { self.new ≡ self.old }
+        ensures only_memory { IsOkUnless result (Error.Memory alloc_error) }
+    {
+        self.pairs.make_index()?;
+        Ok(())
+    }
 }
 
 #[tactic(auto, using(crate::proofs::PropertyLemmas::reads))]

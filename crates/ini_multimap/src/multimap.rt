@@ -153,8 +153,8 @@ impl<K: MapKey, V> Multimap<K, V> {
         }
     }
 
-    /// Makes the index by which look-ups find a key among many, where there is none yet. Few pairs need none.
-    /// The pairs stay. It is refused for want of memory alone, and the pairs then are as they were, too.
+    /// Makes the index by which look-ups find a key among many, where there is none yet. Few pairs need
+    /// none. The pairs stay, also where it is refused, for want of memory alone.
     pub fn make_index(&mut self) -> Result<(), AllocError>
         ensures { self.new ≡ self.old }
     {

@@ -1,4 +1,7 @@
-use Rattle.std.proofs.Common.{Ok, ap, chars}
+use Rattle.std.proofs.Common.{Ok, ap, chars, subst, sym}
+use Rattle.ini_text.specs.Parsing.Fronts.{front_of}
+use Rattle.ini.specs.Documents.{Document}
+use Rattle.ini.specs.Inside.Passing.{Makes}
 use Rattle.ini.proofs.ReadingLemmas.{IsReading-goes_on, Loaded-ends, Loaded-item, Loaded-starts}
 use Rattle.ini.proofs.items.push_items.Goals as goal
 
@@ -20,5 +23,9 @@ items-preserved c =
 
 pub returns-clause-document : goal.returns-clause-document
 returns-clause-document c =
-    Loaded-ends c.items.invariant.reading c.next_item.new.self _ c.in_ok-item.ensures.item c.items.invariant
-    (ap Ok c.in_default.is)
+    let text = chars c.args.text.now in
+    let P : Document → Type 0 = Makes c.args.opt text (front_of text (chars c.args.rest.now)) text
+    c.args.document.now in
+    subst P (sym c.end.ensures.same)
+    (Loaded-ends c.items.invariant.reading c.next_item.new.self _ c.in_ok-item.ensures.item c.items.invariant
+    (ap Ok c.in_default.is))
