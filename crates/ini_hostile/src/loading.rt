@@ -56,6 +56,26 @@ fn each_request_of_loading_continued_lines_is_refused(rt: HostRuntime) {
     expect_shown(&rt, "loading continued lines", &document, CONTINUED_SHOWN);
 }
 
+/// A section of so many pairs has an index.
+const MANY_PAIRS: &'static str =
+    "a=1\nb=2\nc=3\nd=4\ne=5\nf=6\ng=7\nh=8\ni=9\na=10\nb=11\nc=12\nd=13\ne=14\nf=15\ng=16\n\
+    h=17\ni=18\nj=19\n[s]\nk=20";
+
+/// What they load as.
+const MANY_PAIRS_SHOWN: &'static str =
+    "general: <a|1> <b|2> <c|3> <d|4> <e|5> <f|6> <g|7> <h|8> <i|9> \
+    <a|10> <b|11> <c|12> <d|13> <e|14> <f|15> <g|16> <h|17> <i|18> <j|19> [s]: <k|20> ";
+
+#[test]
+fn each_request_of_loading_many_pairs_is_refused(rt: HostRuntime) {
+    let (document, refused) = loaded_at_last(&rt, MANY_PAIRS, all_on());
+    assert!(rt; refused > 0);
+    expect_shown(&rt, "loading many pairs", &document, MANY_PAIRS_SHOWN);
+    assert!(rt; document.get_from(None::<&str>, "j") == Some("19"));
+    assert!(rt; document.get_from(None::<&str>, "h") == Some("8"));
+    assert!(rt; document.get_from(Some("s"), "k") == Some("20"));
+}
+
 // Reads what the device gives, with so much memory; none where memory was refused. No fault is counted.
 fn read_with(rt: &(impl Abort + AllocGlobal), famine: &mut Famine, steps: usize) -> Option<Ini> {
     let mut device = SlowReader::new(EACH.as_bytes());

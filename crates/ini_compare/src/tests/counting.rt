@@ -78,6 +78,8 @@ fn expect_at_most(rt: &impl Abort, calls: &Cell<u32>, most: u32, of: &str) {
 pub(super) enum Call {
     /// Answers the number, which is the value.
     Append,
+    /// The same, by `append_unindexed`.
+    AppendUnindexed,
     /// Answers the number, which is the value.
     Insert,
     Remove,
@@ -112,6 +114,14 @@ fn append<'a>(map: &mut Map<'a>, key: Key<'a>, value: u32) -> Option<u32> {
     }
 }
 
+// The same, without an index where there is none yet.
+fn append_unindexed<'a>(map: &mut Map<'a>, key: Key<'a>, value: u32) -> Option<u32> {
+    match map.append_unindexed(key, value) {
+        Ok(()) => Some(value),
+        Err(_) => None,
+    }
+}
+
 // Inserts the pair.
 fn insert<'a>(map: &mut Map<'a>, key: Key<'a>, value: u32) -> Option<u32> {
     match map.insert(key, value) {
@@ -132,6 +142,7 @@ fn remove_all<'a>(map: &mut Map<'a>, key: &Key<'a>) -> Option<u32> {
 fn ask<'a>(map: &mut Map<'a>, call: Call, key: Key<'a>, number: u32) -> Option<u32> {
     match call {
         Call::Append => append(map, key, number),
+        Call::AppendUnindexed => append_unindexed(map, key, number),
         Call::Insert => insert(map, key, number),
         Call::Remove => map.remove(&key),
         Call::RemoveAll => remove_all(map, &key),
@@ -227,6 +238,34 @@ fn calls_on_many_pairs_ask_few_keys(rt: HostRuntime) {
     expect_few_for_looks(&rt, &calls, &mut map);
     expect_few_for_writing(&rt, &calls, &mut map);
     expect_few_for_edits(&rt, &calls, &mut map);
+    expect_few_for_keys(&rt, &calls, &map, PAIRS);
+}
+
+// An append without an index asks no key. Where there is one, the pair goes into it.
+#[test]
+fn an_index_that_is_made_once_asks_few_keys(rt: HostRuntime) {
+    let calls = Cell::new(0);
+    let mut map: Map<'_> = Multimap::new(rt.alloc());
+    each(&rt, &calls, &mut map, Call::AppendUnindexed, 0, 1000);
+    expect_at_most(&rt, &calls, 0, "append_unindexed");
+    assert!(rt; map.make_index().is_ok());
+    expect_at_most(&rt, &calls, 1000, "make_index");
+    assert!(rt; map.make_index().is_ok());
+    expect_at_most(&rt, &calls, 0, "make_index again");
+    each(&rt, &calls, &mut map, Call::AppendUnindexed, 1000, 1000);
+    expect_at_most(&rt, &calls, FEW * 1000, "append_unindexed behind an index");
+    expect_few_for_looks(&rt, &calls, &mut map);
+    expect_few_for_keys(&rt, &calls, &map, PAIRS);
+}
+
+#[test]
+fn an_append_makes_the_index_of_all_pairs(rt: HostRuntime) {
+    let calls = Cell::new(0);
+    let mut map: Map<'_> = Multimap::new(rt.alloc());
+    each(&rt, &calls, &mut map, Call::AppendUnindexed, 0, PAIRS - 1);
+    each(&rt, &calls, &mut map, Call::Append, PAIRS - 1, 1);
+    expect_at_most(&rt, &calls, PAIRS, "append");
+    expect_few_for_looks(&rt, &calls, &mut map);
     expect_few_for_keys(&rt, &calls, &map, PAIRS);
 }
 

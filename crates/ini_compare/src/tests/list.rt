@@ -160,7 +160,8 @@ impl<K: MapKey + Drop> PlainList<K> {
     /// Answers the call as the multimap is to answer it.
     pub fn ask(&mut self, rt: &impl Abort, call: Call, key: K) -> Option<usize> {
         match call {
-            Call::Append(value) => self.put(rt, key, value),
+            Call::Append(value) | Call::AppendUnindexed(value) => self.put(rt, key, value),
+            Call::MakeIndex => Some(0),
             Call::Insert(value) => number(self.insert(key, value).expect(rt, "memory")),
             Call::Remove => number(self.remove(&key)),
             Call::Get => number(self.get(&key)),

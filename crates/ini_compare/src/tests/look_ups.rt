@@ -87,7 +87,8 @@ fn look_up_none(rt: &impl Abort, map: &Multimap<String, u32>, texts: &[String]) 
     }
 }
 
-// So many keys are appended and asked for; each third is taken out, and they are asked for again.
+// So many keys are appended, and asked for, of a copy too; each third is taken out, and they are asked for
+// again.
 fn expect_few_questions(rt: &(impl Abort + AllocGlobal), count: u32) {
     let (texts, others) = (texts(rt, 1000, count), texts(rt, 2000, count));
     let mut map: Multimap<String, u32> = Multimap::new(rt.alloc());
@@ -99,6 +100,9 @@ fn expect_few_questions(rt: &(impl Abort + AllocGlobal), count: u32) {
     }
     look_up_all(rt, &map, texts.as_slice(), false);
     look_up_none(rt, &map, others.as_slice());
+    let copy = map.clone().expect(rt, "memory");
+    look_up_all(rt, &copy, texts.as_slice(), false);
+    look_up_none(rt, &copy, others.as_slice());
     for (number, text) in (0..).zip(&texts).step_by(3) {
         assert!(rt; map.remove(text.as_str()) == Some(number));
     }

@@ -53,6 +53,51 @@ where
     both.same_items(rt);
 }
 
+// One thousand keys are appended without an index, each third is taken out, the index is made over what that
+// leaves, and each fourth key is appended again.
+fn compare_unindexed<'t, K: TextKey>(rt: &(impl Abort + AllocGlobal), texts: &'t [String])
+where
+    &'t str: Probe<K>,
+{
+    let mut both: Both<K> = Both::new(rt.alloc());
+    for (number, text) in (0..).zip(texts) {
+        both.call(rt, Call::AppendUnindexed(number), text.as_str());
+    }
+    both.same_walks(rt, "");
+    for text in texts.iter().step_by(3) {
+        both.call(rt, Call::Remove, text.as_str());
+    }
+    both.call(rt, Call::MakeIndex, "");
+    both.same_walks(rt, "");
+    for (number, text) in (0..).zip(texts).step_by(4) {
+        both.call(rt, Call::AppendUnindexed(number), text.as_str());
+    }
+    both.same_walks(rt, "");
+    for text in texts {
+        both.look_up(rt, text.as_str());
+        both.look_up_key(rt, text.as_str());
+    }
+    both.same_items(rt);
+}
+
+#[test]
+fn texts_without_an_index_are_compared(rt: HostRuntime) {
+    let texts = texts_in_both_cases(&rt, 500);
+    compare_unindexed::<String>(&rt, texts.as_slice());
+}
+
+#[test]
+fn keys_of_one_code_without_an_index_are_compared(rt: HostRuntime) {
+    let texts = texts_in_both_cases(&rt, 500);
+    compare_unindexed::<Flat>(&rt, texts.as_slice());
+}
+
+#[test]
+fn keys_without_case_and_index_are_compared(rt: HostRuntime) {
+    let texts = texts_in_both_cases(&rt, 500);
+    compare_unindexed::<NoCase>(&rt, texts.as_slice());
+}
+
 #[test]
 fn texts_are_compared(rt: HostRuntime) {
     let texts = texts(&rt, 1000);
@@ -102,7 +147,9 @@ where
     match chance.below(1000) {
         0 => both.call(rt, Call::Clear, text),
         1..20 => both.call(rt, Call::SetLast(value), text),
-        20..300 => both.call(rt, Call::Append(value), text),
+        20..150 => both.call(rt, Call::Append(value), text),
+        150..290 => both.call(rt, Call::AppendUnindexed(value), text),
+        290..300 => both.call(rt, Call::MakeIndex, text),
         300..500 => both.call(rt, Call::Insert(value), text),
         500..650 => both.call(rt, Call::Remove, text),
         650..750 => both.remove_all(rt, text),
