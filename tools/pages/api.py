@@ -103,7 +103,7 @@ def owner(line):
                 rest = rest[i + 1 :].strip()
                 break
     first, of, kind = rest.partition(" for ")
-    name = re.match(r"(?:&(?:'\w+ )?(?:mut )?)?(\w+)", kind if of else first)
+    name = re.match(r"(?:&(?:'\w+ )?(?:mut )?)?\[?(\w+)", kind if of else first)
     trait = re.search(r"(\w+)(<.*>)?$", first) if of else None
     return name and name[1], trait and trait[1]
 

@@ -1,5 +1,5 @@
 -- The calls of a list of pairs commute with reading its keys and values.
-use Rattle.std.proofs.Common.{◌≡◌, Bool, List, [], ◌∷◌, ◌++◌, map, refl, arith}
+use Rattle.std.proofs.Common.{◌≡◌, Bool, cond, true, false, List, [], ◌∷◌, ◌++◌, map, refl, arith, Option, Some, IsSome}
 use Rattle.std.specs.List.{list_any}
 use Rattle.std.specs.Option.{option_map}
 use Rattle.std.specs.Map.{lookup, remove_entry, set_value}
@@ -52,3 +52,14 @@ module _ {K L V W : Type 0} (f : K → L) (g : V → W) (p : K → K → Bool) (
 
   pub distinct_keys-both : (ps : List (K × V)) → distinct_keys q (both f g ps) ≡ map f (distinct_keys p ps)
   distinct_keys-both ps = fresh-both [] ps
+
+-- what holds of each key that passes holds where a look-up finds one
+module _ {K V : Type 0} (p : K → Bool) (P : Type 0) (passes : (k : K) → p k ≡ true → P) where
+  found_here : (e : K × V) (b : Bool) → p e.0 ≡ b → (rest : Option V) → (IsSome rest → P)
+      → IsSome (cond b (Some e.1) rest) → P
+  found_here e true is rest later h = passes e.0 is
+  found_here e false is rest later h = later h
+
+  pub found : (ps : List (K × V)) → IsSome (lookup p ps) → P
+  found [] h = absurd cc
+  found (e ∷ ps) h = found_here e (p e.0) refl (lookup p ps) (found ps) h

@@ -1,5 +1,5 @@
 -- What the calls of a list of strings do to the texts that it shows.
-use Rattle.std.proofs.Common.{◌≡◌, ◌∙◌, ap, refl, [], ◌∷◌, ℕ, List, length, map, String}
+use Rattle.std.proofs.Common.{◌≡◌, ◌∙◌, ap, refl, [], ◌∷◌, ℕ, List, length, map, IsSome, String}
 use Rattle.std.proofs.lemmas.List.{length-map}
 use Rattle.std.specs.List.{AllZip}
 use Rattle.std.specs.Map.{lookup, remove_entry, set_value}
@@ -9,8 +9,8 @@ use Rattle.std.specs.String.{string_bytes, string_eq}
 use Rattle.ini_multimap.specs.Pairs.{distinct_keys, insert_pair, values_at, without}
 use Rattle.ini.specs.Texts.{is_text, text_of}
 use Rattle.ini.specs.Properties.{all_removed, distinct, first_value, inserted, pairs_of, removed, values}
-use Rattle.ini.proofs.ListLemmas.{lookup-both, remove_entry-both, set_value-both, without-both, values_at-both, insert_pair-both, distinct_keys-both}
-use Rattle.ini.proofs.TextLemmas.{same_key, same_keys}
+use Rattle.ini.proofs.ListLemmas.{lookup-both, remove_entry-both, set_value-both, without-both, values_at-both, insert_pair-both, distinct_keys-both, found}
+use Rattle.ini.proofs.TextLemmas.{fitting_key, same_key, same_keys}
 
 module _ {Z : Type 0} (ps : List (String Z × String Z)) where
   pub length-distinct-pairs : length (distinct (pairs_of ps)) ≡ length (distinct_keys string_eq ps)
@@ -21,6 +21,10 @@ module _ {Z : Type 0} (ps : List (String Z × String Z)) where
       → inserted (text_of k) (text_of v) (pairs_of ps) ≡ pairs_of (insert_pair (string_eq k) k v ps)
   inserted-pairs k v =
       insert_pair-both text_of text_of (string_eq k) (is_text (text_of k)) (same_keys k) k v ps
+
+  -- bytes by which a value is found are UTF-8
+  pub found_by_text : (u : List ℕ) → IsSome (lookup (λ k. bytes_eq u (string_bytes k)) ps) → IsUtf8 u
+  found_by_text u = found (λ k. bytes_eq u (string_bytes k)) (IsUtf8 u) (fitting_key u) ps
 
   pub first_value-owned : (k : String Z)
       → first_value (text_of k) (pairs_of ps) ≡ option_map text_of (lookup (string_eq k) ps)
@@ -47,7 +51,6 @@ module _ {Z : Type 0} (ps : List (String Z × String Z)) where
         → set_value (is_text (chars u)) (pairs_of ps) (text_of v)
         ≡ pairs_of (set_value (λ k. bytes_eq u (string_bytes k)) ps v)
     set-pairs v = set_value-both text_of text_of _ (is_text (chars u)) (same_key u utf8) ps v
-    -- clones show the same
 
 module _ {Z : Type 0} where
   -- clones show the same

@@ -1,12 +1,12 @@
 -- What the calls of a list of sections named by strings do to the document that it shows.
-use Rattle.std.proofs.Common.{◌≡◌, ◌∙◌, ap, refl, ℕ, List, [], ◌∷◌, length, Option, None, Some, String}
+use Rattle.std.proofs.Common.{◌≡◌, ◌∙◌, ap, refl, ℕ, List, [], ◌∷◌, length, Option, None, Some, IfSome, IsSome, String}
 use Rattle.std.proofs.lemmas.Iterator.Adapters.{option_map_id}
 use Rattle.std.proofs.lemmas.List.{length-map, map-id}
 use Rattle.std.specs.Borrow.{Bor}
 use Rattle.std.specs.List.{AllZip}
 use Rattle.std.specs.Map.{lookup, remove_entry, set_value}
 use Rattle.std.specs.Option.{option_eq}
-use Rattle.std.specs.Str.{chars}
+use Rattle.std.specs.Str.{IsUtf8, chars}
 use Rattle.std.specs.String.{string_bytes, string_eq}
 use Rattle.ini_multimap.specs.Keys.{name_fits}
 use Rattle.ini_multimap.specs.Pairs.{distinct_keys, values_at}
@@ -14,8 +14,8 @@ use Rattle.ini.specs.Texts.{is_name, name_of, str_name}
 use Rattle.ini.specs.Inside.LentNames.{IsTextName}
 use Rattle.ini.specs.Properties.{Pairs}
 use Rattle.ini.specs.Documents.{first_section, names, names_of, section_removed, sections_named, sections_of}
-use Rattle.ini.proofs.ListLemmas.{lookup-both, remove_entry-both, set_value-both, distinct_keys-both, values_at-both}
-use Rattle.ini.proofs.TextLemmas.{same_name, same_names}
+use Rattle.ini.proofs.ListLemmas.{lookup-both, remove_entry-both, set_value-both, distinct_keys-both, values_at-both, found}
+use Rattle.ini.proofs.TextLemmas.{fitting_name, same_name, same_names}
 
 module _ {Z : Type 0} (ss : List (Option (String Z) × Pairs)) where
   pub names-sections : names (sections_of ss) ≡ names_of (distinct_keys (option_eq string_eq) ss)
@@ -45,6 +45,12 @@ module _ {Z : Type 0} (ss : List (Option (String Z) × Pairs)) where
         ≡ sections_of (set_value (name_fits name) ss ps)
     set-sections ps =
         set_value-both name_of (λ qs. qs) _ (is_name (str_name name)) (same_name name text) ss ps
+
+-- bytes by which a section is found are UTF-8
+module _ {Z : Type 0} (name : Option (Bor (List ℕ))) where
+  pub found_by_text : (ss : List (Option (String Z) × Pairs)) → IsSome (lookup (name_fits name) ss)
+      → IfSome name (λ s. IsUtf8 s.now)
+  found_by_text = found (name_fits name) (IfSome name (λ s. IsUtf8 s.now)) (fitting_name name)
 
 -- clones show the same
 module _ {Z : Type 0} (IsClone : Option (String Z) → Option (String Z) → Type 0)

@@ -1,8 +1,9 @@
 -- Texts are equal exactly where their bytes are.
-use Rattle.std.proofs.Common.{◌≡◌, ◌∙◌, ◌↔◌, ℕ, List, Option, None, Some, String, ap, refl, sym}
+use Rattle.std.proofs.Common.{◌≡◌, ◌∙◌, ◌↔◌, ℕ, List, Option, None, Some, IfSome, true, String, ap, refl, subst, sym}
 use lib.Utf8.{encodes}
 use Rattle.std.proofs.lemmas.Str.{IsUtf8-string_bytes, encodes-chars}
 use Rattle.std.specs.Borrow.{Bor}
+use Rattle.std.specs.Cmp.Lexicographic.{bytes_decides}
 use Rattle.std.specs.Option.{option_eq}
 use Rattle.std.specs.Str.{IsUtf8, chars, bytes_eq}
 use Rattle.std.specs.String.{string_bytes, string_eq}
@@ -21,6 +22,11 @@ module _ {Z : Type 0} where
       → bytes_eq u (string_bytes k) ≡ is_text (chars u) (text_of k)
   same_key u a k = same_text u (string_bytes k) a (IsUtf8-string_bytes k)
 
+  -- bytes that are a key's are UTF-8
+  pub fitting_key : (u : List ℕ) (k : String Z) → bytes_eq u (string_bytes k) ≡ true → IsUtf8 u
+  fitting_key u k h =
+      subst (λ (v : List ℕ). IsUtf8 v) (sym ((bytes_decides u (string_bytes k)).0 h)) (IsUtf8-string_bytes k)
+
   pub same_keys : (j k : String Z) → string_eq j k ≡ is_text (text_of j) (text_of k)
   same_keys j k = same_key (string_bytes j) (IsUtf8-string_bytes j) k
 
@@ -37,3 +43,10 @@ module _ {Z : Type 0} where
   same_names None (Some t) = refl
   same_names (Some s) None = refl
   same_names (Some s) (Some t) = same_keys s t
+
+  -- bytes that are a name's are UTF-8
+  pub fitting_name : (n : Option (Bor (List ℕ))) (m : Option (String Z)) → name_fits n m ≡ true
+      → IfSome n (λ s. IsUtf8 s.now)
+  fitting_name None m h = tt
+  fitting_name (Some s) None h = absurd cc
+  fitting_name (Some s) (Some t) h = fitting_key s.now t h

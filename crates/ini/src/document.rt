@@ -1,17 +1,16 @@
 //! Documents: sections in order. This file knows the multimap's calls and those of `Properties`, and copies
 //! names, keys and values without a look at their characters.
 ghost use Rattle.std.specs.Prelude.{◌≡◌, ◌==◌, ◌<◌, ◌^◌, ◌-◌, [], ◌∷◌, ◌++◌, length, slice_get};
-ghost use Rattle.std.specs.Prelude.{Some, None, IsSome, IfNone, IfErr, IfOk, IsOkUnless, OnOk, OnErr};
-ghost use Rattle.std.specs.Prelude.{alloc_error, unwrap_or};
+ghost use Rattle.std.specs.Prelude.{Some, None, IsSome, IfNone, IfSome, IfErr, IfOk, IsOkUnless, OnOk};
+ghost use Rattle.std.specs.Prelude.{OnErr, alloc_error, unwrap_or};
 ghost use Rattle.std.specs.Borrow.{sem};
 ghost use Rattle.std.specs.Map.{values_of};
 ghost use Rattle.std.specs.Option.{option_map, option_copied, option_copied_mut};
-ghost use Rattle.std.specs.Str.{chars};
+ghost use Rattle.std.specs.Str.{IsUtf8, chars};
 ghost use Rattle.ini.specs.Texts.{Text, name_of, str_name, str_text, text_of};
 ghost use Rattle.ini.specs.Properties.{Pairs};
 ghost use Rattle.ini.specs.Documents.{all_sections_removed, first_section, names, section_removed};
-ghost use Rattle.ini.specs.Documents.{sections_named};
-ghost use Rattle.ini.specs.Documents.{value_in};
+ghost use Rattle.ini.specs.Documents.{sections_named, value_in};
 ghost use Rattle.ini.specs.Edits.{add_in, delete_in, delete_in_all, replace_in, section_set, set_in};
 ghost use Rattle.ini.specs.Lends.{lends_found_section, lends_section};
 ghost use Rattle.ini.specs.Inside.InnerLends.{lends_last_section, lends_new_section};
@@ -94,6 +93,15 @@ impl Ini {
         self.sections.get_mut(name)
     }
 
+    /// What `section` answers, for the bytes of a name; `None` where they are no UTF-8.
+    pub fn section_by_bytes(&self, bytes: Option<&[u8]>) -> Option<&Properties>
+        ensures text { IsSome result → IfSome bytes.entry (λ name. IsUtf8 name.now) }
+        ensures section { IfSome bytes.entry (λ name. IsUtf8 name.now)
+            → option_copied result ≡ first_section (str_name bytes.entry) self.now }
+    {
+        self.sections.get(bytes)
+    }
+
     /// The first general section, which must be there: `section` is the test.
     pub fn general_section(&self) -> &Properties
         requires { IsSome (first_section None self.now) }
@@ -117,6 +125,18 @@ impl Ini {
     {
         match self.section(name) {
             Some(section) => section.get(key),
+            None => None,
+        }
+    }
+
+    /// What `get_from` answers, for the bytes of a name and of a key; `None` where either are no UTF-8.
+    pub fn get_by_bytes(&self, name: Option<&[u8]>, key: &[u8]) -> Option<&str>
+        ensures texts { IsSome result → (IfSome name.entry (λ bytes. IsUtf8 bytes.now) × IsUtf8 key.now) }
+        ensures value { IfSome name.entry (λ bytes. IsUtf8 bytes.now) → IsUtf8 key.now
+            → option_map str_text result ≡ value_in (str_name name.entry) (chars key.now) self.now }
+    {
+        match self.section_by_bytes(name) {
+            Some(section) => section.get_by_bytes(key),
             None => None,
         }
     }

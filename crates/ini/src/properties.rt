@@ -3,7 +3,7 @@ ghost use Rattle.std.specs.Prelude.{◌≡◌, ◌==◌, ◌<◌, ◌^◌, ◌�
 ghost use Rattle.std.specs.Prelude.{IsTrue, IsSome, Some, None, IfOk, IsOkUnless, OnOk, OnErr, alloc_error};
 ghost use Rattle.std.specs.Borrow.{sem};
 ghost use Rattle.std.specs.Option.{option_map};
-ghost use Rattle.std.specs.Str.{chars};
+ghost use Rattle.std.specs.Str.{IsUtf8, chars};
 ghost use Rattle.ini.specs.Texts.{str_text, text_of};
 ghost use Rattle.ini.specs.Properties.{all_removed, distinct, first_value, inserted};
 ghost use Rattle.ini.specs.Properties.{pairs_of, removed, values};
@@ -78,6 +78,17 @@ impl Properties {
     {
         match self.pairs.get(key) {
             Some(value) => Some(value.as_str()),
+            None => None,
+        }
+    }
+
+    // What `get` answers, for the bytes of a key; `None` where they are no UTF-8.
+    pub(crate) fn get_by_bytes(&self, key: &[u8]) -> Option<&str>
+        ensures text { IsSome result → IsUtf8 key.now }
+        ensures value { IsUtf8 key.now → option_map str_text result ≡ first_value (chars key.now) self.now }
+    {
+        match self.pairs.get(key) {
+            Some(text) => Some(text.as_str()),
             None => None,
         }
     }
