@@ -1,13 +1,13 @@
 -- The holes at the front of the slots: they stay where a slot is added or made a hole, and no pair stands in
 -- them, so a walk may begin behind them.
-use Rattle.std.proofs.Common.{◌≡◌, ℕ, zero, suc, ◌+◌, ◌-◌, ◌<◌, ◌≤◌, Bool, List, [], ◌∷◌, ◌++◌, length, take, drop, get_or, is_some, false, true≢false, length-append, length-drop, Option, None, Some, refl, sym, ap, ◌∙◌, arith, inl, inr}
+use Rattle.std.proofs.Common.{◌≡◌, ℕ, zero, suc, ◌+◌, ◌-◌, ◌<◌, Bool, List, [], ◌∷◌, ◌++◌, length, take, drop, get_or, is_some, false, true≢false, length-append, length-drop, Option, None, Some, refl, sym, subst, ap, ◌∙◌, arith, inl, inr}
 use Rattle.std.proofs.lemmas.Bool.{cases_lt}
 use Rattle.std.proofs.lemmas.List.{take_all}
 use Rattle.std.proofs.Math.ListN.{set, length-set}
 use Rattle.ini_multimap.specs.Pairs.{distinct_keys, fresh}
-use Rattle.ini_multimap.specs.Slots.{pairs_in}
-use Rattle.ini_multimap.specs.Inside.Fits.{HasLeadingHoles, fresh_after, value_in}
-use Rattle.ini_multimap.proofs.SlotLemmas.{none_is_some, value_before, value_read}
+use Rattle.ini_multimap.specs.Slots.{Columns, pairs_in, pairs_of}
+use Rattle.ini_multimap.specs.Inside.Fits.{HasLeadingHoles, fresh_between, value_in}
+use Rattle.ini_multimap.proofs.SlotLemmas.{none_is_some, pairs_cut, pairs_none, value_before, value_read}
 
 module _ {K : Type 0} where
   pub no_leading : (ks : List (Option K)) → HasLeadingHoles ks 0
@@ -64,6 +64,12 @@ module _ {K : Type 0} where
     holes = λ i less. leads.holes (suc i) (omega (arith, less));
   }
 
+-- how many slots are behind them
+pub length-from : {A : Type 0} (xs : List A) (n : ℕ)
+    → length (take (length xs - n) (drop n xs)) ≡ length xs - n
+length-from xs n =
+    ap length (take_all (length xs - n) (drop n xs) (omega (arith, length-drop n xs))) ∙ length-drop n xs
+
 module _ {K V : Type 0} where
   -- no pair stands in them
   pub pairs_leading : (ks : List (Option K)) (vs : List (Option V)) (n : ℕ) → HasLeadingHoles ks n
@@ -76,31 +82,31 @@ module _ {K V : Type 0} where
       absurd (none_is_some (sym (leads.holes 0 (omega arith))))
 
   -- all pairs stand behind them
-  pairs_behind : (ks : List (Option K)) (vs : List (Option V)) (n : ℕ) → length vs ≡ length ks
-      → HasLeadingHoles ks n → pairs_in (drop n ks) (drop n vs) ≡ pairs_in ks vs
-  pairs_behind ks vs zero long leads = refl
-  pairs_behind [] vs (suc n) long leads = refl
-  pairs_behind (k ∷ ks) [] (suc n) long leads = absurd (omega (arith, long))
-  pairs_behind (None ∷ ks) (v ∷ vs) (suc n) long leads =
-      pairs_behind ks vs n (omega (arith, long)) (behind None ks n leads)
-  pairs_behind (Some k ∷ ks) (v ∷ vs) (suc n) long leads =
+  pairs_behind : (ks : List (Option K)) (vs : List (Option V)) (n : ℕ) → HasLeadingHoles ks n
+      → pairs_in (drop n ks) (drop n vs) ≡ pairs_in ks vs
+  pairs_behind ks vs zero leads = refl
+  pairs_behind [] vs (suc n) leads = refl
+  pairs_behind (k ∷ ks) [] (suc n) leads = pairs_none (drop n ks)
+  pairs_behind (None ∷ ks) (v ∷ vs) (suc n) leads = pairs_behind ks vs n (behind None ks n leads)
+  pairs_behind (Some k ∷ ks) (v ∷ vs) (suc n) leads =
       absurd (none_is_some (sym (leads.holes 0 (omega arith))))
 
   -- the pairs in the slots behind them, as a walk is given them
-  pub pairs_from : (ks : List (Option K)) (vs : List (Option V)) (n : ℕ) → length vs ≡ length ks
-      → HasLeadingHoles ks n
+  pub pairs_from : (ks : List (Option K)) (vs : List (Option V)) (n : ℕ) → HasLeadingHoles ks n
       → pairs_in (take (length ks - n) (drop n ks)) (take (length vs - n) (drop n vs)) ≡ pairs_in ks vs
-  pairs_from ks vs n long leads =
+  pairs_from ks vs n leads =
       (λ j. pairs_in (take_all (length ks - n) (drop n ks) (omega (arith, length-drop n ks)) j)
       (take_all (length vs - n) (drop n vs) (omega (arith, length-drop n vs)) j))
-      ∙ pairs_behind ks vs n long leads
+      ∙ pairs_behind ks vs n leads
 
   -- their distinct keys
-  pub keys_behind : (eq : K → K → Bool) (ks : List (Option K)) (vs : List (Option V)) (n : ℕ)
-      → length vs ≡ length ks
-      → HasLeadingHoles ks n
-      → fresh_after eq n (take (length ks) ks) (take (length ks) vs) ≡ distinct_keys eq (pairs_in ks vs)
-  keys_behind eq ks vs n long leads =
-      (λ j. fresh_after eq n (take_all (length ks) ks (omega arith) j)
-      (take_all (length ks) vs (omega (arith, long)) j))
-      ∙ (λ j. fresh eq (pairs_leading ks vs n leads j) (pairs_behind ks vs n long leads j))
+  pub keys_behind : (eq : K → K → Bool) (slots : Columns K V) (n : ℕ) → HasLeadingHoles slots.keys n
+      → fresh_between eq slots n (length slots.keys) ≡ distinct_keys eq (pairs_of slots)
+  keys_behind eq slots n leads =
+      let end = length slots.keys in
+      let ks = take end slots.keys in
+      let vs = take end slots.values in
+      let P : List (Option K) → Type 0 = λ l. HasLeadingHoles l n in
+      let same = subst P (sym (take_all end slots.keys (omega arith))) leads in
+      λ j. fresh eq (pairs_leading ks vs n same j)
+      ((pairs_behind ks vs n same ∙ pairs_cut slots.keys slots.values end (omega arith)) j)

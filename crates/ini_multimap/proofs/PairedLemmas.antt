@@ -1,5 +1,6 @@
 -- Slots whose keys all have their values.
-use Rattle.std.proofs.Common.{◌≡◌, ℕ, zero, suc, ◌+◌, ◌≤◌, Bool, cond, List, [], ◌∷◌, ◌++◌, length, length-append, Option, None, Some, IsSome, is_some, false, refl, sym, ap, ◌∙◌, arith, true≢false}
+use Rattle.std.proofs.Common.{◌≡◌, ℕ, zero, suc, ◌+◌, ◌≤◌, ◌||◌, Bool, cond, List, [], ◌∷◌, ◌++◌, length, length-append, Option, None, Some, IsSome, is_some, false, refl, sym, ap, ◌∙◌, arith, true≢false}
+use Rattle.std.specs.Cmp.{IsEquivalence}
 use Rattle.std.specs.Global.{Box}
 use Rattle.std.specs.List.{list_any}
 use Rattle.std.proofs.lemmas.Bool.{OnTrue_at, OnTrue_from}
@@ -115,3 +116,9 @@ module _ {K V : Type 0} where
       (x ∷ [])
   fresh_pair eq seen k None x e = absurd (none_is_some (sym e))
   fresh_pair eq seen k (Some v) x e = ap (λ o. fresh eq seen (with_cell o (Some v) [])) (sym e)
+
+  -- a key is looked for from either side
+  pub any_turned : {eq : K → K → Bool} → IsEquivalence eq → (x : K) (ps : List (K × V))
+      → list_any (λ p. eq x p.0) ps ≡ list_any (λ p. eq p.0 x) ps
+  any_turned laws x [] = refl
+  any_turned {eq} laws x (p ∷ ps) = λ j. laws.symm x p.0 j || any_turned laws x ps j

@@ -1,15 +1,12 @@
 -- The values that a walk between two candidates has left.
 use Rattle.std.proofs.Common.{◌≡◌, ℕ, zero, suc, ◌<◌, ◌≤◌, Bool, true, false, List, [], ◌∷◌, ◌++◌, length, take, drop, slice_get, Option, None, Some, IfSome, refl, sym, ap, ◌∙◌, arith}
-use Rattle.std.specs.Global.{Box}
 use Rattle.std.proofs.lemmas.List.{take_all, drop_all, length-take}
 use Rattle.ini_multimap.specs.Pairs.{values_at}
 use Rattle.ini_multimap.specs.Slots.{pairs_in}
 use Rattle.ini_multimap.specs.Inside.Fits.{value_in, fits_at, fits_before}
-use Rattle.ini_multimap.specs.Inside.Chains.{IsCandidate, IsIndexed, after_in, before_in, first_in, last_in, walk_left, back_left}
-use Rattle.ini_multimap.specs.Inside.Filled.{AreBetween, values_from}
-use Rattle.ini_multimap.specs.declared.slots.chains.Chains.{Chains}
+use Rattle.ini_multimap.specs.Inside.Candidates.{AreBetween, IsAhead, IsBehind, IsCandidate, back_left, values_from, walk_left}
 use Rattle.ini_multimap.proofs.CellLemmas.{nth_is, fits_count}
-use Rattle.ini_multimap.proofs.WalkLemmas.{IsAhead, IsBehind, first_is, last_is, after_is, before_is, walk_shorter, back_shorter, before_zero, before_hit, before_miss, before_more, none_ahead, no_more, none_behind, none_before}
+use Rattle.ini_multimap.proofs.WalkLemmas.{walk_shorter, back_shorter, before_zero, before_hit, before_miss, before_more, none_ahead, no_more, none_behind, none_before}
 
 module _ {A : Type 0} where
   none_left : (a b : ℕ) (xs : List A) → b ≤ a → drop a (take b xs) ≡ []
@@ -30,68 +27,79 @@ module _ {A : Type 0} where
   taken_last zero (suc b) (y ∷ xs) x e h = ap (λ l. y ∷ l) (taken_last zero b xs x e (omega arith))
   taken_last (suc a) (suc b) (y ∷ xs) x e h = taken_last a b xs x e (omega arith)
 
-module _ {K V : Type 0} (code : K → ℕ) (test : K → Bool) (c : ℕ) (class : (p : K) → test p ≡ true
-    → code p ≡ c) (index : Option (Box Chains)) (ks : List (Option K)) (vs : List (Option V))
-    (indexed : IsIndexed code ks index) where
+module _ (chained : Bool) {K : Type 0} (code : K → ℕ) (c : ℕ) (ks : List (Option K)) where
+  pub ahead_candidate : (i : ℕ) (r : Option ℕ) → IsAhead chained code c ks i r
+      → IfSome r (IsCandidate chained code c ks)
+  ahead_candidate i None f = tt
+  ahead_candidate i (Some t) f = f.1
+
+  pub behind_candidate : (i : ℕ) (r : Option ℕ) → IsBehind chained code c ks i r
+      → IfSome r (IsCandidate chained code c ks)
+  behind_candidate i None f = tt
+  behind_candidate i (Some t) f = f.1
+
+  module _ (first last : Option ℕ) (s : ℕ) (slots : AreBetween chained code c ks first last) (r : Option ℕ) where
+    -- a step from the front, to the candidate r
+    pub front_slots : IsAhead chained code c ks (suc s) r → AreBetween chained code c ks r last
+    front_slots f = (ahead_candidate (suc s) r f, slots.1)
+
+    pub front_shorter : first ≡ Some s → IsAhead chained code c ks (suc s) r
+        → walk_left (length ks) r < walk_left (length ks) first
+    front_shorter at f =
+        let here = rw at at slots.0 in
+        rw at (walk_shorter chained code c ks s r f here.0)
+
+    -- and one from the back
+    pub back_slots : IsBehind chained code c ks s r → AreBetween chained code c ks first r
+    back_slots f = (slots.0, behind_candidate s r f)
+
+    pub back_left_less : last ≡ Some s → IsBehind chained code c ks s r → back_left r < back_left last
+    back_left_less at f = rw at (back_shorter chained code c ks s r f)
+
+module _ {K V : Type 0} {code : K → ℕ} {test : K → Bool} {c : ℕ} (class : (p : K) → test p ≡ true
+    → code p ≡ c) (chained : Bool) (ks : List (Option K)) (vs : List (Option V)) where
   abbrev before : ℕ → ℕ
   before s = fits_before test ks vs s
 
   abbrev all : List V
   all = values_at test (pairs_in ks vs)
 
-  from_ahead : (i e : ℕ) (r : Option ℕ) → i ≤ suc e → e < length ks → IsAhead index code c ks i r
+  from_ahead : (i e : ℕ) (r : Option ℕ) → i ≤ suc e → e < length ks → IsAhead chained code c ks i r
       → values_from test ks vs r (Some e) ≡ drop (before i) (take (before (suc e)) all)
   from_ahead i e None h within f = let same =
-      no_more code test c class index ks vs i (suc e) h (omega arith) f in
+      no_more code test c class chained ks vs i (suc e) h (omega arith) f in
       sym (none_left (before i) (before (suc e)) all (omega arith))
   from_ahead i e (Some t) h within f =
-      ap (λ n. drop n (take (before (suc e)) all)) (none_ahead code test c class index ks vs i t f)
+      ap (λ n. drop n (take (before (suc e)) all)) (none_ahead code test c class chained ks vs i t f)
 
-  to_behind : (s i : ℕ) (r : Option ℕ) → IsBehind index code c ks i r
+  to_behind : (s i : ℕ) (r : Option ℕ) → IsBehind chained code c ks i r
       → values_from test ks vs (Some s) r ≡ drop (before s) (take (before i) all)
   to_behind s i None f =
-      let none = none_before code test c class index ks vs i f in
+      let none = none_before code test c class chained ks vs i f in
       sym (none_left (before s) (before i) all (omega arith))
   to_behind s i (Some t) f =
-      ap (λ n. drop (before s) (take n all)) (sym (none_behind code test c class index ks vs i t f))
+      ap (λ n. drop (before s) (take n all)) (sym (none_behind code test c class chained ks vs i t f))
 
-  pub all_from : values_from test ks vs (first_in index (length ks) c) (last_in index (length ks) c) ≡ all
-  all_from = both (first_in index (length ks) c) (last_in index (length ks) c)
-      (first_is code c ks index indexed) (last_is code c ks index indexed)
-    where
-      whole : take (before (length ks)) all ≡ all
-      whole = take_all (before (length ks)) all (omega (arith, fits_count test ks vs))
+  whole : take (before (length ks)) all ≡ all
+  whole = take_all (before (length ks)) all (omega (arith, fits_count test ks vs))
 
-      both : (r t : Option ℕ) → IsAhead index code c ks 0 r → IsBehind index code c ks (length ks) t
-          → values_from test ks vs r t ≡ all
-      both None t f h =
-          let none = no_more code test c class index ks vs 0 (length ks) (omega arith) (omega arith) f in
-          sym (sym whole
-          ∙ none_left 0 (before (length ks)) all (omega (arith, none, before_zero test ks vs)))
-      both (Some s) t f h =
-          to_behind s (length ks) t h
-          ∙ ap (λ n. drop n (take (before (length ks)) all))
-          (none_ahead code test c class index ks vs 0 s f ∙ before_zero test ks vs) ∙ whole
+  pub all_from : (r t : Option ℕ) → IsAhead chained code c ks 0 r → IsBehind chained code c ks (length ks) t
+      → values_from test ks vs r t ≡ all
+  all_from None t f h =
+      let none = no_more code test c class chained ks vs 0 (length ks) (omega arith) (omega arith) f in
+      sym (sym whole
+      ∙ none_left 0 (before (length ks)) all (omega (arith, none, before_zero test ks vs)))
+  all_from (Some s) t f h =
+      to_behind s (length ks) t h
+      ∙ ap (λ n. drop n (take (before (length ks)) all))
+      (none_ahead code test c class chained ks vs 0 s f ∙ before_zero test ks vs) ∙ whole
 
-  ahead_candidate : (i : ℕ) (r : Option ℕ) → IsAhead index code c ks i r
-      → IfSome r (IsCandidate index code c ks)
-  ahead_candidate i None f = tt
-  ahead_candidate i (Some t) f = f.1
-
-  behind_candidate : (i : ℕ) (r : Option ℕ) → IsBehind index code c ks i r
-      → IfSome r (IsCandidate index code c ks)
-  behind_candidate i None f = tt
-  behind_candidate i (Some t) f = f.1
-
-  module _ (first last : Option ℕ) (s e : ℕ) (slots : AreBetween code c ks vs index first last)
+  module _ (first last : Option ℕ) (s e : ℕ) (slots : AreBetween chained code c ks first last)
       (at_first : first ≡ Some s) (at_last : last ≡ Some e) where
-    here : IsCandidate index code c ks s
-    here = rw at_first at slots.first_is
+    there : IsCandidate chained code c ks e
+    there = rw at_last at slots.1
 
-    there : IsCandidate index code c ks e
-    there = rw at_last at slots.last_is
-
-    pub both_ends : values_from test ks vs first last ≡ drop (before s) (take (before (suc e)) all)
+    both_ends : values_from test ks vs first last ≡ drop (before s) (take (before (suc e)) all)
     both_ends = λ j. values_from test ks vs (at_first j) (at_last j)
 
     pub crossed : e < s → values_from test ks vs first last ≡ []
@@ -99,71 +107,45 @@ module _ {K V : Type 0} (code : K → ℕ) (test : K → Bool) (c : ℕ) (class 
         both_ends
         ∙ none_left (before s) (before (suc e)) all (before_more test ks vs (suc e) s (omega arith))
 
-    -- a step from the front, to the candidate r
-    module _ (order : s ≤ e) (r : Option ℕ) (next : r ≡ after_in index (length ks) s) where
-      follows : IsAhead index code c ks (suc s) r
-      follows = rw next (after_is code c ks index s indexed here)
+    module _ (order : s ≤ e) (r : Option ℕ) where
+      -- past the first candidate, to the candidate r
+      after : IsAhead chained code c ks (suc s) r
+          → values_from test ks vs r last ≡ drop (before (suc s)) (take (before (suc e)) all)
+      after f = ap (values_from test ks vs r) at_last ∙ from_ahead (suc s) e r (omega arith) there.0 f
 
-      after : values_from test ks vs r last ≡ drop (before (suc s)) (take (before (suc e)) all)
-      after = ap (values_from test ks vs r) at_last ∙ from_ahead (suc s) e r (omega arith) there.0 follows
-
-      pub front_slots : AreBetween code c ks vs index r last
-      front_slots = record {
-        long = slots.long;
-        indexed = indexed;
-        first_is = ahead_candidate (suc s) r follows;
-        last_is = slots.last_is;
-      }
-
-      pub front_shorter : walk_left (length ks) r < walk_left (length ks) first
-      front_shorter = rw at_first (walk_shorter index code c ks s r follows here.0)
-
-      pub front_misses : fits_at test ks vs s ≡ false
+      pub front_misses : IsAhead chained code c ks (suc s) r → fits_at test ks vs s ≡ false
           → values_from test ks vs first last ≡ values_from test ks vs r last
-      front_misses miss =
+      front_misses f miss =
           both_ends
-          ∙ sym (after ∙ ap (λ n. drop n (take (before (suc e)) all)) (before_miss test ks vs s miss))
+          ∙ sym (after f ∙ ap (λ n. drop n (take (before (suc e)) all)) (before_miss test ks vs s miss))
 
-      pub front_fits : (v : V) → fits_at test ks vs s ≡ true → value_in vs s ≡ Some v
-          → values_from test ks vs first last ≡ v ∷ values_from test ks vs r last
-      front_fits v hit is =
+      pub front_fits : (v : V) → IsAhead chained code c ks (suc s) r → fits_at test ks vs s ≡ true
+          → value_in vs s ≡ Some v → values_from test ks vs first last ≡ v ∷ values_from test ks vs r last
+      front_fits v f hit is =
           let one = before_hit test ks vs s hit in
           let more = before_more test ks vs (suc s) (suc e) (omega arith) in
           both_ends
           ∙ taken_first (before s) (before (suc e)) all v
           ((nth_is test ks vs s (before s) hit refl).value ∙ is) (omega arith)
-          ∙ sym (ap (λ l. v ∷ l) (after ∙ ap (λ n. drop n (take (before (suc e)) all)) one))
+          ∙ sym (ap (λ l. v ∷ l) (after f ∙ ap (λ n. drop n (take (before (suc e)) all)) one))
 
-    -- and one from the back
-    module _ (order : s ≤ e) (r : Option ℕ) (next : r ≡ before_in index e) where
-      leads : IsBehind index code c ks e r
-      leads = rw next (before_is code c ks index e indexed there)
+      -- past the last one
+      until : IsBehind chained code c ks e r
+          → values_from test ks vs first r ≡ drop (before s) (take (before e) all)
+      until f = ap (λ f. values_from test ks vs f r) at_first ∙ to_behind s e r f
 
-      behind : values_from test ks vs first r ≡ drop (before s) (take (before e) all)
-      behind = ap (λ f. values_from test ks vs f r) at_first ∙ to_behind s e r leads
-
-      pub back_slots : AreBetween code c ks vs index first r
-      back_slots = record {
-        long = slots.long;
-        indexed = indexed;
-        first_is = slots.first_is;
-        last_is = behind_candidate e r leads;
-      }
-
-      pub back_left_less : back_left r < back_left last
-      back_left_less = rw at_last (back_shorter index code c ks e r leads)
-
-      pub back_misses : fits_at test ks vs e ≡ false
+      pub back_misses : IsBehind chained code c ks e r → fits_at test ks vs e ≡ false
           → values_from test ks vs first last ≡ values_from test ks vs first r
-      back_misses miss =
+      back_misses f miss =
           both_ends
-          ∙ sym (behind ∙ ap (λ n. drop (before s) (take n all)) (sym (before_miss test ks vs e miss)))
+          ∙ sym (until f ∙ ap (λ n. drop (before s) (take n all)) (sym (before_miss test ks vs e miss)))
 
-      pub back_fits : (v : V) → fits_at test ks vs e ≡ true → value_in vs e ≡ Some v
+      pub back_fits : (v : V) → IsBehind chained code c ks e r → fits_at test ks vs e ≡ true
+          → value_in vs e ≡ Some v
           → values_from test ks vs first last ≡ values_from test ks vs first r ++ v ∷ []
-      back_fits v hit is =
+      back_fits v f hit is =
           both_ends
           ∙ ap (λ n. drop (before s) (take n all)) (before_hit test ks vs e hit)
           ∙ taken_last (before s) (before e) all v ((nth_is test ks vs e (before e) hit refl).value ∙ is)
           (before_more test ks vs s e order)
-          ∙ sym (ap (λ l. l ++ v ∷ []) behind)
+          ∙ sym (ap (λ l. l ++ v ∷ []) (until f))

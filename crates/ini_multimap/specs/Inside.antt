@@ -1,4 +1,6 @@
+pub mod Candidates
 pub mod Chains
 pub mod Filled
 pub mod Fits
+pub mod Loans
 pub mod Moves

@@ -1,5 +1,5 @@
 -- A multimap as slots: a slot holds a pair or a hole.
-use Rattle.std.specs.Prelude.{List, [], ◌∷◌, Option, Some, None}
+use Rattle.std.specs.Prelude.{ℕ, Bool, List, [], ◌∷◌, Option, Some, None, slice_set}
 
 module _ {K V : Type 0} where
   -- ps, and before them what a slot holds
@@ -13,3 +13,17 @@ module _ {K V : Type 0} where
   pairs_in [] vs = []
   pairs_in (k ∷ ks) [] = []
   pairs_in (k ∷ ks) (v ∷ vs) = with_cell k v (pairs_in ks vs)
+
+-- the slots as a multimap knows them
+pub record Columns (K V : Type 0) : Type 0 where
+  pub keys : List (Option K)
+  pub values : List (Option V)
+  pub is_chained : Bool
+
+-- their pairs
+abbrev pub pairs_of : {K V : Type 0} → Columns K V → List (K × V)
+pairs_of slots = pairs_in slots.keys slots.values
+
+-- with v as the value in slot s
+abbrev pub with_value : {K V : Type 0} → Columns K V → ℕ → V → Columns K V
+with_value slots s v = record slots { values = slice_set slots.values s (Some v) }

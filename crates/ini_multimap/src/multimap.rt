@@ -1,5 +1,5 @@
-//! The multimap, kept as slots in list order: where pairs are many, a look-up asks the probe only about
-//! those of its code, but for `get_all_mut`, which asks about each.
+//! The multimap: a list of pairs, kept as slots in list order. Where pairs are many, a look-up asks the
+//! probe only about those of its code, but for `get_all_mut`, which asks about each.
 //! A removal leaves a hole, and the holes are closed where they outnumber the pairs.
 //!
 //! A growing call makes its room before anything changes, so a refused one changes nothing.
@@ -16,10 +16,7 @@ ghost use Rattle.ini_multimap.specs.Inside.Fits.{without_nth};
 
 use crate::iter::{IntoIter, Iter, IterMut, Keys, Removed, Values, ValuesMut};
 use crate::key::{MapKey, Probe};
-use crate::slots::{
-    Chains, FEW, chain_from, close_holes, count_holes, count_leading, is_sparse, last_slot,
-    link_last, make_room, nth_slot, unlink,
-};
+use crate::slots::{FEW, Slots};
 use std::alloc::{AllocError, Global};
 use std::marker::Model;
 use std::mem;
@@ -36,22 +33,9 @@ pub struct Refused<K, V> {
 /// Pairs of a key and a value in the order of insertion; several may have one key.
 ///
 /// Seen as the list of its pairs. A probe `q` fits a pair whose key it stands for.
-#[derive(Debug)]
+#[derive(Debug, Drop)]
 pub struct Multimap<K: MapKey, V> {
-    // The key and the value in each slot, `None` at a hole.
-    keys: Vec<Option<K>>,
-    values: Vec<Option<V>>,
-    // The chains of the codes, where slots are many.
-    index: Option<Box<Chains>>,
-    // How many holes there are.
-    holes: usize,
-    // So many slots at the front are known to be holes. Walks begin behind them.
-    leading: usize,
-    // Whether each key is known to have its value. What a walk for writing leaves isn't followed, so it
-    // forgets that, until holes are closed.
-    is_paired: bool,
-    // Whether each code in the index is known to be that of one key. It isn't where there is no index.
-    is_injective: bool,
+    slots: Slots<K, V>,
 }
 
 impl<K: MapKey, V> Model for Multimap<K, V> {
@@ -62,13 +46,9 @@ impl<K: MapKey, V> Model for Multimap<K, V> {
 
     ghost coded = { coded_list (coded× K.code V.code) };
 
-    ghost use Rattle.ini_multimap.specs.Slots.{pairs_in};
-    ghost use Rattle.ini_multimap.specs.Inside.Filled.{AreFilled};
+    ghost use Rattle.ini_multimap.specs.Slots.{pairs_of};
 
-    ghost view = { λ m. pairs_in m.keys.items m.values.items };
-
-    ghost invariant = { λ m. AreFilled K.eq K.key_code m.keys.items m.values.items m.index m.holes m.leading
-        m.is_paired m.is_injective };
+    ghost view = { λ m. pairs_of m.slots };
 }
 
 impl<K: MapKey, V> Multimap<K, V> {
@@ -77,13 +57,7 @@ impl<K: MapKey, V> Multimap<K, V> {
         ensures { result ≡ [] }
     {
         Multimap {
-            keys: Vec::new(alloc),
-            values: Vec::new(alloc),
-            index: None,
-            holes: 0,
-            leading: 0,
-            is_paired: true,
-            is_injective: false,
+            slots: Slots::new(alloc),
         }
     }
 
@@ -91,20 +65,16 @@ impl<K: MapKey, V> Multimap<K, V> {
     pub fn len_pairs(&self) -> usize
         ensures { result ≡ length self.now }
     {
-        if self.is_paired {
-            self.keys.len() - self.holes
-        } else {
-            self.iter().len_pairs()
-        }
+        self.slots.len_pairs()
     }
 
     /// The number of distinct keys.
     pub fn len_keys(&self) -> usize
         ensures { result ≡ length (distinct_keys K.eq self.now) }
     {
-        match &self.index {
-            Some(chains) if self.is_paired && self.is_injective => chains.codes(),
-            _ => self.keys().count(),
+        match self.slots.len_keys() {
+            Some(keys) => keys,
+            None => self.keys().count(),
         }
     }
 
@@ -122,12 +92,10 @@ impl<K: MapKey, V> Multimap<K, V> {
         ensures key_handed_back { IfErr result (λ refused. refused.key ≡ key) }
         ensures value_handed_back { IfErr result (λ refused. refused.value ≡ value) }
     {
-        let Ok(is_injective) = chain_from(FEW, &self.keys, &mut self.index, self.is_injective)
-        else {
-            return Err(Refused { key, value });
-        };
-        self.is_injective = is_injective;
-        self.append_unindexed(key, value)
+        match self.slots.chain_from(FEW) {
+            Ok(()) => self.append_unindexed(key, value),
+            Err(_) => Err(Refused { key, value }),
+        }
     }
 
     /// Puts the pair last, as by `append`, but makes no index where there is none yet. A look-up then goes
@@ -141,15 +109,9 @@ impl<K: MapKey, V> Multimap<K, V> {
         ensures key_handed_back { IfErr result (λ refused. refused.key ≡ key) }
         ensures value_handed_back { IfErr result (λ refused. refused.value ≡ value) }
     {
-        match make_room(&mut self.keys, &mut self.values, &mut self.index) {
-            Err(_) => Err(Refused { key, value }),
-            Ok(()) => {
-                let keys = self.keys.as_slice();
-                self.is_injective = link_last(keys, &mut self.index, &key, self.is_injective);
-                self.keys.push_reserved(Some(key));
-                self.values.push_reserved(Some(value));
-                Ok(())
-            }
+        match self.slots.append(key, value) {
+            Ok(()) => Ok(()),
+            Err((key, value)) => Err(Refused { key, value }),
         }
     }
 
@@ -158,9 +120,7 @@ impl<K: MapKey, V> Multimap<K, V> {
     pub fn make_index(&mut self) -> Result<(), AllocError>
         ensures { self.new ≡ self.old }
     {
-        let is_injective = chain_from(FEW + 1, &self.keys, &mut self.index, self.is_injective)?;
-        self.is_injective = is_injective;
-        Ok(())
+        self.slots.chain_from(FEW + 1)
     }
 
     /// Sets the value of the key: its first pair keeps place and key and takes the value, its later
@@ -197,14 +157,8 @@ impl<K: MapKey, V> Multimap<K, V> {
     pub fn get<Q: Probe<K> + Copy>(&self, q: Q) -> Option<&V>
         ensures { option_copied result ≡ lookup (Q.fits q) self.now }
     {
-        let s = nth_slot(
-            self.keys.as_slice(),
-            self.values.as_slice(),
-            &self.index,
-            q,
-            0,
-        )?;
-        self.values[s].as_ref()
+        let s = self.slots.nth_slot(q, 0)?;
+        self.slots.value(s)
     }
 
     /// The first value of the key, for writing. The rest stays.
@@ -224,12 +178,9 @@ impl<K: MapKey, V> Multimap<K, V> {
         ensures* writes_back { sem 𝓛 (lends_last K.row V.row K.MapKey self.entry result) }
         ensures value { option_copied_mut result ≡ slice_get (values_of self.old) (length self.old - 1) }
     {
-        match last_slot(self.keys.as_slice(), self.values.as_slice()) {
+        match self.slots.last_slot() {
+            Some(s) => Some(self.slots.value_mut(s)),
             None => None,
-            Some(s) => match self.values[s].as_mut() {
-                Some(value) => Some(value),
-                None => None,
-            },
         }
     }
 
@@ -238,7 +189,7 @@ impl<K: MapKey, V> Multimap<K, V> {
         ensures values { result ≡ values_at (Q.fits q) self.now }
         ensures countable { length result < 2 ^ 64 }
     {
-        Values::new(self.keys.as_slice(), self.values.as_slice(), &self.index, q)
+        Values::new(&self.slots, q)
     }
 
     /// All values of the key, in list order, for writing.
@@ -255,18 +206,9 @@ impl<K: MapKey, V> Multimap<K, V> {
         ensures value { option_copied_mut result ≡ slice_get (values_at (Q.fits q) self.old) n }
         ensures none_to_set { IfNone result ((v : V) → set_nth_value (Q.fits q) self.old n v ≡ self.old) }
     {
-        match nth_slot(
-            self.keys.as_slice(),
-            self.values.as_slice(),
-            &self.index,
-            q,
-            n,
-        ) {
+        match self.slots.nth_slot(q, n) {
+            Some(s) => Some(self.slots.value_mut(s)),
             None => None,
-            Some(s) => match self.values[s].as_mut() {
-                Some(value) => Some(value),
-                None => None,
-            },
         }
     }
 
@@ -278,7 +220,7 @@ impl<K: MapKey, V> Multimap<K, V> {
         ensures pairs { self.new ≡ remove_entry (Q.fits q) self.old }
     {
         let value = self.take_nth(q, 0)?;
-        self.close_if_sparse();
+        self.slots.close_if_sparse();
         Some(value)
     }
 
@@ -297,12 +239,11 @@ impl<K: MapKey, V> Multimap<K, V> {
         ensures refused_only_if_there { OnErr result (IsSome (lookup (Q.fits q) self.old)) }
         ensures unchanged_if_refused { OnErr result (self.new ≡ self.old) }
     {
-        let alloc = *self.values.allocator();
-        let mut values = Vec::with_capacity(alloc, self.count(q))?;
+        let mut values = Vec::with_capacity(self.slots.alloc(), self.count(q))?;
         while let Some(value) = self.take_nth(q, 0) {
             values.push_reserved(value);
         }
-        self.close_if_sparse();
+        self.slots.close_if_sparse();
         Ok(Removed::new(values))
     }
 
@@ -313,35 +254,23 @@ impl<K: MapKey, V> Multimap<K, V> {
         V: Drop,
         ensures { self.new ≡ [] }
     {
-        self.keys.clear();
-        self.values.clear();
-        self.index = None;
-        self.holes = 0;
-        self.leading = 0;
-        self.is_paired = true;
-        self.is_injective = false;
+        self.slots.clear();
     }
 
     /// Every pair in order.
     pub fn iter(&self) -> Iter<'_, K, V>
         ensures { result ≡ self.now }
     {
-        Iter::new(
-            &self.keys.as_slice()[self.leading..],
-            &self.values.as_slice()[self.leading..],
-        )
+        let (keys, values) = self.slots.columns();
+        Iter::new(keys, values)
     }
 
     /// Every pair in order, its value for writing.
     pub fn iter_mut(&mut self) -> IterMut<'_, K, V>
         ensures { iter_mut_rest result ≡ self.old }
     {
-        self.is_paired = false;
-        let leading = self.leading;
-        IterMut::new(
-            &self.keys.as_slice()[leading..],
-            &mut self.values.as_mut_slice()[leading..],
-        )
+        let (keys, values) = self.slots.columns_mut();
+        IterMut::new(keys, values)
     }
 
     /// Each distinct key once, in the order of first occurrence.
@@ -349,31 +278,31 @@ impl<K: MapKey, V> Multimap<K, V> {
         ensures keys { result ≡ distinct_keys K.eq self.now }
         ensures countable { length result < 2 ^ 64 }
     {
-        Keys::new(
-            self.keys.as_slice(),
-            self.values.as_slice(),
-            &self.index,
-            self.is_paired,
-            self.leading,
-        )
+        Keys::new(&self.slots)
     }
 }
 
-// Written out: a caller's proof then meets a call here, and no case for the chains.
-impl<K: MapKey + Drop, V: Drop> Drop for Multimap<K, V> {
-    fn drop(self) {
-        let Multimap {
-            keys,
-            values,
-            index,
-            holes: _,
-            leading: _,
-            is_paired: _,
-            is_injective: _,
-        } = self;
-        drop(keys);
-        drop(values);
-        drop(index);
+impl<'a, K: MapKey, V> IntoIterator for &'a Multimap<K, V> {
+    type Item = (&'a K, &'a V);
+
+    type IntoIter = Iter<'a, K, V>;
+
+    ghost into_iter_gives = { λ m it. it ≡ m.now };
+
+    fn into_iter(self) -> Iter<'a, K, V> {
+        self.iter()
+    }
+}
+
+impl<'a, K: MapKey, V> IntoIterator for &'a mut Multimap<K, V> {
+    type Item = (&'a K, &'a mut V);
+
+    type IntoIter = IterMut<'a, K, V>;
+
+    ghost into_iter_gives = { λ m it. iter_mut_rest it ≡ m.now };
+
+    fn into_iter(self) -> IterMut<'a, K, V> {
+        self.iter_mut()
     }
 }
 
@@ -385,15 +314,8 @@ impl<K: MapKey + Drop, V: Drop> IntoIterator for Multimap<K, V> {
     ghost into_iter_gives = { λ m it. it ≡ m };
 
     fn into_iter(self) -> IntoIter<K, V> {
-        let Multimap {
-            keys,
-            values,
-            index: _,
-            holes: _,
-            leading: _,
-            is_paired: _,
-            is_injective: _,
-        } = self;
+        let Multimap { slots } = self;
+        let (keys, values) = slots.into_columns();
         IntoIter::new(keys, values)
     }
 }
@@ -408,7 +330,7 @@ impl<K: MapKey + Clone, V: Clone> Clone for Multimap<K, V> {
         ensures equal_if_clones_are { IfOk result (λ copy. ((x y : K) → K.is_clone x y → y ≡ x)
             → ((x y : V) → V.is_clone x y → y ≡ x) → copy ≡ self.now) }
     {
-        let mut copy = Multimap::new(*self.values.allocator());
+        let mut copy = Multimap::new(self.slots.alloc());
         let mut rest = self.iter();
         while let Some((key, value)) = rest.next() {
             match copy.append_unindexed(key.clone()?, value.clone()?) {
@@ -432,18 +354,8 @@ impl<K: MapKey, V> Multimap<K, V> {
         ensures value { result ≡ slice_get (values_at (Q.fits q) self.old) n }
         ensures pairs { self.new ≡ without_nth (Q.fits q) self.old n }
     {
-        let s = nth_slot(
-            self.keys.as_slice(),
-            self.values.as_slice(),
-            &self.index,
-            q,
-            n,
-        )?;
-        unlink(self.keys.as_slice(), &mut self.index, s, q.code());
-        self.keys[s] = None;
-        self.holes += 1;
-        self.leading = count_leading(self.keys.as_slice(), self.leading);
-        self.values[s].take()
+        let s = self.slots.nth_slot(q, n)?;
+        self.slots.take(s, q.code())
     }
 
     // Takes out the pairs that have the key but for the first.
@@ -454,22 +366,7 @@ impl<K: MapKey, V> Multimap<K, V> {
         ensures { self.new ≡ first_alone (K.eq key.now) self.old }
     {
         while let Some(_) = self.take_nth(key, 1) {}
-        self.close_if_sparse();
-    }
-
-    // Closes the holes where they outnumber the pairs.
-    fn close_if_sparse(&mut self)
-    where
-        K: Drop,
-        ensures { self.new ≡ self.old }
-    {
-        if is_sparse(self.keys.as_slice(), self.holes) {
-            close_holes(&mut self.keys, &mut self.values, &mut self.index);
-            self.holes = count_holes(self.keys.as_slice());
-            self.leading = 0;
-            let pairs = Iter::new(self.keys.as_slice(), self.values.as_slice()).len_pairs();
-            self.is_paired = pairs == self.keys.len() - self.holes;
-        }
+        self.slots.close_if_sparse();
     }
 
     // How many pairs fit.

@@ -1,12 +1,12 @@
 -- The chains of the codes: which slots follow one another, and how links and ends say it. Private functions
 -- say it.
-use Rattle.std.specs.Prelude.{◌≡◌, ◌≢◌, ℕ, zero, suc, ◌+◌, ◌-◌, ◌<◌, ◌≤◌, Bool, cond, nat_eq, nat_lt}
+use Rattle.std.specs.Prelude.{◌≡◌, ◌≢◌, ℕ, suc, ◌<◌, ◌≤◌, cond, nat_eq}
 use Rattle.std.specs.Prelude.{unwrap_or, List, length, map, Option, Some, None, MatchOption, IfSome}
 use Rattle.std.specs.Prelude.{vec_len, vec_capacity}
 use Rattle.std.specs.Option.{option_map}
 use Rattle.std.specs.Global.{Box}
 use Rattle.std.specs.HashMap.{get, spare}
-use Rattle.ini_multimap.specs.Inside.Fits.{value_in, code_at, fits_before}
+use Rattle.ini_multimap.specs.Inside.Fits.{value_in, code_at}
 use Rattle.ini_multimap.specs.declared.slots.chains.Chains.{Chains}
 use Rattle.ini_multimap.specs.declared.slots.chains.Link.{Link}
 
@@ -95,49 +95,3 @@ pub record HasRoom (chains : Chains) : Type 0 where
   pub slot : length chains.links.items < no_slot
   pub link : vec_len chains.links < vec_capacity chains.links
   pub ends : 0 < spare chains.ends
-
--- the candidates for the code c, of n slots: by the ends and links, and where there are no chains each slot
-abbrev pub first_in : Option (Box Chains) → ℕ → ℕ → Option ℕ
-first_in (Some chains) n c = first_of (get nat_eq chains.value.ends) c
-first_in None n c = cond (nat_lt 0 n) (Some 0) None
-
-abbrev pub before_in : Option (Box Chains) → ℕ → Option ℕ
-before_in (Some chains) s = prev_at chains.value.links.items s
-before_in None zero = None
-before_in None (suc s) = Some s
-
-abbrev pub last_in : Option (Box Chains) → ℕ → ℕ → Option ℕ
-last_in (Some chains) n c = last_of (get nat_eq chains.value.ends) c
-last_in None n c = before_in None n
-
-abbrev pub after_in : Option (Box Chains) → ℕ → ℕ → Option ℕ
-after_in (Some chains) n s = next_at chains.value.links.items s
-after_in None n s = cond (nat_lt (suc s) n) (Some (suc s)) None
-
--- slot s is a candidate for the code c
-abbrev pub IsCandidate : {K : Type 0} → Option (Box Chains) → (K → ℕ) → ℕ → List (Option K) → ℕ → Type 0
-IsCandidate index code c ks s = (s < length ks) × IfSome index (λ _. code_at code ks s ≡ Some c)
-
--- a walk from the front stands at the candidate r: `left` and the pairs that fit and that it has passed are
--- n
-abbrev pub IsReached : {K V : Type 0} → Option (Box Chains) → (K → ℕ) → (K → Bool) → ℕ → List (Option K)
-    → List (Option V) → ℕ → ℕ → Option ℕ → Type 0
-IsReached index code test c ks vs n left r = MatchOption r (left + fits_before test ks vs (length ks) ≡ n)
-    (λ s. IsCandidate index code c ks s × (left + fits_before test ks vs s ≡ n))
-
--- how far a walk has to go from here
-abbrev pub walk_left : ℕ → Option ℕ → ℕ
-walk_left n None = 0
-walk_left n (Some s) = suc (n - s)
-
--- a walk back from `at` stands at the candidate r: no pair that fits is from there up to `at`
-abbrev pub IsReachedBack : {K V : Type 0} → Option (Box Chains) → (K → ℕ) → (K → Bool) → ℕ → List (Option K)
-    → List (Option V) → ℕ → Option ℕ → Type 0
-IsReachedBack index code test c ks vs at r = MatchOption r (fits_before test ks vs at ≡ 0)
-    (λ s. IsCandidate index code c ks s × (s < at)
-    × (fits_before test ks vs at ≡ fits_before test ks vs (suc s)))
-
--- how far such a walk has to go
-abbrev pub back_left : Option ℕ → ℕ
-back_left None = 0
-back_left (Some s) = suc s

@@ -3,7 +3,7 @@ use Rattle.std.specs.Prelude.{◌≡◌, ℕ, zero, suc, ◌+◌, ◌-◌, ◌<�
 use Rattle.std.specs.Prelude.{length, take, drop, Option, Some, None, MatchOption, IfSome}
 use Rattle.std.specs.Option.{option_map}
 use Rattle.ini_multimap.specs.Pairs.{without, fresh}
-use Rattle.ini_multimap.specs.Slots.{with_cell, pairs_in}
+use Rattle.ini_multimap.specs.Slots.{Columns, with_cell, pairs_in}
 
 -- the value at k, `None` where there is none and past the end
 abbrev pub value_in : {V : Type 0} → List (Option V) → ℕ → Option V
@@ -110,3 +110,7 @@ module _ {K V : Type 0} where
     -- the key of the pair in slot n, where it is equal to none before it
     abbrev pub fresh_at : List K
     fresh_at = fresh eq (pairs_in (take n ks) (take n vs)) (with_cell (value_in ks n) (value_in vs n) [])
+
+-- the keys of the pairs in the slots from `passed` up to `end` that are equal to none before them
+abbrev pub fresh_between : {K V : Type 0} → (K → K → Bool) → Columns K V → ℕ → ℕ → List K
+fresh_between eq slots passed end = fresh_after eq passed (take end slots.keys) (take end slots.values)

@@ -1,27 +1,22 @@
 //! The walks over the values of one key: lent, lent for writing, and taken out. This file knows
 //! keys by a probe alone.
-ghost use Rattle.std.specs.Prelude.{◌≡◌, length};
+ghost use Rattle.std.specs.Prelude.{◌≡◌, ◌<◌, ◌^◌, length};
 ghost use Rattle.std.specs.Iterator.{item_count, YieldsFirst, YieldsLast, YieldsFirstRef, YieldsLastRef};
 ghost use Rattle.std.specs.Iterator.{YieldsFirstMut, YieldsLastMut};
 ghost use Rattle.ini_multimap.specs.Pairs.{values_at};
 ghost use Rattle.ini_multimap.specs.Iter.{iter_mut_rest, values_mut_rest};
-ghost use Rattle.ini_multimap.specs.Slots.{pairs_in};
-ghost use Rattle.ini_multimap.specs.Inside.Chains.{IsIndexed};
+ghost use Rattle.ini_multimap.specs.Slots.{pairs_of};
 
 use super::pairs::IterMut;
 use crate::key::{MapKey, Probe};
-use crate::slots::{
-    Chains, candidate_after, candidate_before, first_candidate, fitting_value, last_candidate,
-};
+use crate::slots::Slots;
 use std::marker::Model;
 use std::vec;
 
 /// The values of one key in list order, lent. Seen as the list of the values that are left.
 #[derive(Drop)]
 pub struct Values<'a, K: MapKey, V, Q: Probe<K> + Copy> {
-    keys: &'a [Option<K>],
-    values: &'a [Option<V>],
-    index: &'a Option<Box<Chains>>,
+    slots: &'a Slots<K, V>,
     q: Q,
     // The candidates that are left go from the one to the other.
     first: Option<usize>,
@@ -30,35 +25,27 @@ pub struct Values<'a, K: MapKey, V, Q: Probe<K> + Copy> {
 
 impl<'a, K: MapKey, V, Q: Probe<K> + Copy> Model for Values<'a, K, V, Q> {
     ghost use Rattle.std.specs.Prelude.{List};
-    ghost use Rattle.ini_multimap.specs.Inside.Filled.{AreBetween, values_from};
+    ghost use Rattle.ini_multimap.specs.Inside.Candidates.{AreBetween, values_from};
 
     ghost Value = { List V };
 
-    ghost view = { λ it. values_from (Q.fits it.q) it.keys.now it.values.now it.first it.last };
+    ghost view = { λ it. values_from (Q.fits it.q) it.slots.now.keys it.slots.now.values it.first it.last };
 
     ghost invariant = { λ it.
-        AreBetween K.key_code (Q.probe_code it.q) it.keys.now it.values.now it.index.now
+        AreBetween it.slots.now.is_chained K.key_code (Q.probe_code it.q) it.slots.now.keys
         it.first it.last };
 }
 
 impl<'a, K: MapKey, V, Q: Probe<K> + Copy> Values<'a, K, V, Q> {
-    pub(crate) fn new(
-        keys: &'a [Option<K>],
-        values: &'a [Option<V>],
-        index: &'a Option<Box<Chains>>,
-        q: Q,
-    ) -> Self
-        requires long { length values.now ≡ length keys.now }
-        requires indexed { IsIndexed K.key_code keys.now index.now }
-        ensures { result ≡ values_at (Q.fits q) (pairs_in keys.now values.now) }
+    pub(crate) fn new(slots: &'a Slots<K, V>, q: Q) -> Self
+        ensures values { result ≡ values_at (Q.fits q) (pairs_of slots.now) }
+        ensures countable { length result < 2 ^ 64 }
     {
         Values {
-            keys,
-            values,
-            index,
+            slots,
             q,
-            first: first_candidate(keys, index, q),
-            last: last_candidate(keys, index, q),
+            first: slots.first_candidate(q),
+            last: slots.last_candidate(q),
         }
     }
 }
@@ -76,8 +63,8 @@ impl<'a, K: MapKey, V, Q: Probe<K> + Copy> Iterator for Values<'a, K, V, Q> {
             if last < s {
                 return None;
             }
-            self.first = candidate_after(self.index, self.keys.len(), s);
-            if let Some(value) = fitting_value(self.keys, self.values, s, self.q) {
+            self.first = self.slots.candidate_after(s);
+            if let Some(value) = self.slots.fitting_value(s, self.q) {
                 return Some(value);
             }
         }
@@ -99,8 +86,8 @@ impl<'a, K: MapKey, V, Q: Probe<K> + Copy> DoubleEndedIterator for Values<'a, K,
             if s < first {
                 return None;
             }
-            self.last = candidate_before(self.index, s);
-            if let Some(value) = fitting_value(self.keys, self.values, s, self.q) {
+            self.last = self.slots.candidate_before(s);
+            if let Some(value) = self.slots.fitting_value(s, self.q) {
                 return Some(value);
             }
         }

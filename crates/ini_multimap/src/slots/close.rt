@@ -1,17 +1,36 @@
 //! The closing of holes, in place: the slots that hold something move down, and then the chains are
 //! made anew.
-ghost use Rattle.std.specs.Prelude.{◌≡◌, ◌<◌, ◌-◌, ◌^◌, length, nat_lt, None};
+ghost use Rattle.std.specs.Prelude.{◌≡◌, ◌<◌, ◌^◌, length, None};
 ghost use Rattle.std.specs.Bool.{OnTrue};
-ghost use Rattle.ini_multimap.specs.Slots.{pairs_in};
+ghost use Rattle.ini_multimap.specs.Slots.{pairs_in, pairs_of};
 ghost use Rattle.ini_multimap.specs.Inside.Fits.{holes_in, value_in};
 ghost use Rattle.ini_multimap.specs.Inside.Chains.{IsIndexed};
 ghost use Rattle.ini_multimap.specs.Inside.Moves.{MovesDown};
 
-use super::Chains;
+use super::Slots;
+use super::chains::Chains;
+use super::find::count_pairs;
 use crate::key::MapKey;
 
-// Closes the holes. It takes no memory.
-pub(crate) fn close_holes<K: MapKey + Drop, V>(
+impl<K: MapKey, V> Slots<K, V> {
+    // Closes the holes where they outnumber the slots that hold something. It takes no memory.
+    pub(crate) fn close_if_sparse(&mut self)
+    where
+        K: Drop,
+        ensures { pairs_of self.new ≡ pairs_of self.old }
+    {
+        if self.keys.len() - self.holes < self.holes {
+            close_holes(&mut self.keys, &mut self.values, &mut self.index);
+            self.holes = count_holes(self.keys.as_slice());
+            self.leading = 0;
+            let pairs = count_pairs(self.keys.as_slice(), self.values.as_slice());
+            self.is_paired = pairs == self.keys.len() - self.holes;
+        }
+    }
+}
+
+// Closes the holes.
+fn close_holes<K: MapKey + Drop, V>(
     keys: &mut Vec<Option<K>>,
     values: &mut Vec<Option<V>>,
     index: &mut Option<Box<Chains>>,
@@ -30,16 +49,8 @@ pub(crate) fn close_holes<K: MapKey + Drop, V>(
     }
 }
 
-// Whether more slots are holes than hold something.
-pub(crate) fn is_sparse<K>(keys: &[Option<K>], holes: usize) -> bool
-    requires { holes ≡ holes_in keys.now }
-    ensures { result ≡ nat_lt (length keys.now - holes_in keys.now) (holes_in keys.now) }
-{
-    keys.len() - holes < holes
-}
-
 // How many slots have no key.
-pub(crate) fn count_holes<K>(keys: &[Option<K>]) -> usize
+fn count_holes<K>(keys: &[Option<K>]) -> usize
     requires { length keys.now < 2 ^ 64 }
     ensures { result ≡ holes_in keys.now }
 {

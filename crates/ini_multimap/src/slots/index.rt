@@ -1,13 +1,14 @@
 //! Which slots are to be looked at for a code, the candidates: those of its chain where there are chains,
 //! and else each of the few. Whoever asks doesn't know of it.
-ghost use Rattle.std.specs.Prelude.{◌≡◌, ◌<◌, ◌≤◌, ◌^◌, ◌∷◌, ◌++◌, [], Some, None, suc, length, slice_set};
-ghost use Rattle.std.specs.Prelude.{IfOk, IfSome, OnOk, vec_len, vec_capacity};
+ghost use Rattle.std.specs.Prelude.{◌≡◌, ◌<◌, ◌^◌, ◌∷◌, ◌++◌, [], ℕ, Some, None, suc, length, slice_set};
+ghost use Rattle.std.specs.Prelude.{IfSome, OnOk, vec_len, vec_capacity};
 ghost use Rattle.std.specs.Bool.{OnTrue};
+ghost use Rattle.ini_multimap.specs.Inside.Candidates.{IsAhead, IsBehind, IsCandidate};
 ghost use Rattle.ini_multimap.specs.Inside.Fits.{IsInjective, code_at};
 ghost use Rattle.ini_multimap.specs.Inside.Chains.{HasRoom, IsIndexed};
-ghost use Rattle.ini_multimap.specs.Inside.Chains.{after_in, before_in, first_in, last_in};
 
-use super::Chains;
+use super::Slots;
+use super::chains::Chains;
 use crate::key::{MapKey, Probe};
 use std::alloc::AllocError;
 
@@ -17,90 +18,60 @@ pub(crate) const FEW: usize = 16;
 // So many slots have room at first.
 const FIRST: usize = 8;
 
-// The first candidate for the code that the probe has.
-#[inline(always)]
-pub(crate) fn first_candidate<K: MapKey, Q: Probe<K> + Copy>(
-    keys: &[Option<K>],
-    index: &Option<Box<Chains>>,
-    q: Q,
-) -> Option<usize>
-    ensures { result ≡ first_in index.now (length keys.now) (Q.probe_code q) }
-{
-    match index {
-        Some(chains) => chains.first(q.code()),
-        None if 0 < keys.len() => Some(0),
-        None => None,
-    }
-}
-
-// The last candidate for the code that the probe has.
-pub(crate) fn last_candidate<K: MapKey, Q: Probe<K> + Copy>(
-    keys: &[Option<K>],
-    index: &Option<Box<Chains>>,
-    q: Q,
-) -> Option<usize>
-    ensures { result ≡ last_in index.now (length keys.now) (Q.probe_code q) }
-{
-    match index {
-        Some(chains) => chains.last(q.code()),
-        None => keys.len().checked_sub(1),
-    }
-}
-
-// The candidate after s, of so many slots.
-#[inline(always)]
-pub(crate) fn candidate_after(index: &Option<Box<Chains>>, slots: usize, s: usize) -> Option<usize>
-    requires within { s < slots }
-    requires linked { IfSome index.now (λ chains. s < length chains.value.links.items) }
-    ensures { result ≡ after_in index.now slots s }
-{
-    match index {
-        Some(chains) => chains.next(s),
-        None if s + 1 < slots => Some(s + 1),
-        None => None,
-    }
-}
-
-// The candidate before s.
-pub(crate) fn candidate_before(index: &Option<Box<Chains>>, s: usize) -> Option<usize>
-    requires { IfSome index.now (λ chains. s < length chains.value.links.items) }
-    ensures { result ≡ before_in index.now s }
-{
-    match index {
-        Some(chains) => chains.prev(s),
-        None => s.checked_sub(1),
-    }
-}
-
-// Chains the slots, where they are as many as that and have no chains yet. Whether each code is known to be
-// that of one key comes back: where nothing is done, as it was known.
-pub(crate) fn chain_from<K: MapKey>(
-    slots: usize,
-    keys: &Vec<Option<K>>,
-    index: &mut Option<Box<Chains>>,
-    was_injective: bool,
-) -> Result<bool, AllocError>
-    requires indexed { IsIndexed K.key_code keys.now.items index.old }
-    requires known { OnTrue was_injective (IsInjective K.eq K.key_code keys.now.items) }
-    ensures indexed { IsIndexed K.key_code keys.now.items index.new }
-    ensures known { IfOk result (λ is_known. OnTrue is_known (IsInjective K.eq K.key_code keys.now.items)) }
-{
-    if keys.len() < slots || index.is_some() {
-        return Ok(was_injective);
-    }
-    let alloc = *keys.allocator();
-    let (chains, is_injective) = Chains::of_keys(alloc, keys.as_slice())?;
-    match Box::new(alloc, chains) {
-        Ok(chains) => {
-            *index = Some(chains);
-            Ok(is_injective)
+impl<K: MapKey, V> Slots<K, V> {
+    // The first candidate for the code that the probe has.
+    #[inline(always)]
+    pub(crate) fn first_candidate<Q: Probe<K> + Copy>(&self, q: Q) -> Option<usize>
+        ensures { IsAhead self.now.is_chained K.key_code (Q.probe_code q) self.now.keys 0 result }
+    {
+        match &self.index {
+            Some(chains) => chains.first(q.code()),
+            None if 0 < self.keys.len() => Some(0),
+            None => None,
         }
-        Err(_) => Err(AllocError),
+    }
+
+    // The last candidate for the code that the probe has.
+    pub(crate) fn last_candidate<Q: Probe<K> + Copy>(&self, q: Q) -> Option<usize>
+        ensures last { IsBehind self.now.is_chained K.key_code (Q.probe_code q) self.now.keys
+            (length self.now.keys) result }
+        ensures countable { length self.now.keys < 2 ^ 64 }
+    {
+        match &self.index {
+            Some(chains) => chains.last(q.code()),
+            None => self.keys.len().checked_sub(1),
+        }
+    }
+
+    // The candidate after s, for each code for which s is one.
+    #[inline(always)]
+    pub(crate) fn candidate_after(&self, s: usize) -> Option<usize>
+        requires { s < length self.now.keys }
+        ensures { (c : ℕ) → IsCandidate self.now.is_chained K.key_code c self.now.keys s
+            → IsAhead self.now.is_chained K.key_code c self.now.keys (suc s) result }
+    {
+        match &self.index {
+            Some(chains) => chains.next(s),
+            None if s + 1 < self.keys.len() => Some(s + 1),
+            None => None,
+        }
+    }
+
+    // The candidate before s, for each code for which s is one.
+    pub(crate) fn candidate_before(&self, s: usize) -> Option<usize>
+        requires { s < length self.now.keys }
+        ensures { (c : ℕ) → IsCandidate self.now.is_chained K.key_code c self.now.keys s
+            → IsBehind self.now.is_chained K.key_code c self.now.keys s result }
+    {
+        match &self.index {
+            Some(chains) => chains.prev(s),
+            None => s.checked_sub(1),
+        }
     }
 }
 
 // Room for one more slot, before anything changes, and for its link where there are chains.
-pub(crate) fn make_room<K: MapKey, V>(
+pub(super) fn make_room<K: MapKey, V>(
     keys: &mut Vec<Option<K>>,
     values: &mut Vec<Option<V>>,
     index: &mut Option<Box<Chains>>,
@@ -123,7 +94,7 @@ pub(crate) fn make_room<K: MapKey, V>(
 }
 
 // A slot with the key is to come last. Whether each code is still known to be that of one key comes back.
-pub(crate) fn link_last<K: MapKey>(
+pub(super) fn link_last<K: MapKey>(
     keys: &[Option<K>],
     index: &mut Option<Box<Chains>>,
     key: &K,
@@ -142,7 +113,7 @@ pub(crate) fn link_last<K: MapKey>(
 }
 
 // Slot s, which has the code, is to be a hole.
-pub(crate) fn unlink<K: MapKey>(
+pub(super) fn unlink<K: MapKey>(
     keys: &[Option<K>],
     index: &mut Option<Box<Chains>>,
     s: usize,

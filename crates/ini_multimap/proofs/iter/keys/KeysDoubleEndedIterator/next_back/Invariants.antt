@@ -1,16 +1,16 @@
-use Rattle.std.proofs.Common.{◌≡◌, ◌-◌, take}
-use Rattle.ini_multimap.specs.Inside.Fits.{fresh_after}
-use Rattle.ini_multimap.specs.Inside.Filled.{AreLeft}
+use Rattle.std.proofs.Common.{◌≡◌, ◌-◌, ◌≤◌, length}
+use Rattle.ini_multimap.specs.Inside.Fits.{fresh_between}
 use Rattle.ini_multimap.proofs.iter.keys.KeysDoubleEndedIterator.next_back.Given as goal
 
 -- only holes and keys that occur before were passed over
 abbrev pub invariant-loop-self : goal.invariant-loop-self
-invariant-loop-self g l = record {
-  slots : AreLeft g.K.MapKey.key_code l.self-inside.keys.now l.self-inside.values.now
-      l.self-inside.index.now l.self-inside.is_paired l.self-inside.passed l.self-inside.end;
-  left : fresh_after g.K.PartialEq.eq l.self-inside.passed (take l.self-inside.end l.self-inside.keys.now)
-      (take l.self-inside.end l.self-inside.values.now) ≡ l.fn.self;
-}
+invariant-loop-self g l =
+    let it = l.self-inside in
+    record {
+      ordered : it.passed ≤ it.end;
+      within : it.end ≤ length it.slots.now.keys;
+      left : fresh_between g.K.PartialEq.eq it.slots.now it.passed it.end ≡ l.fn.self;
+    }
 
 abbrev pub decreases-loop-self : goal.decreases-loop-self
 decreases-loop-self g l = l.self-inside.end - l.self-inside.passed

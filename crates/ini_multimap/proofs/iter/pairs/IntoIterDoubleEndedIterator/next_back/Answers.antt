@@ -1,7 +1,9 @@
-use Rattle.std.proofs.Common.{◌∷◌, [], sym, ◌∙◌, ap, length, arith}
+use Rattle.std.proofs.Common.{◌≡◌, [], sym, ◌∙◌, ap, length, arith, rules}
 use Rattle.std.proofs.lemmas.List.{length-append}
+use Rattle.ini_multimap.specs.Slots.{with_cell}
 use Rattle.ini_multimap.proofs.EndLemmas.{rest_long, last_cell, last_none}
 use Rattle.ini_multimap.proofs.iter.pairs.IntoIterDoubleEndedIterator.next_back.Goals as goal
+use Rattle.ini_multimap.proofs.iter.pairs.IntoIterDoubleEndedIterator.next_back.Goals.{in_default-via-in-None-1, in_default-via-in-Some-key+in-None-1}
 
 pub loop-key-init : goal.loop-key-init
 loop-key-init g c = record {
@@ -13,7 +15,7 @@ loop-key-init g c = record {
 pub overflow_sub-self : goal.overflow_sub-self
 overflow_sub-self g c =
     let pairs = last_cell _ _ _ _ _ _ c.in-Some.ensures.steps c.in-Some-next_back.ensures.steps
-    c.loop-key.invariant.long (c.in-Some-into_pair.pair ∷ []) (sym c.in-Some-into_pair.ensures) in
+    c.loop-key.invariant.long _ (λ j. with_cell (c.in-Some-key.is j) (c.in-Some-value.is j) []) in
     omega (
       arith,
       c.loop-key.invariant.counted,
@@ -21,10 +23,10 @@ overflow_sub-self g c =
       simp length-append at (ap length pairs),
     )
 
-pub invariant_of-self-in-Some-into_pair : goal.invariant_of-self-in-Some-into_pair
-invariant_of-self-in-Some-into_pair g c =
+pub invariant_of-self-in-Some : goal.invariant_of-self-in-Some
+invariant_of-self-in-Some g c =
     let pairs = last_cell _ _ _ _ _ _ c.in-Some.ensures.steps c.in-Some-next_back.ensures.steps
-    c.loop-key.invariant.long (c.in-Some-into_pair.pair ∷ []) (sym c.in-Some-into_pair.ensures) in (
+    c.loop-key.invariant.long _ (λ j. with_cell (c.in-Some-key.is j) (c.in-Some-value.is j) []) in (
       rest_long _ _ _ _ _ _ c.in-Some.ensures.steps c.in-Some-next_back.ensures.steps
           c.loop-key.invariant.long,
       omega (
@@ -36,16 +38,14 @@ invariant_of-self-in-Some-into_pair g c =
       ),
     )
 
-pub returns-in-Some-into_pair-clause-steps : goal.returns-in-Some-into_pair-clause-steps
-returns-in-Some-into_pair-clause-steps g c = sym c.loop-key.invariant.left
+pub returns-in-Some-clause-steps : goal.returns-in-Some-clause-steps
+returns-in-Some-clause-steps g c = sym c.loop-key.invariant.left
     ∙ last_cell _ _ _ _ _ _ c.in-Some.ensures.steps c.in-Some-next_back.ensures.steps
-    c.loop-key.invariant.long (c.in-Some-into_pair.pair ∷ []) (sym c.in-Some-into_pair.ensures)
+    c.loop-key.invariant.long _ (λ j. with_cell (c.in-Some-key.is j) (c.in-Some-value.is j) [])
 
-pub returns-in-Some-into_pair-clause-goes : goal.returns-in-Some-into_pair-clause-goes
-returns-in-Some-into_pair-clause-goes g c =
-    let steps = sym c.loop-key.invariant.left
-    ∙ last_cell _ _ _ _ _ _ c.in-Some.ensures.steps c.in-Some-next_back.ensures.steps
-    c.loop-key.invariant.long (c.in-Some-into_pair.pair ∷ []) (sym c.in-Some-into_pair.ensures) in
+pub returns-in-Some-clause-goes : goal.returns-in-Some-clause-goes
+returns-in-Some-clause-goes g c =
+    let steps = returns-in-Some-clause-steps g c in
     record {
       on = λ finite.
           (tt, finite, omega (arith, simp length-append at (ap length steps)));
@@ -54,11 +54,31 @@ returns-in-Some-into_pair-clause-goes g c =
     }
 
 pub loop-key-preserved : goal.loop-key-preserved
-loop-key-preserved g c = record {
-  left = sym (last_none _ _ _ _ _ _ c.in-Some.ensures.steps c.in-Some-next_back.ensures.steps
-      c.loop-key.invariant.long (sym c.in-None.ensures)) ∙ c.loop-key.invariant.left;
-  long =
-      rest_long _ _ _ _ _ _ c.in-Some.ensures.steps c.in-Some-next_back.ensures.steps
-      c.loop-key.invariant.long;
-  counted = c.loop-key.invariant.counted;
-}
+loop-key-preserved g c =
+    let hole : with_cell c.in-Some.key c.in-Some-next_back.value [] ≡ [] = elim c.in_default.branch [
+      | in_default-via-in-None-1 w ↦ search rules
+      | in_default-via-in-Some-key+in-None-1 w ↦ search rules
+    ] in
+    record {
+      left = sym (last_none _ _ _ _ _ _ c.in-Some.ensures.steps c.in-Some-next_back.ensures.steps
+          c.loop-key.invariant.long hole) ∙ c.loop-key.invariant.left;
+      long =
+          rest_long _ _ _ _ _ _ c.in-Some.ensures.steps c.in-Some-next_back.ensures.steps
+          c.loop-key.invariant.long;
+      counted = c.loop-key.invariant.counted;
+    }
+
+pub loop-key-preserved-in_default : goal.loop-key-preserved-in_default
+loop-key-preserved-in_default g c =
+    let hole : with_cell c.in-Some.key c.in-Some-next_back.value [] ≡ [] = elim c.in_default.branch [
+      | in_default-via-in-None-1 w ↦ search rules
+      | in_default-via-in-Some-key+in-None-1 w ↦ search rules
+    ] in
+    record {
+      left = sym (last_none _ _ _ _ _ _ c.in-Some.ensures.steps c.in-Some-next_back.ensures.steps
+          c.loop-key.invariant.long hole) ∙ c.loop-key.invariant.left;
+      long =
+          rest_long _ _ _ _ _ _ c.in-Some.ensures.steps c.in-Some-next_back.ensures.steps
+          c.loop-key.invariant.long;
+      counted = c.loop-key.invariant.counted;
+    }

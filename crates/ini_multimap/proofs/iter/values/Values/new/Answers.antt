@@ -1,13 +1,34 @@
-use Rattle.std.proofs.Common.{◌∙◌}
-use Rattle.ini_multimap.specs.Inside.Filled.{values_from}
-use Rattle.ini_multimap.proofs.ValueLemmas.{all_from}
+use Rattle.std.proofs.Common.{ap, arith, length}
+use Rattle.ini_multimap.specs.Slots.{pairs_of}
+use Rattle.ini_multimap.proofs.LengthLemmas.{length-values_at-le}
+use Rattle.ini_multimap.proofs.ValueLemmas.{ahead_candidate, all_from, behind_candidate}
+use Rattle.ini_multimap.proofs.WalkLemmas.{pairs_le}
 use Rattle.ini_multimap.proofs.iter.values.Values.new.Goals as goal
 
-pub returns : goal.returns
-returns g c =
+pub invariant_of-result : goal.invariant_of-result
+invariant_of-result g c =
+    let slots = c.args.slots.now in
+    let k = g.Q.Probe.probe_code c.args.q in (
+      ahead_candidate slots.is_chained g.K.MapKey.key_code k slots.keys 0 c.first_candidate.result
+          c.first_candidate.ensures,
+      behind_candidate slots.is_chained g.K.MapKey.key_code k slots.keys (length slots.keys)
+          c.last_candidate.result c.last_candidate.ensures.last,
+    )
+
+pub returns-clause-values : goal.returns-clause-values
+returns-clause-values g c =
+    let slots = c.args.slots.now in
+    all_from (g.met.Q.Probe.same_code c.args.q) slots.is_chained slots.keys slots.values
+    c.first_candidate.result c.last_candidate.result c.first_candidate.ensures c.last_candidate.ensures.last
+
+pub returns-clause-countable : goal.returns-clause-countable
+returns-clause-countable g c =
+    let slots = c.args.slots.now in
     let test = g.Q.Probe.fits c.args.q in
-    let ks = c.args.keys.now in
-    let vs = c.args.values.now in
-    (λ j. values_from test ks vs (c.first_candidate.ensures j) (c.last_candidate.ensures j))
-    ∙ all_from g.K.MapKey.key_code test (g.Q.Probe.probe_code c.args.q) (g.met.Q.Probe.same_code c.args.q)
-    c.args.index.now ks vs c.requires.indexed
+    omega (
+      arith,
+      ap length (returns-clause-values g c),
+      length-values_at-le test (pairs_of slots),
+      pairs_le slots.keys slots.values,
+      c.last_candidate.ensures.countable,
+    )

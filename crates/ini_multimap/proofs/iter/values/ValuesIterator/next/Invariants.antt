@@ -1,17 +1,18 @@
 use Rattle.std.proofs.Common.{◌≡◌, Some, length}
-use Rattle.ini_multimap.specs.Inside.Chains.{walk_left}
-use Rattle.ini_multimap.specs.Inside.Filled.{AreBetween, values_from}
+use Rattle.ini_multimap.specs.Inside.Candidates.{AreBetween, values_from, walk_left}
 use Rattle.ini_multimap.proofs.iter.values.ValuesIterator.next.Given as goal
 
 -- only pairs that do not fit were passed over
 abbrev pub invariant-loop-self : goal.invariant-loop-self
-invariant-loop-self g l = record {
-  slots : AreBetween g.K.MapKey.key_code (g.Q.Probe.probe_code l.self-inside.q) l.self-inside.keys.now
-      l.self-inside.values.now l.self-inside.index.now l.self-inside.first l.self-inside.last;
-  end : l.self-inside.last ≡ Some l.last;
-  left : values_from (g.Q.Probe.fits l.self-inside.q) l.self-inside.keys.now l.self-inside.values.now
-      l.self-inside.first l.self-inside.last ≡ l.fn.self;
-}
+invariant-loop-self g l =
+    let it = l.self-inside in
+    let columns = it.slots.now in
+    record {
+      slots : AreBetween columns.is_chained g.K.MapKey.key_code (g.Q.Probe.probe_code it.q) columns.keys
+          it.first it.last;
+      end : it.last ≡ Some l.last;
+      left : values_from (g.Q.Probe.fits it.q) columns.keys columns.values it.first it.last ≡ l.fn.self;
+    }
 
 abbrev pub decreases-loop-self : goal.decreases-loop-self
-decreases-loop-self g l = walk_left (length l.self-inside.keys.now) l.self-inside.first
+decreases-loop-self g l = walk_left (length l.self-inside.slots.now.keys) l.self-inside.first
