@@ -94,6 +94,42 @@ static void look_ups(void)
     bigrosk_ini_free(&d);
 }
 
+/* bytes that are no UTF-8, as a name or as a key, with the other one there and not there */
+static void look_ups_by_no_text(void)
+{
+    static const char *const rows[][2] = {
+        { "\xff", "log" }, { "\xff", "nothing" }, { "\xff", "\xff" }, { "paths", "\xff" }, { "nowhere", "\xff" },
+        { NULL, "\xff" }, { "\xc3", "\xc3\xb6" }, { "\xc3\xa4", "\xc3" }, { "\xc3\xa4", "\xc3\xb6\xc3" },
+    };
+    document d = BIGROSK_INI_EMPTY;
+    fault f;
+    char value[64] = "as it was";
+    size_t count;
+    CHECK(bigrosk_ini_load_str("port=1\n[paths]\nlog=2\n[\xc3\xa4]\n\xc3\xb6=3\n", &d, &f) == BIGROSK_INI_OK);
+    CHECK(is_value(&d, "\xc3\xa4", "\xc3\xb6", "3"));
+    for (size_t i = 0; i < sizeof rows / sizeof *rows; i++) {
+        CHECK(bigrosk_ini_get_str(&d, rows[i][0], rows[i][1], value, sizeof value, &count) == BIGROSK_INI_NOT_UTF8);
+        CHECK(bigrosk_ini_has_str(&d, rows[i][0], rows[i][1]) == BIGROSK_INI_NOT_UTF8);
+    }
+    CHECK(bigrosk_ini_get_str(&d, "\xc3\xb6", "\xc3\xb6", value, sizeof value, &count) == BIGROSK_INI_ABSENT);
+    CHECK(bigrosk_ini_has_str(&d, "\xc3\xa4", "\xc3\xa4") == BIGROSK_INI_ABSENT);
+    CHECK(bigrosk_ini_has_section_str(&d, "\xc3\xa4") == BIGROSK_INI_OK);
+    CHECK(bigrosk_ini_has_section_str(&d, "\xc3") == BIGROSK_INI_NOT_UTF8);
+    CHECK(!strcmp(value, "as it was"));
+
+    /* the general section's name is passed over, but must be a text */
+    const uint8_t *name = (const uint8_t *)"\xc3\xa4", *key = (const uint8_t *)"port";
+    uint8_t *out = (uint8_t *)value;
+    CHECK(bigrosk_ini_get(&d, false, name, 1, key, 4, out, sizeof value, &count) == BIGROSK_INI_NOT_UTF8);
+    CHECK(bigrosk_ini_has(&d, false, name, 1, key, 4) == BIGROSK_INI_NOT_UTF8);
+    CHECK(bigrosk_ini_has_section(&d, false, name, 1) == BIGROSK_INI_NOT_UTF8);
+    CHECK(!strcmp(value, "as it was"));
+    CHECK(bigrosk_ini_get(&d, false, name, 2, key, 4, out, sizeof value, &count) == BIGROSK_INI_OK && count == 1);
+    CHECK(bigrosk_ini_has(&d, false, name, 2, key, 4) == BIGROSK_INI_OK);
+    CHECK(bigrosk_ini_has_section(&d, false, name, 2) == BIGROSK_INI_OK);
+    bigrosk_ini_free(&d);
+}
+
 static void edits(void)
 {
     document d = BIGROSK_INI_EMPTY;
@@ -496,6 +532,7 @@ int main(void)
 {
     nothing_is_loaded();
     look_ups();
+    look_ups_by_no_text();
     edits();
     refusals();
     options();

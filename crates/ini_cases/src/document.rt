@@ -29,6 +29,14 @@ pub fn name_of(token: &Token) -> Result<Option<&str>, Error> {
     }
 }
 
+// A name's bytes.
+fn bytes_of(name: Option<&str>) -> Option<&[u8]> {
+    match name {
+        Some(name) => Some(name.as_bytes()),
+        None => None,
+    }
+}
+
 impl Desk {
     /// A new document, and the options.
     pub fn new(alloc: Global, options: Options) -> Result<Desk, Error> {
@@ -140,6 +148,9 @@ impl Desk {
             }
             "reload" => return self.reloaded(text),
             "section" => return self.shown(self.document.section(name)),
+            "section_by_bytes" => {
+                return self.shown(self.document.section_by_bytes(bytes_of(name)));
+            }
             "delete" => {
                 let deleted = self.document.delete(name);
                 return self.shown(deleted.as_ref());
@@ -199,6 +210,10 @@ impl Desk {
         let (alloc, text) = (self.alloc, name.unwrap_or(""));
         match call {
             "get_from" => value(alloc, self.document.get_from(name, key)),
+            "get_by_bytes" => {
+                let found = self.document.get_by_bytes(bytes_of(name), key.as_bytes());
+                value(alloc, found)
+            }
             "get_from_or" => value(alloc, Some(self.document.get_from_or(name, key, "d"))),
             "get" => value(alloc, self.document.with_section(name).get(key)),
             "index" => value(alloc, indexed(&self.document, name, key)),

@@ -104,6 +104,24 @@ fn preserve_order_properties_into_iter(rt: HostRuntime) -> Result<(), Fail> {
     Ok(())
 }
 
+// Bytes find what the text finds that they are; those that are no UTF-8 find nothing.
+#[test]
+fn look_ups_by_bytes(rt: HostRuntime) -> Result<(), Fail> {
+    let document = Ini::load_from_str(rt.alloc(), "k=v\n[ä]\nö=w\n")?;
+    let (name, key) = (b"\xc3\xa4".as_slice(), b"\xc3\xb6".as_slice());
+    let cut = b"\xc3".as_slice();
+    assert!(rt; document.get_by_bytes(None, b"k".as_slice()) == Some("v"));
+    assert!(rt; document.get_by_bytes(Some(name), key) == Some("w"));
+    assert!(rt; document.get_by_bytes(Some(name), name).is_none());
+    assert!(rt; document.get_by_bytes(Some(name), cut).is_none());
+    assert!(rt; document.get_by_bytes(Some(cut), key).is_none());
+    assert!(rt; document.get_by_bytes(None, key).is_none());
+    assert!(rt; document.section_by_bytes(Some(name)).is_some());
+    assert!(rt; document.section_by_bytes(Some(cut)).is_none());
+    assert!(rt; document.section_by_bytes(Some(key)).is_none());
+    Ok(())
+}
+
 #[test]
 fn debug_forms(rt: HostRuntime) -> Result<(), Fail> {
     let shown = format!(in rt.alloc(); "{:?}", Ini::new(rt.alloc())?)?;
