@@ -71,8 +71,8 @@ fn each_request_of_loading_many_pairs_is_refused(rt: HostRuntime) {
     let (document, refused) = loaded_at_last(&rt, MANY_PAIRS, all_on());
     assert!(rt; refused > 0);
     expect_shown(&rt, "loading many pairs", &document, MANY_PAIRS_SHOWN);
-    assert!(rt; document.get_from(None::<&str>, "j") == Some("19"));
-    assert!(rt; document.get_from(None::<&str>, "h") == Some("8"));
+    assert!(rt; document.get_from(None, "j") == Some("19"));
+    assert!(rt; document.get_from(None, "h") == Some("8"));
     assert!(rt; document.get_from(Some("s"), "k") == Some("20"));
 }
 

@@ -174,3 +174,38 @@ fn more_than_a_million_pairs_are_loaded(rt: HostRuntime) -> Result<(), Fail> {
     assert!(rt; general_pairs(&document) == 1_100_000);
     Ok(())
 }
+
+// So many lines, each a number between two texts.
+fn many_lines(alloc: Global, before: &str, behind: &str) -> Result<String, Error> {
+    let mut lines = String::new(alloc);
+    for number in 0..MANY {
+        let line = format!(in alloc; "{before}{number}{behind}\n")?;
+        lines.push_str(&line)?;
+    }
+    Ok(lines)
+}
+
+// How many numbers are found as general keys, and as sections.
+fn found(alloc: Global, document: &Ini) -> Result<usize, Error> {
+    let mut found: usize = 0;
+    for number in 0..2_000_000 {
+        let name = name(alloc, number)?;
+        let is_key = document.get_from(None, &name).is_some();
+        let is_section = document.section(Some(&name)).is_some();
+        found = found.saturating_add(usize::from(is_key));
+        found = found.saturating_add(usize::from(is_section));
+    }
+    Ok(found)
+}
+
+// Look-ups that go over all keys, or over all sections, wouldn't end in time.
+#[test]
+fn keys_and_sections_that_were_loaded_are_found(rt: HostRuntime) -> Result<(), Fail> {
+    let keys = many_lines(rt.alloc(), "", "=v")?;
+    let headers = many_lines(rt.alloc(), "[", "]")?;
+    let text = format!(in rt.alloc(); "{keys}{headers}")?;
+    let document = Ini::load_from_str(rt.alloc(), &text)?;
+    let found = found(rt.alloc(), &document)?;
+    assert!(rt; found == 2 * MANY, "{found}");
+    Ok(())
+}
