@@ -1,0 +1,167 @@
+#!/usr/bin/env python3
+"""Tries the wrong bodies that the gate leaves out for time: each must be refused, as those in must-fail/ are by `rt ci`.
+
+    tools/wrong_bodies.py [--jobs N] [CRATE | CRATE/EDIT ..]
+
+It works on copies of the files that git knows, with the libraries' `out` where there is one. A crate is proved there once as
+it stands. Then each of its edits is made, and the function that it changes is proved anew: what is refused there is refused
+in the whole crate. Only where the function is proved all the same, its module is tried, and last the whole crate.
+
+By default it takes every crate, and as many edits at a time as there are processors (N). It prints a line for each edit, and
+last how many were refused, how many were not, and how many couldn't be read. The status is 0 where all were refused.
+"""
+import os
+import re
+import shutil
+import subprocess
+import sys
+import tempfile
+from concurrent.futures import ThreadPoolExecutor
+from pathlib import Path
+from queue import Queue
+
+TOP = Path(__file__).resolve().parents[1]
+# What a check says of an edit that no prover judged.
+UNREADABLE = re.compile(r"\berror\[[\w-]+\]|^(\./)?(src|specs)/\S+:\d+:\d+: error: .*(is not in scope|has no field|is no name)", re.M)
+# What it says where a name isn't that of one function.
+NO_ONE = re.compile(r"^rattle: error: (several functions are named|.* has no function)", re.M)
+# What it says of a goal, and of a proof that is no longer one.
+GOAL = re.compile(r"^note: (src/\S+: it is not proved that .*)$", re.M)
+PROOF = re.compile(r"^(?:note: )?(?:\./)?(proofs/\S+:\d+:\d+: error.*)$", re.M)
+# A proof that names what the edit took away says little of the contract.
+NAMES = re.compile(r"(has no field|is not in scope|has no `|was not admitted)")
+
+
+class Bad(Exception):
+    """An edit that can't be made."""
+
+
+def copy_of_tree(room):
+    """A copy of the files that git knows, and of the libraries' work as links: a check replaces such a file, and changes none."""
+    listed = subprocess.run(["git", "ls-files", "-z"], cwd=TOP, check=True, stdout=subprocess.PIPE).stdout
+    for name in filter(None, listed.decode().split("\0")):
+        if (TOP / name).is_file():
+            (room / name).parent.mkdir(parents=True, exist_ok=True)
+            shutil.copy2(TOP / name, room / name)
+    return room
+
+
+def link_work(source, room):
+    """Puts what checks kept in one copy into another."""
+    for work in source.glob("crates/*/out"):
+        to = room / work.relative_to(source)
+        shutil.rmtree(to, ignore_errors=True)
+        subprocess.run(["cp", "-al", work, to], check=True)
+
+
+def made(edit, crate):
+    """The texts of the files that an edit changes, by their path in the crate."""
+    texts, path, old = {}, None, None
+    for line in edit.read_text(encoding="utf-8").split("\n"):
+        if line.startswith("file: "):
+            path = line[len("file: ") :].strip()
+            texts.setdefault(path, (crate / path).read_text(encoding="utf-8"))
+        elif line.startswith("old: "):
+            old = line[len("old: ") :]
+        elif line.startswith("new:"):
+            if texts[path].count(old) != 1:
+                raise Bad(f"an old text stands in {path} {texts[path].count(old)} times")
+            texts[path] = texts[path].replace(old, line[len("new:") :].removeprefix(" "))
+    return texts
+
+
+def places(path, was, now):
+    """What to prove anew, in turn: the function and the module that an edit of a file changes. None of a file that isn't in src/."""
+    parts = Path(path).with_suffix("").parts
+    if parts[0] != "src":
+        return []
+    at = next(n for n in range(len(was)) if was[n : n + 1] != now[n : n + 1])
+    functions = re.findall(r"\bfn (\w+)", was[: was.find("\n", at)])
+    return functions[-1:] + (["::".join(parts[1:])] if parts[1:] != ("lib",) else [])
+
+
+def check(crate, *words):
+    ran = subprocess.run(["rt", "check", *words, "--jobs", "1"], cwd=crate, stdout=subprocess.PIPE, stderr=subprocess.STDOUT, stdin=subprocess.DEVNULL)
+    return ran.returncode, ran.stdout.decode(errors="replace")
+
+
+def judged(status, said):
+    """Why a check refuses an edit, or None where it is proved all the same."""
+    if status == 0:
+        return None
+    if status != 1 or UNREADABLE.search(said):
+        first = UNREADABLE.search(said)
+        raise Bad(said[first.start() :].split("\n")[0][:160] if first else f"the check ended with status {status}")
+    goals = GOAL.findall(said) + [it for it in PROOF.findall(said) if not NAMES.search(it)]
+    return goals[0][:150] if goals else "only because a proof names what it took away"
+
+
+def tried(edit, crate):
+    """Makes the edit in a crate's copy, and takes it back. The answer is why it is refused, or None."""
+    texts = made(edit, crate)
+    were = {path: (crate / path).read_text(encoding="utf-8") for path in texts}
+    try:
+        for path, text in texts.items():
+            (crate / path).write_text(text, encoding="utf-8")
+        for place in [it for path in texts for it in places(path, were[path], texts[path])]:
+            status, said = check(crate, "--only", place)
+            why = None if NO_ONE.search(said) else judged(status, said)
+            if why:
+                return why
+        return judged(*check(crate))
+    finally:
+        for path, text in were.items():
+            (crate / path).write_text(text, encoding="utf-8")
+
+
+def edits_of(words):
+    """The edits that are asked for, by crate."""
+    wanted = words or sorted(it.parent.name for it in TOP.glob("crates/*/wrong-bodies"))
+    found = {}
+    for word in wanted:
+        name, _, edit = word.partition("/")
+        folder = TOP / "crates" / name / "wrong-bodies"
+        found.setdefault(name, []).extend(sorted(folder.glob(f"{edit or '*'}.edit")))
+    return found
+
+
+def main(words):
+    jobs = os.cpu_count() or 1
+    if words[:1] == ["--jobs"]:
+        jobs, words = int(words[1]), words[2:]
+    counts = {"refused": 0, "not refused": 0, "unread": 0}
+    with tempfile.TemporaryDirectory() as folder:
+        seed = copy_of_tree(Path(folder) / "seed")
+        link_work(TOP, seed)
+        rooms = Queue()
+        for number in range(jobs):
+            rooms.put(copy_of_tree(Path(folder) / str(number)))
+        copies = list(rooms.queue)
+        for name, edits in edits_of(words).items():
+            status, said = check(seed / "crates" / name)
+            if status:
+                print(said)
+                sys.exit(f"{name} isn't proved as it stands")
+            for room in copies:
+                link_work(seed, room)
+
+            def one(edit):
+                room = rooms.get()
+                try:
+                    why = tried(edit, room / "crates" / name)
+                    return ("refused", why) if why else ("not refused", "it is proved all the same")
+                except Bad as why:
+                    return "unread", str(why)
+                finally:
+                    rooms.put(room)
+
+            with ThreadPoolExecutor(jobs) as pool:
+                for edit, (kind, why) in zip(edits, pool.map(one, edits)):
+                    counts[kind] += 1
+                    print(f"{name}/{edit.stem}: {kind}: {why}", flush=True)
+    print(", ".join(f"{count} {kind}" for kind, count in counts.items()))
+    return 0 if counts["refused"] == sum(counts.values()) else 1
+
+
+if __name__ == "__main__":
+    sys.exit(main(sys.argv[1:]))
