@@ -41,7 +41,7 @@ CALLS = {
     "append": lambda length: length,
     "delete_from": lambda length: length,
     "section": lambda length: 10 * length,
-    "len": lambda _: 300,
+    "len": lambda length: 10 * length,
     "sections": lambda _: 300,
     "setter": lambda length: max(10_000, length),
 }
