@@ -3,6 +3,7 @@
 
     calls.py build SOURCE FOLDER [WORD ..]
     calls.py compare OURS THEIRS [N ..]
+    calls.py count OURS THEIRS [N ..]
 
 `build` builds crate_calls.rs, the program `ini_calls` over the crate: SOURCE is the folder of the crate's source, with its
 Cargo.toml, rust-ini 0.21.3 with its default features. FOLDER is made where it isn't there; the program's path is printed.
@@ -12,9 +13,12 @@ The further words go to `cargo build`.
 and prints for the two programs the nanoseconds of one call, and their ratio. The time is user time, the shortest of some
 runs; that of making the document, a run with no call, is taken off. A small document is made and used again and again in one
 run, so that its times can be told. It stops where the two programs answer differently.
+
+`count` does the same by instructions, which valgrind counts: one run each, and no other program's work in them.
 """
 import os
 import pathlib
+import re
 import subprocess
 import sys
 
@@ -83,18 +87,29 @@ def measure(programs, line, rounds):
     return best
 
 
-def compare(programs, lengths):
-    """Prints a line for each call."""
-    print("| Call | Keys or sections | Ours, ns | The crate's, ns | Ratio |\n|---|---|---|---|---|")
+def instructions(programs, line, _):
+    """The instructions of each program."""
+    found = []
+    for program in programs:
+        command = ["valgrind", "--tool=callgrind", "--callgrind-out-file=/dev/null", program]
+        ran = subprocess.run(command, input=f"{line}\n", capture_output=True, text=True, check=True)
+        found.append(int(re.search(r"Collected : (\d+)", ran.stderr)[1]))
+    return found
+
+
+def table(programs, lengths, unit, measured):
+    """Prints a line for each call: what it takes by `measured`, without the making of the document."""
+    print(f"| Call | Keys or sections | Ours, {unit} | The crate's, {unit} | Ratio |\n|---|---|---|---|---|")
     for length in lengths:
-        rounds = max(1, 300_000 // length)
+        rounds = max(1, 300_000 // length) if unit == "ns" else 1
         for shape in ("keys", "sections"):
             for call, times in CALLS.items():
                 if (call, shape) == ("sections", "keys"):
                     continue  # two names in all
-                made = measure(programs, f"none {shape} {length} {times(length)}", rounds)
-                whole = measure(programs, f"{call} {shape} {length} {times(length)}", rounds)
-                ours, theirs = ((w - m) / times(length) / rounds * 1e9 for w, m in zip(whole, made))
+                made = measured(programs, f"none {shape} {length} {times(length)}", rounds)
+                whole = measured(programs, f"{call} {shape} {length} {times(length)}", rounds)
+                scale = times(length) * rounds / (1e9 if unit == "ns" else 1)
+                ours, theirs = ((w - m) / scale for w, m in zip(whole, made))
                 ratio = f"{ours / theirs:.2f}" if theirs > 0 else "-"
                 print(f"| `{call}` | {length:,} {shape} | {ours:,.0f} | {theirs:,.0f} | {ratio} |", flush=True)
 
@@ -105,7 +120,9 @@ def main():
         case ["build", source, folder, *words]:
             build(pathlib.Path(source).resolve(), pathlib.Path(folder).resolve(), words)
         case ["compare", ours, theirs, *lengths]:
-            compare([ours, theirs], [int(length) for length in lengths] or [10_000, 300_000])
+            table([ours, theirs], [int(length) for length in lengths] or [10_000, 300_000], "ns", measure)
+        case ["count", ours, theirs, *lengths]:
+            table([ours, theirs], [int(length) for length in lengths] or [10_000], "instructions", instructions)
         case _:
             sys.exit(__doc__)
 
