@@ -26,7 +26,7 @@ UNREADABLE = re.compile(r"\berror\[[\w-]+\]|^(\./)?(src|specs)/\S+:\d+:\d+: erro
 # What it says where a name isn't that of one function.
 NO_ONE = re.compile(r"^rattle: error: (several functions are named|.* has no function)", re.M)
 # What it says of a goal, and of a proof that is no longer one.
-GOAL = re.compile(r"^note: (src/\S+: it is not proved that .*)$", re.M)
+GOAL = re.compile(r"^note: (src/\S+: (?:it is not proved that|`search` found no proof) .*)$", re.M)
 PROOF = re.compile(r"^(?:note: )?(?:\./)?(proofs/\S+:\d+:\d+: error.*)$", re.M)
 # A proof that names what the edit took away says little of the contract.
 NAMES = re.compile(r"(has no field|is not in scope|has no `|was not admitted)")
