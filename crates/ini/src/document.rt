@@ -129,7 +129,7 @@ impl Ini {
         }
     }
 
-    /// What `get_from` answers, for the bytes of a name and of a key; `None` where either are no UTF-8.
+    /// What `get_from` answers, for the bytes of a name and of a key; `None` where one of them is no UTF-8.
     pub fn get_by_bytes(&self, name: Option<&[u8]>, key: &[u8]) -> Option<&str>
         ensures texts { IsSome result → (IfSome name.entry (λ bytes. IsUtf8 bytes.now) × IsUtf8 key.now) }
         ensures value { IfSome name.entry (λ bytes. IsUtf8 bytes.now) → IsUtf8 key.now

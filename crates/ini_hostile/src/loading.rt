@@ -76,6 +76,25 @@ fn each_request_of_loading_many_pairs_is_refused(rt: HostRuntime) {
     assert!(rt; document.get_from(Some("s"), "k") == Some("20"));
 }
 
+/// A document of so many sections has an index.
+const MANY_SECTIONS: &'static str =
+    "[a]\n[b]\n[c]\n[d]\n[e]\n[f]\n[g]\n[h]\n[i]\n[a]\n[b]\n[c]\n[d]\n[e]\n[f]\n[g]\n[h]\nk=v";
+
+/// What they load as.
+const MANY_SECTIONS_SHOWN: &'static str =
+    "general: [a]: [b]: [c]: [d]: [e]: [f]: [g]: [h]: [i]: \
+    [a]: [b]: [c]: [d]: [e]: [f]: [g]: [h]: <k|v> ";
+
+#[test]
+fn each_request_of_loading_many_sections_is_refused(rt: HostRuntime) {
+    let (document, refused) = loaded_at_last(&rt, MANY_SECTIONS, all_on());
+    assert!(rt; refused > 0);
+    expect_shown(&rt, "loading many sections", &document, MANY_SECTIONS_SHOWN);
+    assert!(rt; document.section(Some("i")).is_some());
+    assert!(rt; document.section(Some("j")).is_none());
+    assert!(rt; document.get_from(Some("h"), "k").is_none());
+}
+
 // Reads what the device gives, with so much memory; none where memory was refused. No fault is counted.
 fn read_with(rt: &(impl Abort + AllocGlobal), famine: &mut Famine, steps: usize) -> Option<Ini> {
     let mut device = SlowReader::new(EACH.as_bytes());

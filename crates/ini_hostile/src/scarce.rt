@@ -13,7 +13,7 @@ const STEP: usize = 16;
 pub(crate) const FREE: [usize; 2] = [0, 1];
 
 /// How many calls there may be.
-pub(crate) const CALLS: usize = 512;
+pub(crate) const CALLS: usize = 1024;
 
 /// Memory that is taken, so that there is none, and blocks to be given back.
 #[derive(Drop)]

@@ -1,15 +1,16 @@
 -- Slots whose keys all have their values.
-use Rattle.std.proofs.Common.{◌≡◌, ℕ, zero, suc, ◌+◌, ◌≤◌, ◌||◌, Bool, cond, List, [], ◌∷◌, ◌++◌, length, length-append, Option, None, Some, IsSome, is_some, false, refl, sym, ap, ◌∙◌, arith, true≢false}
+use Rattle.std.proofs.Common.{◌≡◌, ℕ, zero, suc, ◌+◌, ◌≤◌, ◌||◌, Bool, cond, List, [], ◌∷◌, ◌++◌, length, length-append, Option, None, Some, IsSome, is_some, false, refl, sym, ap, subst, ◌∙◌, arith, true≢false}
 use Rattle.std.specs.Cmp.{IsEquivalence}
-use Rattle.std.specs.Global.{Box}
 use Rattle.std.specs.List.{list_any}
+use Rattle.std.specs.declared.alloc.Global.{Global}
+use Rattle.std.specs.declared.vec.Vec.{Vec}
 use Rattle.std.proofs.lemmas.Bool.{OnTrue_at, OnTrue_from}
 use Rattle.std.proofs.Math.ListN.{set, length-set}
 use Rattle.ini_multimap.specs.Pairs.{fresh}
 use Rattle.ini_multimap.specs.Slots.{with_cell, pairs_in}
 use Rattle.ini_multimap.specs.Inside.Filled.{AreFilled}
 use Rattle.ini_multimap.specs.Inside.Fits.{ArePaired, holes_in, pair_key, value_in}
-use Rattle.ini_multimap.specs.declared.slots.chains.Chains.{Chains}
+use Rattle.ini_multimap.specs.declared.slots.Slots.TheInside.{Inside}
 use Rattle.ini_multimap.proofs.SlotLemmas.{holes_push, holes_set, none_is_some, pairs_last}
 
 module _ {K V : Type 0} where
@@ -80,16 +81,18 @@ module _ {K V : Type 0} where
   paired_set ks vs s w h p = omega (arith, p, same_pairs ks vs s w h)
 
   -- a value that is written where one was
-  pub filled_set : (eq : K → K → Bool) (code : K → ℕ) (ks : List (Option K)) (vs : List (Option V))
-      (index : Option (Box Chains)) (holes leading : ℕ) (b i : Bool) (s : ℕ) (w : V) → IsSome (value_in vs s)
-      → AreFilled eq code ks vs index holes leading b i
-      → AreFilled eq code ks (set vs s (Some w)) index holes leading b i
-  filled_set eq code ks vs index holes leading b i s w h filled = record {
-    long = length-set vs s (Some w) ∙ filled.long;
+  pub filled_set : (eq : K → K → Bool) (code : K → ℕ) (slots : Inside K V) (s : ℕ) (w : V)
+      (values : Vec (Option V) Global) → values.items ≡ set slots.values.items s (Some w)
+      → IsSome (value_in slots.values.items s) → AreFilled eq code slots
+      → AreFilled eq code (record slots { values = values })
+  filled_set eq code slots s w values e h filled = record {
+    long = ap length e ∙ length-set slots.values.items s (Some w) ∙ filled.long;
     indexed = filled.indexed;
     counted = filled.counted;
     leads = filled.leads;
-    paired = OnTrue_from b _ (λ e. paired_set ks vs s w h (OnTrue_at e filled.paired));
+    paired = OnTrue_from slots.is_paired _
+        (λ on. subst (ArePaired slots.keys.items) (sym e)
+        (paired_set slots.keys.items slots.values.items s w h (OnTrue_at on filled.paired)));
     injective = filled.injective;
   }
 

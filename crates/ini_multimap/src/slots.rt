@@ -58,8 +58,7 @@ impl<K: MapKey, V> Model for Slots<K, V> {
 
     ghost view = { λ s. record { keys = s.keys.items; values = s.values.items; is_chained = is_some s.index } };
 
-    ghost invariant = { λ s. AreFilled K.eq K.key_code s.keys.items s.values.items s.index s.holes s.leading
-        s.is_paired s.is_injective };
+    ghost invariant = { λ s. AreFilled K.eq K.key_code s };
 }
 
 impl<K: MapKey, V> Slots<K, V> {

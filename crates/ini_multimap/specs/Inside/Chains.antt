@@ -1,6 +1,6 @@
 -- The chains of the codes: which slots follow one another, and how links and ends say it. Private functions
 -- say it.
-use Rattle.std.specs.Prelude.{◌≡◌, ◌≢◌, ℕ, suc, ◌<◌, ◌≤◌, cond, nat_eq}
+use Rattle.std.specs.Prelude.{◌≡◌, ◌≢◌, ℕ, suc, ◌<◌, ◌≤◌, if◌then◌else◌, nat_eq}
 use Rattle.std.specs.Prelude.{unwrap_or, List, length, map, Option, Some, None, MatchOption, IfSome}
 use Rattle.std.specs.Prelude.{vec_len, vec_capacity}
 use Rattle.std.specs.Option.{option_map}
@@ -42,7 +42,7 @@ no_slot = 4294967295
 
 -- the slot that a link names
 abbrev pub named : ℕ → Option ℕ
-named link = cond (nat_eq link no_slot) None (Some link)
+named link = if nat_eq link no_slot then None else Some link
 
 -- the slots after and before slot k with its code
 abbrev pub next_at : List Link → ℕ → Option ℕ
@@ -67,7 +67,7 @@ pub record IsPrevSet (old new : List Link) (s prev : Option ℕ) : Type 0 where
 
 -- the ends of the code c are e, and others stay
 abbrev pub AreSet : (old new : ℕ → Option (ℕ × ℕ)) → ℕ → Option (ℕ × ℕ) → Type 0
-AreSet old new c e = (q : ℕ) → new q ≡ cond (nat_eq c q) e (old q)
+AreSet old new c e = (q : ℕ) → new q ≡ (if nat_eq c q then e else old q)
 
 -- n is the last of the code c, and the first where it had none
 abbrev pub IsPutLast : (old new : ℕ → Option (ℕ × ℕ)) → ℕ → ℕ → Type 0

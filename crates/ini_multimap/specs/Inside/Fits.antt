@@ -1,6 +1,6 @@
 -- Which slots hold pairs, and pairs that fit. Private functions say it.
-use Rattle.std.specs.Prelude.{◌≡◌, ℕ, zero, suc, ◌+◌, ◌-◌, ◌<◌, ◌≤◌, Bool, true, false, cond, List, [], ◌∷◌, ◌++◌}
-use Rattle.std.specs.Prelude.{length, take, drop, Option, Some, None, MatchOption, IfSome}
+use Rattle.std.specs.Prelude.{◌≡◌, ℕ, zero, suc, ◌+◌, ◌-◌, ◌<◌, ◌≤◌, Bool, true, false, if◌then◌else◌}
+use Rattle.std.specs.Prelude.{List, [], ◌∷◌, ◌++◌, length, take, drop, Option, Some, None, MatchOption, IfSome}
 use Rattle.std.specs.Option.{option_map}
 use Rattle.ini_multimap.specs.Pairs.{without, fresh}
 use Rattle.ini_multimap.specs.Slots.{Columns, with_cell, pairs_in}
@@ -89,13 +89,13 @@ module _ {K V : Type 0} where
     -- the pairs without number n of those that fit
     abbrev pub without_nth : List (K × V) → ℕ → List (K × V)
     without_nth [] n = []
-    without_nth (p ∷ ps) zero = cond (test p.0) ps (p ∷ without_nth ps zero)
-    without_nth (p ∷ ps) (suc n) = p ∷ cond (test p.0) (without_nth ps n) (without_nth ps (suc n))
+    without_nth (p ∷ ps) zero = if test p.0 then ps else p ∷ without_nth ps zero
+    without_nth (p ∷ ps) (suc n) = p ∷ (if test p.0 then without_nth ps n else without_nth ps (suc n))
 
     -- without the pairs that fit but for the first
     abbrev pub first_alone : List (K × V) → List (K × V)
     first_alone [] = []
-    first_alone (p ∷ ps) = cond (test p.0) (p ∷ without test ps) (p ∷ first_alone ps)
+    first_alone (p ∷ ps) = if test p.0 then p ∷ without test ps else p ∷ first_alone ps
 
   -- r is the slot of the last pair
   abbrev pub IsLastFull : List (Option K) → List (Option V) → Option ℕ → Type 0

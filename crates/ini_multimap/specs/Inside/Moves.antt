@@ -1,6 +1,6 @@
 -- What the closing of holes keeps of the slots, and chains that are made anew from the front. Private
 -- functions say it.
-use Rattle.std.specs.Prelude.{◌≡◌, ℕ, ◌<◌, ◌≤◌, cond, nat_lt, List, length, Option, Some, None, IsSome}
+use Rattle.std.specs.Prelude.{◌≡◌, ℕ, ◌<◌, ◌≤◌, if◌then◌else◌, nat_lt, List, length, Option, Some, None, IsSome}
 use Rattle.std.specs.Prelude.{unwrap_or}
 use Rattle.ini_multimap.specs.Inside.Fits.{code_at, value_in}
 use Rattle.ini_multimap.specs.Inside.Chains.{AreSet, first_of}
@@ -19,12 +19,12 @@ pub record IsStale {K : Type 0} (n : ℕ) (code : K → ℕ) (ks : List (Option 
 
 -- the codes of the first n slots
 abbrev pub upto : ℕ → (ℕ → Option ℕ) → ℕ → Option ℕ
-upto n at k = cond (nat_lt k n) (at k) None
+upto n at k = if nat_lt k n then at k else None
 
 -- ends that begin before n, and else none
 abbrev pub if_before : ℕ → Option (ℕ × ℕ) → Option (ℕ × ℕ)
 if_before n None = None
-if_before n (Some e) = cond (nat_lt e.0 n) (Some e) None
+if_before n (Some e) = if nat_lt e.0 n then Some e else None
 
 abbrev pub known : ℕ → (ℕ → Option (ℕ × ℕ)) → ℕ → Option (ℕ × ℕ)
 known n ends c = if_before n (ends c)

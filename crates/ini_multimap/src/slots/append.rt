@@ -11,6 +11,7 @@ use std::alloc::AllocError;
 impl<K: MapKey, V> Slots<K, V> {
     // Puts the pair last, and into its chain where there are chains. Refused, it hands the pair back, and the
     // pairs stay.
+    #[inline(always)]
     pub(crate) fn append(&mut self, key: K, value: V) -> Result<(), (K, V)>
         ensures ok { OnOk result (pairs_of self.new ≡ pairs_of self.old ++ (key, value) ∷ []) }
         ensures unchanged_if_refused { OnErr result (pairs_of self.new ≡ pairs_of self.old) }

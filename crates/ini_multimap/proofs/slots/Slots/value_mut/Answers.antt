@@ -27,8 +27,8 @@ pub invariant_of-self-lent : goal.invariant_of-self-lent
 invariant_of-self-lent g c w =
     let m = c.self.inside in
     let P : Columns g.row.K.Denot g.row.V.Denot → Type 0 = λ d. IsSome (value_in d.values c.args.s) in
-    filled_set g.K.PartialEq.eq g.K.MapKey.key_code m.keys.items m.values.items m.index m.holes m.leading
-    m.is_paired m.is_injective c.args.s w (subst P (sym c.self.view_is) c.requires) c.self.invariant
+    filled_set g.K.PartialEq.eq g.K.MapKey.key_code m c.args.s w _ refl
+    (subst P (sym c.self.view_is) c.requires) c.self.invariant
 
 pub returns : goal.returns
 returns g c =
