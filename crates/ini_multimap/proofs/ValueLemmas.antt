@@ -38,7 +38,8 @@ module _ (chained : Bool) {K : Type 0} (code : K → ℕ) (c : ℕ) (ks : List (
   behind_candidate i None f = tt
   behind_candidate i (Some t) f = f.1
 
-  module _ (first last : Option ℕ) (s : ℕ) (slots : AreBetween chained code c ks first last) (r : Option ℕ) where
+  module _ (first last : Option ℕ) (s : ℕ) (slots : AreBetween chained code c ks first last)
+      (r : Option ℕ) where
     -- a step from the front, to the candidate r
     pub front_slots : IsAhead chained code c ks (suc s) r → AreBetween chained code c ks r last
     front_slots f = (ahead_candidate (suc s) r f, slots.1)

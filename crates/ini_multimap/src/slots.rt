@@ -56,7 +56,11 @@ impl<K: MapKey, V> Model for Slots<K, V> {
 
     ghost use Rattle.ini_multimap.specs.Inside.Filled.{AreFilled};
 
-    ghost view = { λ s. record { keys = s.keys.items; values = s.values.items; is_chained = is_some s.index } };
+    ghost view = { λ s. record {
+      keys = s.keys.items;
+      values = s.values.items;
+      is_chained = is_some s.index;
+    } };
 
     ghost invariant = { λ s. AreFilled K.eq K.key_code s };
 }

@@ -1,7 +1,7 @@
 -- What the closing of holes keeps of the slots, and chains that are made anew from the front. Private
 -- functions say it.
-use Rattle.std.specs.Prelude.{◌≡◌, ℕ, ◌<◌, ◌≤◌, if◌then◌else◌, nat_lt, List, length, Option, Some, None, IsSome}
-use Rattle.std.specs.Prelude.{unwrap_or}
+use Rattle.std.specs.Prelude.{◌≡◌, ℕ, ◌<◌, ◌≤◌, if◌then◌else◌, nat_lt, List, length, Option, Some, None}
+use Rattle.std.specs.Prelude.{IsSome, unwrap_or}
 use Rattle.ini_multimap.specs.Inside.Fits.{code_at, value_in}
 use Rattle.ini_multimap.specs.Inside.Chains.{AreSet, first_of}
 

@@ -1,4 +1,5 @@
-//! Pairs that come last, whose room is made before anything changes, and the chains of slots that have none yet.
+//! Pairs that come last, whose room is made before anything changes, and the chains of slots that have
+//! none yet.
 ghost use Rattle.std.specs.Prelude.{◌≡◌, ◌∷◌, ◌++◌, [], IfErr, OnErr, OnOk};
 ghost use Rattle.ini_multimap.specs.Slots.{pairs_of};
 

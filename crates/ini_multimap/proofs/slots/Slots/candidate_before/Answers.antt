@@ -12,4 +12,5 @@ returns-in-Some g c =
     let P : Columns g.row.K.Denot g.row.V.Denot → Type 0 = λ d. (k : ℕ)
     → IsCandidate d.is_chained code k d.keys s → IsBehind d.is_chained code k d.keys s c.prev.result in
     subst P c.self.view_is (λ k here. rw (c.prev.ensures, c.deref.ensures)
-    (chained_behind code m.keys.items m.index c.in-Some.chains c.in-Some.is c.self.invariant.indexed s k here))
+    (chained_behind code m.keys.items m.index c.in-Some.chains c.in-Some.is c.self.invariant.indexed s k
+    here))

@@ -11,7 +11,8 @@ returns-in-Some g c =
     let slots = c.args.self.now in
     let key = c.in-Some.key.now in
     let seen = pairs_in (take c.args.at slots.keys) (take c.args.at slots.values) in
-    sym (fresh_pair g.K.PartialEq.eq seen (value_in slots.keys c.args.at) (value_in slots.values c.args.at) key
+    sym (fresh_pair g.K.PartialEq.eq seen (value_in slots.keys c.args.at)
+    (value_in slots.values c.args.at) key
     c.in-Some.ensures ∙ ap (λ b. cond b [] (key ∷ [])) (sym (any_turned g.met.K.Eq.laws key seen)
     ∙ sym c.has_key.ensures ∙ c.if-not-has_key.true))
 

@@ -34,8 +34,11 @@ pub returns : goal.returns
 returns g c =
     let m = c.self.inside in
     let s = c.args.s in
-    let within : s < length m.values.items =
-    omega (arith, some_within c.args.self.now.values s c.requires, ap (λ d. length d.values) c.self.view_is) in (
+    let within : s < length m.values.items = omega (
+      arith,
+      some_within c.args.self.now.values s c.requires,
+      ap (λ d. length d.values) c.self.view_is,
+    ) in (
       (refl, λ w. ap (λ d. with_value d s w) c.self.view_is),
       record {
         writes_back = tt;

@@ -12,7 +12,8 @@ returns-then-s-first-clause-steps g c =
     (sym inv.left ∙ none, none)
 
 pub candidate_before-self-inside-requires : goal.candidate_before-self-inside-requires
-candidate_before-self-inside-requires g c = let here = rw c.in-Some.is at c.loop-self.invariant.slots.1 in here.0
+candidate_before-self-inside-requires g c =
+    let here = rw c.in-Some.is at c.loop-self.invariant.slots.1 in here.0
 
 pub fitting_value-requires : goal.fitting_value-requires
 fitting_value-requires g c = let here = rw c.in-Some.is at c.loop-self.invariant.slots.1 in here.0

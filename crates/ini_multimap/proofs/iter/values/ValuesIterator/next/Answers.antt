@@ -11,7 +11,8 @@ returns-then-last-s-clause-steps g c =
     (sym inv.left ∙ none, none)
 
 pub candidate_after-self-inside-requires : goal.candidate_after-self-inside-requires
-candidate_after-self-inside-requires g c = let here = rw c.in-Some.is at c.loop-self.invariant.slots.0 in here.0
+candidate_after-self-inside-requires g c =
+    let here = rw c.in-Some.is at c.loop-self.invariant.slots.0 in here.0
 
 pub fitting_value-requires : goal.fitting_value-requires
 fitting_value-requires g c = let here = rw c.in-Some.is at c.loop-self.invariant.slots.0 in here.0
