@@ -11,6 +11,7 @@ use crate::key::MapKey;
 impl<K: MapKey, V> Slots<K, V> {
     // Whether a pair before slot `at` has the key. Where there are chains, only pairs of its code are asked
     // about.
+    #[inline(always)]
     fn has_key(&self, at: usize, key: &K) -> bool
         requires { code_at K.key_code self.now.keys at ≡ Some (K.key_code key.now) }
         ensures { result ≡ list_any (λ p. K.eq key.now p.0)
@@ -27,6 +28,7 @@ impl<K: MapKey, V> Slots<K, V> {
     }
 
     // The key in a slot that holds a pair. Where each key has its value, the values aren't read.
+    #[inline(always)]
     fn paired_key(&self, at: usize) -> Option<&K>
         requires { at < length self.now.keys }
         ensures { option_copied result ≡ pair_key (value_in self.now.keys at) (value_in self.now.values at) }
@@ -38,6 +40,7 @@ impl<K: MapKey, V> Slots<K, V> {
     }
 
     // The key in a slot, where it holds a pair and no pair before it has the key.
+    #[inline(always)]
     pub(crate) fn new_key(&self, at: usize) -> Option<&K>
         requires { at < length self.now.keys }
         ensures { option_to_list (option_copied result) ≡ fresh_at K.eq at self.now.keys self.now.values }

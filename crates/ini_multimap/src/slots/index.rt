@@ -58,6 +58,7 @@ impl<K: MapKey, V> Slots<K, V> {
     }
 
     // The candidate before s, for each code for which s is one.
+    #[inline(always)]
     pub(crate) fn candidate_before(&self, s: usize) -> Option<usize>
         requires { s < length self.now.keys }
         ensures { (c : ℕ) → IsCandidate self.now.is_chained K.key_code c self.now.keys s
