@@ -94,6 +94,7 @@ impl Ini {
     }
 
     /// What `section` answers, for the bytes of a name; `None` where they are no UTF-8.
+    #[inline(always)]
     pub fn section_by_bytes(&self, bytes: Option<&[u8]>) -> Option<&Properties>
         ensures text { IsSome result → IfSome bytes.entry (λ name. IsUtf8 name.now) }
         ensures section { IfSome bytes.entry (λ name. IsUtf8 name.now)
@@ -130,6 +131,7 @@ impl Ini {
     }
 
     /// What `get_from` answers, for the bytes of a name and of a key; `None` where one of them is no UTF-8.
+    #[inline(always)]
     pub fn get_by_bytes(&self, name: Option<&[u8]>, key: &[u8]) -> Option<&str>
         ensures texts { IsSome result → (IfSome name.entry (λ bytes. IsUtf8 bytes.now) × IsUtf8 key.now) }
         ensures value { IfSome name.entry (λ bytes. IsUtf8 bytes.now) → IsUtf8 key.now

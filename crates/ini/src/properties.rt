@@ -83,6 +83,7 @@ impl Properties {
     }
 
     // What `get` answers, for the bytes of a key; `None` where they are no UTF-8.
+    #[inline(always)]
     pub(crate) fn get_by_bytes(&self, key: &[u8]) -> Option<&str>
         ensures text { IsSome result → IsUtf8 key.now }
         ensures value { IsUtf8 key.now → option_map str_text result ≡ first_value (chars key.now) self.now }

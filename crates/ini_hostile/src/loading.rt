@@ -81,8 +81,7 @@ const MANY_SECTIONS: &'static str =
     "[a]\n[b]\n[c]\n[d]\n[e]\n[f]\n[g]\n[h]\n[i]\n[a]\n[b]\n[c]\n[d]\n[e]\n[f]\n[g]\n[h]\nk=v";
 
 /// What they load as.
-const MANY_SECTIONS_SHOWN: &'static str =
-    "general: [a]: [b]: [c]: [d]: [e]: [f]: [g]: [h]: [i]: \
+const MANY_SECTIONS_SHOWN: &'static str = "general: [a]: [b]: [c]: [d]: [e]: [f]: [g]: [h]: [i]: \
     [a]: [b]: [c]: [d]: [e]: [f]: [g]: [h]: <k|v> ";
 
 #[test]

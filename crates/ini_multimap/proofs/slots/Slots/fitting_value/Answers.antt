@@ -22,7 +22,7 @@ returns-in-Some-clause-value g c =
     omega (arith, c.requires, ap (λ d. length d.keys) c.self.view_is, c.self.invariant.long) in
     lent_value c.as_ref.result (value_in c.args.self.now.values c.args.s)
     (c.as_ref.ensures.value
-        ∙ sym (value_read vs c.args.s c.index-value.result.now within c.index-value.ensures)
+    ∙ sym (value_read vs c.args.s c.index-value.result.now within c.index-value.ensures)
     ∙ ap (λ d. value_in d.values c.args.s) c.self.view_is)
 
 pub returns-in_default-clause-fits : goal.returns-in_default-clause-fits

@@ -15,7 +15,7 @@ loop-s-preserved g c =
     let all = take n ks ++ slot ∷ [] in
     let next : take (n + 1) ks ≡ all =
     rw add-one (take-suc ks n slot c.loop-s-test.true
-        ∙ ap (λ x. take n ks ++ x ∷ []) (sym c.index-keys-s.is)) in
+    ∙ ap (λ x. take n ks ++ x ∷ []) (sym c.index-keys-s.is)) in
     let pushed = c.push_slot-is_told.ensures in
     let P : List (Option g.row.K.Denot) → Type 0 = λ l. AreChained code l c.push_slot-is_told.new.self in
     let Q : List (Option g.row.K.Denot) → Type 0 = IsInjective g.K.PartialEq.eq code in
