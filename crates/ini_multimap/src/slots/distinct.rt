@@ -10,7 +10,7 @@ use crate::key::MapKey;
 
 impl<K: MapKey, V> Slots<K, V> {
     // Whether a pair before slot `at` has the key. Where there are chains, only pairs of its code are asked
-    // about.
+    // about. Inlined, with what a walk over keys calls for each slot.
     #[inline(always)]
     fn has_key(&self, at: usize, key: &K) -> bool
         requires { code_at K.key_code self.now.keys at ≡ Some (K.key_code key.now) }
