@@ -95,7 +95,7 @@ impl Ini {
 
     /// What `section` answers, for the bytes of a name; `None` where they are no UTF-8.
     // Inlined, as `get_by_bytes` is: a name handed on in memory is read in one step that was written in two,
-    // and such a read waits for every write before it, so that no two look-ups overlap.
+    // and such a read waits for the writes before it, which may keep a look-up from overlapping the next.
     #[inline(always)]
     pub fn section_by_bytes(&self, bytes: Option<&[u8]>) -> Option<&Properties>
         ensures text { IsSome result → IfSome bytes.entry (λ name. IsUtf8 name.now) }

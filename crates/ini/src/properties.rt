@@ -222,11 +222,13 @@ impl Properties {
         }
     }
 
-    // Makes the index of the keys, where pairs are many and have none yet.
-    pub(crate) fn make_index(&mut self) -> Result<(), Error>
+    // Ends the section, which has all its pairs: gives back the room that they don't take, and makes the
+    // index of the keys, where pairs are many and have none yet.
+    pub(crate) fn end(&mut self) -> Result<(), Error>
         ensures same { self.new ≡ self.old }
         ensures only_memory { IsOkUnless result (Error.Memory alloc_error) }
     {
+        self.pairs.shrink_to_fit();
         self.pairs.make_index()?;
         Ok(())
     }

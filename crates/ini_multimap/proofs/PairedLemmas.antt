@@ -88,6 +88,7 @@ module _ {K V : Type 0} where
   filled_set eq code slots s w values e h filled = record {
     long = ap length e ∙ length-set slots.values.items s (Some w) ∙ filled.long;
     indexed = filled.indexed;
+    tagged = filled.tagged;
     counted = filled.counted;
     leads = filled.leads;
     paired = OnTrue_from slots.is_paired _

@@ -4,3 +4,4 @@ pub mod Filled
 pub mod Fits
 pub mod Loans
 pub mod Moves
+pub mod Tags

@@ -123,6 +123,13 @@ impl<K: MapKey, V> Multimap<K, V> {
         self.slots.chain_from(FEW + 1)
     }
 
+    /// Gives back the room that no pair takes, where the heap can take it back. The pairs stay.
+    pub fn shrink_to_fit(&mut self)
+        ensures { self.new ≡ self.old }
+    {
+        self.slots.shrink_to_fit();
+    }
+
     /// Sets the value of the key: its first pair keeps place and key and takes the value, its later
     /// pairs go, and the old first value is handed out. This takes no memory and always succeeds.
     ///

@@ -2,9 +2,9 @@
 //! another of the same length, so that values can be lent for writing while nothing that a look-up
 //! rests on can change.
 //!
-//! Where slots are few, a look-up asks a probe about each key. Where they are many, those of one code are
-//! a chain, and it goes along that, so it asks about keys of that code alone. These files know keys and
-//! codes, and no multimap.
+//! Where slots are many, those of one code are a chain, and a look-up goes along that, so it asks a probe
+//! about keys of that code alone. Where they are few, it begins at the first that has a byte of the code, and
+//! asks about each key from there on. These files know keys and codes, and no multimap.
 ghost use Rattle.std.specs.Prelude.{◌≡◌, ◌<◌, ◌^◌, [], length, IfSome, IsSome, Some};
 ghost use Rattle.std.specs.Borrow.{sem};
 ghost use Rattle.std.specs.Option.{option_copied};
@@ -20,6 +20,7 @@ mod close;
 mod distinct;
 mod find;
 mod index;
+mod tags;
 mod take;
 
 use crate::key::MapKey;
@@ -28,6 +29,7 @@ pub(crate) use find::count_pairs;
 pub(crate) use index::FEW;
 use std::alloc::Global;
 use std::marker::Model;
+use tags::Tags;
 
 /// Slots of pairs. Seen as the two columns, and whether the codes are chained.
 #[derive(Debug)]
@@ -35,6 +37,8 @@ pub(crate) struct Slots<K: MapKey, V> {
     // The key and the value in each slot, `None` at a hole.
     keys: Vec<Option<K>>,
     values: Vec<Option<V>>,
+    // A byte of the code of each of the first keys.
+    tags: Tags,
     // The chains of the codes, where slots are many.
     index: Option<Box<Chains>>,
     // How many holes there are.
@@ -73,6 +77,7 @@ impl<K: MapKey, V> Slots<K, V> {
         Slots {
             keys: Vec::new(alloc),
             values: Vec::new(alloc),
+            tags: Tags::new(),
             index: None,
             holes: 0,
             leading: 0,
@@ -174,6 +179,7 @@ impl<K: MapKey, V> Slots<K, V> {
         let Slots {
             keys,
             values,
+            tags: _,
             index: _,
             holes: _,
             leading: _,
@@ -181,6 +187,14 @@ impl<K: MapKey, V> Slots<K, V> {
             is_injective: _,
         } = self;
         (keys, values)
+    }
+
+    // Gives back the room that no slot takes.
+    pub(crate) fn shrink_to_fit(&mut self)
+        ensures { pairs_of self.new ≡ pairs_of self.old }
+    {
+        self.keys.shrink_to_fit();
+        self.values.shrink_to_fit();
     }
 
     // Takes out every pair.

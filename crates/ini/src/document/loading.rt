@@ -41,7 +41,7 @@ impl Ini {
         ensures same { self.new ≡ self.old }
         ensures only_memory { IsOkUnless result (Error.Memory alloc_error) }
     {
-        self.last_section_mut().make_index()
+        self.last_section_mut().end()
     }
 
     // Ends the document: it has all its sections.
@@ -51,6 +51,7 @@ impl Ini {
         ensures only_memory { IsOkUnless result (Error.Memory alloc_error) }
     {
         self.end_section()?;
+        self.sections.shrink_to_fit();
         self.sections.make_index()?;
         Ok(())
     }

@@ -241,13 +241,14 @@ fn calls_on_many_pairs_ask_few_keys(rt: HostRuntime) {
     expect_few_for_keys(&rt, &calls, &map, PAIRS);
 }
 
-// An append without an index asks no key. Where there is one, the pair goes into it.
+// An append without an index asks the first keys for their codes, and no others. Where there is one, the pair
+// goes into it.
 #[test]
 fn an_index_that_is_made_once_asks_few_keys(rt: HostRuntime) {
     let calls = Cell::new(0);
     let mut map: Map<'_> = Multimap::new(rt.alloc());
     each(&rt, &calls, &mut map, Call::AppendUnindexed, 0, 1000);
-    expect_at_most(&rt, &calls, 0, "append_unindexed");
+    expect_at_most(&rt, &calls, 16, "append_unindexed");
     assert!(rt; map.make_index().is_ok());
     expect_at_most(&rt, &calls, 1000, "make_index");
     assert!(rt; map.make_index().is_ok());
@@ -263,6 +264,7 @@ fn an_append_makes_the_index_of_all_pairs(rt: HostRuntime) {
     let calls = Cell::new(0);
     let mut map: Map<'_> = Multimap::new(rt.alloc());
     each(&rt, &calls, &mut map, Call::AppendUnindexed, 0, PAIRS - 1);
+    expect_at_most(&rt, &calls, 16, "append_unindexed");
     each(&rt, &calls, &mut map, Call::Append, PAIRS - 1, 1);
     expect_at_most(&rt, &calls, PAIRS, "append");
     expect_few_for_looks(&rt, &calls, &mut map);

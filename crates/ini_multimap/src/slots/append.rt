@@ -22,6 +22,7 @@ impl<K: MapKey, V> Slots<K, V> {
             Err(_) => Err((key, value)),
             Ok(()) => {
                 let keys = self.keys.as_slice();
+                self.tags.put(keys.len(), &key);
                 self.is_injective = link_last(keys, &mut self.index, &key, self.is_injective);
                 self.keys.push_reserved(Some(key));
                 self.values.push_reserved(Some(value));

@@ -10,6 +10,7 @@ ghost use Rattle.ini_multimap.specs.Inside.Moves.{MovesDown};
 use super::Slots;
 use super::chains::Chains;
 use super::find::count_pairs;
+use super::tags::Tags;
 use crate::key::MapKey;
 
 impl<K: MapKey, V> Slots<K, V> {
@@ -25,6 +26,7 @@ impl<K: MapKey, V> Slots<K, V> {
             self.leading = 0;
             let pairs = count_pairs(self.keys.as_slice(), self.values.as_slice());
             self.is_paired = pairs == self.keys.len() - self.holes;
+            self.tags = Tags::of_keys(self.keys.as_slice());
         }
     }
 }

@@ -34,7 +34,7 @@ pub(crate) fn count_pairs<K, V>(keys: &[Option<K>], values: &[Option<V>]) -> usi
 
 impl<K: MapKey, V> Slots<K, V> {
     // The value in slot s, where it holds a pair that fits. No code is made of its key, and a value is read
-    // only where its key fits: most keys that are looked at don't, and values lie elsewhere.
+    // only where its key fits: values lie elsewhere.
     #[inline(always)]
     pub(crate) fn fitting_value<Q: Probe<K> + Copy>(&self, s: usize, q: Q) -> Option<&V>
         requires { s < length self.now.keys }

@@ -1,6 +1,6 @@
 //! Which slots are to be looked at for a code, the candidates: those of its chain where there are chains,
-//! and else each of the few. Whoever asks doesn't know of it.
-ghost use Rattle.std.specs.Prelude.{◌≡◌, ◌<◌, ◌^◌, ◌∷◌, ◌++◌, [], ℕ, Some, None, suc, length, slice_set};
+//! and else, of the few, each from the first on that has its tag. Whoever asks doesn't know of it.
+ghost use Rattle.std.specs.Prelude.{◌≡◌, ◌<◌, ◌^◌, ◌∷◌, ◌++◌, [], ℕ, Some, None, suc, length, slice_set, false};
 ghost use Rattle.std.specs.Prelude.{IfSome, OnOk, vec_len, vec_capacity};
 ghost use Rattle.std.specs.Bool.{OnTrue};
 ghost use Rattle.ini_multimap.specs.Inside.Candidates.{IsAhead, IsBehind, IsCandidate};
@@ -26,9 +26,17 @@ impl<K: MapKey, V> Slots<K, V> {
     {
         match &self.index {
             Some(chains) => chains.first(q.code()),
-            None if 0 < self.keys.len() => Some(0),
-            None => None,
+            None => self.first_tagged(q.code()),
         }
+    }
+
+    // The first slot that has the tag of the code, or that has no tag.
+    #[inline(always)]
+    fn first_tagged(&self, code: u64) -> Option<usize>
+        ensures { IsAhead false K.key_code code self.now.keys 0 result }
+    {
+        let s = self.tags.first(code);
+        if s < self.keys.len() { Some(s) } else { None }
     }
 
     // The last candidate for the code that the probe has.

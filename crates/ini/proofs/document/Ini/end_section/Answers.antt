@@ -7,4 +7,4 @@ pub returns-clause-same : goal.returns-clause-same
 returns-clause-same c =
     let d = c.args.self.now in
     let same = with_value_at-last c.last_section_mut.result.now d c.last_section_mut.ensures.section in
-    ap (with_value_at d (length d - 1)) c.make_index.ensures.same ∙ same
+    ap (with_value_at d (length d - 1)) c.end.ensures.same ∙ same

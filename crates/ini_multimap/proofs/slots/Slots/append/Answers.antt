@@ -7,6 +7,7 @@ use Rattle.ini_multimap.specs.Inside.Chains.{IsIndexed}
 use Rattle.ini_multimap.proofs.LeadingLemmas.{leading_push}
 use Rattle.ini_multimap.proofs.SlotLemmas.{holes_push, pairs_last}
 use Rattle.ini_multimap.proofs.PairedLemmas.{paired_push}
+use Rattle.ini_multimap.proofs.TagLemmas.{tagged_push}
 use Rattle.ini_multimap.proofs.slots.Slots.append.Goals as goal
 
 pub invariant_of-self-in-Ok : goal.invariant_of-self-in-Ok
@@ -35,6 +36,8 @@ invariant_of-self-in-Ok g c =
       indexed =
           subst P (ap (λ l. l ++ key) c.as_slice-keys.ensures.value ∙ sym c.push_reserved.ensures.items)
           c.link_last-self-inside.ensures.indexed;
+      tagged = rw (keys, c.put.ensures, c.as_slice-keys.ensures.value, room.keys)
+          (tagged_push g.K.MapKey.key_code m.keys.items m.tags.of c.args.key c.self.invariant.tagged);
       counted = c.self.invariant.counted ∙ sym (holes_push m.keys.items c.args.key) ∙ sym (ap holes_in keys);
       leads = rw keys (leading_push m.keys.items m.leading (Some c.args.key) c.self.invariant.leads);
       paired = OnTrue_from m.is_paired _

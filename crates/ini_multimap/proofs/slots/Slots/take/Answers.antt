@@ -8,6 +8,7 @@ use Rattle.ini_multimap.proofs.SlotLemmas.{code_within, holes_le, holes_set, map
 use Rattle.ini_multimap.proofs.InjectiveLemmas.{injective_without}
 use Rattle.ini_multimap.proofs.LeadingLemmas.{leading_without}
 use Rattle.ini_multimap.proofs.PairedLemmas.{paired_without}
+use Rattle.ini_multimap.proofs.TagLemmas.{tagged_without}
 use Rattle.ini_multimap.proofs.slots.Slots.take.Goals as goal
 
 pub index_mut-requires : goal.index_mut-requires
@@ -72,6 +73,7 @@ invariant_of-self g c =
           length-set m.values.items s c.take.new.self ∙ c.self.invariant.long
           ∙ sym (length-set m.keys.items s None);
       indexed = subst P c.as_slice.ensures.value c.unlink.ensures;
+      tagged = tagged_without code m.keys.items m.tags.of s c.self.invariant.tagged;
       counted = omega (arith, c.self.invariant.counted, holes_set m.keys.items s is);
       leads = subst L c.as_slice-2.ensures.value c.count_leading-self-inside.ensures;
       paired = OnTrue_from m.is_paired _
