@@ -1,10 +1,10 @@
 #!/bin/sh
 # Every proof and every test: `rt ci`, and then the programs that it built, over real streams, files and long texts
 # (tests/program.sh, tests/files.sh, tests/streams.sh, tests/passing.sh), the scripts that build and run them
-# (tests/scripts.sh), what the programs cost (tests/costs.sh), the page of the public calls (tests/pages.sh), pages of the manual,
-# completions and installing (tests/habits.sh), ini_file beside its peers (tests/peers.sh), and clients of the C library
-# (tests/c_library.sh). Each step ends with the time that it took. The last line is 'N passed, M failed' over all, and the
-# status is 1 if anything failed.
+# (tests/scripts.sh), what the programs cost (tests/costs.sh), the page of the public calls and the edits that the gate leaves
+# out (tests/pages.sh), pages of the manual, completions and installing (tests/habits.sh), ini_file beside its peers
+# (tests/peers.sh), and clients of the C library (tests/c_library.sh). Each step ends with the time that it took. The last line is
+# 'N passed, M failed' over all, and the status is 1 if anything failed.
 set -u
 cd "$(dirname "$0")/.." || exit 1
 log=$(mktemp)

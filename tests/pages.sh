@@ -1,19 +1,30 @@
 #!/bin/sh
 # Makes the pages anew that are made of the sources, and compares them: docs/API.md, by tools/pages/api.py. What differs is
-# shown. The last line is 'N passed, M failed', and the status is 1 if a page failed.
+# shown. Then the edits of wrong-bodies/, which the gate doesn't try, are read: whether each can be made still. The last line is
+# 'N passed, M failed', and the status is 1 if anything failed.
 set -u
 top=$(cd "$(dirname "$0")/.." && pwd)
 if ! command -v python3 >/dev/null; then
-    echo 'skipped: docs/API.md (no python3)'
+    echo 'skipped: docs/API.md and the edits of wrong-bodies (no python3)'
     echo '0 passed, 0 failed'
     exit 0
 fi
 made=$(mktemp)
 trap 'rm -f "$made"' EXIT
-if "$top/tools/pages/api.py" >"$made" && diff "$top/docs/API.md" "$made"; then
-    echo '1 passed, 0 failed'
-else
-    echo 'FAILED: docs/API.md; tools/pages/api.py > docs/API.md makes it'
-    echo '0 passed, 1 failed'
-    exit 1
-fi
+passed=0
+failed=0
+# count NAME STATUS: one more that passed, or that failed
+count() {
+    if [ "$2" -eq 0 ]; then
+        passed=$((passed + 1))
+    else
+        failed=$((failed + 1))
+        echo "FAILED: $1"
+    fi
+}
+"$top/tools/pages/api.py" >"$made" && diff "$top/docs/API.md" "$made"
+count 'docs/API.md; tools/pages/api.py > docs/API.md makes it' $?
+"$top/tools/wrong_bodies.py" --read
+count 'edits of wrong-bodies that can be made' $?
+echo "$passed passed, $failed failed"
+[ "$failed" -eq 0 ]

@@ -1,7 +1,7 @@
 #!/usr/bin/env python3
 """Tries the wrong bodies that the gate leaves out for time: each must be refused, as those in must-fail/ are by `rt ci`.
 
-    tools/wrong_bodies.py [--jobs N] [CRATE | CRATE/EDIT ..]
+    tools/wrong_bodies.py [--jobs N | --read] [CRATE | CRATE/EDIT ..]
 
 It works on copies of the files that git knows, with the libraries' `out` where there is one. A crate is proved there once as
 it stands. Then each of its edits is made, and the function that it changes is proved anew: what is refused there is refused
@@ -9,6 +9,9 @@ in the whole crate. Only where the function is proved all the same, its module i
 
 By default it takes every crate, and as many edits at a time as there are processors (N). It prints a line for each edit, and
 last how many were refused, how many were not, and how many couldn't be read. The status is 0 where all were refused.
+
+With --read nothing is proved: it prints the edits that can no longer be made, since a text that they replace doesn't stand in
+its file once. The status is 0 where there are none.
 """
 import os
 import re
@@ -125,7 +128,21 @@ def edits_of(words):
     return found
 
 
+def stale(words):
+    """The edits that can't be made, and why."""
+    for name, edits in edits_of(words).items():
+        for edit in edits:
+            try:
+                made(edit, TOP / "crates" / name)
+            except (Bad, OSError) as why:
+                yield f"{name}/{edit.stem}: {why}"
+
+
 def main(words):
+    if words[:1] == ["--read"]:
+        found = list(stale(words[1:]))
+        print("\n".join(found + [f"{len(found)} can't be made"]))
+        return 1 if found else 0
     jobs = os.cpu_count() or 1
     if words[:1] == ["--jobs"]:
         jobs, words = int(words[1]), words[2:]

@@ -1,10 +1,12 @@
 /* Each request for memory is refused in turn: each call then answers NO_MEMORY or does all, changes nothing where it is refused,
- * and every block is freed. This program brings the library's memory itself. */
+ * and every block is freed. What a loaded document holds has no room for more pairs. This program brings the library's memory
+ * itself. */
 #include <stdio.h>
 #include <stdlib.h>
 #include "bigrosk_ini.h"
 
 static long left, taken, freed;
+static size_t held;
 static int failed;
 #define CHECK(e) do { if (!(e)) { printf("FAILED %d (%ld): %s\n", __LINE__, n, #e); failed++; } } while (0)
 
@@ -20,23 +22,43 @@ static struct tried answer(void *at)
     return t;
 }
 
+/* what stands before a block: how many bytes it has */
+union head { size_t count; char room[16]; };
+
+static struct tried block(union head *head, size_t count)
+{
+    if (!head) return answer(NULL);
+    head->count = count;
+    held += count;
+    return answer(head + 1);
+}
+
 struct tried rattle_alloc(size_t count, size_t align)
 {
     if (left-- <= 0) return answer(NULL);
     taken++;
-    return answer(malloc(count ? count : align));
+    if (!count) count = align;
+    return block(malloc(sizeof(union head) + count), count);
 }
 
 struct tried rattle_realloc(void *at, size_t kept, size_t count, size_t align)
 {
+    union head *head = (union head *)at - 1;
+    size_t before = head->count;
     (void)kept;
-    return left-- <= 0 ? answer(NULL) : answer(realloc(at, count ? count : align));
+    if (left-- <= 0) return answer(NULL);
+    if (!count) count = align;
+    head = realloc(head, sizeof(union head) + count);
+    if (head) held -= before;
+    return block(head, count);
 }
 
 void rattle_dealloc(void *at)
 {
+    union head *head = (union head *)at - 1;
     freed++;
-    free(at);
+    held -= head->count;
+    free(head);
 }
 
 enum { load, set, add, write, all, pairs, items, edit_set, edit_new, edit_add, edit_delete, edit_rename, edit_out, edit_name, calls };
@@ -70,6 +92,24 @@ static uint32_t call(int which, long n, struct bigrosk_ini_document *d)
     }
     left = 1000000;
     return status;
+}
+
+/* In a section of three pairs these take 192 bytes, two slots each and no block beside that of a byte; eight pairs, for which there
+ * is room while they are read, would take 512. What else a section takes is some 250. */
+static void sections_are_as_large_as_their_pairs(void)
+{
+    const long n = 1000;
+    static char text[32 * 1000];
+    struct bigrosk_ini_document d = BIGROSK_INI_EMPTY;
+    struct bigrosk_ini_fault f;
+    size_t at = 0;
+    for (long i = 0; i < n; i++) at += (size_t)sprintf(text + at, "[%ld]\na=1\nb=2\nc=3\n", i);
+    left = 1000000;
+    CHECK(held == 0 && bigrosk_ini_load_str(text, &d, &f) == BIGROSK_INI_OK);
+    printf("%ld bytes held for each of %ld sections\n", (long)held / n, n);
+    CHECK(192 * n < (long)held && (long)held < 600 * n);
+    bigrosk_ini_free(&d);
+    CHECK(held == 0);
 }
 
 int main(void)
@@ -107,6 +147,7 @@ int main(void)
         long n = which;
         CHECK(status == BIGROSK_INI_OK);
     }
+    sections_are_as_large_as_their_pairs();
     printf("%ld refusals, %ld blocks taken and %ld freed, %d failed\n", refusals, taken, freed, failed);
     return failed != 0 || refusals < calls;
 }
