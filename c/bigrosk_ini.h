@@ -8,6 +8,7 @@
  * What a caller owes, and nothing checks:
  *   - a struct bigrosk_ini_document is written by these calls alone; it may be moved, but of two copies only one may be
  *     used further;
+ *   - what a call lends is read before the next call with the document, and never written;
  *   - one call at a time uses a document, a look-up too; another thread may use it once the call has returned and the two
  *     are ordered (a lock, a join). Different documents may be used at the same time;
  *   - every pointer points to as many bytes as are named, also where these are 0 (never NULL), and the memory of an argument
@@ -105,6 +106,13 @@ struct bigrosk_ini_sizes {
 };
 #define BIGROSK_INI_NO_SIZES { 0, 0 }
 
+/* Bytes that are lent, with no 0 behind them. */
+struct bigrosk_ini_borrowed {
+    const uint8_t *bytes;
+    size_t count;
+};
+#define BIGROSK_INI_NOTHING_BORROWED { (const uint8_t *)"", 0 }
+
 /* In what bigrosk_ini_items lists, the count of the general section's name, which is none. */
 #define BIGROSK_INI_UNNAMED SIZE_MAX
 
@@ -128,6 +136,12 @@ void bigrosk_ini_free(struct bigrosk_ini_document *document);
  * OK; ABSENT; NO_ROOM where the buffer has room for no more than count bytes: it is then as it was; NOT_UTF8; NO_DOCUMENT. */
 uint32_t bigrosk_ini_get(struct bigrosk_ini_document *document, bool named, const uint8_t *section, size_t section_count,
                          const uint8_t *key, size_t key_count, uint8_t *value, size_t room, size_t *count);
+
+/* Lends the value of the key, without a copy: `value` then points to the document's own bytes, until the next call with the document,
+ * whichever that is. The struct is BIGROSK_INI_NOTHING_BORROWED before the call.
+ * OK; ABSENT, NOT_UTF8 or NO_DOCUMENT, and the struct is then as it was. It takes no memory. */
+uint32_t bigrosk_ini_borrow(struct bigrosk_ini_document *document, bool named, const uint8_t *section, size_t section_count,
+                            const uint8_t *key, size_t key_count, struct bigrosk_ini_borrowed *value);
 
 /* The next three list texts in order: in `bytes` one text behind another, each with a 0 behind it, and in `counts` how many bytes
  * each has, its 0 not counted. `sizes` says how much of both buffers that takes, with OK and with NO_ROOM; with anything but OK
@@ -278,6 +292,16 @@ static inline uint32_t bigrosk_ini_get_str(struct bigrosk_ini_document *document
     return bigrosk_ini_get(document, section != NULL, bigrosk_ini_bytes(section), bigrosk_ini_count(section),
                            bigrosk_ini_bytes(key), bigrosk_ini_count(key), (uint8_t *)value, room,
                            count ? count : &unused);
+}
+
+/* Whatever stood in the struct, it is BIGROSK_INI_NOTHING_BORROWED where nothing is lent. */
+static inline uint32_t bigrosk_ini_borrow_str(struct bigrosk_ini_document *document, const char *section, const char *key,
+                                              struct bigrosk_ini_borrowed *value)
+{
+    struct bigrosk_ini_borrowed nothing = BIGROSK_INI_NOTHING_BORROWED;
+    *value = nothing;
+    return bigrosk_ini_borrow(document, section != NULL, bigrosk_ini_bytes(section), bigrosk_ini_count(section),
+                              bigrosk_ini_bytes(key), bigrosk_ini_count(key), value);
 }
 
 static inline uint32_t bigrosk_ini_get_all_str(struct bigrosk_ini_document *document, const char *section,

@@ -130,6 +130,44 @@ static void look_ups_by_no_text(void)
     bigrosk_ini_free(&d);
 }
 
+/* whether this is lent */
+static bool is_lent(document *d, const char *section, const char *key, const char *want)
+{
+    struct bigrosk_ini_borrowed value = { (const uint8_t *)"else", 4 };
+    return bigrosk_ini_borrow_str(d, section, key, &value) == BIGROSK_INI_OK && value.count == strlen(want)
+        && !memcmp(value.bytes, want, value.count);
+}
+
+static void loans(void)
+{
+    document d = BIGROSK_INI_EMPTY;
+    fault f;
+    struct bigrosk_ini_borrowed one = BIGROSK_INI_NOTHING_BORROWED, other = BIGROSK_INI_NOTHING_BORROWED;
+    CHECK(bigrosk_ini_borrow_str(&d, NULL, "port", &one) == BIGROSK_INI_NO_DOCUMENT && one.bytes && one.count == 0);
+    CHECK(bigrosk_ini_load_str("port=1\nempty=\n[paths]\nlog=a b\nlog=second\n[paths]\nonly=3\n", &d, &f) == BIGROSK_INI_OK);
+    CHECK(is_lent(&d, NULL, "port", "1") && is_lent(&d, "paths", "log", "a b") && is_lent(&d, NULL, "empty", ""));
+    /* the same bytes each time: no copy is made */
+    CHECK(bigrosk_ini_borrow_str(&d, "paths", "log", &one) == BIGROSK_INI_OK);
+    CHECK(bigrosk_ini_borrow_str(&d, "paths", "log", &other) == BIGROSK_INI_OK && one.bytes == other.bytes && one.count == 3);
+    CHECK(bigrosk_ini_borrow_str(&d, "paths", "port", &one) == BIGROSK_INI_ABSENT && one.count == 0);
+    CHECK(bigrosk_ini_borrow_str(&d, "paths", "only", &one) == BIGROSK_INI_ABSENT);
+    CHECK(bigrosk_ini_borrow_str(&d, "path", "log", &one) == BIGROSK_INI_ABSENT);
+    CHECK(bigrosk_ini_borrow_str(&d, "paths", "\xff", &one) == BIGROSK_INI_NOT_UTF8);
+    CHECK(bigrosk_ini_borrow_str(&d, "\xff", "log", &one) == BIGROSK_INI_NOT_UTF8);
+    /* refused, the struct stays */
+    const uint8_t *name = (const uint8_t *)"\xc3\xa4", *key = (const uint8_t *)"port";
+    one.bytes = name, one.count = 2;
+    CHECK(bigrosk_ini_borrow(&d, true, name, 2, key, 4, &one) == BIGROSK_INI_ABSENT && one.bytes == name && one.count == 2);
+    CHECK(bigrosk_ini_borrow(&d, false, name, 1, key, 4, &one) == BIGROSK_INI_NOT_UTF8 && one.bytes == name && one.count == 2);
+    CHECK(bigrosk_ini_borrow(&d, false, name, 2, key, 4, &one) == BIGROSK_INI_OK && one.count == 1 && *one.bytes == '1');
+    /* the document stays, and can be changed once the loan is over */
+    CHECK(is_written(&d, &plain, "port=1\nempty=\n\n[paths]\nlog=a b\nlog=second\n\n[paths]\nonly=3\n"));
+    CHECK(bigrosk_ini_set_str(&d, "paths", "log", "a longer value than before") == BIGROSK_INI_OK);
+    CHECK(is_lent(&d, "paths", "log", "a longer value than before") && is_lent(&d, NULL, "port", "1"));
+    bigrosk_ini_free(&d);
+    CHECK(bigrosk_ini_borrow_str(&d, NULL, "port", &one) == BIGROSK_INI_NO_DOCUMENT);
+}
+
 static void edits(void)
 {
     document d = BIGROSK_INI_EMPTY;
@@ -533,6 +571,7 @@ int main(void)
     nothing_is_loaded();
     look_ups();
     look_ups_by_no_text();
+    loans();
     edits();
     refusals();
     options();

@@ -138,6 +138,9 @@ int main(void)
                 CHECK(count != then || memcmp(before, after, count));
             }
             left = 0; /* these take no memory */
+            struct bigrosk_ini_borrowed lent;
+            CHECK(bigrosk_ini_borrow_str(&d, "t", "none", &lent) == BIGROSK_INI_ABSENT);
+            CHECK(bigrosk_ini_borrow_str(&d, NULL, which ? "a" : "x", &lent) != BIGROSK_INI_NO_MEMORY);
             CHECK(bigrosk_ini_has_str(&d, NULL, "none") == BIGROSK_INI_ABSENT);
             CHECK(bigrosk_ini_delete_str(&d, NULL, "none") == BIGROSK_INI_ABSENT);
             CHECK(bigrosk_ini_delete_section_str(&d, "s") != BIGROSK_INI_NO_MEMORY);

@@ -20,13 +20,9 @@ public:
 
     std::string get(const char *section, const char *key)
     {
-        std::size_t count = 0;
-        char none[1];
-        if (bigrosk_ini_get_str(&document, section, key, none, 0, &count) != BIGROSK_INI_NO_ROOM) return "";
-        std::string value(count + 1, 0);
-        bigrosk_ini_get_str(&document, section, key, &value[0], value.size(), &count);
-        value.resize(count);
-        return value;
+        bigrosk_ini_borrowed value;
+        if (bigrosk_ini_borrow_str(&document, section, key, &value) != BIGROSK_INI_OK) return "";
+        return std::string(reinterpret_cast<const char *>(value.bytes), value.count);
     }
 };
 

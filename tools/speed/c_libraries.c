@@ -1,5 +1,5 @@
-/* One library at one task, for tools/speed/c_libraries.sh, which compiles this once for each with -DBIGROSK, -DGLIB, -DINIH or
- * -DINIPARSER:
+/* One library at one task, for tools/speed/c_libraries.sh, which compiles this once for each with -DBIGROSK (and -DBORROWED, where
+ * values are lent and not copied), -DGLIB, -DINIH or -DINIPARSER:
  *
  *     PROGRAM FILE [RUNS [SECTIONS]]    loads the file, of 40,000 or so many sections, looks up 1,000,000 values in them, whose
  *                                       names and keys are made before, and writes the text; each five times, or so many, of
@@ -27,7 +27,11 @@ static size_t text_count;
 
 #if defined BIGROSK
 #include "bigrosk_ini.h"
+#ifdef BORROWED
+static const char *name = "bigrosk_ini, values lent";
+#else
 static const char *name = "bigrosk_ini";
+#endif
 static struct bigrosk_ini_document kept = BIGROSK_INI_EMPTY;
 static int load(void)
 {
@@ -36,8 +40,13 @@ static int load(void)
 }
 static int look_up(const char *section, const char *key)
 {
+#ifdef BORROWED
+    struct bigrosk_ini_borrowed value;
+    return bigrosk_ini_borrow_str(&kept, section, key, &value) == BIGROSK_INI_OK;
+#else
     char value[256];
     return bigrosk_ini_get_str(&kept, section, key, value, sizeof value, NULL) == BIGROSK_INI_OK;
+#endif
 }
 static int put(void)
 {

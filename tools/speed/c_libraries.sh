@@ -28,6 +28,7 @@ ls -l "$room/text.ini" | awk '{ printf "%d bytes\n\n", $5 }'
 echo '| | load | 1,000,000 look-ups, loaded once | loaded five times | write | peak memory |'
 echo '|---|---|---|---|---|---|'
 compare BIGROSK -I"$room/it/include" "$room/it/lib/libbigrosk_ini.a"
+compare BIGROSK -DBORROWED -I"$room/it/include" "$room/it/lib/libbigrosk_ini.a"
 compare GLIB $(pkg-config --cflags --libs glib-2.0 2>/dev/null || echo -lglib-2.0)
 compare INIH -linih
 head -n "$((sections * 11 / 10))" "$room/text.ini" >"$room/tenth.ini"

@@ -11,13 +11,14 @@ use types.Kit.{fpack, feq_i, feq_l}
 use seplogic.Ra.Ura.{Ura}
 use denote.RattleType.{RattleType, Valss}
 use denote.RawPtr.{Ptr, ptr_val, block_ptr, null_ptr, in_a_block}
-use denote.Memory.{lone}
+use base.Fraction.{full_share}
+use denote.Memory.{lone, part_at}
 use denote.Steps.{nothing}
 use denote.Struct.Struct.{within}
 use denote.Struct.Owning.{shape, to}
-use Rattle.core.proofs.alloc.Calls.{Fits, handle_tells}
+use Rattle.core.proofs.alloc.Calls.{Fits, handle_tells, token}
 use Rattle.std_alloc.specs.Box.Ownership.{box_owns}
-use Rattle.std_alloc.proofs.BoxSteps.Form.{Bx, word}
+use Rattle.std_alloc.proofs.BoxSteps.Form.{Bx, τ, handle, word}
 use Rattle.std_alloc.proofs.BoxSteps.Steps.{box_in}
 use Rattle.std_heap.specs.contracts.Global as Heap
 use Rattle.std_heap.specs.contracts.GlobalAllocator.TheImpl.{ghosts, dict}
@@ -59,6 +60,24 @@ module _ {M : Type 1} {𝓤 : Ura M} {𝓛 : Logic 𝓤} {K : Type 0} {Γ : List
       fpack t (Valss (shape Handle.the_type).fields) (within (shape Handle.the_type)
       (to Handle.the_type d) (v ∷ [])) (ptr_val d.at ∷ [], (hv ∷ [], tt)) $ fjoin t $ s)
 
+  -- of an open handle: [the value in its block; the right to free that; the handle's allocator]
+  pub handle_open : K → (d : Kept-handle.Denot) (vs : List Val) → d.is_open ≡ true
+      → ((b o : ℕ) (hv : Val) → d.at ≡ block_ptr b o → vs ≡ word E hv b o ∷ [] → Fits E.al hv
+      → Seq K 𝓛 (‵ (part_at Kept.the_row full_share d.value b o)
+      ∷ ‵ (token E.al d.alloc (bare (τ E)) (block_ptr b o)) ∷ ‵ (handle E d.alloc hv) ∷ Γ) G)
+      → Seq K 𝓛 (‵ (Kept-handle.own_val d vs) ∷ Γ) G
+  handle_open t d vs is_on k =
+      fsplit t $ fpick t (λ vss. fsplit t $ feq_l t (λ ev. fsplit t $ feq_l t (λ ep. fsplit t $
+      handle_tells E.al t d.alloc vss.1.0 (λ hv ea fa. move t (1 ∷ []) $ drop t $ move t (1 ∷ []) $
+      rewrite t 0 (λ (s : Bool). ‵ (held_or_closed s d.at d.alloc d.value)) is_on refl $
+      in_a_block t d.at (λ p. box_owns (ghosts.dealloc_token d.alloc) Kept.the_row p d.value) (fst∗ 𝓤
+      (never 𝓤) (sem 𝓛 (ghosts.dealloc_token d.alloc (bare (lone Kept.the_row.mir)) null_ptr)))
+      (λ b o e. fsplit t $
+      k b o hv e
+      (subst (λ (p : Ptr). vs ≡ vstruct (of_list (ptr_val p ∷ hv ∷ [])) ∷ []) e
+      (subst (λ (ws : List Val). vs ≡ vstruct (of_list (ptr_val d.at ∷ (ws ++ []))) ∷ []) ea
+      (subst (λ (ps : List Val). vs ≡ vstruct (of_list (ps ++ (vss.1.0 ++ []))) ∷ []) ep ev))) fa)))))
+
   -- of an open handle: what its parts own, at the same word
   pub handle_out : K → (d : Kept-handle.Denot) (vs : List Val) → d.is_open ≡ true
       → ((b o : ℕ) (hv : Val) → vs ≡ word E hv b o ∷ [] → Fits E.al hv
@@ -66,16 +85,8 @@ module _ {M : Type 1} {𝓤 : Ura M} {𝓛 : Logic 𝓤} {K : Type 0} {Γ : List
       (word E hv b o ∷ [])) ∷ Γ) G)
       → Seq K 𝓛 (‵ (Kept-handle.own_val d vs) ∷ Γ) G
   handle_out t d vs is_on k =
-      fsplit t $ fpick t (λ vss. fsplit t $ feq_l t (λ ev. fsplit t $ feq_l t (λ ep. fsplit t $
-      handle_tells E.al t d.alloc vss.1.0 (λ hv ea fa. move t (1 ∷ []) $ drop t $ move t (1 ∷ []) $
-      rewrite t 0 (λ (s : Bool). ‵ (held_or_closed s d.at d.alloc d.value)) is_on refl $
-      in_a_block t d.at (λ p. box_owns (ghosts.dealloc_token d.alloc) Kept.the_row p d.value) (fst∗ 𝓤
-      (never 𝓤) (sem 𝓛 (ghosts.dealloc_token d.alloc (bare (lone Kept.the_row.mir)) null_ptr)))
-      (λ b o e. fsplit t $
+      handle_open t d vs is_on (λ b o hv e ws fa.
       box_in E t (record { ptr = block_ptr b o; alloc = d.alloc; value = d.value }) b o d.value refl refl $
       use1 𝓛 (‵ (Loose.own_val (record { at = block_ptr b o; alloc = d.alloc; value = d.value })
       (word E hv b o ∷ []))) (id⊢ 𝓤 _) $
-      k b o hv
-      (subst (λ (p : Ptr). vs ≡ vstruct (of_list (ptr_val p ∷ hv ∷ [])) ∷ []) e
-      (subst (λ (ws : List Val). vs ≡ vstruct (of_list (ptr_val d.at ∷ (ws ++ []))) ∷ []) ea
-      (subst (λ (ps : List Val). vs ≡ vstruct (of_list (ps ++ (vss.1.0 ++ []))) ∷ []) ep ev))) fa)))))
+      k b o hv ws fa)

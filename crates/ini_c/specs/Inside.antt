@@ -1,3 +1,4 @@
 pub mod Gathered
+pub mod Lent
 pub mod Ownership
 pub mod Taken

@@ -3,6 +3,7 @@ pub mod Faults
 pub mod Held
 pub mod Inside
 pub mod Listings
+pub mod Loans
 pub mod LookUps
 pub mod Statuses
 pub mod TextEdits

@@ -24,6 +24,9 @@ impl Model for Handle {
 }
 
 impl Handle {
+    ghost use Rattle.std.specs.Borrow.{sem};
+    ghost use Rattle.ini_c.specs.Inside.Lent.{lends_kept};
+
     // No box.
     #[inline(always)]
     pub(crate) fn closed(alloc: Global) -> Handle
@@ -58,6 +61,16 @@ impl Handle {
         requires { self.is_open ≡ false }
     {
         let Handle { at: _, alloc: _ } = self;
+    }
+
+    // What it keeps, lent.
+    #[inline(always)]
+    pub(crate) fn kept(&mut self) -> &mut Kept
+        requires { self.old.is_open ≡ true }
+        ensures* writes_back { sem 𝓛 (lends_kept self.entry result) }
+        ensures value { result.now ≡ self.old.value }
+    {
+        unsafe { &mut *(self.at as *mut Kept) }
     }
 
     #[inline(always)]

@@ -1,7 +1,7 @@
 //! Documents for programs in C.
 //!
 //! This file knows what crosses to C: numbers, structs of numbers, slices, and a `Document`, which C keeps
-//! between calls. Each call takes the document out of what C keeps, hands it to `ini`, and puts it back.
+//! between calls. Each call hands the document in it to `ini`.
 #![tactic(auto)]
 
 ghost use Rattle.std.specs.Prelude.{◌≡◌, ◌∷◌, [], ◌≤◌, ◌↔◌, IsTrue, IsSome, IsSomeAnd, None, length, take};
@@ -20,6 +20,7 @@ ghost use Rattle.ini_c.specs.LookUps.{AreTexts, HasSection, found_in, name_if};
 ghost use Rattle.ini_c.specs.Statuses.{absent, broken, is_among, no_document};
 ghost use Rattle.ini_c.specs.Statuses.{no_memory, no_room, not_utf8, ok};
 
+mod borrowing;
 mod copies;
 mod document;
 mod edits;
@@ -38,6 +39,7 @@ mod text_sections;
 mod walks;
 mod writing;
 
+pub use crate::borrowing::bigrosk_ini_borrow;
 pub use crate::copies::Sizes;
 pub use crate::document::{Document, Kept};
 pub use crate::fault::Fault;
@@ -117,7 +119,6 @@ pub extern "C" fn bigrosk_ini_free(alloc: Global, document: &mut Document)
 /// out, and a 0 behind it. `count` is the value's number of bytes, where it fits and where it doesn't.
 #[unsafe(no_mangle)]
 pub extern "C" fn bigrosk_ini_get(
-    alloc: Global,
     document: &mut Document,
     named: bool,
     section: &[u8],
@@ -141,18 +142,15 @@ pub extern "C" fn bigrosk_ini_get(
     ensures rest { ¬ (result ≡ ok) → value.new ≡ value.old }
     ensures statuses { IsTrue (is_among result (ok ∷ absent ∷ no_room ∷ not_utf8 ∷ no_document ∷ [])) }
 {
-    let Some(kept) = document.take(alloc) else {
+    let Some(document) = document.loaded() else {
         return NO_DOCUMENT;
     };
-    let answer = look_up::find(&kept.document, named, section, key, value, count);
-    document.put(alloc, kept);
-    answer
+    look_up::find(document, named, section, key, value, count)
 }
 
 /// Whether the first section of the name has the key: `OK` or `ABSENT`.
 #[unsafe(no_mangle)]
 pub extern "C" fn bigrosk_ini_has(
-    alloc: Global,
     document: &mut Document,
     named: bool,
     section: &[u8],
@@ -168,18 +166,15 @@ pub extern "C" fn bigrosk_ini_has(
         IsSome (found_in (name_if named section.now) (chars key.now) (document_in document.old)) }
     ensures statuses { IsTrue (is_among result (ok ∷ absent ∷ not_utf8 ∷ no_document ∷ [])) }
 {
-    let Some(kept) = document.take(alloc) else {
+    let Some(document) = document.loaded() else {
         return NO_DOCUMENT;
     };
-    let answer = look_up::has(&kept.document, named, section, key);
-    document.put(alloc, kept);
-    answer
+    look_up::has(document, named, section, key)
 }
 
 /// Whether a section has the name: `OK` or `ABSENT`.
 #[unsafe(no_mangle)]
 pub extern "C" fn bigrosk_ini_has_section(
-    alloc: Global,
     document: &mut Document,
     named: bool,
     section: &[u8],
@@ -191,12 +186,10 @@ pub extern "C" fn bigrosk_ini_has_section(
     ensures there { result ≡ ok → HasSection (name_if named section.now) (document_in document.old) }
     ensures statuses { IsTrue (is_among result (ok ∷ absent ∷ not_utf8 ∷ no_document ∷ [])) }
 {
-    let Some(kept) = document.take(alloc) else {
+    let Some(document) = document.loaded() else {
         return NO_DOCUMENT;
     };
-    let answer = look_up::has_section(&kept.document, named, section);
-    document.put(alloc, kept);
-    answer
+    look_up::has_section(document, named, section)
 }
 
 /// Copies all values of the key in the first section of the name out, in order: in `bytes` one behind
@@ -233,21 +226,10 @@ pub extern "C" fn bigrosk_ini_get_all(
     ensures statuses { IsTrue
         (is_among result (ok ∷ absent ∷ no_room ∷ not_utf8 ∷ no_memory ∷ no_document ∷ [])) }
 {
-    let Some(kept) = document.take(alloc) else {
+    let Some(document) = document.loaded() else {
         return NO_DOCUMENT;
     };
-    let answer = walks::values(
-        alloc,
-        &kept.document,
-        named,
-        section,
-        key,
-        bytes,
-        counts,
-        sizes,
-    );
-    document.put(alloc, kept);
-    answer
+    walks::values(alloc, document, named, section, key, bytes, counts, sizes)
 }
 
 /// Copies all pairs of the first section of the name out, in order, as `bigrosk_ini_get_all` copies values:
@@ -277,12 +259,10 @@ pub extern "C" fn bigrosk_ini_pairs(
     ensures statuses { IsTrue
         (is_among result (ok ∷ absent ∷ no_room ∷ not_utf8 ∷ no_memory ∷ no_document ∷ [])) }
 {
-    let Some(kept) = document.take(alloc) else {
+    let Some(document) = document.loaded() else {
         return NO_DOCUMENT;
     };
-    let answer = walks::pairs(alloc, &kept.document, named, section, bytes, counts, sizes);
-    document.put(alloc, kept);
-    answer
+    walks::pairs(alloc, document, named, section, bytes, counts, sizes)
 }
 
 /// Copies the whole document out, in order, as `bigrosk_ini_get_all` copies values: of each section the name
@@ -307,19 +287,16 @@ pub extern "C" fn bigrosk_ini_items(
     ensures counts_stay { ¬ (result ≡ ok) → counts.new ≡ counts.old }
     ensures statuses { IsTrue (is_among result (ok ∷ no_room ∷ no_memory ∷ no_document ∷ [])) }
 {
-    let Some(kept) = document.take(alloc) else {
+    let Some(document) = document.loaded() else {
         return NO_DOCUMENT;
     };
-    let answer = walks::items(alloc, &kept.document, bytes, counts, sizes);
-    document.put(alloc, kept);
-    answer
+    walks::items(alloc, document, bytes, counts, sizes)
 }
 
 /// Sets the value of the key in the first section of the name: its first pair there takes the value, and
 /// later ones go. Where the key, or the section, is new, it comes last.
 #[unsafe(no_mangle)]
 pub extern "C" fn bigrosk_ini_set(
-    alloc: Global,
     document: &mut Document,
     named: bool,
     section: &[u8],
@@ -335,18 +312,15 @@ pub extern "C" fn bigrosk_ini_set(
     ensures unchanged { ¬ (result ≡ ok) → document_in document.new ≡ document_in document.old }
     ensures statuses { IsTrue (is_among result (ok ∷ not_utf8 ∷ no_memory ∷ no_document ∷ [])) }
 {
-    let Some(mut kept) = document.take(alloc) else {
+    let Some(document) = document.loaded_mut() else {
         return NO_DOCUMENT;
     };
-    let answer = edits::set(&mut kept.document, named, section, key, value);
-    document.put(alloc, kept);
-    answer
+    edits::set(document, named, section, key, value)
 }
 
 /// Appends the pair to the first section of the name, or opens one with it, last.
 #[unsafe(no_mangle)]
 pub extern "C" fn bigrosk_ini_add(
-    alloc: Global,
     document: &mut Document,
     named: bool,
     section: &[u8],
@@ -362,18 +336,15 @@ pub extern "C" fn bigrosk_ini_add(
     ensures unchanged { ¬ (result ≡ ok) → document_in document.new ≡ document_in document.old }
     ensures statuses { IsTrue (is_among result (ok ∷ not_utf8 ∷ no_memory ∷ no_document ∷ [])) }
 {
-    let Some(mut kept) = document.take(alloc) else {
+    let Some(document) = document.loaded_mut() else {
         return NO_DOCUMENT;
     };
-    let answer = edits::add(&mut kept.document, named, section, key, value);
-    document.put(alloc, kept);
-    answer
+    edits::add(document, named, section, key, value)
 }
 
 /// Takes the first pair of the key out of the first section of the name.
 #[unsafe(no_mangle)]
 pub extern "C" fn bigrosk_ini_delete(
-    alloc: Global,
     document: &mut Document,
     named: bool,
     section: &[u8],
@@ -391,18 +362,15 @@ pub extern "C" fn bigrosk_ini_delete(
     ensures unchanged { ¬ (result ≡ ok) → document_in document.new ≡ document_in document.old }
     ensures statuses { IsTrue (is_among result (ok ∷ absent ∷ not_utf8 ∷ no_document ∷ [])) }
 {
-    let Some(mut kept) = document.take(alloc) else {
+    let Some(document) = document.loaded_mut() else {
         return NO_DOCUMENT;
     };
-    let answer = edits::delete(&mut kept.document, named, section, key);
-    document.put(alloc, kept);
-    answer
+    edits::delete(document, named, section, key)
 }
 
 /// Takes the first section of the name out.
 #[unsafe(no_mangle)]
 pub extern "C" fn bigrosk_ini_delete_section(
-    alloc: Global,
     document: &mut Document,
     named: bool,
     section: &[u8],
@@ -416,12 +384,10 @@ pub extern "C" fn bigrosk_ini_delete_section(
     ensures unchanged { ¬ (result ≡ ok) → document_in document.new ≡ document_in document.old }
     ensures statuses { IsTrue (is_among result (ok ∷ absent ∷ not_utf8 ∷ no_document ∷ [])) }
 {
-    let Some(mut kept) = document.take(alloc) else {
+    let Some(document) = document.loaded_mut() else {
         return NO_DOCUMENT;
     };
-    let answer = edits::delete_section(&mut kept.document, named, section);
-    document.put(alloc, kept);
-    answer
+    edits::delete_section(document, named, section)
 }
 
 /// Copies the document's text out, and a 0 behind it. `count` is the text's number of bytes, where it fits
@@ -443,18 +409,15 @@ pub extern "C" fn bigrosk_ini_write(
     ensures rest { ¬ (result ≡ ok) → text.new ≡ text.old }
     ensures statuses { IsTrue (is_among result (ok ∷ no_room ∷ no_memory ∷ no_document ∷ [])) }
 {
-    let Some(kept) = document.take(alloc) else {
+    let Some(document) = document.loaded() else {
         return NO_DOCUMENT;
     };
-    let answer = writing::write(alloc, &kept.document, choice, text, count);
-    document.put(alloc, kept);
-    answer
+    writing::write(alloc, document, choice, text, count)
 }
 
 /// Whether the document, written by one option, loads by the other as it is; of no document it is not so.
 #[unsafe(no_mangle)]
 pub extern "C" fn bigrosk_ini_is_plain(
-    alloc: Global,
     document: &mut Document,
     choice: &WriteChoice,
     option: &ReadChoice,
@@ -462,10 +425,8 @@ pub extern "C" fn bigrosk_ini_is_plain(
     ensures stays { document_in document.new ≡ document_in document.old }
     ensures plain { TellsPlain choice.now (parse_option option.now) result (document_in document.old) }
 {
-    let Some(kept) = document.take(alloc) else {
+    let Some(document) = document.loaded() else {
         return false;
     };
-    let answer = writing::is_plain(&kept.document, choice, option.to_option());
-    document.put(alloc, kept);
-    answer
+    writing::is_plain(document, choice, option.to_option())
 }

@@ -30,7 +30,12 @@ fn name_by_bytes<'a>(named: bool, section: &'a [u8]) -> Option<&'a [u8]>
 // The first value of the key in the first section of the name; where there is none, the status. What is
 // found by bytes is UTF-8, so they are looked at only where nothing was.
 #[inline(always)]
-fn value_at<'a>(document: &'a Ini, named: bool, section: &[u8], key: &[u8]) -> Result<&'a str, u32>
+pub(crate) fn value_at<'a>(
+    document: &'a Ini,
+    named: bool,
+    section: &[u8],
+    key: &[u8],
+) -> Result<&'a str, u32>
     ensures texts { IfOk result (λ value. AreTexts section.now key.now) }
     ensures value { IfOk result (λ value.
         value_in (name_if named section.now) (chars key.now) document.now ≡ Some (str_text value)) }

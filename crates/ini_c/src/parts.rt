@@ -1,4 +1,4 @@
-//! A box as the pointer and the allocator that it is made of. The only unsafe code of the library is here.
+//! A box as the pointer and the allocator that it is made of.
 ghost use Rattle.std.specs.Prelude.{◌≡◌};
 ghost use Rattle.std.specs.Box.Ownership.{box_owns};
 

@@ -2,4 +2,4 @@ use Rattle.ini_c.proofs.bigrosk_ini_is_plain.Goals as goal
 
 pub returns-clause-plain : goal.returns-clause-plain
 returns-clause-plain c =
-    rw (← c.in-Some.ensures.taken, ← c.to_option.ensures, ← c.deref.ensures) c.is_plain-answer.ensures
+    rw (← c.in-Some.ensures.document, ← c.to_option.ensures) c.is_plain.ensures

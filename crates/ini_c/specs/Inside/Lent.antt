@@ -1,0 +1,23 @@
+-- What a handle and a document end as, once what was lent of them for writing is back.
+use Rattle.std.specs.Prelude.{Option}
+use Rattle.std.specs.Borrow.{Fml, MutBor, Lends, LendsIf}
+use Rattle.ini.specs.Documents.{Document as IniDocument}
+use Rattle.ini.specs.contracts.document.Ini as Ini
+use Rattle.ini_c.specs.declared.document.Document.{Document}
+use Rattle.ini_c.specs.declared.document.Kept.{Kept}
+use Rattle.ini_c.specs.declared.handle.Handle.{Handle}
+use Rattle.ini_c.specs.contracts.document.Document as DocumentRow
+use Rattle.ini_c.specs.contracts.document.Kept as KeptRow
+use Rattle.ini_c.specs.contracts.handle.Handle as HandleRow
+
+-- the handle keeps what was last written
+abbrev pub lends_kept : MutBor Handle → MutBor Kept → Fml
+lends_kept h r = Lends HandleRow.the_row KeptRow.the_row h r (λ kept. record h.now { value = kept })
+
+-- with another document in place of the one that is loaded
+abbrev pub with_document : Document → IniDocument → Document
+with_document d x = record d { handle = record d.handle { value = record { document = x } } }
+
+-- what was last written is loaded
+abbrev pub lends_document : MutBor Document → Option (MutBor IniDocument) → Fml
+lends_document d r = LendsIf DocumentRow.the_row Ini.the_row d r (with_document d.now) d.now

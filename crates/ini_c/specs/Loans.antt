@@ -1,0 +1,12 @@
+-- What becomes of a document, once a loan of something in it is over.
+use Rattle.std.specs.Prelude.{◌≡◌, ⊤}
+use Rattle.std.specs.Borrow.{Fml, MutBor, follows_so}
+use mathlib.Core.Option.{none}
+use Rattle.ini_c.specs.declared.document.Document.{Document}
+use Rattle.ini_c.specs.contracts.document.Document.{the_row}
+use Rattle.ini_c.specs.Held.{document_in}
+
+-- what is loaded is as it was
+abbrev pub document_stays : MutBor Document → Fml
+document_stays d =
+    follows_so the_row the_row d.ghost_name none (λ _ _. ⊤) (λ after. document_in after ≡ document_in d.now)
