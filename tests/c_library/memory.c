@@ -139,8 +139,9 @@ int main(void)
             }
             left = 0; /* these take no memory */
             struct bigrosk_ini_borrowed lent;
-            CHECK(bigrosk_ini_borrow_str(&d, "t", "none", &lent) == BIGROSK_INI_ABSENT);
-            CHECK(bigrosk_ini_borrow_str(&d, NULL, which ? "a" : "x", &lent) != BIGROSK_INI_NO_MEMORY);
+            const char *key = which == load && status == BIGROSK_INI_OK ? "x" : "a";
+            CHECK(bigrosk_ini_borrow_str(&d, NULL, key, &lent) == BIGROSK_INI_OK && lent.count == 1 && *lent.bytes == '1');
+            CHECK(bigrosk_ini_borrow_str(&d, NULL, "none", &lent) == BIGROSK_INI_ABSENT);
             CHECK(bigrosk_ini_has_str(&d, NULL, "none") == BIGROSK_INI_ABSENT);
             CHECK(bigrosk_ini_delete_str(&d, NULL, "none") == BIGROSK_INI_ABSENT);
             CHECK(bigrosk_ini_delete_section_str(&d, "s") != BIGROSK_INI_NO_MEMORY);
