@@ -1,7 +1,7 @@
 //! Bytes and listings to C, and names, keys and values from C. This file knows no document.
 ghost use Rattle.std.specs.Prelude.{◌≡◌, ◌∷◌, [], ◌<◌, ◌≤◌, ◌↔◌, IsTrue, IsSome, IfSome, Some, length};
 ghost use Rattle.std.specs.Prelude.{slice_get, take, false};
-ghost use Rattle.std.specs.Str.{IsUtf8, chars};
+ghost use Rattle.std.specs.Str.{IsUtf8};
 ghost use Rattle.ini.specs.Texts.{str_name};
 ghost use Rattle.ini_c.specs.Inside.Gathered.{contents};
 ghost use Rattle.ini_c.specs.Listings.{AreSizesOf, copied_listing, fits};

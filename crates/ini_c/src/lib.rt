@@ -1,14 +1,14 @@
 //! Documents for programs in C.
 //!
 //! This file knows what crosses to C: numbers, structs of numbers, slices, and a `Document`, which C keeps
-//! between calls. Each call hands the document in it to `ini`.
+//! between calls. Loading puts a document there, freeing takes it out, and other calls lend it to `ini`.
 #![tactic(auto)]
 
 ghost use Rattle.std.specs.Prelude.{◌≡◌, ◌∷◌, [], ◌≤◌, ◌↔◌, IsTrue, IsSome, IsSomeAnd, None, length, take};
 ghost use Rattle.std.specs.Prelude.{Some, false, slice_get};
-ghost use Rattle.std.specs.Option.{option_and_then, option_map};
+ghost use Rattle.std.specs.Option.{option_map};
 ghost use Rattle.std.specs.Str.{IsUtf8, chars};
-ghost use Rattle.ini.specs.Documents.{first_section, section_removed};
+ghost use Rattle.ini.specs.Documents.{section_removed};
 ghost use Rattle.ini.specs.Edits.{add_in, delete_in, set_in};
 ghost use Rattle.ini.specs.Loading.{IsDocumentOf, text_bytes};
 ghost use Rattle.ini_c.specs.Choices.{IsCountOf, IsTextOf, TellsPlain, parse_option};

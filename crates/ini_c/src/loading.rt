@@ -1,6 +1,6 @@
 //! Loading: bytes in, a document kept, or a fault told. Of characters this file knows the mark alone that
 //! may stand before a text.
-ghost use Rattle.std.specs.Prelude.{◌≡◌, ◌∷◌, [], ◌↔◌, IsTrue, IsSomeAnd, IfOk, IfErr};
+ghost use Rattle.std.specs.Prelude.{◌≡◌, ◌∷◌, [], ◌↔◌, IsTrue, IsSomeAnd, IfOk};
 ghost use Rattle.std.specs.Str.{IsUtf8, chars};
 ghost use Rattle.ini.specs.Loading.{IsDocumentOf, IsStopOf, IfParse, IsNotUtf8, text_bytes};
 ghost use Rattle.ini_c.specs.Faults.{IsStopAt};

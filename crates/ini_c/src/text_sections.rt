@@ -1,6 +1,6 @@
 //! A section taken out of a text itself. This file knows nothing of what a section holds.
 ghost use Rattle.std.specs.Prelude.{◌≡◌, ◌∷◌, [], ◌≤◌, ◌↔◌, IsTrue, Some, length, slice_get, take};
-ghost use Rattle.std.specs.Str.{IsUtf8, chars};
+ghost use Rattle.std.specs.Str.{chars};
 ghost use Rattle.ini.specs.Loading.{IsTextWith};
 ghost use Rattle.ini_edit.specs.FirstPairs.{LacksSection};
 ghost use Rattle.ini_edit.specs.Sections.{IsSectionOut};

@@ -15,9 +15,9 @@ abbrev pub lends_kept : MutBor Handle → MutBor Kept → Fml
 lends_kept h r = Lends HandleRow.the_row KeptRow.the_row h r (λ kept. record h.now { value = kept })
 
 -- with another document in place of the one that is loaded
-abbrev pub with_document : Document → IniDocument → Document
-with_document d x = record d { handle = record d.handle { value = record { document = x } } }
+abbrev pub with_loaded : Document → IniDocument → Document
+with_loaded d x = record d { handle = record d.handle { value = record { document = x } } }
 
 -- what was last written is loaded
 abbrev pub lends_document : MutBor Document → Option (MutBor IniDocument) → Fml
-lends_document d r = LendsIf DocumentRow.the_row Ini.the_row d r (with_document d.now) d.now
+lends_document d r = LendsIf DocumentRow.the_row Ini.the_row d r (with_loaded d.now) d.now
