@@ -9,4 +9,5 @@ pub mod Values
 pub mod Keys
 pub mod Elements
 pub mod Texts
+pub mod Pieces
 pub mod Places

@@ -2,3 +2,4 @@
 pub mod Readings
 pub mod Plain
 pub mod PlainLaws
+pub mod PieceLaws

@@ -13,6 +13,7 @@ use crate::error::ParseKind;
 use crate::option::ParseOption;
 use crate::write::option::WriteOption;
 
+pub mod pieces;
 pub mod readings;
 
 /// A text derives just one list of items, or reading it stops for just one reason at just one place, and

@@ -1,9 +1,9 @@
 //! The parser: the items of a text, one at a time. This file knows fronts, elements and refusals, and
 //! nothing of what an element is made of.
 //!
-//! The files below, from the least part to the greatest: `tables`, `endpoints`, `block`, `short`, `string`,
-//! `trimmed`, `line`, `value`, `pair` and `header`, `element`. Beside them `trivia` has what is skipped
-//! between items, `fault` why reading stops, and `position` where.
+//! The files below, from the least part to the greatest: `tables`, `endpoints`, `short`, `string`, `trimmed`,
+//! `line`, `value`, `pair` and `header`, `element`. Beside them `placed` has elements with their places,
+//! `trivia` what is skipped between items, `fault` why reading stops, and `position` where.
 ghost use Rattle.std.specs.Prelude.{◌≡◌, ◌++◌, chars, [], None, Some, Ok, IfSome, IsOkAnd, IsErrAnd, OnErr};
 ghost use Rattle.ini_text.specs.Parsing.Fronts.{IsRest, front_of};
 ghost use Rattle.ini_text.specs.Parsing.Parser.{AnswersItem, KeepsRefusal, TellsRefusal, refusal_of};

@@ -1,0 +1,75 @@
+-- An element is a local matter: of what stands before it, and of what follows it, one character matters.
+use Rattle.std.proofs.Common.{◌≡◌, ℕ, Bool, true, List, [], ◌∷◌, ◌++◌, refl, sym, ◌∙◌}
+use Rattle.std.proofs.lemmas.Bool.{false≢true}
+use Rattle.ini_text.specs.Grammar.CharacterKinds.{is_blank, is_comment_mark, line_feed, BeginsWith}
+use Rattle.ini_text.specs.Grammar.Positions.{last_or}
+use Rattle.ini_text.specs.Grammar.Elements.{Given, Gap, Element}
+use Rattle.ini_text.specs.Grammar.Keys.{Indentation, KeyFront}
+use Rattle.ini_text.specs.Laws.PieceLaws.{Agree, BeginAlike}
+use Rattle.ini_text.specs.declared.option.ParseOption.{ParseOption}
+use Rattle.ini_text.proofs.LawLemmas.OneAheadLemmas.{Alike, Element-alike}
+
+begins_more : (test : ℕ → Bool) (w x : List ℕ) → BeginsWith test w → BeginsWith test (w ++ x)
+begins_more test [] x h = absurd (false≢true (sym h))
+begins_more test (c ∷ w) x h = h
+
+-- fronts that agree before a text agree before its front
+pub Agree-front : {b c s : List ℕ} (x : List ℕ) → Agree b c (s ++ x) → Agree b c s
+Agree-front {s} x a = record {
+  line = λ h. a.line (begins_more is_blank s x h);
+  column = λ h. a.column (begins_more is_comment_mark s x h);
+}
+
+-- a front and its last character agree before any text
+pub by_last : {b s : List ℕ} → Agree b (last_or line_feed b ∷ []) s
+by_last = record { line = λ h. refl; column = λ h. refl }
+
+pub by_front : {b s : List ℕ} → Agree (last_or line_feed b ∷ []) b s
+by_front = record { line = λ h. refl; column = λ h. refl }
+
+module _ {b c : List ℕ} where
+  Indentation-like : {w : List ℕ} → Agree b c w → Indentation b w → Indentation c w
+  Indentation-like a i =
+      record { at_line_start = sym (a.line i.some) ∙ i.at_line_start; some = i.some; blank = i.blank }
+
+  Gap-like : {s r : List ℕ} → Agree b c s → Gap b s r → Gap c s r
+  Gap-like a (Gap.blank_line x i e) = Gap.blank_line x (Indentation-like (Agree-front (x ∷ []) a) i) e
+  Gap-like a (Gap.before_header i) = Gap.before_header (Indentation-like a i)
+  Gap-like a (Gap.white h n) = Gap.white h (λ q. sym (a.line q) ∙ n q)
+
+  module _ {o : ParseOption} where
+    pub KeyFront-like : {s r v : List ℕ} → Agree b c s → KeyFront o b s r v → KeyFront o c s r v
+    KeyFront-like a (KeyFront.unindented h str) = KeyFront.unindented h str
+    KeyFront-like a (KeyFront.indented {s = s} i h str) =
+        KeyFront.indented (Indentation-like (Agree-front s a) i) h str
+
+    -- after a front that agrees
+    pub Element-like : {s r : List ℕ} {gives : List Given} → Agree b c s → Element o b s r gives
+        → Element o c s r gives
+    Element-like a (Element.gap g) = Element.gap (Gap-like a g)
+    Element-like a (Element.comment s at mark all) =
+        Element.comment s (sym (a.column mark) ∙ at) mark all
+    Element-like a (Element.last_comment at mark all) =
+        Element.last_comment (sym (a.column mark) ∙ at) mark all
+    Element-like a (Element.header off str) = Element.header off str
+    Element-like a (Element.bracketed_header on str i) = Element.bracketed_header on str i
+    Element-like a (Element.pair {s = s} {m = m} front some sep value) =
+        Element.pair (KeyFront-like (Agree-front (m ∷ s) a) front) some sep value
+    Element-like a (Element.dropped_blanks i) = Element.dropped_blanks (Indentation-like a i)
+    Element-like a (Element.dropped_key {s = s} i begins stops) =
+        Element.dropped_key (Indentation-like (Agree-front s a) i) begins stops
+
+-- texts that begin alike
+pub BeginAlike-same : (r : List ℕ) → BeginAlike r r
+BeginAlike-same [] = BeginAlike.empty
+BeginAlike-same (c ∷ r) = BeginAlike.character
+
+pub BeginAlike-after : (s : List ℕ) {r x : List ℕ} → BeginAlike r x → BeginAlike (s ++ r) (s ++ x)
+BeginAlike-after [] a = a
+BeginAlike-after (c ∷ s) a = BeginAlike.character
+
+-- before a text that begins alike
+pub Element-before : {o : ParseOption} {b s r x : List ℕ} {gives : List Given} → BeginAlike r x
+    → Element o b s r gives → Element o b s x gives
+Element-before BeginAlike.empty e = e
+Element-before BeginAlike.character e = Element-alike Alike.same e
