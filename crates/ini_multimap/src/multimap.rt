@@ -92,10 +92,7 @@ impl<K: MapKey, V> Multimap<K, V> {
         ensures key_handed_back { IfErr result (λ refused. refused.key ≡ key) }
         ensures value_handed_back { IfErr result (λ refused. refused.value ≡ value) }
     {
-        match self.slots.chain_from(FEW) {
-            Ok(()) => self.append_unindexed(key, value),
-            Err(_) => Err(Refused { key, value }),
-        }
+        self.append_from(key, value, FEW)
     }
 
     /// Puts the pair last, as by `append`, but makes no index where there is none yet. A look-up then goes
@@ -109,10 +106,7 @@ impl<K: MapKey, V> Multimap<K, V> {
         ensures key_handed_back { IfErr result (λ refused. refused.key ≡ key) }
         ensures value_handed_back { IfErr result (λ refused. refused.value ≡ value) }
     {
-        match self.slots.append(key, value) {
-            Ok(()) => Ok(()),
-            Err((key, value)) => Err(Refused { key, value }),
-        }
+        self.append_from(key, value, usize::MAX)
     }
 
     /// Makes the index by which look-ups find a key among many, where there is none yet. Few pairs need
@@ -350,9 +344,23 @@ impl<K: MapKey + Clone, V: Clone> Clone for Multimap<K, V> {
     }
 }
 
-// What the edits share. None of these takes memory.
+// What the edits share. None of these takes memory, but for the first.
 impl<K: MapKey, V> Multimap<K, V> {
     ghost use Rattle.ini_multimap.specs.Inside.Fits.{first_alone};
+
+    // Puts the pair last, and makes an index where as many slots as `many` have none.
+    #[inline(always)]
+    fn append_from(&mut self, key: K, value: V, many: usize) -> Result<(), Refused<K, V>>
+        ensures ok { OnOk result (self.new ≡ self.old ++ (key, value) ∷ []) }
+        ensures unchanged_if_refused { OnErr result (self.new ≡ self.old) }
+        ensures key_handed_back { IfErr result (λ refused. refused.key ≡ key) }
+        ensures value_handed_back { IfErr result (λ refused. refused.value ≡ value) }
+    {
+        match self.slots.append(key, value, many) {
+            Ok(()) => Ok(()),
+            Err((key, value)) => Err(Refused { key, value }),
+        }
+    }
 
     // Takes out pair number n of those that fit, and leaves a hole.
     fn take_nth<Q: Probe<K> + Copy>(&mut self, q: Q, n: usize) -> Option<V>

@@ -1,6 +1,6 @@
 //! Chains that are made whole: for keys that have none yet, in one walk, and for keys that have moved down.
-ghost use Rattle.std.specs.Prelude.{◌≡◌, ◌<◌, ◌≤◌, ℕ, ◌∷◌, ◌++◌, [], length, nat_eq, vec_capacity};
-ghost use Rattle.std.specs.Prelude.{IfOk, IsSome, OnOk};
+ghost use Rattle.std.specs.Prelude.{◌≡◌, ◌<◌, ◌≤◌, ℕ, suc, ◌∷◌, ◌++◌, [], length, nat_eq, vec_capacity};
+ghost use Rattle.std.specs.Prelude.{IfOk, IsSome};
 ghost use Rattle.std.specs.Bool.{OnTrue};
 ghost use Rattle.std.specs.HashMap.{get, spare};
 ghost use Rattle.ini_multimap.specs.Inside.Fits.{IsInjective, IsToldBy, code_at};
@@ -11,9 +11,6 @@ use super::chains::{Chains, Link, NO_SLOT, link_after, link_to, replace_ends};
 use crate::key::MapKey;
 use std::alloc::{AllocError, Global};
 use std::collections::HashMap;
-
-// So many codes have room at first.
-const CODES: usize = 32;
 
 // The code of the key in slot s.
 fn code_in<K: MapKey>(keys: &[Option<K>], s: usize) -> Option<u64>
@@ -47,44 +44,58 @@ fn put_anew(ends: &mut HashMap<u64, (u32, u32)>, code: u64, at: u32) -> Option<u
     }
 }
 
+// The chains of keys that have none yet, and whether each code is that of one key.
+pub(super) fn chain<K: MapKey>(
+    alloc: Global,
+    keys: &[Option<K>],
+) -> Result<(Box<Chains>, bool), AllocError>
+    ensures chained { IfOk result (λ both. AreChained K.key_code keys.now both.0.value) }
+    ensures room { IfOk result (λ both. HasRoom both.0.value) }
+    ensures known { IfOk result (λ both. OnTrue both.1 (IsInjective K.eq K.key_code keys.now)) }
+{
+    let (chains, is_injective) = Chains::of_keys(alloc, keys)?;
+    match Box::new(alloc, chains) {
+        Ok(chains) => Ok((chains, is_injective)),
+        Err(_) => Err(AllocError),
+    }
+}
+
 impl Chains {
-    // The chains of keys that have none yet, and whether each code is that of one key.
-    pub(super) fn of_keys<K: MapKey>(
-        alloc: Global,
-        keys: &[Option<K>],
-    ) -> Result<(Chains, bool), AllocError>
+    // The same, before they are boxed. All room is made at once, for one slot more too, so that nothing grows
+    // in the same edit. What codes that come again leave of it is given back.
+    fn of_keys<K: MapKey>(alloc: Global, keys: &[Option<K>]) -> Result<(Chains, bool), AllocError>
         ensures chained { IfOk result (λ both. AreChained K.key_code keys.now both.0) }
+        ensures room { IfOk result (λ both. HasRoom both.0) }
         ensures known { IfOk result (λ both. OnTrue both.1 (IsInjective K.eq K.key_code keys.now)) }
     {
-        if keys.len() > NO_SLOT as usize {
+        if keys.len() >= NO_SLOT as usize {
             return Err(AllocError);
         }
+        let room = keys.len() + 1;
         let mut chains = Chains {
-            links: Vec::with_capacity(alloc, keys.len())?,
-            ends: HashMap::with_capacity(alloc, CODES)?,
+            links: Vec::with_capacity(alloc, room)?,
+            ends: HashMap::with_capacity(alloc, room)?,
         };
         let mut is_injective = true;
         for s in 0..keys.len() {
-            chains.make_code_room(keys.len() - s)?;
             let is_told = chains.push_slot(&keys[..s], &keys[s]);
             is_injective = is_injective && is_told;
         }
+        chains.give_back();
         Ok((chains, is_injective))
     }
 
-    // Room for one more code. Where there is none, it is made for all that may come, so that the map grows
-    // once where codes are many, and isn't large where keys come again and again.
-    fn make_code_room(&mut self, codes: usize) -> Result<(), AllocError>
-        requires { 0 < codes }
+    // Gives back the room of the map, where codes take less than a quarter of it, but for one more.
+    fn give_back(&mut self)
+        requires { 0 < spare self.old.ends }
         ensures links { self.new.links ≡ self.old.links }
         ensures ends { (c : ℕ) → get nat_eq self.new.ends c ≡ get nat_eq self.old.ends c }
-        ensures room { OnOk result (0 < spare self.new.ends) }
+        ensures room { 0 < spare self.new.ends }
     {
-        if self.ends.len() < self.ends.capacity() {
-            return Ok(());
+        let codes = self.ends.len();
+        if codes < self.ends.capacity() / 4 {
+            self.ends.shrink_to(codes + 1);
         }
-        self.ends.reserve(codes)?;
-        Ok(())
     }
 
     // A slot comes after the others. Whether its key, where there is one, is that of the last before it of
@@ -94,7 +105,8 @@ impl Chains {
         requires room { HasRoom self.old }
         ensures chained { AreChained K.key_code (keys.now ++ slot.now ∷ []) self.new }
         ensures same { OnTrue result (IsToldBy K.eq K.key_code keys.now slot.now) }
-        ensures capacity { vec_capacity self.new.links ≡ vec_capacity self.old.links }
+        ensures links { vec_capacity self.new.links ≡ vec_capacity self.old.links }
+        ensures ends { spare self.old.ends ≤ suc (spare self.new.ends) }
     {
         match slot {
             Some(key) => self.link_last(keys, key),

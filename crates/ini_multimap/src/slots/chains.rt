@@ -1,7 +1,7 @@
 //! The chains of the codes: each slot is linked to the slots before and after it with the same code,
 //! and a map has the first and the last slot of each code.
-ghost use Rattle.std.specs.Prelude.{◌≡◌, ◌<◌, ℕ, ◌∷◌, ◌++◌, [], nat_eq, length, slice_set, Some, None};
-ghost use Rattle.std.specs.Prelude.{OnOk, IfSome};
+ghost use Rattle.std.specs.Prelude.{◌≡◌, ◌<◌, ◌≤◌, ℕ, suc, ◌∷◌, ◌++◌, [], nat_eq, length};
+ghost use Rattle.std.specs.Prelude.{slice_set, Some, None, OnOk, IfSome};
 ghost use Rattle.std.specs.Prelude.{IsSome, vec_capacity};
 ghost use Rattle.std.specs.Bool.{OnTrue};
 ghost use Rattle.std.specs.HashMap.{IsUnique, get, hash_map_len, spare};
@@ -79,6 +79,7 @@ fn put_last(ends: &mut HashMap<u64, (u32, u32)>, code: u64, at: u32) -> Option<u
     requires { 0 < spare ends.old }
     ensures last { result ≡ last_of (get nat_eq ends.old) code }
     ensures ends { IsPutLast (get nat_eq ends.old) (get nat_eq ends.new) code at }
+    ensures room { spare ends.old ≤ suc (spare ends.new) }
 {
     match ends.entry(code) {
         Ok(Entry::Occupied(mut entry)) => {
@@ -214,7 +215,8 @@ impl Chains {
         requires room { HasRoom self.old }
         ensures chained { AreChained K.key_code (keys.now ++ Some key.now ∷ []) self.new }
         ensures same { OnTrue result (IsToldBy K.eq K.key_code keys.now (Some key.now)) }
-        ensures capacity { vec_capacity self.new.links ≡ vec_capacity self.old.links }
+        ensures links { vec_capacity self.new.links ≡ vec_capacity self.old.links }
+        ensures ends { spare self.old.ends ≤ suc (spare self.new.ends) }
     {
         let at = keys.len() as u32;
         let code = key.code();

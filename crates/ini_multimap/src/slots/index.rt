@@ -1,13 +1,14 @@
 //! Which slots are to be looked at for a code, the candidates: those of its chain where there are chains,
 //! and else, of the few, each from the first on that has its tag. Whoever asks doesn't know of it.
 ghost use Rattle.std.specs.Prelude.{◌≡◌, ◌<◌, ◌^◌, ◌∷◌, ◌++◌, [], ℕ, Some, None, suc, length, slice_set, false};
-ghost use Rattle.std.specs.Prelude.{IfSome, OnOk, vec_len, vec_capacity};
+ghost use Rattle.std.specs.Prelude.{IfOk, IfSome, OnErr, OnOk, is_some, vec_len, vec_capacity};
 ghost use Rattle.std.specs.Bool.{OnTrue};
 ghost use Rattle.ini_multimap.specs.Inside.Candidates.{IsAhead, IsBehind, IsCandidate};
 ghost use Rattle.ini_multimap.specs.Inside.Fits.{IsInjective, code_at};
 ghost use Rattle.ini_multimap.specs.Inside.Chains.{HasRoom, IsIndexed};
 
 use super::Slots;
+use super::anew::chain;
 use super::chains::Chains;
 use crate::key::{MapKey, Probe};
 use std::alloc::AllocError;
@@ -79,27 +80,40 @@ impl<K: MapKey, V> Slots<K, V> {
     }
 }
 
-// Room for one more slot, before anything changes, and for its link where there are chains.
+// Room for one more slot, before anything changes: for its key and its value, and for its link where there
+// are chains. Slots that are as many as `many` and have no chains are chained, once nothing is left that may
+// be refused. Whether each code is known to be that of one key comes back.
 pub(super) fn make_room<K: MapKey, V>(
     keys: &mut Vec<Option<K>>,
     values: &mut Vec<Option<V>>,
     index: &mut Option<Box<Chains>>,
-) -> Result<(), AllocError>
+    was_injective: bool,
+    many: usize,
+) -> Result<bool, AllocError>
     requires indexed { IsIndexed K.key_code keys.old.items index.old }
+    requires known { OnTrue was_injective (IsInjective K.eq K.key_code keys.old.items) }
     ensures keys { keys.new.items ≡ keys.old.items }
     ensures values { values.new.items ≡ values.old.items }
     ensures indexed { IsIndexed K.key_code keys.new.items index.new }
+    ensures unchanged_if_refused { OnErr result (is_some index.new ≡ is_some index.old) }
     ensures key { OnOk result (vec_len keys.new < vec_capacity keys.new) }
     ensures value { OnOk result (vec_len values.new < vec_capacity values.new) }
     ensures chain { OnOk result (IfSome index.new (λ chains. HasRoom chains.value)) }
+    ensures known { IfOk result (λ is. OnTrue is (IsInjective K.eq K.key_code keys.new.items)) }
 {
     let more = if keys.is_empty() { FIRST } else { 1 };
     keys.reserve(more)?;
     values.reserve(more)?;
     match index {
-        Some(chains) => chains.make_room(),
-        None => Ok(()),
+        Some(chains) => chains.make_room()?,
+        None if keys.len() < many => {}
+        None => {
+            let (chains, is_injective) = chain(*values.allocator(), keys.as_slice())?;
+            *index = Some(chains);
+            return Ok(is_injective);
+        }
     }
+    Ok(was_injective)
 }
 
 // A slot with the key is to come last. Whether each code is still known to be that of one key comes back.

@@ -5,7 +5,7 @@ pub invariant_of-self : goal.invariant_of-self
 invariant_of-self g c =
     let keys = sym c.as_slice.ensures.value in record {
       long = c.self.invariant.long;
-      indexed = rw (c.in-Ok.ensures.ok, keys) c.in_ok-chains.ensures.chained;
+      indexed = rw (keys) c.in_ok-chains.ensures.chained;
       tagged = c.self.invariant.tagged;
       counted = c.self.invariant.counted;
       leads = c.self.invariant.leads;

@@ -1,8 +1,10 @@
-use Rattle.std.proofs.Common.{◌≡◌, ◌+◌, ◌++◌, ◌∷◌, [], List, Option, true, true≢false, add-one, sym, ◌∙◌, ap, subst, arith, take, vec_capacity}
+use Rattle.std.proofs.Common.{◌≡◌, ◌+◌, ◌++◌, ◌∷◌, [], List, Option, true, true≢false, add-one, sym, ◌∙◌, ap, subst, arith, take}
 use Rattle.std.proofs.lemmas.Bool.{OnTrue_at, OnTrue_from}
+use Rattle.std.proofs.lemmas.List.{take_all}
 use Rattle.std.proofs.Math.Seq.{take-suc}
 use Rattle.ini_multimap.specs.Inside.Fits.{IsInjective}
 use Rattle.ini_multimap.specs.Inside.Chains.{AreChained}
+use Rattle.ini_multimap.proofs.LinkLemmas.{chained_same}
 use Rattle.ini_multimap.proofs.slots.chains.Chains.of_keys.Goals as goal
 use Rattle.ini_multimap.proofs.slots.chains.Chains.of_keys.Goals.{then-is_injective, else-is_injective}
 
@@ -27,10 +29,15 @@ loop-s-preserved g c =
     record {
       chained = subst P (sym next) pushed.chained;
       known = OnTrue_from c.if-is_injective.is_injective _ (λ e. subst Q (sym next) (told e));
-      room = omega (
-        arith,
-        c.loop-s.invariant.room,
-        pushed.capacity,
-        ap vec_capacity c.make_code_room.ensures.links,
-      );
+      links = omega (arith, c.loop-s.invariant.links, pushed.links);
+      ends = omega (arith, c.loop-s.invariant.ends, pushed.ends);
     }
+
+pub returns-clause-chained : goal.returns-clause-chained
+returns-clause-chained g c =
+    let code = g.K.MapKey.key_code in
+    let ks = c.args.keys.now in
+    let P : List (Option g.row.K.Denot) → Type 0 = λ l. AreChained code l c.loop-s.chains in
+    let whole = take_all c.loop-s.s ks (omega (arith, c.loop-s-test.false)) in
+    chained_same code ks c.loop-s.chains c.give_back.new.self (ap (λ l. l.items) c.give_back.ensures.links)
+    c.give_back.ensures.ends (subst P whole c.loop-s.invariant.chained)
