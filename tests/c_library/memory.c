@@ -1,15 +1,78 @@
 /* Each request for memory is refused in turn: each call then answers NO_MEMORY or does all, changes nothing where it is refused,
  * and every block is freed. What a loaded document holds has no room for more pairs. This program brings the library's memory
- * itself. */
+ * itself; compiled with THROUGH_HEAP, and linked with --wrap of malloc, realloc and free, it brings what c/heap.c takes it from. */
 #include <stdio.h>
 #include <stdlib.h>
 #include "bigrosk_ini.h"
 
-static long left, taken, freed;
+static long left, taken, freed, growths_refused;
 static size_t held;
 static int failed;
 #define CHECK(e) do { if (!(e)) { printf("FAILED %d (%ld): %s\n", __LINE__, n, #e); failed++; } } while (0)
 
+#ifdef THROUGH_HEAP
+void *__real_malloc(size_t count);
+void *__real_realloc(void *at, size_t count);
+void __real_free(void *at);
+#define system_malloc __real_malloc
+#define system_realloc __real_realloc
+#define system_free __real_free
+#else
+#define system_malloc malloc
+#define system_realloc realloc
+#define system_free free
+#endif
+
+/* what stands before a block: how many bytes it has */
+union head { size_t count; char room[16]; };
+
+/* the block behind its head, or none */
+static void *block(union head *head, size_t count)
+{
+    if (!head) return NULL;
+    head->count = count;
+    held += count;
+    return head + 1;
+}
+
+static void *take(size_t count)
+{
+    if (left-- <= 0) return NULL;
+    taken++;
+    return block(system_malloc(sizeof(union head) + count), count);
+}
+
+/* refused, the block stays */
+static void *grow(void *at, size_t count)
+{
+    union head *head = (union head *)at - 1;
+    size_t before = head->count;
+    if (left-- <= 0) {
+        growths_refused++;
+        return NULL;
+    }
+    head = system_realloc(head, sizeof(union head) + count);
+    if (head) held -= before;
+    return block(head, count);
+}
+
+static void give_back(void *at)
+{
+    union head *head = (union head *)at - 1;
+    freed++;
+    held -= head->count;
+    system_free(head);
+}
+
+#ifdef THROUGH_HEAP
+void *__wrap_malloc(size_t count);
+void *__wrap_realloc(void *at, size_t count);
+void __wrap_free(void *at);
+
+void *__wrap_malloc(size_t count) { return take(count); }
+void *__wrap_realloc(void *at, size_t count) { return grow(at, count); }
+void __wrap_free(void *at) { give_back(at); }
+#else
 struct tried { uint64_t ok; void *at; };
 struct tried rattle_alloc(size_t count, size_t align);
 struct tried rattle_realloc(void *at, size_t kept, size_t count, size_t align);
@@ -22,44 +85,16 @@ static struct tried answer(void *at)
     return t;
 }
 
-/* what stands before a block: how many bytes it has */
-union head { size_t count; char room[16]; };
-
-static struct tried block(union head *head, size_t count)
-{
-    if (!head) return answer(NULL);
-    head->count = count;
-    held += count;
-    return answer(head + 1);
-}
-
-struct tried rattle_alloc(size_t count, size_t align)
-{
-    if (left-- <= 0) return answer(NULL);
-    taken++;
-    if (!count) count = align;
-    return block(malloc(sizeof(union head) + count), count);
-}
+struct tried rattle_alloc(size_t count, size_t align) { return answer(take(count ? count : align)); }
 
 struct tried rattle_realloc(void *at, size_t kept, size_t count, size_t align)
 {
-    union head *head = (union head *)at - 1;
-    size_t before = head->count;
     (void)kept;
-    if (left-- <= 0) return answer(NULL);
-    if (!count) count = align;
-    head = realloc(head, sizeof(union head) + count);
-    if (head) held -= before;
-    return block(head, count);
+    return answer(grow(at, count ? count : align));
 }
 
-void rattle_dealloc(void *at)
-{
-    union head *head = (union head *)at - 1;
-    freed++;
-    held -= head->count;
-    free(head);
-}
+void rattle_dealloc(void *at) { give_back(at); }
+#endif
 
 enum { load, set, add, write, all, pairs, items, edit_set, edit_new, edit_add, edit_delete, edit_rename, edit_out, edit_name, calls };
 
@@ -152,6 +187,7 @@ int main(void)
         CHECK(status == BIGROSK_INI_OK);
     }
     sections_are_as_large_as_their_pairs();
-    printf("%ld refusals, %ld blocks taken and %ld freed, %d failed\n", refusals, taken, freed, failed);
-    return failed != 0 || refusals < calls;
+    printf("%ld refusals, %ld of them of a growth, %ld blocks taken and %ld freed, %d failed\n", refusals, growths_refused, taken,
+           freed, failed);
+    return failed != 0 || refusals < calls || growths_refused == 0;
 }

@@ -1,0 +1,276 @@
+/* Each option, policy, line end and separator alone, where it tells; each kind of fault; each helper for strings with NULL, on a
+ * text with a section of the empty name; a mark. The last line is 'N checks, M failed'. */
+#include "checks.h"
+
+enum { choices = 5 };
+
+/* these options, with one of them set so */
+static struct bigrosk_ini_read_option with_choice(bool others, int which, bool it)
+{
+    struct bigrosk_ini_read_option o = { others, others, others, others, others };
+    switch (which) {
+    case 0: o.quotes = it; break;
+    case 1: o.escapes = it; break;
+    case 2: o.multiline = it; break;
+    case 3: o.keep_indentation = it; break;
+    default: o.brackets = it; break;
+    }
+    return o;
+}
+
+/* whether the pair is there: to a look-up, and to the edits that look for one */
+static bool is_there(const char *text, const char *section, const char *key, const struct bigrosk_ini_read_option *read,
+                     bool there)
+{
+    document d = BIGROSK_INI_EMPTY;
+    fault f;
+    uint8_t out[256];
+    const uint8_t *t = bigrosk_ini_bytes(text), *s = bigrosk_ini_bytes(section), *k = bigrosk_ini_bytes(key);
+    size_t n = strlen(text), sections = bigrosk_ini_count(section), keys = strlen(key), count;
+    bool named = section != NULL;
+    uint32_t want = there ? BIGROSK_INI_OK : BIGROSK_INI_ABSENT;
+    bool good = bigrosk_ini_load(t, n, true, read, &d, &f) == BIGROSK_INI_OK && bigrosk_ini_has_str(&d, section, key) == want;
+    bigrosk_ini_free(&d);
+    good = good && bigrosk_ini_edit_delete(t, n, read, named, s, sections, k, keys, out, sizeof out, &count, &f) == want;
+    good = good && bigrosk_ini_edit_rename_key(t, n, read, &plain, named, s, sections, k, keys, (const uint8_t *)"new", 3, out,
+                                               sizeof out, &count, &f) == want;
+    /* a value of one byte becomes one of two; else a line is new, or refused */
+    uint32_t status = bigrosk_ini_edit_set(t, n, read, &plain, named, s, sections, k, keys, (const uint8_t *)"22", 2, out,
+                                           sizeof out, &count, &f);
+    good = good && (status == BIGROSK_INI_OK && count == n + 1) == there;
+    if (!good) printf("in %s\n", text);
+    return good;
+}
+
+static void read_options(void)
+{
+    static const struct { const char *text, *section, *key; bool there; } rows[choices] = {
+        { "a=\"\nk=1\n\"=2\n", NULL, "k", false },  /* quotes: the line stands in them */
+        { "\\x006b=1\n", NULL, "k", true },           /* escapes: it is a k */
+        { "a=1\n [s]\nk=1\n", "s", "k", false },      /* multiline: the header is the value's */
+        { " k=1\n", NULL, "k", false },               /* keep_indentation: the key has a blank */
+        { "[s[t]]\nk=1\n", "s[t]", "k", true },       /* brackets */
+    };
+    for (int i = 0; i < choices; i++)
+        for (int others = 0; others < 2; others++)
+            for (int it = 0; it < 2; it++) {
+                struct bigrosk_ini_read_option o = with_choice(others, i, it);
+                CHECK(is_there(rows[i].text, rows[i].section, rows[i].key, &o, it ? rows[i].there : !rows[i].there));
+            }
+    struct bigrosk_ini_read_option o = with_choice(false, 0, true);
+    CHECK(is_there(rows[1].text, NULL, "k", &usual, true) && is_there(rows[1].text, NULL, "k", &o, false));
+    /* is_plain asks them too: a pair that an escape keeps together is one only where escapes are on */
+    document d = BIGROSK_INI_EMPTY;
+    fault f;
+    o = with_choice(true, 1, false);
+    CHECK(bigrosk_ini_load_str("k=a\\nb\n", &d, &f) == BIGROSK_INI_OK);
+    CHECK(bigrosk_ini_is_plain(&d, &plain, &usual) && !bigrosk_ini_is_plain(&d, &plain, &o));
+    bigrosk_ini_free(&d);
+}
+
+/* whether the value, set in a document and in a text, is written so by the option; where it is no plain one, not in a text */
+static bool is_spelled(const struct bigrosk_ini_write_option *o, const char *value, const char *want, bool is_plain)
+{
+    document d = BIGROSK_INI_EMPTY;
+    fault f;
+    char text[128], out[128] = "";
+    size_t count = 0;
+    sprintf(text, "k=%s\n", want);
+    bool good = bigrosk_ini_load_str("k=v\n", &d, &f) == BIGROSK_INI_OK
+        && bigrosk_ini_set_str(&d, NULL, "k", value) == BIGROSK_INI_OK && is_written(&d, o, text);
+    bigrosk_ini_free(&d);
+    uint32_t status = bigrosk_ini_edit_set((const uint8_t *)"k=v\n", 4, &usual, o, false, (const uint8_t *)"", 0,
+                                           (const uint8_t *)"k", 1, (const uint8_t *)value, strlen(value), (uint8_t *)out,
+                                           sizeof out, &count, &f);
+    return good && (is_plain ? status == BIGROSK_INI_OK && !strcmp(out, text) : status == BIGROSK_INI_UNPLAIN_VALUE);
+}
+
+static void policies(void)
+{
+    static const struct { uint32_t policy; const char *tab, *reserved, *unicode, *extended; } rows[] = {
+        { BIGROSK_INI_NOTHING, "a\tb", "a;b", "\xc3\xbc", "\xf0\x9f\x90\xb1" },
+        { BIGROSK_INI_BASICS, "a\\tb", "a;b", "\xc3\xbc", "\xf0\x9f\x90\xb1" },
+        { BIGROSK_INI_BASICS_UNICODE, "a\\tb", "a;b", "\\x00fc", "\xf0\x9f\x90\xb1" },
+        { BIGROSK_INI_BASICS_UNICODE_EXTENDED, "a\\tb", "a;b", "\\x00fc", "\\x1f431" },
+        { BIGROSK_INI_RESERVED, "a\\tb", "a\\;b", "\xc3\xbc", "\xf0\x9f\x90\xb1" },
+        { BIGROSK_INI_RESERVED_UNICODE, "a\\tb", "a\\;b", "\\x00fc", "\xf0\x9f\x90\xb1" },
+        { BIGROSK_INI_RESERVED_UNICODE_EXTENDED, "a\\tb", "a\\;b", "\\x00fc", "\\x1f431" },
+        { BIGROSK_INI_EVERYTHING, "a\\tb", "a\\;b", "\\x00fc", "\\x1f431" },
+        { UINT32_MAX, "a\\tb", "a\\;b", "\\x00fc", "\\x1f431" },
+    };
+    for (size_t i = 0; i < sizeof rows / sizeof *rows; i++) {
+        struct bigrosk_ini_write_option o = { rows[i].policy, false, 0 };
+        CHECK(is_spelled(&o, "a\tb", rows[i].tab, true));
+        CHECK(is_spelled(&o, "a;b", rows[i].reserved, true));
+        CHECK(is_spelled(&o, "\xc3\xbc", rows[i].unicode, true));
+        /* five digits aren't read back */
+        CHECK(is_spelled(&o, "\xf0\x9f\x90\xb1", rows[i].extended, rows[i].extended[0] != '\\'));
+    }
+}
+
+static void line_ends_and_separators(void)
+{
+    static const char *const separators[] = { "=", " = ", ":", ": ", ": " };
+    document d = BIGROSK_INI_EMPTY;
+    fault f;
+    CHECK(bigrosk_ini_load_str("a=1\n[s]\nb=2\n", &d, &f) == BIGROSK_INI_OK);
+    for (int crlf = 0; crlf < 2; crlf++)
+        for (uint32_t i = 0; i < 5; i++) {
+            struct bigrosk_ini_write_option o = { BIGROSK_INI_BASICS, crlf, i < 4 ? i : UINT32_MAX };
+            const char *end = crlf ? "\r\n" : "\n";
+            char want[64], out[64];
+            size_t count;
+            sprintf(want, "a%s1%s%s[s]%sb%s2%s", separators[i], end, end, end, separators[i], end);
+            CHECK(is_written(&d, &o, want));
+            /* a text without a line has no line end and no separator of its own */
+            sprintf(want, "a%s1%s", separators[i], end);
+            CHECK(bigrosk_ini_edit_add((const uint8_t *)"", 0, &usual, &o, false, (const uint8_t *)"", 0, (const uint8_t *)"a", 1,
+                                       (const uint8_t *)"1", 1, (uint8_t *)out, sizeof out, &count, &f) == BIGROSK_INI_OK);
+            CHECK(!strcmp(out, want));
+        }
+    bigrosk_ini_free(&d);
+}
+
+static void kinds(void)
+{
+    static const struct { const char *text; uint32_t kind; size_t line, column; bool multiline, brackets; } rows[] = {
+        { "[open", BIGROSK_INI_END_OF_TEXT, 1, 6, false, false },
+        { "a=\\x1\\23", BIGROSK_INI_BROKEN_ESCAPE, 1, 8, false, false },
+        { "a=\\xD800", BIGROSK_INI_UNKNOWN_CHARACTER, 1, 9, false, false },
+        { "k=v\r# c\n", BIGROSK_INI_INLINE_COMMENT, 1, 6, false, false },
+        { "a=1\n=v\n", BIGROSK_INI_MISSING_KEY, 2, 2, false, false },
+        { "k=v\n\rx\n", BIGROSK_INI_CR_ALONE, 2, 3, true, false },
+        { "[a]k=v\n", BIGROSK_INI_HEADER_END, 2, 1, false, true },
+    };
+    document d = BIGROSK_INI_EMPTY;
+    for (size_t i = 0; i < sizeof rows / sizeof *rows; i++) {
+        struct bigrosk_ini_read_option o = { true, true, rows[i].multiline, false, rows[i].brackets };
+        fault f = { 0, 0, 0, "" };
+        CHECK(bigrosk_ini_load(bigrosk_ini_bytes(rows[i].text), strlen(rows[i].text), true, &o, &d, &f) == BIGROSK_INI_BROKEN);
+        CHECK(f.kind == rows[i].kind && f.line == rows[i].line && f.column == rows[i].column && f.message[0] != 0);
+    }
+}
+
+/* both NULL and the empty name are there, and the general section comes first */
+static const char both[] = "k=general\nonly=1\n[]\nk=empty\nother=2\n";
+
+/* whether the document, changed, is written so */
+static bool is_left(document *d, const char *want)
+{
+    bool good = is_written(d, &plain, want);
+    bigrosk_ini_free(d);
+    return good;
+}
+
+static document loaded(const char *text)
+{
+    document d = BIGROSK_INI_EMPTY;
+    fault f;
+    CHECK(bigrosk_ini_load_str(text, &d, &f) == BIGROSK_INI_OK);
+    return d;
+}
+
+static void null_is_the_general_section(void)
+{
+    document d = loaded(both);
+    struct bigrosk_ini_borrowed lent;
+    struct bigrosk_ini_sizes sizes;
+    uint8_t bytes[64];
+    size_t counts[8];
+    CHECK(is_value(&d, NULL, "k", "general") && is_value(&d, "", "k", "empty"));
+    CHECK(bigrosk_ini_borrow_str(&d, NULL, "k", &lent) == BIGROSK_INI_OK && lent.count == 7);
+    CHECK(bigrosk_ini_borrow_str(&d, "", "k", &lent) == BIGROSK_INI_OK && lent.count == 5);
+    CHECK(bigrosk_ini_has_str(&d, NULL, "only") == BIGROSK_INI_OK && bigrosk_ini_has_str(&d, "", "only") == BIGROSK_INI_ABSENT);
+    CHECK(bigrosk_ini_has_str(&d, NULL, "other") == BIGROSK_INI_ABSENT && bigrosk_ini_has_str(&d, "", "other") == BIGROSK_INI_OK);
+    CHECK(bigrosk_ini_get_all_str(&d, NULL, "k", bytes, 64, counts, 8, &sizes) == BIGROSK_INI_OK);
+    CHECK(sizes.counts == 1 && !strcmp((char *)bytes, "general"));
+    CHECK(bigrosk_ini_get_all_str(&d, "", "k", bytes, 64, counts, 8, &sizes) == BIGROSK_INI_OK);
+    CHECK(sizes.counts == 1 && !strcmp((char *)bytes, "empty"));
+    CHECK(bigrosk_ini_pairs_str(&d, NULL, bytes, 64, counts, 8, &sizes) == BIGROSK_INI_OK);
+    CHECK(!memcmp(bytes, "k\0general\0only", 15));
+    CHECK(bigrosk_ini_pairs_str(&d, "", bytes, 64, counts, 8, &sizes) == BIGROSK_INI_OK);
+    CHECK(!memcmp(bytes, "k\0empty\0other", 14));
+    CHECK(bigrosk_ini_get_str(&d, NULL, NULL, (char *)bytes, 64, NULL) == BIGROSK_INI_ABSENT);
+    bigrosk_ini_free(&d);
+    d = loaded("k=1\n");
+    CHECK(bigrosk_ini_has_section_str(&d, NULL) == BIGROSK_INI_OK && bigrosk_ini_has_section_str(&d, "") == BIGROSK_INI_ABSENT);
+    bigrosk_ini_free(&d);
+
+    d = loaded(both);
+    CHECK(bigrosk_ini_set_str(&d, NULL, "k", "new") == BIGROSK_INI_OK);
+    CHECK(is_left(&d, "k=new\nonly=1\n\n[]\nk=empty\nother=2\n"));
+    d = loaded(both);
+    CHECK(bigrosk_ini_add_str(&d, NULL, "k", "more") == BIGROSK_INI_OK);
+    CHECK(is_left(&d, "k=general\nonly=1\nk=more\n\n[]\nk=empty\nother=2\n"));
+    d = loaded(both);
+    CHECK(bigrosk_ini_delete_str(&d, NULL, "k") == BIGROSK_INI_OK);
+    CHECK(is_left(&d, "only=1\n\n[]\nk=empty\nother=2\n"));
+    d = loaded(both);
+    CHECK(bigrosk_ini_delete_section_str(&d, NULL) == BIGROSK_INI_OK);
+    CHECK(is_left(&d, "[]\nk=empty\nother=2\n"));
+    d = loaded(both);
+    CHECK(bigrosk_ini_delete_section_str(&d, "") == BIGROSK_INI_OK);
+    CHECK(is_left(&d, "k=general\nonly=1\n"));
+    d = loaded(NULL);
+    CHECK(is_left(&d, ""));
+    /* a mark at the front belongs to no key and no header */
+    d = loaded("\xef\xbb\xbf" "k=1\n");
+    CHECK(is_value(&d, NULL, "k", "1"));
+    CHECK(is_left(&d, "k=1\n"));
+    d = loaded("\xef\xbb\xbf[s]\nk=1\n");
+    CHECK(is_value(&d, "s", "k", "1"));
+    bigrosk_ini_free(&d);
+}
+
+static void null_is_the_general_section_of_a_text(void)
+{
+    char out[64];
+    fault f;
+    size_t n;
+    CHECK(bigrosk_ini_edit_set_str(both, NULL, "k", "new", out, sizeof out, &n, &f) == BIGROSK_INI_OK);
+    CHECK(!strcmp(out, "k=new\nonly=1\n[]\nk=empty\nother=2\n"));
+    CHECK(bigrosk_ini_edit_add_str(both, NULL, "k", "more", out, sizeof out, &n, &f) == BIGROSK_INI_OK);
+    CHECK(!strcmp(out, "k=general\nonly=1\nk=more\n[]\nk=empty\nother=2\n"));
+    CHECK(bigrosk_ini_edit_delete_str(both, NULL, "k", out, sizeof out, &n, &f) == BIGROSK_INI_OK);
+    CHECK(!strcmp(out, "only=1\n[]\nk=empty\nother=2\n"));
+    CHECK(bigrosk_ini_edit_rename_key_str(both, NULL, "k", "new", out, sizeof out, &n, &f) == BIGROSK_INI_OK);
+    CHECK(!strcmp(out, "new=general\nonly=1\n[]\nk=empty\nother=2\n"));
+    CHECK(bigrosk_ini_edit_delete_section_str(both, NULL, out, sizeof out, &n, &f) == BIGROSK_INI_ABSENT);
+    CHECK(bigrosk_ini_edit_delete_section_str(both, "", out, sizeof out, &n, &f) == BIGROSK_INI_OK);
+    CHECK(!strcmp(out, "k=general\nonly=1\n"));
+    CHECK(bigrosk_ini_edit_rename_section_str(both, NULL, "s", out, sizeof out, &n, &f) == BIGROSK_INI_ABSENT);
+    CHECK(bigrosk_ini_edit_rename_section_str(both, "", "s", out, sizeof out, &n, &f) == BIGROSK_INI_OK);
+    CHECK(!strcmp(out, "k=general\nonly=1\n[s]\nk=empty\nother=2\n"));
+    CHECK(bigrosk_ini_edit_set_str(NULL, NULL, "k", NULL, out, sizeof out, &n, &f) == BIGROSK_INI_OK && !strcmp(out, "k=\n"));
+}
+
+/* how many bytes of a block of this size, and no byte more, are a mark */
+static size_t mark_of(const char *text, size_t count)
+{
+    uint8_t *block = malloc(count ? count : 1);
+    memcpy(block, text, count);
+    size_t mark = bigrosk_ini_mark(block, count);
+    free(block);
+    return mark;
+}
+
+static void marks(void)
+{
+    static const char mark[] = "\xef\xbb\xbf";
+    for (size_t count = 0; count < 3; count++) CHECK(mark_of(mark, count) == 0);
+    CHECK(mark_of(mark, 3) == 3 && mark_of("\xef\xbb\xbf" "a=1", 6) == 3);
+    CHECK(mark_of("\xef\xbb\xbe", 3) == 0 && mark_of("a=1", 3) == 0);
+}
+
+int main(void)
+{
+    read_options();
+    policies();
+    line_ends_and_separators();
+    kinds();
+    null_is_the_general_section();
+    null_is_the_general_section_of_a_text();
+    marks();
+    printf("%d checks, %d failed\n", checks, failed);
+    return failed != 0;
+}
