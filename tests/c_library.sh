@@ -42,8 +42,8 @@ finish() {
 # look_ups SECTIONS: what 200 rounds of look-ups take among so many sections, beside their loading, in thousands of instructions
 look_ups() {
     for rounds in 0 200; do
-        timeout 120 valgrind --tool=cachegrind --cache-sim=no --cachegrind-out-file=/dev/null "$room/look_ups" "$1" "$rounds" 2>&1 |
-            sed -n 's/^==[0-9]*== I *refs: *//p' | tr -d ,
+        timeout 120 valgrind --tool=cachegrind --cache-sim=no --cachegrind-out-file=/dev/null "$room/look_ups" "$1" "$rounds" \
+            2>&1 | sed -n 's/^==[0-9]*== I *refs: *//p' | tr -d ,
     done | awk 'NR == 1 { first = $1 } NR == 2 { printf "%d\n", ($1 - first) / 1000 }'
 }
 
@@ -55,8 +55,8 @@ look_ups_cost_alike() {
     [ "${few:-0}" -gt 0 ] && [ "${many:-0}" -gt 0 ] && [ "$many" -le $((4 * few)) ]
 }
 
-# installs_anew FILE: whether tools/c_library.sh, in a copy of the tree, builds the library once FILE is newer than it, and installs
-# what was built; with no FILE, whether it builds none. Its `rt` is one that puts another file in the library's place.
+# installs_anew FILE: whether tools/c_library.sh, in a copy of the tree, builds the library once FILE is newer than it, and
+# installs what was built; with no FILE, whether it builds none. Its `rt` is one that puts another file in the library's place.
 installs_anew() {
     tree=$room/tree
     rm -rf "$tree"
@@ -105,14 +105,15 @@ run 'compile the client of each choice' gcc $warnings $checked -std=c99 $include
 run 'each choice alone' "$room/choices"
 run 'compile the client of long texts' gcc $warnings $include -o "$room/large" "$clients/large.c" "$room/it/lib/libbigrosk_ini.a"
 run 'long texts' "$room/large"
-run 'compile the client of look-ups' gcc $warnings $include -o "$room/look_ups" "$clients/look_ups.c" "$room/it/lib/libbigrosk_ini.a"
+run 'compile the client of look-ups' gcc $warnings $include -o "$room/look_ups" "$clients/look_ups.c" \
+    "$room/it/lib/libbigrosk_ini.a"
 run 'look-ups among 100,000 sections' "$room/look_ups" 100000 200
 if has valgrind 'the run under valgrind'; then
     run 'client under valgrind' valgrind -q --leak-check=full --show-leak-kinds=all --error-exitcode=9 "$room/client"
     run 'what look-ups cost' look_ups_cost_alike
 fi
-for it in '' crates.txt crates/ini_multimap/src/lib.rt crates/ini_text/src/lib.rt crates/ini/src/lib.rt crates/ini_edit/src/lib.rt \
-    crates/ini_c/src/lib.rt crates/ini_c/specs/Statuses.antt; do
+for it in '' crates.txt crates/ini_multimap/src/lib.rt crates/ini_text/src/lib.rt crates/ini/src/lib.rt \
+    crates/ini_edit/src/lib.rt crates/ini_c/src/lib.rt crates/ini_c/specs/Statuses.antt; do
     run "a library older than ${it:-nothing}" installs_anew "$it"
 done
 

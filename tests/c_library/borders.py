@@ -44,7 +44,10 @@ def some(found, what):
 # ---- the header ----
 
 CODE = re.sub(r"/\*.*?\*/", "", HEADER.read_text(), flags=re.S)
-ENUMS = {name: re.findall(r"BIGROSK_INI_(\w+) =", body) for name, body in re.findall(r"enum bigrosk_ini_(\w+) \{(.*?)\};", CODE, re.S)}
+ENUMS = {
+    name: re.findall(r"BIGROSK_INI_(\w+) =", body)
+    for name, body in re.findall(r"enum bigrosk_ini_(\w+) \{(.*?)\};", CODE, re.S)
+}
 FIELDS = {
     name: re.findall(r"\w+ \**(\w+)(?:\[\d+\])?;", body)
     for name, body in re.findall(r"struct bigrosk_ini_(\w+) \{(.*?)\};", CODE, re.S)
@@ -126,8 +129,9 @@ def source_layout(name):
 def source_parameters(text):
     """What C passes for the parameters of an export."""
     plain = {
-        "Global": [], "bool": ["bool"], "u32": ["uint32_t"], "&[u8]": ["const uint8_t *", "size_t"], "&mut [u8]": ["uint8_t *", "size_t"],
-        "&mut [usize]": ["size_t *", "size_t"], "&mut usize": ["size_t *"], "&mut &'a [u8]": ["struct bigrosk_ini_borrowed *"],
+        "Global": [], "bool": ["bool"], "u32": ["uint32_t"], "&mut usize": ["size_t *"],
+        "&[u8]": ["const uint8_t *", "size_t"], "&mut [u8]": ["uint8_t *", "size_t"], "&mut [usize]": ["size_t *", "size_t"],
+        "&mut &'a [u8]": ["struct bigrosk_ini_borrowed *"],
     }
     for name, header in STRUCTS.items():
         plain[f"&{name}"] = [f"const struct bigrosk_ini_{header} *"]

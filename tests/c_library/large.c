@@ -30,14 +30,16 @@ static size_t make(char *to, enum edit what)
 static uint32_t edit(enum edit what, size_t text_count, size_t out_room, size_t *count)
 {
     static const char section[] = "section 250", key[] = "key50", another[] = "another";
-    const uint8_t *t = (const uint8_t *)text, *s = (const uint8_t *)section, *k = (const uint8_t *)key, *a = (const uint8_t *)another;
+    const uint8_t *t = (const uint8_t *)text, *s = (const uint8_t *)section, *k = (const uint8_t *)key;
+    const uint8_t *a = (const uint8_t *)another;
     uint8_t *o = (uint8_t *)out;
     fault f;
     switch (what) {
     case set: return bigrosk_ini_edit_set(t, text_count, &usual, &plain, true, s, 11, k, 5, a, 7, o, out_room, count, &f);
     case add: return bigrosk_ini_edit_add(t, text_count, &usual, &plain, true, s, 11, k, 5, a, 7, o, out_room, count, &f);
     case del: return bigrosk_ini_edit_delete(t, text_count, &usual, true, s, 11, k, 5, o, out_room, count, &f);
-    case rename_key: return bigrosk_ini_edit_rename_key(t, text_count, &usual, &plain, true, s, 11, k, 5, a, 7, o, out_room, count, &f);
+    case rename_key:
+        return bigrosk_ini_edit_rename_key(t, text_count, &usual, &plain, true, s, 11, k, 5, a, 7, o, out_room, count, &f);
     case del_section: return bigrosk_ini_edit_delete_section(t, text_count, &usual, s, 11, o, out_room, count, &f);
     default: return bigrosk_ini_edit_rename_section(t, text_count, &usual, &plain, s, 11, a, 7, o, out_room, count, &f);
     }
@@ -106,8 +108,8 @@ static void a_value_is_long(void)
     CHECK(!memcmp(lent.bytes, value, long_value));
     CHECK(bigrosk_ini_write(&d, &plain, (uint8_t *)text, room, &count) == BIGROSK_INI_OK && count == long_value + 3);
     bigrosk_ini_free(&d);
-    CHECK(bigrosk_ini_edit_set((const uint8_t *)"k=v\n", 4, &usual, &plain, false, value, 0, (const uint8_t *)"k", 1, value, long_value,
-                               (uint8_t *)out, room, &count, &f) == BIGROSK_INI_OK);
+    CHECK(bigrosk_ini_edit_set((const uint8_t *)"k=v\n", 4, &usual, &plain, false, value, 0, (const uint8_t *)"k", 1, value,
+                               long_value, (uint8_t *)out, room, &count, &f) == BIGROSK_INI_OK);
     CHECK(count == long_value + 3 && !memcmp(out, text, count));
     CHECK(bigrosk_ini_load((const uint8_t *)out, count, true, &usual, &d, &f) == BIGROSK_INI_OK);
     CHECK(bigrosk_ini_borrow_str(&d, NULL, "k", &lent) == BIGROSK_INI_OK && lent.count == long_value);

@@ -20,7 +20,8 @@ int main(int argc, char **argv)
         sprintf(value, "%lu", at);
         CHECK(is_value(&d, name, "key", value) && bigrosk_ini_has_str(&d, name, "key") == BIGROSK_INI_OK);
         CHECK(bigrosk_ini_borrow_str(&d, name, "key", &lent) == BIGROSK_INI_OK && lent.count == strlen(value));
-        CHECK(bigrosk_ini_has_section_str(&d, name) == BIGROSK_INI_OK && bigrosk_ini_has_str(&d, name, "none") == BIGROSK_INI_ABSENT);
+        CHECK(bigrosk_ini_has_section_str(&d, name) == BIGROSK_INI_OK);
+        CHECK(bigrosk_ini_has_str(&d, name, "none") == BIGROSK_INI_ABSENT);
     }
     bigrosk_ini_free(&d);
     free(text);
