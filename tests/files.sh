@@ -145,9 +145,7 @@ saving() {
     fresh
     rm settings.ini
     mkfifo settings.ini
-    printf "$source" >settings.ini &
     case_of 'format of a pipe' 4 '' 'ini_file: settings.ini: not a regular file' format settings.ini
-    wait
     [ -p settings.ini ] && echo a pipe >"$room/have"
     echo a pipe >"$room/want"
     count 'the pipe stays'
@@ -205,7 +203,7 @@ editing() {
     fresh
     printf '\357\273\277# by hand\r\n\r\nk\t= "1"  \r\n# old\r\nj=2' >settings.ini
     edit 'set --existing: mark, comments, blanks, quotes and line ends stay' \
-        '\357\273\277# by hand\r\n\r\nk\t= "--null"  \r\n# old\r\nj=2' set --existing settings.ini k --null
+        '\357\273\277# by hand\r\n\r\nk\t= "--null"  \r\n# old\r\nj=2' set --existing -- settings.ini k --null
     edit 'set --existing: the policy escapes the value' \
         '\357\273\277# by hand\r\n\r\nk\t= "a\\;b"  \r\n# old\r\nj=2' \
         --policy Reserved set --existing settings.ini k 'a;b'
@@ -302,7 +300,12 @@ making() {
     case_of 'set --output of a file that is not there' 0 '' '' set --output settings.ini none.ini k v
     stands 'set --output makes the other file' 'k=v\n'
     ln -s far.ini link.ini
-    case_of 'set by way of a link to no file' 4 '' 'ini_file: link.ini: File exists (os error 17)' set link.ini k v
+    case_of 'set by way of a link to no file' 4 '' 'ini_file: link.ini: a symbolic link to no file' set link.ini k v
+    case_of 'set --output by way of a link to no file' 4 '' 'ini_file: settings.ini: link.ini: a symbolic link to no file' \
+        set --output link.ini settings.ini k v
+    { readlink link.ini; ls -A; } >"$room/have"
+    printf 'far.ini\nlink.ini\nsettings.ini\n' >"$room/want"
+    count 'the link to no file stays, and no file is made'
 }
 
 # sections and keys: taken out, and under other names
@@ -360,7 +363,159 @@ placing() {
     case_of 'an option that is none' 2 '' "$usage" get --frob settings.ini name
     printf 'k = v\n' >--odd.ini
     case_of '-- ends the options' 0 'v\n' '' get -- --odd.ini k
-    case_of 'arguments may begin with --' 1 '' '' get settings.ini --existing
+    case_of 'arguments may begin with -- behind --' 1 '' '' get -- settings.ini --existing
+    fresh
+    printf 'name = two\n' >../one.ini
+    for words in 'get settings.ini --existing' 'get settings.ini name --all' 'keys settings.ini --null' \
+        'list settings.ini --null' 'set settings.ini name x --dry-run' 'set settings.ini name -- x' \
+        'set --existing settings.ini --odd x' 'add settings.ini name -- x' 'delete settings.ini name --' \
+        'delete-section settings.ini --odd' 'rename-key settings.ini name --odd' 'format settings.ini --dry-run' \
+        'merge settings.ini ../one.ini --dry-run' 'merge settings.ini -- ../one.ini'
+    do
+        # shellcheck disable=SC2086
+        refused "$words: no choice behind the file" 2 "$usage" $words
+    done
+    edit 'set: a value that begins with --' "$(printf '%s' "$source" | sed 's/one/--dry-run/')" \
+        set -- settings.ini name --dry-run
+    # what isn't written into the file goes where --output says, by each command
+    fresh
+    for words in 'get settings.ini name' 'keys settings.ini server' 'sections settings.ini' \
+        'list settings.ini' 'set settings.ini name x' 'add settings.ini name x' 'delete settings.ini name' \
+        'delete-section settings.ini server' 'rename-key settings.ini name x' 'rename-section settings.ini server x' \
+        'merge settings.ini ../one.ini' 'format settings.ini'
+    do
+        # shellcheck disable=SC2086
+        "$program" ${words%% *} --output - ${words#* } >"$room/want"
+        # shellcheck disable=SC2086
+        "$program" ${words%% *} --output other.ini ${words#* } >"$room/have"
+        echo "status $?" >>"$room/have"
+        { echo 'status 0'; cat "$room/want"; printf "$source"; } >"$room/both"
+        mv "$room/both" "$room/want"
+        cat other.ini settings.ini >>"$room/have"
+        count "$words: --output takes what is written, and the file stands"
+        rm -f other.ini
+    done
+}
+
+# edits that find nothing, and what is refused, where standard output is written
+filtering() {
+    fresh
+    text='\357\273\277; c\r\n[a]\r\nk = 1'
+    printf "$text" >filter.ini
+    for words in 'delete - other a' 'delete - k' 'set --existing - other v a' 'set --existing - k v' 'delete-section - b' \
+        'rename-key - other x a' 'rename-section - b x' 'delete --output - filter.ini k'
+    do
+        # shellcheck disable=SC2086
+        case_of "$words: nothing is found, and the text is written" 1 "$text" '' $words <filter.ini
+    done
+    for words in 'get - other a' 'get --all - k' 'keys - b' 'delete --dry-run - k' 'set --existing --dry-run - k v' \
+        'delete --output new.ini filter.ini k' 'delete --output new.ini - k'
+    do
+        # shellcheck disable=SC2086
+        case_of "$words: nothing is found, and nothing is written" 1 '' '' $words <filter.ini
+    done
+    case_of 'set of standard input, with a value that would not be read back' 2 '' \
+        "ini_file: -: this value can't be written so that it is read back" set - k ' v' a <filter.ini
+    printf '=\n' >refused.ini
+    case_of 'delete in standard input, of a refused text' 3 '' '-:1:2: missing key
+=
+^' delete - k <refused.ini
+    { printf "$source"; printf '%s\n' filter.ini refused.ini settings.ini; } >"$room/want"
+    { cat settings.ini; ls -A; } >"$room/have"
+    count 'a filter writes no file'
+}
+
+# pipes and devices: none is read that is to be written
+streaming() {
+    fresh
+    printf '[a]\nk=1\n' >../one.ini
+    for words in 'set /dev/full k v' 'set /dev/zero k v' 'set /dev/null k v' 'set --dry-run /dev/null k v' \
+        'add /dev/zero k v' 'set --existing /dev/zero k v' 'delete /dev/zero k' 'rename-key /dev/zero k v' \
+        'format /dev/zero' 'format --dry-run /dev/zero' 'merge /dev/zero ../one.ini' 'merge --dry-run /dev/null ../one.ini' \
+        'delete --output pipe pipe k' 'set . k v' 'set /dev/stdin k v'
+    do
+        [ -p pipe ] || mkfifo pipe
+        file=${words#* }
+        case $words in *dry-run*) file=${words#* * } ;; *existing*) file=${words#* * } ;; *output*) file=${words#* * * } ;; esac
+        # shellcheck disable=SC2086
+        printf 'k = 1\n' | bounded $words >"$room/have" 2>&1
+        echo "status $?" >>"$room/have"
+        printf 'ini_file: %s: not a regular file\nstatus 4\n' "${file%% *}" >"$room/want"
+        count "$words: refused before it is read"
+    done
+    rm -f pipe
+    { bounded get --output /dev/stdout settings.ini name; echo "status $?"; } | cat >"$room/have"
+    printf 'one\nstatus 0\n' >"$room/want"
+    count '--output /dev/stdout, a pipe'
+    { bounded get --output /dev/stdout settings.ini nowhere; echo "status $?"; } | cat >"$room/have"
+    echo 'status 1' >"$room/want"
+    count '--output /dev/stdout, where nothing is found'
+    mkfifo pipe
+    timeout 10 cat pipe >"$room/out" &
+    bounded set --output pipe settings.ini name two >"$room/have" 2>&1
+    echo "status $?" >>"$room/have"
+    wait
+    { cat "$room/out"; ls -A; [ -p pipe ] && echo it stays; } >>"$room/have"
+    { echo 'status 0'; printf "$source" | sed 's/one/two/'; printf 'pipe\nsettings.ini\nit stays\n'; } >"$room/want"
+    count '--output of a pipe'
+    rm pipe
+    for device in null zero; do
+        bounded set --output "/dev/$device" settings.ini name two >"$room/have" 2>&1
+        echo "status $?" >>"$room/have"
+        echo 'status 0' >"$room/want"
+        count "--output /dev/$device"
+    done
+    bounded get --output /dev/full settings.ini name >"$room/have" 2>&1
+    echo "status $?" >>"$room/have"
+    printf 'ini_file: settings.ini: /dev/full: No space left on device (os error 28)\nstatus 4\n' >"$room/want"
+    count '--output /dev/full'
+    { bounded set --dry-run --output /dev/stdout settings.ini name two; echo "status $?"; } | head -n 3 >"$room/have"
+    printf '%s\n' '--- /dev/null' '+++ /dev/stdout' '@@ -0,0 +1,9 @@' >"$room/want"
+    count '--dry-run --output /dev/stdout: nothing is read of it'
+    printf 'a = 1\n' >"$room/text"
+    bounded get /dev/stdin a <"$room/text" | cat >"$room/have"
+    cat "$room/text" | bounded set --output - /dev/stdin a 2 >>"$room/have"
+    cat "$room/text" | bounded merge --output - settings.ini /dev/stdin | sed -n '/^a/p' >>"$room/have"
+    printf '1\na = 2\na=1\n' >"$room/want"
+    count 'a pipe is read where it is not written'
+    { printf "$source"; echo settings.ini; } >"$room/want"
+    { cat settings.ini; ls -A; } >"$room/have"
+    count 'pipes and devices: the file stands'
+}
+
+# bounded WORD..: a run within ten seconds and two gigabytes
+bounded() {
+    (
+        ulimit -v 2000000 2>/dev/null
+        exec timeout 10 "$program" "$@"
+    )
+}
+
+# texts of others, and faults of words, in messages
+telling() {
+    fresh
+    escape=$(printf '\033')
+    printf '[n%s]\nk\\x001b[2J\\nz = '"' v'\\n" "$escape" >../odd.ini
+    case_of 'control characters of a key and a name' 2 '' \
+        "ini_file: settings.ini: [n\\x001b] k\\x001b[2J\\x000az: this value can't be written so that it is read back" \
+        merge settings.ini ../odd.ini
+    case_of 'control characters of a file name' 4 '' \
+        'ini_file: no\x001bne\x0009.ini: No such file or directory (os error 2)' list "no${escape}ne	.ini"
+    printf '[a%s]\t ; c\n' "$escape" >odd.ini
+    case_of 'a caret below tabs and control characters' 3 '' "odd.ini:1:8: doesn't support inline comment
+[a\\x001b]	 ; c
+         	 ^" list odd.ini
+    printf '\t =v\r\n' >odd.ini
+    case_of 'a caret below a tab' 3 '' 'odd.ini:1:4: missing key
+	 =v
+	 ^' list odd.ini
+    printf 'k = 1\n\t[n\tm' >odd.ini
+    "$program" list odd.ini 2>&1 | tail -n 3 >"$room/have"
+    printf 'odd.ini:2:2: what has no end begins here\n\t[n\tm\n\t^\n' >"$room/want"
+    count 'a caret below a tab, where what has no end begins'
+    bytes=$(printf '\303')
+    case_of 'a word that is no text' 4 '' 'ini_file: word 2 is not UTF-8' get "$bytes" k
+    case_of 'an empty file name' 4 '' 'ini_file: No such file or directory (os error 2)' get '' k
 }
 
 # choices of a command, which another doesn't take: nothing is read then
@@ -544,6 +699,14 @@ unmerged() {
     cp ../bytes.ini settings.ini
     refused 'merge into bytes that are no text' 3 'ini_file: settings.ini: the input is not UTF-8' \
         merge settings.ini ../plain.ini
+    printf 'k = 1\n=\n' >settings.ini
+    printf '; nothing\n[a]\n' >../nothing.ini
+    refused 'merge of nothing into a refused text' 3 'settings.ini:2:2: missing key
+=
+^' merge settings.ini ../nothing.ini
+    refused 'merge of /dev/null into a refused text' 3 'settings.ini:2:2: missing key
+=
+^' merge settings.ini /dev/null
     rm settings.ini
     case_of 'merge makes no file where another is not there' 4 '' \
         'ini_file: none.ini: No such file or directory (os error 2)' merge settings.ini none.ini
@@ -598,8 +761,9 @@ k=2
 END
     printf 'k=1\nk=2\n' >--odd.ini
     case_of 'check: a file behind --' 1 "\055-odd.ini:2:1: warning: $repeated\n" '' check -- --odd.ini
-    case_of 'check: later files may begin with --' 1 "\055-odd.ini:2:1: warning: $repeated\n" '' \
-        check clean.ini --odd.ini
+    case_of 'check: later files may begin with -- behind --' 1 "\055-odd.ini:2:1: warning: $repeated\n" '' \
+        check -- clean.ini --odd.ini
+    case_of 'check: no choice behind a file' 2 '' "$usage" check clean.ini --odd.ini
     case_of 'check: no file' 2 '' "$usage" check
     case_of 'check: no file behind --' 2 '' "$usage" check --
     case_of 'check: no choice' 2 '' "$usage" check --output clean.ini path.ini
@@ -720,8 +884,13 @@ END
         '\055-- other.ini\n+++ other.ini\n@@ -1,1 +1,1 @@\n-other=1\n+k=2\n' '' \
         set --dry-run --output other.ini settings.ini k 2
     case_of 'set --dry-run --output: a file that is not there' 0 \
-        '\055-- /dev/null\n+++ far/new.ini\n@@ -0,0 +1,1 @@\n+k=2\n' '' \
-        set --output far/new.ini --dry-run settings.ini k 2
+        '\055-- /dev/null\n+++ new.ini\n@@ -0,0 +1,1 @@\n+k=2\n' '' \
+        set --output new.ini --dry-run settings.ini k 2
+    printf 'k=3\n' >../one.ini
+    case_of 'merge --dry-run of a file that is not there' 0 \
+        '\055-- /dev/null\n+++ new.ini\n@@ -0,0 +1,1 @@\n+k=3\n' '' merge --dry-run new.ini ../one.ini
+    case_of 'merge --dry-run --output' 0 '\055-- other.ini\n+++ other.ini\n@@ -1,1 +1,1 @@\n-other=1\n+k=3\n' '' \
+        merge --dry-run --output other.ini settings.ini ../one.ini
     { printf 'k=1\nother=1\n'; printf 'other.ini\nsettings.ini\n'; } >"$room/want"
     { cat settings.ini other.ini; ls -A; } >"$room/have"
     count 'set --dry-run --output: nothing is written'
@@ -729,6 +898,37 @@ END
     echo "status $?" >>"$room/have"
     printf 'ini_file: settings.ini: standard output: No space left on device (os error 28)\nstatus 4\n' >"$room/want"
     count 'set --dry-run: a full device'
+}
+
+# with --dry-run a run ends as it does without, where it is refused before anything is written
+previewing_refusals() {
+    fresh
+    printf 'name = two\n' >../one.ini
+    printf 'other = 1\n' >other.ini
+    ln -s far.ini link.ini
+    touch settings.ini.lock other.ini.lock new.ini.lock
+    for words in 'set settings.ini name two' 'set settings.ini name one' 'format settings.ini' 'merge settings.ini ../one.ini' \
+        'set new.ini k v' 'merge new.ini ../one.ini' 'set link.ini k v' 'set far/new.ini k v' 'set other.ini/new.ini k v' \
+        'set --output other.ini settings.ini name two' 'set --output new.ini settings.ini name two' \
+        'set --output far/new.ini settings.ini name two' 'set --output link.ini settings.ini name two' \
+        'merge --output new.ini settings.ini ../one.ini' 'set /dev/null k v' 'format none.ini' 'delete settings.ini other'
+    do
+        # shellcheck disable=SC2086
+        "$program" ${words%% *} --dry-run ${words#* } >"$room/told" 2>"$room/have"
+        echo "status $?" >>"$room/have"
+        ls -A >>"$room/have"
+        cat settings.ini other.ini >>"$room/have"
+        # shellcheck disable=SC2086
+        "$program" $words 2>"$room/want"
+        echo "status $?" >>"$room/want"
+        ls -A >>"$room/want"
+        cat settings.ini other.ini >>"$room/want"
+        count "$words: --dry-run ends as the run does"
+    done
+    case_of 'set --dry-run: a lock that is there' 4 '' 'ini_file: settings.ini: File exists (os error 17)' \
+        set --dry-run settings.ini name two
+    case_of 'set --dry-run: a folder that is not there' 4 '' 'ini_file: far/new.ini: No such file or directory (os error 2)' \
+        set --dry-run far/new.ini k v
 }
 
 # a folder in which nothing may be made, for a user who may not do all
@@ -761,11 +961,52 @@ broken() {
     stands "$words, $1 fails: the old file stands, and no other is left" "$source"
 }
 
-faults() {
+# traced FILE WORD..: the calls that open, fill and name FILE and what lies beside it, each on a line
+traced() {
+    file=$1
+    shift
+    strace -f -o "$room/trace" -e trace=openat,fchmod,write,fsync,rename,link,unlink "$program" "$@" >/dev/null 2>&1
+    echo "status $?"
+    sed -E "s/^[0-9]+ +//; s/ += [^=]*$//; s/^write\(([0-9]+).*/write(\1, ...)/; s|\"[^\"]*/|\"|g; s/, 0?10(0[0-7]{3})\)/, \1)/" "$room/trace" |
+        grep -E "\"$file|^fchmod|^write|^fsync"
+}
+
+# with which flags and modes files are opened, and in which order they get mode, bytes and name
+modes() {
     if ! strace -o /dev/null true 2>/dev/null; then
-        skipped=$((skipped + 22))
+        skipped=$((skipped + 4))
         return
     fi
+    for mode in 600 640; do
+        fresh
+        chmod "$mode" settings.ini
+        (umask 022; traced settings.ini set settings.ini name two; stat -c %a settings.ini) >"$room/have"
+        printf '%s\n' 'status 0' 'openat(AT_FDCWD, "settings.ini", O_RDONLY|O_NOCTTY|O_CLOEXEC)' \
+            'openat(AT_FDCWD, "settings.ini.lock", O_WRONLY|O_CREAT|O_EXCL|O_NOCTTY|O_CLOEXEC, 0600)' "fchmod(3, 0$mode)" \
+            'write(3, ...)' 'fsync(3)' 'openat(AT_FDCWD, "settings.ini", O_RDONLY|O_NOCTTY|O_CLOEXEC)' \
+            'rename("settings.ini.lock", "settings.ini")' "$mode" >"$room/want"
+        count "a file of mode $mode is closed to others until it has its mode"
+    done
+    for mask in 022 077; do
+        (umask "$mask"; traced new.ini set new.ini k v; stat -c %a new.ini) >"$room/have"
+        printf '%s\n' 'status 0' 'openat(AT_FDCWD, "new.ini.lock", O_WRONLY|O_CREAT|O_EXCL|O_NOCTTY|O_CLOEXEC, 0666)' 'write(3, ...)' \
+            'fsync(3)' 'link("new.ini.lock", "new.ini")' 'unlink("new.ini.lock")' "$(printf '%o' $((0666 & ~$mask)))" >"$room/want"
+        count "a new file has its mode under the mask $mask"
+        rm -f new.ini
+    done
+}
+
+faults() {
+    if ! strace -o /dev/null true 2>/dev/null; then
+        skipped=$((skipped + 23))
+        return
+    fi
+    fresh
+    strace -f -o "$room/trace" -e trace=unlink -e inject=unlink:error=EPERM "$program" set new.ini k v >"$room/have" 2>&1
+    { echo "status $?"; cat new.ini; ls -A; } >>"$room/have"
+    printf '%s\n' 'ini_file: new.ini: new.ini.lock: Operation not permitted (os error 1)' 'status 4' 'k=v' new.ini new.ini.lock \
+        settings.ini >"$room/want"
+    count 'a new file whose lock stays: the status and the words'
     for words in 'format settings.ini' 'delete settings.ini port server'; do
         broken openat EACCES 'Permission denied (os error 13)'
         broken fchmod EPERM 'Operation not permitted (os error 1)'
@@ -822,7 +1063,12 @@ separating
 nulls
 checking
 previewing
+previewing_refusals
+filtering
+streaming
+telling
 saving
+modes
 at_once
 protected
 faults

@@ -1,8 +1,7 @@
 -- Which words are a check and of which files, the lines that it writes of a file, and its exit status.
-use Rattle.std.specs.Prelude.{◌≡◌, ℕ, if◌then◌else◌, nat_eq, List, [], ◌∷◌, ◌++◌, codes, flat_map, map, ⊤}
+use Rattle.std.specs.Prelude.{◌≡◌, ℕ, if◌then◌else◌, List, [], ◌∷◌, ◌++◌, codes, flat_map, map, ⊤}
 use Rattle.std.specs.Prelude.{Option, None, Some, option_and_then, Result, Ok, Err, string_bytes, vec_len, ◌==◌}
 use Rattle.std.specs.Fmt.{decimal}
-use Rattle.std.specs.List.{starts_with}
 use Rattle.std.specs.Option.{option_map}
 use Rattle.std.specs.Str.{IsUtf8, bytes_eq}
 use Rattle.std.specs.declared.alloc.Global.{Global}
@@ -18,6 +17,7 @@ use Rattle.ini_check.specs.declared.warning.Warning.{Warning}
 use Rattle.ini_edit.specs.declared.error.EditError.TheVariants as refusal
 use Rattle.ini_options.specs.Words.{Word, default_options, given}
 use Rattle.ini_options.specs.declared.options.Options.{Options}
+use Rattle.ini_file.specs.Choices.{have_no_option}
 use Rattle.ini_file.specs.Runs.{status_of}
 use Rattle.ini_file.specs.declared.check_words.Check.{Check}
 use Rattle.ini_file.specs.declared.run.Outcome.TheVariants.{Refused}
@@ -32,14 +32,14 @@ abbrev pub some_files : List Word → Option (List Word)
 some_files [] = None
 some_files (file ∷ files) = Some (file ∷ files)
 
--- the files that words name: all words, or those behind `--`; None where there is no file, or where the
--- first word begins with `--` and is another
+-- the files that words name: those behind `--`, or else all words; None where there is no file, or where,
+-- without `--`, a word begins with `--`
 abbrev pub files_named : List Word → Option (List Word)
 files_named [] = None
 files_named (word ∷ words) =
     if bytes_eq word (codes "--") then some_files words
-    else if starts_with nat_eq word (codes "--") then None
-    else Some (word ∷ words)
+    else if have_no_option (word ∷ words) then Some (word ∷ words)
+    else None
 
 -- what is checked behind the options, if `check` stands there
 abbrev pub check_behind : Options → List Word → Option Checking

@@ -1,5 +1,5 @@
 -- Which words behind the command are options, what they choose, and where the words behind them begin.
-use Rattle.std.specs.Prelude.{Bool, true, false, not, ◌&&◌, ◌||◌, if◌then◌else◌, nat_eq}
+use Rattle.std.specs.Prelude.{Bool, true, false, not, ◌&&◌, ◌||◌, ◌==◌, if◌then◌else◌, nat_eq, count_by}
 use Rattle.std.specs.Prelude.{List, [], ◌∷◌, codes, map, Option, None, Some, is_some, String, string_bytes}
 use Rattle.std.specs.Borrow.{Bor}
 use Rattle.std.specs.List.{starts_with}
@@ -63,9 +63,13 @@ with_switch word s =
     else if bytes_eq word (codes "--dry-run") then Some (record s { dry_run = true })
     else None
 
+-- no word begins with `--`
+abbrev pub have_no_option : List Word → Bool
+have_no_option words = count_by (λ word. starts_with nat_eq word (codes "--")) words == 0
+
 -- the choices of words where `c` holds before them, and the words behind: those behind `--`, else those from
--- the first one on that is no option. None where a text is missing, or a word there begins with `--` and is
--- no option
+-- the first one on that is no option. None where a text is missing, or where, without `--`, one of the words
+-- from there on begins with `--`
 abbrev mutual
   pub chosen : Chosen → List Word → Option (Chosen × List Word)
   chosen c [] = Some (c, [])
@@ -78,7 +82,7 @@ abbrev mutual
       else if bytes_eq word (codes "--separator")
       then chosen_text (λ text. record c { separator = Some text }) words
       else option_map_or (λ s. chosen (record c { switches = s }) words) (with_switch word c.switches)
-      (if starts_with nat_eq word (codes "--") then None else Some (c, word ∷ words))
+      (if have_no_option (word ∷ words) then Some (c, word ∷ words) else None)
 
   -- the same behind a word that a text follows
   pub chosen_text : (Word → Chosen) → List Word → Option (Chosen × List Word)

@@ -1,5 +1,6 @@
 -- What an edit makes of a file's bytes, and what it is refused with, in the words of `ini_edit`.
 use Rattle.std.specs.Prelude.{◌≡◌, ◌++◌, ⊤, ℕ, List, Option, chars}
+use Rattle.std.specs.Str.{IsUtf8}
 use Rattle.ini_text.specs.declared.error.Error.TheVariants.{Memory}
 use Rattle.ini_text.specs.declared.write.option.WriteOption.{WriteOption}
 use Rattle.ini.specs.Texts.{Text}
@@ -11,7 +12,8 @@ use Rattle.ini_options.specs.Words.{Word}
 use Rattle.ini_options.specs.declared.options.Options.{Options}
 use Rattle.ini_file.specs.Writing.{IsWriting}
 
--- the bytes are the mark, and behind it the text T with the edit made in it, written as the options say
+-- the bytes are the mark, and behind it, in UTF-8, the text T with the edit made in it, written as the options
+-- say
 pub record IsChanged (o : Options) (separator : Option Word) (e : Editing) (byte_order_mark : List ℕ)
     (T : Text)
     (bytes : List ℕ) : Type 0 where
@@ -19,6 +21,7 @@ pub record IsChanged (o : Options) (separator : Option Word) (e : Editing) (byte
   pub is_option : IsWriting o separator option
   pub new : List ℕ
   pub whole : bytes ≡ byte_order_mark ++ new
+  pub is_utf8 : IsUtf8 new
   pub is_made : IsMade o.reading option e T (chars new)
 
 -- the edit of the text T is refused where it is written as the options say

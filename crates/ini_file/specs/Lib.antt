@@ -9,6 +9,7 @@ pub mod MergeWords
 pub mod Merges
 pub mod Outputs
 pub mod Pages
+pub mod Places
 pub mod Requests
 pub mod Runs
 pub mod Settings

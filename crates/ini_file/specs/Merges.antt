@@ -23,6 +23,10 @@ use Rattle.ini_file.specs.declared.merge.MergeEnd.TheVariants.{Done, Other, File
 abbrev pub bytes_of : List (Vec ℕ Global) → List (List ℕ)
 bytes_of files = map (λ file. file.items) files
 
+-- the text has a document
+abbrev pub HasDocument : ParseOption → Text → Type 0
+HasDocument o T = (document : Document) × IsDocumentOf o T document
+
 -- the bytes are those of a text with this document
 abbrev pub Loads : ParseOption → List ℕ → Document → Type 0
 Loads o file document = IsTextWith (λ T. IsDocumentOf o T document) (without_byte_order_mark file)
@@ -52,7 +56,8 @@ pub record RefusesOther (o : ParseOption) (files : List (List ℕ)) (index : ℕ
   pub are_loaded : AreLoaded o before documents
   pub is_refused : RefusesFile o file e
 
--- the bytes are the mark, and behind it the text T with what the documents set, written as the options say
+-- The bytes are the mark, and behind it, in UTF-8, the text T with what the documents set, written as the
+-- options say; where they set nothing T has a document all the same.
 pub record IsMerged (o : Options) (documents : List Document) (byte_order_mark : List ℕ) (T : Text)
     (bytes : List ℕ)
     : Type 0 where
@@ -60,8 +65,10 @@ pub record IsMerged (o : Options) (documents : List Document) (byte_order_mark :
   pub is_option : IsWriteOption o option
   pub new : List ℕ
   pub whole : bytes ≡ byte_order_mark ++ new
+  pub is_utf8 : IsUtf8 new
   pub found : List Bool
   pub are_made : AreMade o.reading option T (flat_map settings_of documents) found (chars new)
+  pub is_read : flat_map settings_of documents ≡ [] → HasDocument o.reading T
 
 -- of what the documents set something is refused in the text T
 pub record RefusesMerge (o : Options) (documents : List Document) (T : Text) (refused : RefusedEdit)
@@ -74,6 +81,7 @@ pub record RefusesMerge (o : Options) (documents : List Document) (T : Text) (re
 abbrev pub EndsOnText : Options → List Document → List ℕ → Text → MergeEnd → Type 0
 EndsOnText o documents byte_order_mark T (Done bytes) = IsMerged o documents byte_order_mark T bytes.items
 EndsOnText o documents byte_order_mark T (Edit refused) = RefusesMerge o documents T refused
+EndsOnText o documents byte_order_mark T (File (Parse e)) = IsStopOf o.reading T e
 EndsOnText o documents byte_order_mark T (File (Memory _)) = ⊤
 EndsOnText o documents byte_order_mark T _ = ⊥
 

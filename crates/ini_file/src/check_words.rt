@@ -3,6 +3,7 @@ ghost use Rattle.std.specs.Prelude.{◌≡◌, map, string_bytes};
 ghost use Rattle.std.specs.Option.{option_map};
 ghost use Rattle.ini_file.specs.Checks.{check_asked, checking_of, files_named};
 
+use crate::choices::have_no_option;
 use ini::ParseOption;
 use ini_options::Options;
 
@@ -16,7 +17,8 @@ pub struct Check<'a> {
 }
 
 /// What the words check, if they are a check: options, of which those of reading count; then `check`, `--` or
-/// nothing, and one file or more, whatever the later ones begin with. Takes no memory.
+/// nothing, and one file or more, of which none begins with `--` where that word doesn't stand before it.
+/// Takes no memory.
 pub fn check_of(words: &[String]) -> Option<Check<'_>>
     ensures { option_map checking_of result ≡ check_asked (map string_bytes words.now) }
 {
@@ -36,16 +38,15 @@ fn files_of(words: &[String]) -> Option<&[String]>
         ≡ files_named (map string_bytes words.now) }
 {
     let (first, behind) = words.split_first()?;
-    let first = first.as_str();
-    if first == "--" {
+    if first.as_str() == "--" {
         if behind.is_empty() {
             None
         } else {
             Some(behind)
         }
-    } else if first.as_bytes().starts_with(b"--") {
-        None
-    } else {
+    } else if have_no_option(words) {
         Some(words)
+    } else {
+        None
     }
 }

@@ -2,7 +2,7 @@
 //! commands their names alone.
 ghost use Rattle.std.specs.Prelude.{◌≡◌, ◌&&◌, ◌||◌, map, not, string_bytes};
 ghost use Rattle.ini_file.specs.Choices.{chosen, chosen_by, chosen_of, no_choice, no_switch, with_switch};
-ghost use Rattle.ini_file.specs.Choices.{takes, writes_pairs, writes_texts};
+ghost use Rattle.ini_file.specs.Choices.{have_no_option, takes, writes_pairs, writes_texts};
 
 /// What words behind the command choose by themselves.
 #[derive(Clone, Copy)]
@@ -61,9 +61,9 @@ pub struct Choices<'a> {
 
 impl<'a> Choices<'a> {
     /// The options that words have at their front, and the words behind them: those behind `--`, else those
-    /// from the first one on that is no option. `None` where a word there begins with `--` and is no option,
-    /// or where the text is missing that an option takes. Of several texts of an option the last holds. Takes
-    /// no memory.
+    /// from the first one on that is no option. `None` where, without `--`, one of the words from there on
+    /// begins with `--`, or where the text is missing that an option takes. Of several texts of an option the
+    /// last holds. Takes no memory.
     pub fn of_words(words: &'a [String]) -> Option<(Choices<'a>, &'a [String])>
         ensures { chosen_by result ≡ chosen no_choice (map string_bytes words.now) }
     {
@@ -97,7 +97,7 @@ impl<'a> Choices<'a> {
             } else if let Some(changed) = switches.with_switch(word) {
                 switches = changed;
                 rest = after;
-            } else if word.as_bytes().starts_with(b"--") {
+            } else if !have_no_option(rest) {
                 return None;
             } else {
                 let choices = Choices {
@@ -132,6 +132,16 @@ impl<'a> Choices<'a> {
             )
             && only_where(self.switches.dry_run, !writes_texts(command))
     }
+}
+
+/// Whether no word begins with `--`.
+pub(crate) fn have_no_option(words: &[String]) -> bool
+    ensures { result ≡ have_no_option (map string_bytes words.now) }
+{
+    let options = words
+        .iter()
+        .filter(|word| word.as_str().as_bytes().starts_with(b"--"));
+    options.count() == 0
 }
 
 // Whether what may be chosen in its place alone is chosen nowhere else.

@@ -1,14 +1,13 @@
 //! The lines of a text at which a fault is shown. This file knows no grammar and no device.
+use crate::shown::{Shown, shown_line};
 use ini::{ParseError, ParseKind, ParseOption, Parser};
 use std::alloc::Global;
 use std::io::Write;
 
-// How far a caret may stand from the line's front.
-const WIDEST: usize = 1000;
-
 /// Prints the line of a fault, and below it a caret at the last character that was looked at. Where the text
 /// ends within a name, a key, quotes or an escape, the place where its element begins is told too, and shown
-/// in the same way. Where the bytes are no text nothing is printed; a fault of the writer is dropped.
+/// in the same way. Where the bytes are no text nothing is printed; a fault of the writer, or of memory, is
+/// dropped.
 ///
 /// No contract says what is printed; `tests/files.sh` tests it.
 pub fn point_at<W: Write>(
@@ -23,23 +22,24 @@ pub fn point_at<W: Write>(
         return;
     };
     let text = text.strip_prefix('\u{feff}').unwrap_or(text);
-    show(text, fault.line, fault.col.saturating_sub(1), err);
+    show(alloc, text, fault.line, fault.col.saturating_sub(1), err);
     if matches!(&fault.kind, ParseKind::EndOfText) {
         let (line, column) = beginning(alloc, text, read);
+        let file = Shown(file);
         let _ = writeln!(err, "{file}:{line}:{column}: what has no end begins here");
-        show(text, line, column, err);
+        show(alloc, text, line, column, err);
     }
 }
 
 // Prints a line of a text, and below it a caret at the character of this number.
-fn show<W: Write>(text: &str, line: usize, column: usize, err: &mut W) {
+fn show<W: Write>(alloc: Global, text: &str, line: usize, column: usize, err: &mut W) {
     let Some(line) = text.split('\n').nth(line.saturating_sub(1)) else {
         return;
     };
     let line = line.strip_suffix('\r').unwrap_or(line);
-    let _ = writeln!(err, "{line}");
-    let width = column.min(WIDEST);
-    let _ = writeln!(err, "{:>width$}", '^');
+    if let Ok((shown, blanks)) = shown_line(alloc, line, column) {
+        let _ = writeln!(err, "{shown}\n{blanks}^");
+    }
 }
 
 // Where the element begins at which reading a text stops. Each element takes a character at least.

@@ -1,13 +1,14 @@
 //! The bytes of files and streams: those that are read, and where those go that a command makes: into the
-//! file's place, into another file, to standard output, or nowhere, where what would change is shown. This
-//! file knows no word of the program and no document.
+//! file's place, into another file or a stream, or nowhere, where what would change is shown. This file knows
+//! no word of the program and no document.
 //!
 //! No contract says what a disk gets; `tests/files.sh` tests it.
 use crate::diff::diff;
-use crate::save::save;
+use crate::save::{find_room, save};
+use crate::target::Target;
 use ini::Error;
 use ini_options::named;
-use std::fs;
+use std::fs::{self, OpenOptions};
 use std::io::{self, Read, Write};
 
 /// The bytes of a file; `-` is standard input.
@@ -23,23 +24,29 @@ pub(crate) fn read_input(rt: &HostRuntime, file: &str) -> Result<Vec<u8>, Error>
     }
 }
 
-/// Whether a file can't be read because it isn't there.
-pub(crate) fn is_missing(refusal: &Error) -> bool {
-    match refusal {
-        Error::Io(fault) => fault.kind() == io::ErrorKind::NotFound,
-        _ => false,
+/// The bytes of the file that a command is over; `None` where it isn't there and is made. What is no regular
+/// file isn't read where it is the one that is written.
+pub(crate) fn read_file(rt: &HostRuntime, target: Target<'_>) -> Result<Option<Vec<u8>>, Error> {
+    let file = target.file;
+    let found = if file != "-" && file == target.place {
+        match fs::metadata(rt, file) {
+            Ok(metadata) if metadata.is_file() => read_input(rt, file),
+            Ok(_) => Err(io::Error::new(io::ErrorKind::InvalidInput, "not a regular file").into()),
+            Err(fault) => Err(Error::Io(fault)),
+        }
+    } else {
+        read_input(rt, file)
+    };
+    match found {
+        Ok(bytes) => Ok(Some(bytes)),
+        Err(Error::Io(fault)) if target.makes_file && is_missing(&fault) => Ok(None),
+        Err(refusal) => Err(refusal),
     }
 }
 
-/// Where what a command makes of a file goes.
-#[derive(Clone, Copy)]
-pub(crate) struct Target<'a> {
-    /// The file that was read.
-    pub(crate) file: &'a str,
-    /// The file that is written; `-` is standard output.
-    pub(crate) place: &'a str,
-    /// Whether what would change in it is shown, and nothing is written.
-    pub(crate) shows_change: bool,
+// Whether a file can't be read because it isn't there.
+fn is_missing(fault: &io::Error) -> bool {
+    fault.kind() == io::ErrorKind::NotFound
 }
 
 /// Writes to standard output.
@@ -50,70 +57,78 @@ pub(crate) fn print(rt: &HostRuntime, output: &[u8]) -> Result<(), Error> {
     }
 }
 
-/// Hands on what a command over a file is to write; nothing was read of a file that wasn't there, which is
-/// made. A file that would not change is not written.
+/// Hands on what a command makes of a file, of which nothing was read where it wasn't there. A file that
+/// would not change is not written.
 pub(crate) fn hand_on(
     rt: &HostRuntime,
     target: Target<'_>,
     old: Option<&[u8]>,
     output: &[u8],
 ) -> Result<(), Error> {
-    if target.shows_change {
-        return show_change(rt, target, old, output);
-    }
-    if target.place == "-" {
+    let place = target.place;
+    if place == "-" && !target.shows_change {
         return print(rt, output);
     }
-    if target.place == target.file {
-        return match old {
-            Some(there) => replace(rt, target.place, there, output),
-            None => save(rt, rt.alloc(), target.place, None, output),
-        };
-    }
-    match put(rt, target.place, output) {
-        Err(Error::Io(fault)) => Err(Error::Io(named(rt.alloc(), target.place, fault))),
-        done => done,
-    }
-}
-
-/// Writes to standard output what would change: in the file that `--output` names, else in the file that was
-/// read, if it was there.
-fn show_change(
-    rt: &HostRuntime,
-    target: Target<'_>,
-    old: Option<&[u8]>,
-    output: &[u8],
-) -> Result<(), Error> {
-    let place = target.place;
-    let change = if place == "-" || place == target.file {
-        diff(rt.alloc(), target.file, old, output)?
+    let shown = if place == "-" {
+        diff(rt.alloc(), target.file, old, output)
+    } else if place == target.file {
+        put(rt, place, target.shows_change, old, output)
     } else {
-        match fs::read(rt, place) {
-            Ok(there) => diff(rt.alloc(), place, Some(there.as_slice()), output)?,
-            Err(fault) if fault.kind() == io::ErrorKind::NotFound => {
-                diff(rt.alloc(), place, None, output)?
-            }
-            Err(fault) => return Err(Error::Io(named(rt.alloc(), place, fault))),
+        match put_elsewhere(rt, place, target.shows_change, output) {
+            Err(Error::Io(fault)) => Err(Error::Io(named(rt.alloc(), place, fault))),
+            done => done,
         }
     };
-    print(rt, change.as_slice())
+    print(rt, shown?.as_slice())
 }
 
-/// Puts bytes into a file, whatever it has, or into a new one.
-fn put(rt: &HostRuntime, place: &str, output: &[u8]) -> Result<(), Error> {
-    match fs::read(rt, place) {
-        Ok(there) => replace(rt, place, there.as_slice(), output),
-        Err(fault) if fault.kind() == io::ErrorKind::NotFound => {
-            save(rt, rt.alloc(), place, None, output)
+// Puts bytes into a file, whatever it has, into a new one, or into a pipe, a terminal or a device, of which
+// nothing is read. The answer is what is to be shown of it.
+fn put_elsewhere(
+    rt: &HostRuntime,
+    place: &str,
+    shows_change: bool,
+    output: &[u8],
+) -> Result<Vec<u8>, Error> {
+    match fs::metadata(rt, place) {
+        Ok(metadata) if metadata.is_file() || metadata.is_dir() => {
+            let there = fs::read(rt, place).map_err(Error::Io)?;
+            put(rt, place, shows_change, Some(there.as_slice()), output)
         }
+        Ok(_) if shows_change => diff(rt.alloc(), place, None, output),
+        Ok(_) => {
+            let mut stream = OpenOptions::new()
+                .write(true)
+                .open(rt, place)
+                .map_err(Error::Io)?;
+            stream.write_all(output).map_err(Error::Io)?;
+            Ok(Vec::new(rt.alloc()))
+        }
+        Err(fault) if is_missing(&fault) => put(rt, place, shows_change, None, output),
         Err(fault) => Err(Error::Io(fault)),
     }
 }
 
-/// Puts bytes in the place of those that a file has, if they are other bytes.
-fn replace(rt: &HostRuntime, place: &str, there: &[u8], output: &[u8]) -> Result<(), Error> {
-    if there == output {
-        return Ok(());
+// Puts bytes in the place of those that a file has, if they are other bytes, or into a new file. Where the
+// change is shown it is the answer, and the file stands.
+fn put(
+    rt: &HostRuntime,
+    place: &str,
+    shows_change: bool,
+    there: Option<&[u8]>,
+    output: &[u8],
+) -> Result<Vec<u8>, Error> {
+    let is_same = match there {
+        Some(there) => there == output,
+        None => false,
+    };
+    if is_same {
+        return Ok(Vec::new(rt.alloc()));
     }
-    save(rt, rt.alloc(), place, Some(there), output)
+    if shows_change {
+        find_room(rt, rt.alloc(), place, there.is_some())?;
+        return diff(rt.alloc(), place, there, output);
+    }
+    save(rt, rt.alloc(), place, there, output)?;
+    Ok(Vec::new(rt.alloc()))
 }

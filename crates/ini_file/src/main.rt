@@ -25,40 +25,25 @@ mod refusals;
 mod run;
 mod save;
 mod settings;
+mod shown;
+mod target;
 mod words;
 mod writing;
 
 use check_files::check_files;
 use check_words::check_of;
 use diagnosis::point_at;
-use files::{Target, hand_on, is_missing, print, read_input};
+use files::{hand_on, print, read_file};
 use ini::Error;
-use ini_edit::{Edit, EditError};
-use ini_options::{named, words_of};
+use ini_edit::EditError;
+use ini_options::words_of;
 use merge_files::merge_files;
 use merge_words::merge_of;
 use page::page_of;
 use run::{Outcome, run, status, tell};
 use std::process::ExitCode;
-use words::{Asked, Command, Question, parse};
-
-/// The file that is written: the one that `--output` names; else the file itself, where the command is to
-/// change it; else standard output, `-`.
-fn place_of<'a>(asked: &Asked<'a>) -> &'a str {
-    match (asked.choices.output, asked.command) {
-        (Some(file), _) => file,
-        (None, Command::Ask(Question::Format) | Command::Change(_)) => asked.file,
-        (None, Command::Ask(_)) => "-",
-    }
-}
-
-/// Whether the command makes a file that isn't there.
-fn makes_file(command: &Command<'_>) -> bool {
-    matches!(
-        command,
-        Command::Change(Edit::Set { .. } | Edit::Add { .. })
-    )
-}
+use target::{Target, handed_on};
+use words::parse;
 
 /// Runs over a file and the process's own streams, and keeps the bytes that were read.
 fn run_here(rt: &HostRuntime, words: &[String], input: &mut Vec<u8>) -> Outcome {
@@ -71,30 +56,26 @@ fn run_here(rt: &HostRuntime, words: &[String], input: &mut Vec<u8>) -> Outcome 
     let Some(asked) = parse(words) else {
         return Outcome::Usage;
     };
-    let is_there = match read_input(rt, asked.file) {
-        Ok(bytes) => {
+    let target = Target::of_asked(asked);
+    let is_there = match read_file(rt, target) {
+        Ok(Some(bytes)) => {
             *input = bytes;
             true
         }
-        Err(refusal) if makes_file(&asked.command) && is_missing(&refusal) => false,
+        Ok(None) => false,
         Err(refusal) => return Outcome::from(refusal),
     };
     let outcome = run(rt.alloc(), words, input.as_slice());
-    let refused = match &outcome {
-        Outcome::Done(output) => {
+    let refused = match handed_on(asked, &outcome, input.as_slice()) {
+        Some(output) => {
             let old = if is_there {
                 Some(input.as_slice())
             } else {
                 None
             };
-            let target = Target {
-                file: asked.file,
-                place: place_of(&asked),
-                shows_change: asked.choices.switches.dry_run,
-            };
-            hand_on(rt, target, old, output.as_slice()).err()
+            hand_on(rt, target, old, output).err()
         }
-        _ => None,
+        None => None,
     };
     match refused {
         Some(refusal) => Outcome::from(refusal),

@@ -19,7 +19,7 @@ pub enum MergeEnd {
     Done(Vec<u8>),
     /// Of the other files the one with this number, counted from 0, was refused.
     Other(usize, Error),
-    /// The file's bytes are no text, or memory was refused.
+    /// The file's bytes are no text, or one that is refused where nothing is set in it; or memory was refused.
     File(Error),
     /// An edit of the file's text was refused, or the text was.
     Edit(RefusedEdit),
@@ -27,8 +27,8 @@ pub enum MergeEnd {
 
 /// The file's bytes with what the others set: for each of them in order, each key of the first section of
 /// each name is set to the first value that it has there. A mark (EF BB BF) at the front of any is no part
-/// of its text; that of the file stays. All others are read before the file is; where they set nothing the
-/// file's text isn't read.
+/// of its text; that of the file stays. All others are read before the file is, which is read too where they
+/// set nothing.
 pub fn merge(alloc: Global, options: Options, input: &[u8], others: &[Vec<u8>]) -> MergeEnd
     ensures { HasMerge options input.now (bytes_of others.now) result }
 {
@@ -55,6 +55,11 @@ fn merge_text(
     let Ok(edits) = settings_of(alloc, documents) else {
         return MergeEnd::File(Error::Memory(AllocError));
     };
+    if edits.is_empty() {
+        if let Err(refused) = Ini::load_from_str_opt(alloc, text, options.reading) {
+            return MergeEnd::File(refused);
+        }
+    }
     let write = options.write_option();
     let new = match make_edits(alloc, text, options.reading, &write, edits.as_slice()) {
         Ok(new) => new,

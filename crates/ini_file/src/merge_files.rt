@@ -1,12 +1,13 @@
 //! A merge of files that are there: they are read, what they make is handed on, and what is refused is told.
 //! This file knows the process's streams, and no word of the program.
 
-use crate::files::{Target, hand_on, is_missing, read_input};
+use crate::files::{hand_on, read_file, read_input};
 use crate::merge::{MergeEnd, load_all, merge};
 use crate::merge_words::Merging;
 use crate::refusals::refuse;
 use crate::run::Outcome;
 use crate::settings::settings_of;
+use crate::target::Target;
 use ini::Error;
 use ini_edit::{Edit, EditError};
 use std::alloc::{AllocError, Global};
@@ -30,9 +31,9 @@ pub fn merge_files(rt: &HostRuntime, merging: &Merging<'_>) -> u8 {
             return refuse(rt, read, other.as_str(), &[], Outcome::from(refusal));
         }
     }
-    match read_input(rt, merging.file) {
-        Ok(input) => merge_read(rt, merging, Some(input.as_slice()), others.as_slice()),
-        Err(refusal) if is_missing(&refusal) => merge_read(rt, merging, None, others.as_slice()),
+    match read_file(rt, Target::of_merging(*merging)) {
+        Ok(Some(input)) => merge_read(rt, merging, Some(input.as_slice()), others.as_slice()),
+        Ok(None) => merge_read(rt, merging, None, others.as_slice()),
         Err(refusal) => refuse(rt, read, merging.file, &[], Outcome::from(refusal)),
     }
 }
@@ -48,11 +49,7 @@ fn merge_read(
     let input = old.unwrap_or(&[]);
     match merge(rt.alloc(), merging.options, input, others) {
         MergeEnd::Done(bytes) => {
-            let target = Target {
-                file,
-                place: merging.choices.output.unwrap_or(file),
-                shows_change: merging.choices.switches.dry_run,
-            };
+            let target = Target::of_merging(*merging);
             match hand_on(rt, target, old, bytes.as_slice()) {
                 Ok(()) => 0,
                 Err(refusal) => refuse(rt, read, file, &[], Outcome::from(refusal)),

@@ -70,7 +70,7 @@ Choices:
                    new lines; one = or : with spaces and tabs alone around it
   --dry-run        of what writes a file: shows the change, and writes none
   --output FILE    writes this file in place of the other; - is standard output
-  --               what follows is no choice
+  --               what follows is no choice, though it begins with --
 
 Status: 0 done, 1 not found or warnings, 2 wrong words, 3 a refused text,
 4 a fault of a file or of memory. Only with status 0 is a file changed.

@@ -13,6 +13,7 @@ ghost use Rattle.ini_file.specs.Writing.{word_of};
 use crate::bytes::text_of;
 use crate::command::answer;
 use crate::edit::change;
+use crate::shown::Shown;
 use crate::words::{Command, Question, USAGE, parse};
 use crate::writing::{separates, writing};
 use ini::{Error, Ini, Watched, WriteOption, write_raw};
@@ -135,8 +136,8 @@ fn answer_to<W: Write>(
 }
 
 /// Prints how a run over a file ended, where there is something to say: the usage; or the file, the place and
-/// the fault of a text that was refused; or the program's name, the file and the refusal. A fault of the
-/// writer is dropped.
+/// the fault of a text that was refused; or the program's name, the file, if there is one, and the refusal.
+/// Control characters of the file's name are printed as escapes. A fault of the writer is dropped.
 pub fn tell<W: Write>(file: &str, outcome: &Outcome, err: &mut W)
     ensures quiet { (IsDone outcome.now ⊎ IsNotFound outcome.now) → err.new ≡ err.old }
     ensures usage { IsUsage outcome.now → AppendsFront (W.contents err.old) (W.contents err.new) usage_line }
@@ -147,9 +148,14 @@ pub fn tell<W: Write>(file: &str, outcome: &Outcome, err: &mut W)
             let _ = write_raw(USAGE, &mut Watched::new(err));
         }
         Outcome::Refused(EditError::Text(Error::Parse(fault))) => {
+            let file = Shown(file);
             let _ = writeln!(err, "{file}:{}:{}: {}", fault.line, fault.col, fault.msg);
         }
+        Outcome::Refused(refusal) if file == "" => {
+            let _ = writeln!(err, "ini_file: {refusal}");
+        }
         Outcome::Refused(refusal) => {
+            let file = Shown(file);
             let _ = writeln!(err, "ini_file: {file}: {refusal}");
         }
     }

@@ -1,0 +1,103 @@
+//! Where the bytes go that a command makes of a file. This file knows no device.
+ghost use Rattle.std.specs.Prelude.{◌≡◌, true};
+ghost use Rattle.std.specs.Option.{option_map};
+ghost use Rattle.ini_file.specs.Choices.{chosen_of};
+ghost use Rattle.ini_file.specs.Places.{handed_on, is_filter, is_of_file, makes_file, place_asked, place_of};
+ghost use Rattle.ini_file.specs.Requests.{asks_of, request_of};
+
+use crate::choices::Choices;
+use crate::merge_words::Merging;
+use crate::run::Outcome;
+use crate::words::{Asked, Command, Question};
+use ini_edit::Edit;
+
+/// The file that a command reads, and where what it makes goes.
+#[derive(Clone, Copy)]
+pub struct Target<'a> {
+    /// The file that is read; `-` is standard input.
+    pub file: &'a str,
+    /// The file that is written; `-` is standard output.
+    pub place: &'a str,
+    /// Whether what would change in it is shown, and nothing is written.
+    pub shows_change: bool,
+    /// Whether the file is made where it isn't there.
+    pub makes_file: bool,
+}
+
+impl<'a> Target<'a> {
+    /// The target of a command over one file.
+    pub fn of_asked(asked: Asked<'a>) -> Target<'a>
+        ensures file { result.file.now ≡ asked.entry.file.now }
+        ensures place { result.place.now ≡ place_asked (asks_of asked.entry) }
+        ensures shows_change { result.shows_change ≡ asked.entry.choices.switches.dry_run }
+        ensures makes_file { result.makes_file ≡ makes_file (request_of asked.entry.command) }
+    {
+        Target {
+            file: asked.file,
+            place: place_of(asked.choices, asked.file, is_of_file(asked.command)),
+            shows_change: asked.choices.switches.dry_run,
+            makes_file: makes_file(asked.command),
+        }
+    }
+
+    /// The target of a merge, which makes its file.
+    pub fn of_merging(merging: Merging<'a>) -> Target<'a>
+        ensures file { result.file.now ≡ merging.entry.file.now }
+        ensures place { result.place.now
+            ≡ place_of (chosen_of merging.entry.choices) merging.entry.file.now true }
+        ensures shows_change { result.shows_change ≡ merging.entry.choices.switches.dry_run }
+        ensures makes_file { result.makes_file ≡ true }
+    {
+        Target {
+            file: merging.file,
+            place: place_of(merging.choices, merging.file, true),
+            shows_change: merging.choices.switches.dry_run,
+            makes_file: true,
+        }
+    }
+}
+
+/// The bytes that are handed on once a run over a file's bytes has ended: those that it made; or the file's
+/// own, where an edit whose text goes to standard output finds nothing.
+pub fn handed_on<'a>(asked: Asked<'_>, outcome: &'a Outcome, input: &'a [u8]) -> Option<&'a [u8]>
+    ensures { option_map (λ bytes. bytes.now) result
+        ≡ handed_on (asks_of asked.entry) outcome.now input.now }
+{
+    match outcome {
+        Outcome::Done(bytes) => Some(bytes.as_slice()),
+        Outcome::NotFound if is_filter(asked) => Some(input),
+        _ => None,
+    }
+}
+
+// The file that is written: the one that `--output` names; else the file itself, where what is made belongs
+// there; else standard output.
+fn place_of<'a>(choices: Choices<'a>, file: &'a str, into_file: bool) -> &'a str
+    ensures { result.now ≡ place_of (chosen_of choices.entry) file.now into_file }
+{
+    choices.output.unwrap_or(if into_file { file } else { "-" })
+}
+
+// Whether an edit's text goes to standard output.
+fn is_filter(asked: Asked<'_>) -> bool
+    ensures { result ≡ is_filter (asks_of asked.entry) }
+{
+    matches!(asked.command, Command::Change(_)) && Target::of_asked(asked).place == "-"
+}
+
+// Whether what the command makes belongs into the file itself.
+fn is_of_file(command: Command<'_>) -> bool
+    ensures { result ≡ is_of_file (request_of command.entry) }
+{
+    matches!(command, Command::Ask(Question::Format) | Command::Change(_))
+}
+
+// Whether the command makes a file that isn't there.
+fn makes_file(command: Command<'_>) -> bool
+    ensures { result ≡ makes_file (request_of command.entry) }
+{
+    matches!(
+        command,
+        Command::Change(Edit::Set { .. } | Edit::Add { .. })
+    )
+}
