@@ -60,6 +60,15 @@ QUOTED = (
     (MULTILINE, 'k=\n "v"\n', "new"),
     (MULTILINE, "k='a\n b'", "new"),
 )
+# A value that is there already.
+STAYING = (
+    (DEFAULT, "k=\\\\ \n", "\\"),
+    (DEFAULT, "k = 'v' w \n", "v w"),
+    (DEFAULT, "k=\\x0041\nk=2\n", "A"),
+    (DEFAULT, "k=a\\\nb", "ab"),
+    (MULTILINE, "k=\n  v\n\n\tw \n\nj=1\n", "v\n\nw"),
+    (ESCAPES_OFF, "k='v' \n", "v"),
+)
 TAKEN_OUT = (
     (DEFAULT, "a", "k", "[a]\nk=v\n# c\n"),
     (DEFAULT, "a", "k", "[a]k=v\n# c"),
@@ -72,6 +81,29 @@ TAKEN_OUT = (
     (MULTILINE, "a", "k", "[a]k=v\r\n"),
     (MULTILINE, None, "k", "x=y\rk=v\n\n#c"),
     (MULTILINE, None, "k", "x=y\rk=v\r[a]"),
+)
+RENAMED = (
+    (DEFAULT, "a", "k", "new", "[a]\n  k\t= 'v'   \n# c\n"),
+    (DEFAULT, None, "k", "new", "k=1\nk=2\n"),
+    (DEFAULT, None, "k", "a=b", "k=1\n"),
+    (DEFAULT, None, "k", " new", "k=1\n"),
+    (DEFAULT, None, "k", "é\t", "j=1\n"),
+    (DEFAULT, None, "one\ntwo", "new", "one\ntwo\n = 2\n"),
+    (MULTILINE, "a", "k", "new", "[a]k=v\n  w\n"),
+    (INDENT, None, "\tk", "new", "\tk =v\n"),
+    (INDENT, None, "\tk", "\tnew", "\tk =v\n"),
+)
+SECTIONS = (
+    (DEFAULT, "[a]\n# of k\nk=v\n\n# of b\n[b]"),
+    (DEFAULT, "[a] [b]\nk=v"),
+    (DEFAULT, "[b] [a]\nk=v\n# of c\n[c]"),
+    (DEFAULT, "  [a]\nk=v\n  [b]"),
+    (DEFAULT, "[a]\nk=v\n  [b]"),
+    (DEFAULT, "[a]\n# c\n  junk"),
+    (DEFAULT, "# c\n [ a ] \nk=v"),
+    (DEFAULT, "[b]\nk=v\n"),
+    (DEFAULT._replace(brackets=True), "[b]\n[ a ] \t\nk=v\n[a]"),
+    (MULTILINE, "[a]\nk=v\n # w\n\n# of b\n[b]"),
 )
 ADDED = (
     (DEFAULT, "a", "k", "[a]\nj=w\n# of b\n[b]"),
@@ -121,6 +153,14 @@ def document_examples():
     for option, text, value in QUOTED:
         yield Question("set_existing", option, BASICS, None, "k", value, text)
         yield Question("set", option, CRLF, None, "k", value, text)
+    for option, text, value in STAYING:
+        yield Question("set_existing", option, BASICS, None, "k", value, text)
+        yield Question("set", option, CRLF, None, "k", value, text)
+    for option, name, key, new, text in RENAMED:
+        yield Question("rename_key", option, BASICS, name, key, new, text)
+    for option, text in SECTIONS:
+        yield Question("delete_section", option, BASICS, "a", "", "", text)
+        yield Question("rename_section", option, BASICS, "a", "", "x", text)
     for option, name, key, text in TAKEN_OUT:
         yield Question("delete", option, BASICS, name, key, "", text)
     for (option, text), call in itertools.product(NEW_SECTIONS, ("set", "add")):
@@ -186,6 +226,9 @@ def carried(options):
         yield Question("delete", option, BASICS, name, key, "", text)
         yield Question("set", option, CRLF, name, "new_key", "v", text)
         yield Question("add", option, BASICS, name and name + "2", key, "v", text)
+        yield Question("rename_key", option, BASICS, name, key, "new key", text)
+        yield Question("delete_section", option, BASICS, name or "a", "", "", text)
+        yield Question("rename_section", option, CRLF, name or "a", "", "new name", text)
 
 
 def questions():

@@ -25,7 +25,8 @@ import cases
 from model import POLICIES, Option, Question, Writing, answer
 
 BATCH = 20_000
-CALLS = ["set_existing", "delete", "set", "add"]
+CALLS = ["set_existing", "delete", "set", "add", "rename_key", "delete_section", "rename_section"]
+SECTION_CALLS = ["delete_section", "rename_section"]
 PIECES = ["\n", "\n", "\n", "\r", "\r\n", " ", "\t", "=", ":", "a", "k", "[a]", "[b]", "[a]\n", "k=", "a=v", "k=v\n", "\nk = w"]
 PIECES += ["\n k=v", "=v"]
 PIECES += ["\n ", "\n\n", "\n  ", "\r\n  w", '"', "'", "\"q\"", "\\", "\\\n", "\\n", "\\x", "\\x0041", "#", "\n#c\n", ";", "\x0b"]
@@ -59,6 +60,16 @@ def quoted_pair(chance):
     return chance.choice(["k=", "[a]\nk = "]) + mark + content + mark
 
 
+# What stands before a random text, for calls that would mostly find nothing there.
+FRONTS = {
+    "rename_key": ["k=v\n", "[a]\n  k\t= 'v'\n", "\tk =v\n", "[a]k\n = v", "[b] [a] \xa0k\\ :v\r\n"],
+    "delete_section": ["[a]\nk=v\n", "  [a] ", "[b] [a]k=v\n", "[ a ]\n# c\n", "k=1\n[a]\r\nk=v\n\n", "[a]\nk=v\n#c\n  "],
+    "rename_section": ["[a]\nk=v\n", "  [\ta ] ", "[b] [a]k=v\n", "[a]] \t\n", "[\\x0061]", "[a\\\n] "],
+}
+# Values as a text spells them, and what they are.
+SPELLED = [("\\\\ ", "\\"), ("\\x0041b", "Ab"), ("'v' w", "v w"), ('"it\'s"', "it's"), ("v\n w", "v\nw"), ("a\\\nb", "ab"), ("\\;", ";")]
+
+
 def random_question(chance):
     """An edit of a random text by random options, mostly of a name and a key that it may have."""
     text = "".join(chance.choices(PIECES, k=chance.randrange(14)))
@@ -70,7 +81,18 @@ def random_question(chance):
     name = chance.choice([None, None, "a", "a", "b", "c", "", chance.choice(NAMES)])
     key = chance.choice(["k", "a", "k", "a", chance.choice(KEYS)])
     value = chance.choice(["v", "w", chance.choice(VALUES)])
-    return Question(chance.choice(CALLS), option, writing, name, key, value, text)
+    call = chance.choice(CALLS)
+    if call in FRONTS and chance.random() < 0.6:
+        text = chance.choice(FRONTS[call]) + text
+    elif call.startswith("set") and chance.random() < 0.2:
+        spelled, value = chance.choice(SPELLED)
+        name, key, text = None, "k", "k = " + spelled + chance.choice(["\n", " \r\n", "\n\nk=2\n"]) + text
+    if call == "rename_key":
+        value = chance.choice(["v", chance.choice(KEYS)])
+    elif call in SECTION_CALLS:
+        name = chance.choice(["a", "a", "a", "b", "b", "", chance.choice(NAMES)])
+        value = chance.choice(["v", chance.choice(NAMES)])
+    return Question(call, option, writing, name, key, value, text)
 
 
 def answers(program, questions):

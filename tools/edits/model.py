@@ -34,7 +34,7 @@ class Writing(NamedTuple):
 
 
 class Question(NamedTuple):
-    """An edit. The general section has no name."""
+    """An edit. The general section has no name. The value is the new key or name, where the call gives one."""
 
     call: str
     option: Option
@@ -61,17 +61,19 @@ class Element:
     """A gap, a comment, a header, a pair or a dropped tail, from `start` to `end`. A header's `text` is its name, a pair's its
     key.
 
-    A pair's own value stands from `lead` to `pad`, and `part` is where its first quoted part ends, if it begins with one. A
-    header or a pair is open where it takes no line end behind its last line: a pair does with multiline values, but at the
-    text's end.
+    A pair's key ends at `key_end`, its own value stands from `lead` to `pad`, and `part` is where its first quoted part ends,
+    if it begins with one. A header or a pair is open where it takes no line end behind its last line: a pair does with
+    multiline values, but at the text's end.
     """
 
     kind: str
     start: int
     end: int = 0
     text: str = ""
+    key_end: int = 0
     lead: int = 0
     pad: int = 0
+    value: str = ""
     part: Optional[int] = None
     is_open: bool = False
 
@@ -168,14 +170,16 @@ class Reader:
         return quoted + plain, self.at if own.endswith("\\") else max(solid, behind)
 
     def value(self, pair):
-        """Reads a value. What it gives is of no use here."""
+        """Reads a value."""
         self.skip(INLINE_WHITE)
         pair.lead = self.at
-        pair.pad = self.line(True)[1]
+        pair.value, pair.pad = self.line(True)
         pair.part = self.parts[0] if self.parts else None
         pair.is_open = not (self.option.multiline and self.take_line_end())
         if not pair.is_open:
             self.more_lines(pair)
+        if self.option.multiline:
+            pair.value = pair.value.strip("\n")
 
     def more_lines(self, pair):
         while self.sees(LINE_ENDS + BLANKS):
@@ -183,8 +187,10 @@ class Reader:
                 if self.sees("\r") and not self.text.startswith("\r\n", self.at):
                     raise Stop("CrAlone", min(self.at + 2, len(self.text)))
                 self.take_line_end()
+                pair.value += "\n"
                 continue
             given, pad = self.line(False)
+            pair.value += "\n" + given
             if given.strip("\n"):
                 pair.pad = pad
             if not self.take_line_end():
@@ -202,6 +208,7 @@ class Reader:
             return
         indented = (self.text[element.start : key_start] + key).rstrip(WHITE)
         element.kind, element.text = "pair", indented if self.option.indent else key.strip(WHITE)
+        element.key_end = self.at
         self.at += 1
         if not element.text:
             raise Stop("MissingKey", self.at)
@@ -367,7 +374,9 @@ def set_existing(question, elements):
     if not pairs:
         return None
     quote = quote_of(text, pairs[0])
-    if quote not in question.value:
+    if question.value == pairs[0].value:
+        new = text[pairs[0].lead : pairs[0].pad]
+    elif quote not in question.value:
         new = quote + new + quote
     front = text[: pairs[0].lead] + new + text[pairs[0].pad : pairs[0].end]
     at = pairs[0].end
@@ -384,6 +393,42 @@ def delete(question, elements):
         kept, at = cut(text[: pair.start], text, pair, question.option)
         return text[: pair.start] + kept + text[at:]
     return None
+
+
+def rename_key(question, elements):
+    text, option = question.text, question.option
+    for pair in pairs_of(elements, question.name, question.key)[:1]:
+        source = text[pair.start : pair.key_end]
+        own = source.rstrip(WHITE) if option.indent else source.strip(WHITE)
+        start = pair.start + source.index(own)
+        return text[:start] + escaped(question.writing.policy, question.value) + text[start + len(own) :]
+    return None
+
+
+def header_of(elements, name):
+    """Where the first header of a name is among the elements, or None."""
+    return next((n for n, element in enumerate(elements) if element.kind == "header" and element.text == name), None)
+
+
+def delete_section(question, elements):
+    text, number = question.text, header_of(elements, question.name)
+    if number is None:
+        return None
+    front = text[: elements[number].start]
+    end = next((n for n in range(number + 1, len(elements)) if elements[n].kind == "header"), len(elements))
+    last = last_item(elements, number, end)
+    comments = [element.start for element in elements[last + 1 : end] if element.kind == "comment"]
+    if comments and is_column_one(front):
+        return front + text[comments[0] :]
+    return front + (text[elements[end].start :] if end < len(elements) else "")
+
+
+def rename_section(question, elements):
+    text, number = question.text, header_of(elements, question.name)
+    if number is None:
+        return None
+    new = "[" + escaped(question.writing.policy, question.value) + "]"
+    return text[: elements[number].start] + new + text[elements[number].end :]
 
 
 def is_free(text, place, option):
@@ -485,18 +530,40 @@ def check_pair(question):
         raise Refused("Key")
 
 
+def check_words(question):
+    """Refuses a call that gives a word which can't be written, whatever the text is."""
+    policy, option = question.writing.policy, question.option
+    match question.call:
+        case "add":
+            check_pair(question)
+        case "set" | "set_existing":
+            check_value(question)
+        case "rename_key":
+            unspaced = is_plain_unspaced_key(question.value, policy, option)
+            if not (unspaced and is_read_back(question.value, policy, option)):
+                raise Refused("Key")
+        case "rename_section":
+            if not is_plain_name(question.value, policy, option):
+                raise Refused("Name")
+
+
+FINDING = {
+    "set_existing": set_existing,
+    "set": set_existing,
+    "delete": delete,
+    "rename_key": rename_key,
+    "delete_section": delete_section,
+    "rename_section": rename_section,
+}
+
+
 def edited(question):
     """The new text, or None where there is nothing to edit."""
-    if question.call == "add":
-        check_pair(question)
-    elif question.call != "delete":
-        check_value(question)
+    check_words(question)
     reader = Reader(question.text, question.option)
     elements = reader.elements()
-    if question.call == "delete":
-        return delete(question, elements)
-    there = set_existing(question, elements) if question.call != "add" else None
-    if there is not None or question.call == "set_existing":
+    there = FINDING[question.call](question, elements) if question.call in FINDING else None
+    if there is not None or question.call not in ("set", "add"):
         return there
     return add(question, reader, elements)
 

@@ -1,5 +1,5 @@
 -- The format's traps: what a pair or a header says that its writer may not have meant.
-use Rattle.std.specs.Prelude.{◌&&◌, ◌||◌, ◌==◌, not, Bool, false, [], ◌∷◌, is_some, if◌then◌else◌}
+use Rattle.std.specs.Prelude.{◌&&◌, ◌||◌, ◌==◌, not, Bool, true, false, [], ◌∷◌, is_some, if◌then◌else◌}
 use Rattle.std.specs.Char.{is_whitespace}
 use Rattle.std.specs.List.{list_any}
 use Rattle.ini_text.specs.Grammar.CharacterKinds.{backslash, is_blank, is_comment_mark, is_line_end}
@@ -25,6 +25,15 @@ has_comment_mark_behind_white white (c ∷ cs) =
 -- a comment's mark stands in the value's own source, behind white space
 abbrev pub has_comment_mark : Text → Bool
 has_comment_mark own = has_comment_mark_behind_white false own
+
+abbrev pub is_empty_or_white_first : Text → Bool
+is_empty_or_white_first [] = true
+is_empty_or_white_first (c ∷ cs) = is_whitespace c
+
+-- The value's own source begins as a note does: with `;`, or with `#` that stands alone. (`#fff` is a color.)
+abbrev pub begins_like_note : Text → Bool
+begins_like_note [] = false
+begins_like_note (c ∷ cs) = c == 0x3B || (c == 0x23 && is_empty_or_white_first cs)
 
 -- a backslash in the value's own source begins an escape, where escapes are read: the value is another text
 abbrev pub has_escape : ParseOption → Text → Text → Bool

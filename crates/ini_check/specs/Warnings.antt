@@ -1,5 +1,5 @@
 -- The warnings of a text, one element after another.
-use Rattle.std.specs.Prelude.{◌≡◌, ◌↔◌, ◌∷◌, ◌++◌, Bool, not, List, [], IsTrue, chars, if◌then◌else◌}
+use Rattle.std.specs.Prelude.{◌≡◌, ◌↔◌, ◌||◌, ◌∷◌, ◌++◌, Bool, not, List, [], IsTrue, chars, if◌then◌else◌}
 use Rattle.ini_text.specs.Grammar.Places as grammar
 use Rattle.ini_text.specs.Grammar.Positions.{column_of, line_of}
 use Rattle.ini_text.specs.Laws.Plain.{IsPlainName, IsPlainPair}
@@ -13,7 +13,8 @@ use Rattle.ini_text.specs.declared.parser.placed.PlacedPair.{PlacedPair}
 use Rattle.ini_text.specs.declared.write.policy.EscapePolicy.TheVariants.{Basics}
 use Rattle.ini.specs.Texts.{Text}
 use Rattle.ini.specs.Properties.{Pairs}
-use Rattle.ini_check.specs.Traps.{begins_like_comment, has_comment_mark, has_escape, is_repeated, runs_on}
+use Rattle.ini_check.specs.Traps.{begins_like_comment, begins_like_note, has_comment_mark, has_escape}
+use Rattle.ini_check.specs.Traps.{is_repeated, runs_on}
 use Rattle.ini_check.specs.declared.warning.Trap.{Trap}
 use Rattle.ini_check.specs.declared.warning.Trap.TheVariants as traps
 use Rattle.ini_check.specs.declared.warning.Warning.{Warning}
@@ -38,7 +39,7 @@ key_warnings b before source key =
 abbrev pub value_warnings : ParseOption → Text → Text → Text → List Warning
 value_warnings o b own value =
     warned (has_escape o own value) b traps.Escape
-    ++ warned (has_comment_mark own) b traps.MarkInValue
+    ++ warned (begins_like_note own || has_comment_mark own) b traps.MarkInValue
 
 -- of a header behind the front b, and behind headers of these names
 pub record HeaderWarns (o : ParseOption) (b : Text) (before : Pairs) (name : Text) (ws : List Warning)

@@ -68,6 +68,10 @@ fn traps(rt: std::rt::HostRuntime) -> Result<(), Fail> {
             ("qe", "k = v ; note", "1:5 MarkInValue;"),
             ("qe", "k = v;note", ""),
             ("qe", "color = #fff", ""),
+            ("qe", "k = ; note", "1:5 MarkInValue;"),
+            ("qe", "k=;note\nj =\t#", "1:3 MarkInValue;2:4 MarkInValue;"),
+            ("qe", "password = # set me\n", "1:12 MarkInValue;"),
+            ("qe", "k = '; note'\nj = #a;b", ""),
             ("qem", "k = v\n  # note\n", "1:5 MarkInValue;"),
             // Twice.
             ("qe", "k=1\n[a]\nk=2\n k=3\n[b]\nk=4\n", "4:1 RepeatedKey;"),

@@ -2,7 +2,8 @@
 ghost use Rattle.std.specs.Prelude.{◌≡◌, ◌==◌, chars};
 ghost use Rattle.std.specs.List.{list_any};
 ghost use Rattle.ini_text.specs.Grammar.CharacterKinds.{backslash, is_blank, is_comment_mark, is_line_end};
-ghost use Rattle.ini_check.specs.Traps.{begins_like_comment, has_comment_mark, has_escape, runs_on};
+ghost use Rattle.ini_check.specs.Traps.{begins_like_comment, begins_like_note, has_comment_mark};
+ghost use Rattle.ini_check.specs.Traps.{has_escape, is_empty_or_white_first, runs_on};
 
 use crate::text::{is_same_text, split_first};
 use ini_text::ParseOption;
@@ -42,6 +43,25 @@ pub(crate) fn has_comment_mark(own: &str) -> bool
         rest = after;
     }
     false
+}
+
+/// Whether a value's own source begins as a note does: with `;`, or with `#` that stands alone.
+pub(crate) fn begins_like_note(own: &str) -> bool
+    ensures { result ≡ begins_like_note (chars own.now) }
+{
+    let Some((c, after)) = split_first(own) else {
+        return false;
+    };
+    c == ';' || (c == '#' && is_empty_or_white_first(after))
+}
+
+fn is_empty_or_white_first(text: &str) -> bool
+    ensures { result ≡ is_empty_or_white_first (chars text.now) }
+{
+    match split_first(text) {
+        Some((c, _)) => c.is_whitespace(),
+        None => true,
+    }
 }
 
 /// Whether a backslash begins an escape in a value's own source.

@@ -10,7 +10,9 @@ ghost use Rattle.ini_check.specs.Warnings.{key_warnings, value_warnings};
 ghost use Rattle.ini_check.specs.Inside.Positions.{HasRoom, IsAt};
 
 use crate::position::Position;
-use crate::trap::{begins_like_comment, has_comment_mark, has_escape, runs_on};
+use crate::trap::{
+    begins_like_comment, begins_like_note, has_comment_mark, has_escape, runs_on,
+};
 use crate::warning::{Trap, Warning};
 use ini::Properties;
 use ini_text::{
@@ -144,7 +146,8 @@ fn warn_value(
         position,
         Trap::Escape,
     )?;
-    warn_where(warnings, has_comment_mark(own), position, Trap::MarkInValue)
+    let is_mark = begins_like_note(own) || has_comment_mark(own);
+    warn_where(warnings, is_mark, position, Trap::MarkInValue)
 }
 
 // Puts a warning last, if it is one.

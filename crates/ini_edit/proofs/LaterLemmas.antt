@@ -19,7 +19,7 @@ use Rattle.ini_edit.specs.Edited.{IsSetThere}
 use Rattle.ini_edit.specs.FirstPairs.{stretches_of}
 use Rattle.ini_edit.specs.Inside.Walks.{EndsSection, OpensFirst, ReachesPair, ReadsOn}
 use Rattle.ini_edit.specs.declared.find.FoundPair.{FoundPair}
-use Rattle.ini_edit.proofs.SetLemmas.{sets_value}
+use Rattle.ini_edit.proofs.SetLemmas.{put_front, sets_put}
 use Rattle.ini_edit.proofs.StandsLemmas.{stands_derives}
 use Rattle.ini_text.specs.Grammar.Keys.{KeyFront}
 use Rattle.ini_text.specs.Grammar.Places as grammar
@@ -33,7 +33,7 @@ use Rattle.ini.specs.Properties.{Pairs}
 use Rattle.ini.specs.SectionItems.{pair_items}
 use Rattle.ini_edit.specs.EditedTexts.{LaterOut}
 use Rattle.ini_edit.specs.Places.{Cut, EndsLike, Stretches, StandsAt, pair_with, text_with, up_to_end}
-use Rattle.ini_edit.specs.Quotes.{IsQuoteFor, KeepsQuote, written_in}
+use Rattle.ini_edit.specs.Quotes.{IsPut}
 use Rattle.ini_edit.specs.Targets.{Lacks}
 use Rattle.ini_edit.specs.Inside.Later.{ReadAlike, TakesLaterOut, TakesOut, placed_between}
 use Rattle.ini_edit.proofs.BehindLemmas.{Element-like, EndsLike-behind, EndsLike-one, KeyFront-like}
@@ -41,8 +41,6 @@ use Rattle.ini_edit.proofs.BehindLemmas.{Reads-like, line_end_element}
 use Rattle.ini_edit.proofs.CutLemmas.{CutLeft, cut_left, cut_reads}
 use Rattle.ini_edit.proofs.DocumentLemmas.{pair_items-append}
 use Rattle.ini_edit.proofs.FindLemmas.{found_before, lacks_more, white_pad}
-use Rattle.ini_edit.proofs.QuoteLemmas.{quote_for, source_in}
-use Rattle.ini_edit.proofs.ReplacedLemmas.{replaced_front}
 use Rattle.ini_edit.proofs.ValueLemmas.{closes_line_end}
 
 -- a character ends alike behind any front
@@ -314,34 +312,32 @@ section_ends {items = items} (EndsSection.header t first) reads =
 -- the text that was read to its end, with its value set
 pub set_there : {o : ParseOption} {T : Text} {p q r : Place} {name : Option Text} {key : Text}
     {found : FoundPair}
-    {policy : EscapePolicy} {value quote g : Text} (left : Text) → OpensFirst o T p name
+    {policy : EscapePolicy} {value source g : Text} (left : Text) → OpensFirst o T p name
     → ReachesPair o T p.front q key found
-    → (plain : IsPlainValue o policy value) → KeepsQuote o (stretches_of found).own value quote
-    → TakesLaterOut o T key q.front
-    (chars found.front.now ++ pair_with (stretches_of found) (written_in policy quote value))
+    → (plain : IsPlainValue o policy value)
+    → IsPut o policy (stretches_of found).own (string_text found.value) value source
+    → TakesLaterOut o T key q.front (chars found.front.now ++ pair_with (stretches_of found) source)
     (chars found.rest.now) r g
     → ReadsOn o T r.front → T ≡ r.front ++ left → IsSetThere o policy T name key value (g ++ left)
 unfolding found_before
-set_there {o} {T} {p} {q} {r} {name} {key} {found} {policy} {value} {quote}
-    {g} left opens reaches plain keeps later on whole =
+set_there {o} {T} {p} {q} {r} {name} {key} {found} {policy} {value} {source}
+    {g} left opens reaches plain put later on whole =
     let takes = later.takes in
     let end = section_ends later.ends on.reads in
     let x = stretches_of found in
-    let written = written_in policy quote value in
-    let may : IsQuoteFor o value quote = quote_for keeps in
     let then : Reads o T q.front (pair_items takes.later ++ end.0) T = reads-append takes.passes end.1.1 in
     let first = found_before key opens takes.later end.0 reaches refl end.1.0 then in
     let upto = first.before ++ Pair key value ∷ [] in
-    let new = text_with x written in
-    let behind : (x.front ++ pair_with x written) ++ x.rest ≡ new =
-    append_assoc x.front (pair_with x written) x.rest in
-    let start : Reads o ((x.front ++ pair_with x written) ++ x.rest) [] upto
-    (x.front ++ pair_with x written) =
-    subst (λ z. Reads o z [] upto (x.front ++ pair_with x written)) (sym behind)
-    (replaced_front first.stands (source_in plain may)) in
+    let new = text_with x source in
+    let behind : (x.front ++ pair_with x source) ++ x.rest ≡ new =
+    append_assoc x.front (pair_with x source) x.rest in
+    let start : Reads o ((x.front ++ pair_with x source) ++ x.rest) [] upto
+    (x.front ++ pair_with x source) =
+    subst (λ z. Reads o z [] upto (x.front ++ pair_with x source)) (sym behind)
+    (put_front plain first.stands put) in
     let out : LaterOut o key upto end.0 new takes.later (g ++ left) =
     subst (λ z. LaterOut o key upto end.0 z takes.later (g ++ left)) behind
-    (subst (λ l. LaterOut o key upto end.0 ((x.front ++ pair_with x written) ++ x.rest) l (g ++ left))
+    (subst (λ l. LaterOut o key upto end.0 ((x.front ++ pair_with x source) ++ x.rest) l (g ++ left))
     (append-nil takes.later)
     (takes.goes upto start [] end.0 end.1.1 (g ++ left)
     (subst (λ z. LaterOut o key upto end.0 (later.written ++ later.rest) (takes.kept ++ []) z)
@@ -354,13 +350,10 @@ set_there {o} {T} {p} {q} {r} {name} {key} {found} {policy} {value} {quote}
       pair = x;
       old = string_text found.value;
       is_first = first;
-      quote = quote;
-      keeps = keeps;
+      source = source;
+      is_put = put;
       without_later = out;
       document = _;
       was = document;
-      is =
-          sets_value o policy T value plain x name key
-          (string_text found.value) first.before first.after first.stands
-          first.target quote may (g ++ left) out _ document;
+      is = sets_put plain first.stands first.target put out _ document;
     }

@@ -1,26 +1,27 @@
 -- The document of a text in which a value was replaced, and later pairs of its key were taken out.
 use Rattle.std.proofs.Common.{◌≡◌, ◌∙◌, List, [], ◌∷◌, ◌++◌, ap, sym, subst, append_assoc, Option}
 use Rattle.ini_text.specs.Grammar.Elements.{Given, Pair}
-use Rattle.ini_text.specs.Grammar.Texts.{Derives}
+use Rattle.ini_text.specs.Grammar.Texts.{Derives, Reads}
 use Rattle.ini_text.specs.Laws.Plain.{IsPlainValue}
 use Rattle.ini_text.specs.declared.option.ParseOption.{ParseOption}
 use Rattle.ini_text.specs.declared.write.policy.EscapePolicy.{EscapePolicy}
 use Rattle.ini.specs.Texts.{Text}
 use Rattle.ini.specs.Properties.{Pairs, inserted, all_removed}
-use Rattle.ini.specs.Documents.{document_of}
+use Rattle.ini.specs.Documents.{Document, document_of}
 use Rattle.ini.specs.SectionItems.{pair_items}
 use Rattle.ini.specs.Edits.{set_in}
+use Rattle.ini.specs.Loading.{IsDocumentOf}
 use Rattle.ini.proofs.KeepingLemmas.{name_refl, text_refl}
-use Rattle.ini_edit.specs.Places.{text_with}
-use Rattle.ini_edit.specs.Quotes.{written_in}
+use Rattle.ini_edit.specs.Places.{StandsAt, Stretches, pair_with, text_with, up_to_end}
+use Rattle.ini_edit.specs.Quotes.{IsPut, written_in}
 use Rattle.ini_edit.specs.Targets.{IsTarget}
 use Rattle.ini_edit.specs.EditedTexts.{KeepsValue, LaterOut, SetsValue}
 use Rattle.ini_edit.proofs.CutLemmas.{cut_derives}
-use Rattle.ini_edit.proofs.ReplacedLemmas.{replaced}
+use Rattle.ini_edit.proofs.ReplacedLemmas.{replaced, replaced_front}
 use Rattle.ini_edit.proofs.DocumentLemmas.{edited_document, pair_items-append}
 use Rattle.ini_edit.proofs.PairListLemmas.{inserted_at, lacks-removed, removed_more}
-use Rattle.ini_edit.proofs.QuoteLemmas.{source_in}
-use Rattle.ini_edit.proofs.StandsLemmas.{derives_one, stands_derives}
+use Rattle.ini_edit.proofs.QuoteLemmas.{quote_for, source_in}
+use Rattle.ini_edit.proofs.StandsLemmas.{derives_one, stands_derives, stands_up_to}
 
 -- a section's pairs as items
 pub section_items : (upto rest : List Given) (xs ys : Pairs)
@@ -74,23 +75,53 @@ module _ {name : Option Text} {key : Text} {before after : List Given}
       (inserted_at key old value t.earlier t.later (text_refl key) t.lacks)
       ∙ ap document_of (sym (items_at value (all_removed key t.later)))
 
--- the text with the written value in its place, and without the later pairs
-pub sets_value : (o : ParseOption) (policy : EscapePolicy) (T value : Text) → IsPlainValue o policy value
-    → SetsValue o policy T value
-sets_value o policy T value plain p name key old before after s target quote may U later d document =
-    let new = text_with p (written_in policy quote value) in
-    let replaced_text : Derives o new
-    ((before ++ Pair key value ∷ []) ++ (pair_items target.later ++ target.rest)) =
-    subst (Derives o new) (pair_and_after target value) (replaced s (source_in plain may)) in
+-- a text in which the pair has the value, without the later pairs
+sets : {o : ParseOption} {T new U : Text} {p : Stretches} {name : Option Text} {key old : Text} (value : Text)
+    {before after : List Given}
+    → StandsAt o T p key old before after → (target : IsTarget name key before after)
+    → Derives o new (before ++ (Pair key value ∷ after))
+    → LaterOut o key (before ++ Pair key value ∷ []) target.rest new target.later U
+    → (d : Document) → IsDocumentOf o T d → IsDocumentOf o U (set_in name key value d)
+sets {o} {new = new} {name = name} {key} {old} value {before} {after} s target derives later d document =
     let same : document.items ≡ before ++ (Pair key old ∷ after) =
     derives_one document.derives (stands_derives s) in
     record {
       items = (before ++ Pair key value ∷ []) ++ (pair_items (all_removed key target.later) ++ target.rest);
-      derives = later_out later replaced_text;
+      derives = later_out later (subst (Derives o new) (pair_and_after target value) derives);
       document =
           ap (set_in name key value) (document.document ∙ ap document_of same)
           ∙ set_at target old value;
     }
+
+-- the text with the written value in its place, and without the later pairs
+pub sets_value : (o : ParseOption) (policy : EscapePolicy) (T value : Text) → IsPlainValue o policy value
+    → SetsValue o policy T value
+sets_value o policy T value plain p name key old before after s target quote may U later d document =
+    sets value s target (replaced s (source_in plain may)) later d document
+
+-- the pair with what was put in its value's place
+module _ {o : ParseOption} {policy : EscapePolicy} {T value source : Text} (plain : IsPlainValue o policy value)
+    {p : Stretches} {key old : Text} {before after : List Given}
+    (s : StandsAt o T p key old before after) where
+  put_derives : IsPut o policy p.own old value source
+      → Derives o (text_with p source) (before ++ (Pair key value ∷ after))
+  put_derives (IsPut.stays same) =
+      subst (λ z. Derives o z (before ++ (Pair key value ∷ after))) s.text
+      (subst (λ v. Derives o T (before ++ (Pair key v ∷ after))) (sym same) (stands_derives s))
+  put_derives (IsPut.written apart keeps) = replaced s (source_in plain (quote_for keeps))
+
+  pub put_front : IsPut o policy p.own old value source
+      → Reads o (text_with p source) [] (before ++ Pair key value ∷ []) (p.front ++ pair_with p source)
+  put_front (IsPut.stays same) =
+      subst (λ z. Reads o z [] (before ++ Pair key value ∷ []) (up_to_end p)) s.text
+      (subst (λ v. Reads o T [] (before ++ Pair key v ∷ []) (up_to_end p)) (sym same) (stands_up_to s))
+  put_front (IsPut.written apart keeps) = replaced_front s (source_in plain (quote_for keeps))
+
+  pub sets_put : {name : Option Text} (target : IsTarget name key before after)
+      → IsPut o policy p.own old value source → {U : Text}
+      → LaterOut o key (before ++ Pair key value ∷ []) target.rest (text_with p source) target.later U
+      → (d : Document) → IsDocumentOf o T d → IsDocumentOf o U (set_in name key value d)
+  sets_put target put later d document = sets value s target (put_derives put) later d document
 
 -- a value written anew
 pub keeps_value : (o : ParseOption) (policy : EscapePolicy) (T value : Text) → IsPlainValue o policy value

@@ -3,6 +3,7 @@ use Rattle.std.proofs.Common.{◌≡◌, ◌∙◌, [], ◌++◌, ap, sym, subst
 use Rattle.std.proofs.lemmas.List.{append_cancel_left}
 use Rattle.ini_text.specs.Grammar.Texts.{Reads}
 use Rattle.ini_text.specs.Laws.Plain.{IsPlainValue}
+use Rattle.ini_text.specs.Parsing.Items.{string_text}
 use Rattle.ini_text.specs.Parsing.Parser.{Place}
 use Rattle.ini_text.specs.declared.option.ParseOption.{ParseOption}
 use Rattle.ini_text.specs.declared.write.policy.EscapePolicy.{EscapePolicy}
@@ -11,7 +12,7 @@ use Rattle.ini.specs.Texts.{Text}
 use Rattle.ini_edit.specs.Edited.{IsSetThere}
 use Rattle.ini_edit.specs.FirstPairs.{stretches_of}
 use Rattle.ini_edit.specs.Places.{Stretches, pair_of, pair_with}
-use Rattle.ini_edit.specs.Quotes.{KeepsQuote, written_in}
+use Rattle.ini_edit.specs.Quotes.{IsPut}
 use Rattle.ini_edit.specs.Inside.Later.{IsAlikeBehind, TakesLater, TakesLaterOut}
 use Rattle.ini_edit.specs.Inside.Quotes.{IsOwnSource}
 use Rattle.ini_edit.specs.Inside.Walks.{OpensFirst, ReachesPair, ReadsOn, StandsWithin}
@@ -55,19 +56,19 @@ module _ {o : ParseOption} {T : Text} {p : Place} {name : Option Text} (key : Te
         (reads-append (reads-append reads here.out.takes.passes) (end_reads here.out.ends).1)
 
     -- the text that was read to its end
-    pub is_set : {policy : EscapePolicy} {value quote : Text} (left new : Text) → IsPlainValue o policy value
-        → KeepsQuote o pair.own value quote
-        → f ≡ pair.front ++ pair_with pair (written_in policy quote value)
+    pub is_set : {policy : EscapePolicy} {value source : Text} (left new : Text) → IsPlainValue o policy value
+        → IsPut o policy pair.own (string_text x.value) value source
+        → f ≡ pair.front ++ pair_with pair source
         → ReadsOn r.option r.text r.front
         → r.front ++ left ≡ r.text → new ≡ g ++ left → IsSetThere o policy T name key value new
-    is_set {policy} {value} {quote} left new plain keeps written on rest is_new =
+    is_set {policy} {value} {source} left new plain put written on rest is_new =
         let behind : here.behind ≡ pair.rest =
         append_cancel_left q.front here.behind pair.rest (sym here.whole ∙ text_behind) in
         let out : TakesLaterOut o T key q.front
-        (pair.front ++ pair_with pair (written_in policy quote value)) pair.rest r g =
+        (pair.front ++ pair_with pair source) pair.rest r g =
         subst (λ z. TakesLaterOut o T key q.front z pair.rest r g) written
         (subst (λ z. TakesLaterOut o T key q.front f z r g) behind here.out) in
         subst (IsSetThere o policy T name key value) (sym is_new)
-        (set_there left opens reaches plain keeps out
+        (set_there left opens reaches plain put out
         (told (λ o T. ReadsOn o T r.front) here.out.is_reading on)
         (sym here.out.is_reading.text ∙ sym rest))

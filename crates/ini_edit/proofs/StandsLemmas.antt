@@ -1,5 +1,5 @@
 -- The items of a text at one of its pairs.
-use Rattle.std.proofs.Common.{◌≡◌, ◌∙◌, List, ◌∷◌, ◌++◌, sym, inl, inr}
+use Rattle.std.proofs.Common.{◌≡◌, ◌∙◌, List, [], ◌∷◌, ◌++◌, append_assoc, sym, inl, inr}
 use Rattle.ini_text.specs.Grammar.Elements.{Given, Pair, Element}
 use Rattle.ini_text.specs.Grammar.Texts.{Reads, Derives}
 use Rattle.ini_text.specs.Laws.Readings.{HasOneReading}
@@ -7,7 +7,7 @@ use Rattle.ini_text.specs.declared.option.ParseOption.{ParseOption}
 use Rattle.ini_text.proofs.GrammarLemmas.ItemLemmas.{reads-append}
 use Rattle.ini_text.proofs.LawLemmas.ExportedLemmas as text_laws
 use Rattle.ini.specs.Texts.{Text}
-use Rattle.ini_edit.specs.Places.{Stretches, StandsAt}
+use Rattle.ini_edit.specs.Places.{Stretches, StandsAt, pair_of, up_to_end}
 
 -- a text derives one list of items
 pub derives_one : {o : ParseOption} {T : Text} {xs ys : List Given} → Derives o T xs → Derives o T ys
@@ -24,3 +24,10 @@ pub stands_derives : {o : ParseOption} {T : Text} {p : Stretches} {key value : T
     → StandsAt o T p key value before after → Derives o T (before ++ (Pair key value ∷ after))
 stands_derives s = reads-append s.reads
     (Reads.step s.text (Element.pair s.key_front s.some s.separates s.gives) s.then)
+
+-- the same up to that pair's end
+pub stands_up_to : {o : ParseOption} {T : Text} {p : Stretches} {key value : Text} {before after : List Given}
+    → StandsAt o T p key value before after → Reads o T [] (before ++ Pair key value ∷ []) (up_to_end p)
+stands_up_to {p = p} s = reads-append s.reads
+    (Reads.step s.text (Element.pair s.key_front s.some s.separates s.gives)
+    (Reads.stay p.rest (s.text ∙ sym (append_assoc p.front (pair_of p) p.rest))))

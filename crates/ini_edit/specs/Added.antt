@@ -46,11 +46,12 @@ pub record LoadsEdited (o : ParseOption) (T U : Text) (edit : Document → Docum
   pub was : IsDocumentOf o T document
   pub is : IsDocumentOf o U (edit document)
 
--- the first section of the name has no place for a line; or there is no such section, and the text none for
--- a new one
-pub data LacksPlace (o : ParseOption) (T : Text) (name : Option Text) : Type 0 where
-  in_section : HasNoPlace o T name → LacksPlace o T name
-  for_new_section : LacksSection o T name → HasNoEnd o T → LacksPlace o T name
+-- the first section of the name has no place for a line; or there is no such section, the name is plain, and
+-- the text has no place for a new section
+pub data LacksPlace (o : ParseOption) (policy : EscapePolicy) (T : Text) (name : Option Text) : Type 0 where
+  in_section : HasNoPlace o T name → LacksPlace o policy T name
+  for_new_section : LacksSection o T name → IsSomeAnd name (IsPlainName o policy) → HasNoEnd o T
+      → LacksPlace o policy T name
 
 -- what a line that is put in is refused with, where it can be written: the text's fault, or memory's; the
 -- name's, where a new section has to be written; and that there is no place
@@ -59,7 +60,7 @@ RefusesLine o policy T name (TextError (Parse e)) = IsStopOf o T e
 RefusesLine o policy T name (TextError (Memory e)) = ⊤
 RefusesLine o policy T name (TextError _) = ⊥
 RefusesLine o policy T name Name = LacksSection o T name × (¬ IsSomeAnd name (IsPlainName o policy))
-RefusesLine o policy T name NoPlace = LacksPlace o T name
+RefusesLine o policy T name NoPlace = LacksPlace o policy T name
 RefusesLine o policy T name _ = ⊥
 
 module _ (o : ParseOption) (w : WriteOption) where

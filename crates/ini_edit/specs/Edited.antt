@@ -12,7 +12,7 @@ use Rattle.ini.specs.Loading.{IsDocumentOf, IsParseOrMemory}
 use Rattle.ini_edit.specs.EditedTexts.{LaterOut}
 use Rattle.ini_edit.specs.Places.{Cut, Stretches, text_with}
 use Rattle.ini_edit.specs.FirstPairs.{IsFirstPair}
-use Rattle.ini_edit.specs.Quotes.{KeepsQuote, written_in}
+use Rattle.ini_edit.specs.Quotes.{IsPut}
 use Rattle.ini_edit.specs.declared.error.EditError.{EditError}
 use Rattle.ini_edit.specs.declared.error.EditError.TheVariants as EditErrors
 
@@ -31,18 +31,18 @@ pub record IsDeleted (o : ParseOption) (T : Text) (name : Option Text) (key : Te
   pub is : IsDocumentOf o U (delete_in name key document)
 
 -- The text U is T with the value in the place of that of the first pair of the key in the first section of
--- the name, as the policy writes it, in the quotes that the old one stands in where it can be; and without
--- the later pairs of the key in that section; and no other byte than those that go with these is another
--- one: it loads as the document in which the key is set.
+-- the name, where that is another one: as the policy writes it, in the quotes that the old one stands in where
+-- it can be; and without the later pairs of the key in that section; and no other byte than those that go
+-- with these is another one: it loads as the document in which the key is set.
 pub record IsSetThere (o : ParseOption) (policy : EscapePolicy) (T : Text) (name : Option Text)
     (key value U : Text) : Type 0 where
   pub pair : Stretches
   pub old : Text
   pub is_first : IsFirstPair o T name key pair old
-  pub quote : Text
-  pub keeps : KeepsQuote o pair.own value quote
+  pub source : Text
+  pub is_put : IsPut o policy pair.own old value source
   pub without_later : LaterOut o key (is_first.before ++ Pair key value ∷ []) is_first.target.rest
-      (text_with pair (written_in policy quote value)) is_first.target.later U
+      (text_with pair source) is_first.target.later U
   pub document : Document
   pub was : IsDocumentOf o T document
   pub is : IsDocumentOf o U (set_in name key value document)

@@ -10,6 +10,7 @@ pub mod KeptPlaces
 pub mod LinePlaces
 pub mod Made
 pub mod MadeLists
+pub mod Messages
 pub mod NewLines
 pub mod NewSections
 pub mod NoPlaces

@@ -1,5 +1,5 @@
 -- Quotes around a value's source, and the quote in which a value is written in another one's place.
-use Rattle.std.specs.Prelude.{◌≡◌, ℕ, Bool, true, false, [], ◌∷◌, ◌++◌, ◌==◌}
+use Rattle.std.specs.Prelude.{◌≡◌, ◌≢◌, ℕ, Bool, true, false, [], ◌∷◌, ◌++◌, ◌==◌}
 use Rattle.std.specs.List.{list_any}
 use Rattle.ini_text.specs.Grammar.CharacterKinds.{is_quote_mark}
 use Rattle.ini_text.specs.Grammar.Strings.{Str, quote_ends}
@@ -37,3 +37,10 @@ pub record StandsInQuotes (o : ParseOption) (own : Text) (m : ℕ) : Type 0 wher
 pub data KeepsQuote (o : ParseOption) (own value : Text) : Text → Type 0 where
   kept : {m : ℕ} → StandsInQuotes o own m → has_quote_mark value m ≡ false → KeepsQuote o own value (m ∷ [])
   none : ((m : ℕ) → StandsInQuotes o own m → has_quote_mark value m ≡ true) → KeepsQuote o own value []
+
+-- What stands in the place of an old value's source, once the value is set: that source, where it gives the
+-- value already; else the value as the policy writes it, in the quote that it keeps.
+pub data IsPut (o : ParseOption) (policy : EscapePolicy) (own old value : Text) : Text → Type 0 where
+  stays : value ≡ old → IsPut o policy own old value own
+  written : {quote : Text} → value ≢ old → KeepsQuote o own value quote
+      → IsPut o policy own old value (written_in policy quote value)

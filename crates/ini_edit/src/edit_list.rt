@@ -15,7 +15,7 @@ use crate::edits::{Edit, make_edit};
 use crate::error::EditError;
 use ini_text::{ParseOption, WriteOption};
 use std::alloc::{AllocError, Global};
-use thiserror::Error;
+use std::fmt;
 
 /// A text that edits were made in.
 #[derive(Debug, Drop)]
@@ -27,14 +27,26 @@ pub struct EditedText {
 }
 
 /// Why a list of edits isn't made. None of it is: the text that was handed in is as it was.
-#[derive(Debug, Drop, Error)]
-#[error("edit {index}: {refusal}")]
+#[derive(Debug, Drop)]
 pub struct RefusedEdit {
     /// Which edit was refused, counted from 0.
     pub index: usize,
     /// Why it was.
     pub refusal: EditError,
 }
+
+/// Prints the word `edit`, the index, a colon, a space and the refusal.
+impl fmt::Display for RefusedEdit {
+    ghost use Rattle.ini_edit.specs.Messages.{printed_refusal};
+
+    ghost output = { printed_refusal };
+
+    fn fmt<W: fmt::Write>(&self, f: &mut fmt::Formatter<W>) -> fmt::Result {
+        write!(f, "edit {}: {}", self.index, self.refusal)
+    }
+}
+
+impl std::error::Error for RefusedEdit {}
 
 /// The text with the edits made in it, one after another, each in the text that those before it made. An edit
 /// that finds nothing (a key to be deleted that isn't there) changes nothing, the others go on, and `found`
@@ -93,7 +105,7 @@ fn go_on(
     ensures found { IfOk result (λ is_found. found.new.items ≡ found.old.items ++ is_found ∷ []) }
     ensures made { IfOk result (λ is_found. Makes read write.now (editing_of edit.entry)
         (string_text text.old) is_found (string_text text.new)) }
-    ensures plain { OnOk result (¬ HasUnplainWord read write.now.escape_policy (editing_of edit.entry)) }
+    ensures plain { OnOk result (¬ HasUnplainWord read write.now (editing_of edit.entry)) }
     ensures refused { IfErr result
         (RefusesFirst read write.now (editing_of edit.entry ∷ []) (string_text text.old)) }
 {
@@ -112,7 +124,7 @@ fn make_in_place(
 ) -> Result<bool, EditError>
     ensures made { IfOk result (λ is_found. Makes read write.now (editing_of edit.entry)
         (string_text text.old) is_found (string_text text.new)) }
-    ensures plain { OnOk result (¬ HasUnplainWord read write.now.escape_policy (editing_of edit.entry)) }
+    ensures plain { OnOk result (¬ HasUnplainWord read write.now (editing_of edit.entry)) }
     ensures refused { IfErr result (Refuses read write.now (editing_of edit.entry) (string_text text.old)) }
 {
     match make_edit(alloc, text.as_str(), read, write, edit)? {

@@ -3,31 +3,51 @@ ghost use Rattle.std.specs.Prelude.{◌≡◌, alloc_error};
 
 use ini_text::Error as TextError;
 use std::alloc::AllocError;
-use thiserror::Error;
+use std::fmt;
 
 /// Why a text isn't edited. Whatever the reason, the text that was handed in is as it was.
-#[derive(Debug, Drop, Error)]
+#[derive(Debug, Drop)]
 pub enum EditError {
     /// The text is refused, with line and column; or memory is.
-    #[error(transparent)]
     Text(TextError),
     /// The name of a new section isn't plain: written, it wouldn't be read back just as it is.
-    #[error("this name can't be written so that it is read back")]
     Name,
     /// The key of a new pair isn't plain.
-    #[error("this key can't be written so that it is read back")]
     Key,
     /// The value isn't plain.
-    #[error("this value can't be written so that it is read back")]
     Value,
     /// The separator of a new pair isn't plain.
-    #[error("this separator can't be written so that it is read back")]
     Separator,
     /// A new line can be put in nowhere: where it belongs the text's end cuts an indented key short, and a
     /// multiline value would take that in.
-    #[error("an indented key that the text's end cuts short leaves no place for a new line")]
     NoPlace,
 }
+
+/// Prints the text's fault as it prints, or the refusal in words of its own.
+impl fmt::Display for EditError {
+    ghost use Rattle.ini_edit.specs.Messages.{words_of};
+
+    ghost output = { words_of };
+
+    fn fmt<W: fmt::Write>(&self, f: &mut fmt::Formatter<W>) -> fmt::Result {
+        match self {
+            EditError::Text(TextError::Parse(fault)) => write!(f, "{fault}"),
+            EditError::Text(TextError::Memory(_)) => f.write_str("out of memory"),
+            EditError::Text(refusal) => write!(f, "{refusal}"),
+            EditError::Name => f.write_str("this name can't be written so that it is read back"),
+            EditError::Key => f.write_str("this key can't be written so that it is read back"),
+            EditError::Value => f.write_str("this value can't be written so that it is read back"),
+            EditError::Separator => {
+                f.write_str("this separator can't be written so that it is read back")
+            }
+            EditError::NoPlace => f.write_str(
+                "an indented key that the text's end cuts short leaves no place for a new line",
+            ),
+        }
+    }
+}
+
+impl std::error::Error for EditError {}
 
 impl From<TextError> for EditError {
     ghost use Rattle.ini_edit.specs.declared.error.EditError.TheVariants.{Text};

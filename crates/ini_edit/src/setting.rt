@@ -14,7 +14,7 @@ ghost use Rattle.ini_edit.specs.Edited.{IfEditParse, IsSetThere, IsValueOrRefusa
 ghost use Rattle.ini_edit.specs.declared.error.EditError.TheVariants as EditErrors;
 ghost use Rattle.ini_edit.specs.FirstPairs.{LacksPair, stretches_of};
 ghost use Rattle.ini_edit.specs.Inside.Later.{IsAlikeBehind, TakesLater};
-ghost use Rattle.ini_edit.specs.Inside.Quotes.{IsOwnSource, PutsValue};
+ghost use Rattle.ini_edit.specs.Inside.Quotes.{IsOwnSource, PutsSource, PutsValue};
 ghost use Rattle.ini_edit.specs.Inside.SetWalks.{ComesTo};
 ghost use Rattle.ini_edit.specs.Inside.Walks.{StandsWithin};
 
@@ -38,8 +38,10 @@ use std::alloc::Global;
 /// Where quotes are read, and the old value stands in one pair of quotes, the new one stands in the same; but
 /// it stands bare where it has the quote's mark.
 ///
-/// White space around the old value stays, and so does every other byte. The new text loads as the document
-/// in which the key is set.
+/// A value that is there already stays as it is written: where no later pair goes, no byte changes.
+///
+/// White space around the old value stays, but behind one that ends in a backslash, where it goes; and so
+/// does every other byte. The new text loads as the document in which the key is set.
 ///
 /// # Errors
 ///
@@ -170,18 +172,38 @@ fn push_with(
 ) -> Result<(), Error>
     requires own { IsOwnSource read (chars pair.now.places.own.now) }
     ensures only { IsOkUnless result (Memory alloc_error) }
-    ensures written { OnOk result (PutsValue read policy (stretches_of pair.now) (chars value.now)
-        (string_text out.old) (string_text out.new)) }
+    ensures written { OnOk result (PutsValue read policy (stretches_of pair.now) (string_text pair.now.value)
+        (chars value.now) (string_text out.old) (string_text out.new)) }
 {
-    let quote = kept_quote(pair.places.own, value, read);
     push_text(out, pair.front)?;
     push_text(out, pair.places.key)?;
     push(out, pair.places.separator)?;
     push_text(out, pair.places.lead)?;
-    push_in_quote(alloc, out, quote, value, policy)?;
+    push_source(alloc, out, pair, value, policy, read)?;
     push_text(out, pair.places.pad)?;
     push_text(out, pair.places.tail)?;
     Ok(())
+}
+
+// Appends what stands in the place of a pair's own value: that itself, where it is this value.
+fn push_source(
+    alloc: Global,
+    out: &mut String,
+    pair: &FoundPair,
+    value: &str,
+    policy: EscapePolicy,
+    read: ParseOption,
+) -> Result<(), Error>
+    requires own { IsOwnSource read (chars pair.now.places.own.now) }
+    ensures only { IsOkUnless result (Memory alloc_error) }
+    ensures put { OnOk result (PutsSource read policy (chars pair.now.places.own.now)
+        (string_text pair.now.value) (chars value.now) (string_text out.old) (string_text out.new)) }
+{
+    let own = pair.places.own;
+    if is_same_text(value, pair.value.as_str()) {
+        return push_text(out, own);
+    }
+    push_in_quote(alloc, out, kept_quote(own, value, read), value, policy)
 }
 
 // Goes on to the section's end, and appends what stands before that, but for the pairs of the key.

@@ -1,7 +1,9 @@
 //! Answers: the text that an edit gives, or why there is none, as a line.
 use crate::hex::push_hex;
 use crate::question::{Call, Question};
-use ini_edit::{EditError, add, delete, set, set_existing};
+use ini_edit::{
+    EditError, add, delete, delete_section, rename_key, rename_section, set, set_existing,
+};
 use ini_text::Error;
 use std::alloc::Global;
 
@@ -17,6 +19,20 @@ fn edited(alloc: Global, asked: &Question) -> Result<Option<String>, EditError> 
         Call::Delete => delete(alloc, text, read, name, key),
         Call::Set => Ok(Some(set(alloc, text, read, write, name, key, value)?)),
         Call::Add => Ok(Some(add(alloc, text, read, write, name, key, value)?)),
+        Call::RenameKey => rename_key(alloc, text, read, write.escape_policy, name, key, value),
+        Call::DeleteSection | Call::RenameSection => match name {
+            Some(name) => section_edited(alloc, asked, name),
+            None => Ok(None),
+        },
+    }
+}
+
+/// The new text of an edit that is about the first section of a name.
+fn section_edited(alloc: Global, asked: &Question, name: &str) -> Result<Option<String>, EditError> {
+    let (text, read, policy) = (asked.text.as_str(), asked.read, asked.write.escape_policy);
+    match asked.call {
+        Call::RenameSection => rename_section(alloc, text, read, policy, name, asked.value.as_str()),
+        _ => delete_section(alloc, text, read, name),
     }
 }
 

@@ -11,6 +11,9 @@ pub(crate) enum Call {
     Delete,
     Set,
     Add,
+    RenameKey,
+    DeleteSection,
+    RenameSection,
 }
 
 /// What one line of the input asks.
@@ -36,6 +39,9 @@ fn call_of_name(name: &str) -> io::Result<Call> {
         "delete" => Ok(Call::Delete),
         "set" => Ok(Call::Set),
         "add" => Ok(Call::Add),
+        "rename_key" => Ok(Call::RenameKey),
+        "delete_section" => Ok(Call::DeleteSection),
+        "rename_section" => Ok(Call::RenameSection),
         _ => Err(invalid()),
     }
 }

@@ -30,4 +30,6 @@ mod scarce;
 #[cfg(test)]
 mod show;
 #[cfg(test)]
+mod texts;
+#[cfg(test)]
 mod writing;

@@ -7,7 +7,7 @@ use Rattle.ini_text.specs.declared.option.ParseOption.{ParseOption}
 use Rattle.ini_text.specs.declared.write.policy.EscapePolicy.{EscapePolicy}
 use Rattle.ini.specs.Texts.{Text}
 use Rattle.ini_edit.specs.Places.{Stretches, pair_with}
-use Rattle.ini_edit.specs.Quotes.{KeepsQuote, written_in}
+use Rattle.ini_edit.specs.Quotes.{IsPut}
 
 -- a value's own source: with white space behind it, it is the lines of a value
 pub record IsOwnSource (o : ParseOption) (own : Text) : Type 0 where
@@ -28,10 +28,16 @@ pub record IsBetweenQuoteMarks (text : Text) (m : ℕ) : Type 0 where
   pub whole : text ≡ m ∷ behind
   pub ends : behind_quote_mark m false behind ≡ Some []
 
--- The text `old` goes on with what stands before a pair, and with the pair; there the value is in the place
--- of the old one, in the quotes that this one stands in where it can be.
-pub record PutsValue (o : ParseOption) (policy : EscapePolicy) (p : Stretches) (value old new : Text)
+-- The text `old` goes on with what stands in the place of a value's source.
+pub record PutsSource (o : ParseOption) (policy : EscapePolicy) (own before value old new : Text) : Type 0 where
+  pub source : Text
+  pub is_put : IsPut o policy own before value source
+  pub is_new : new ≡ old ++ source
+
+-- The text `old` goes on with what stands before a pair, and with the pair, whose value was `before`: there
+-- the value is in its place.
+pub record PutsValue (o : ParseOption) (policy : EscapePolicy) (p : Stretches) (before value old new : Text)
     : Type 0 where
-  pub quote : Text
-  pub keeps : KeepsQuote o p.own value quote
-  pub is_new : new ≡ old ++ (p.front ++ pair_with p (written_in policy quote value))
+  pub source : Text
+  pub is_put : IsPut o policy p.own before value source
+  pub is_new : new ≡ old ++ (p.front ++ pair_with p source)

@@ -5,7 +5,6 @@ use Rattle.ini_text.specs.Parsing.Items.{string_text}
 use Rattle.ini_edit.specs.FirstPairs.{stretches_of}
 use Rattle.ini_edit.specs.Inside.PlaceWalks.{Reaches, ReachesSection}
 use Rattle.ini_edit.specs.Places.{pair_with}
-use Rattle.ini_edit.specs.Quotes.{written_in}
 use Rattle.ini_edit.proofs.FindLemmas.{lacks_told, reached_within}
 use Rattle.ini_edit.proofs.PlaceWalkLemmas.{goes_on_behind, section_ends}
 use Rattle.ini_edit.proofs.SetThereLemmas.{is_set, own_source, pair_alike, taken_within}
@@ -52,10 +51,10 @@ take_later_out-requires-clause-alike c =
     (chars c.args.key.now) c.reach_pair_or_end.new.parser) c.in-Pair.is c.in_ok-pair.ensures.reached in
     let written = c.in_ok-push_with.ensures.written in
     pair_alike (chars c.args.key.now) opened reached
-    (written_in c.args.policy written.quote (chars c.args.value.now)) (string_text c.push_with.new.out)
+    written.source (string_text c.push_with.new.out)
     (written.is_new
     ∙ ap (λ z. z ++ (chars c.in-Pair.pair.front.now ++ pair_with (stretches_of c.in-Pair.pair)
-    (written_in c.args.policy written.quote (chars c.args.value.now))))
+    written.source))
     (no_characters (string_bytes c.in_ok-edited.edited) (ap length c.in_ok-edited.ensures.bytes)))
 
 pub read_on-requires-2 : goal.read_on-requires-2
@@ -74,9 +73,9 @@ returns-clause-came c =
     (chars c.args.key.now) c.reach_pair_or_end.new.parser) c.in-Pair.is c.in_ok-pair.ensures.reached in
     let written = c.in_ok-push_with.ensures.written in
     is_set (chars c.args.key.now) opened reached c.in_ok-take_later_out.ensures.taken
-    (chars c.rest-rest.result.now) _ c.requires.plain written.keeps
+    (chars c.rest-rest.result.now) _ c.requires.plain written.is_put
     (written.is_new
     ∙ ap (λ z. z ++ (chars c.in-Pair.pair.front.now ++ pair_with (stretches_of c.in-Pair.pair)
-    (written_in c.args.policy written.quote (chars c.args.value.now))))
+    written.source))
     (no_characters (string_bytes c.in_ok-edited.edited) (ap length c.in_ok-edited.ensures.bytes)))
     c.in_ok-read_on.ensures.end c.rest-rest.ensures c.in_ok-push_text.ensures.pushed
