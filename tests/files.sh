@@ -338,6 +338,26 @@ renaming() {
     refused 'rename-section with too many words' 2 "$usage" rename-section settings.ini client x y
 }
 
+# a key that begins with a byte order mark, at the front of a file that has none, and of one that has one
+marks() {
+    fresh
+    mark=$(printf '\357\273\277')
+    unread="this key can't be written so that it is read back"
+    printf 'a=1\n\357\273\277[x]\nk=2\n' >settings.ini
+    refused 'delete that brings a mark to the front' 2 "ini_file: settings.ini: $unread" delete settings.ini a
+    refused 'rename-key to a mark at the front' 2 "ini_file: settings.ini: $unread" \
+        rename-key settings.ini a "${mark}b"
+    case_of 'set of a key that begins with a mark' 2 '' "ini_file: -: $unread" set - "${mark}k" v </dev/null
+    case_of 'add of a key that begins with a mark' 2 '' "ini_file: -: $unread" add - "${mark}k" v </dev/null
+    printf '\357\273\277' >settings.ini
+    edit 'the same behind the mark of the file' '\357\273\277\357\273\277k=v\n' set settings.ini "${mark}k" v
+    printf 'a=1\n' >settings.ini
+    edit 'the same behind another key' 'a=1\n\357\273\277k=v\n' set settings.ini "${mark}k" v
+    printf 'k=\\\\ \nj = \\x0041 \n' >settings.ini
+    edit 'a value that is there: a backslash and a blank stay' 'k=\\\\ \nj = \\x0041 \n' set settings.ini k '\'
+    edit 'a value that is there: its escape stays' 'k=\\\\ \nj = \\x0041 \n' set settings.ini j A
+}
+
 # --output and --
 placing() {
     fresh
@@ -1055,6 +1075,7 @@ editing
 adding
 making
 renaming
+marks
 placing
 merging
 unmerged

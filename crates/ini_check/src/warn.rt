@@ -10,9 +10,7 @@ ghost use Rattle.ini_check.specs.Warnings.{key_warnings, value_warnings};
 ghost use Rattle.ini_check.specs.Inside.Positions.{HasRoom, IsAt};
 
 use crate::position::Position;
-use crate::trap::{
-    begins_like_comment, begins_like_note, has_comment_mark, has_escape, runs_on,
-};
+use crate::trap::{begins_like_comment, begins_like_note, has_comment_mark, has_escape, runs_on};
 use crate::warning::{Trap, Warning};
 use ini::Properties;
 use ini_text::{

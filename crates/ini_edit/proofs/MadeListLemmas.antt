@@ -86,7 +86,7 @@ module _ (o : ParseOption) (w : WriteOption) where
   pub one_more_made : {T U V : Text} {found more : List Bool} {is_found : Bool} (edits : List Edit) (i : ℕ)
       (d : Edit)
       → i < length edits → AreMade o w T (map editing_of (take i edits)) found U
-      → ¬ HasUnplainWord o w (editing_of (get_or edits i d))
+      → ¬ HasUnplainWord o w.escape_policy (editing_of (get_or edits i d))
       → more ≡ found ++ is_found ∷ [] → Makes o w (editing_of (get_or edits i d)) U is_found V
       → AreMade o w T (map editing_of (take (i + 1) edits)) more V
   one_more_made {T} {U} {V} {found} {more} {is_found} edits i d within made plain is makes =

@@ -1,15 +1,16 @@
 -- What an edit makes of a text, where it finds nothing there, and what it is refused with, in the words of
 -- the calls.
 use Rattle.std.specs.Prelude.{Some}
-use Rattle.ini_text.specs.Laws.Plain.{IsPlainName, IsPlainValue}
+use Rattle.ini_text.specs.Laws.Plain.{IsPlainName, IsPlainPair, IsPlainValue}
 use Rattle.ini_text.specs.declared.error.Error.TheVariants.{Memory, Parse}
 use Rattle.ini_text.specs.declared.option.ParseOption.{ParseOption}
 use Rattle.ini_text.specs.declared.write.option.WriteOption.{WriteOption}
+use Rattle.ini_text.specs.declared.write.policy.EscapePolicy.{EscapePolicy}
 use Rattle.ini.specs.Documents.{Document, section_removed}
 use Rattle.ini.specs.Edits.{add_in, delete_in, rename_key_in, section_renamed, set_in}
 use Rattle.ini.specs.Loading.{IsStopOf}
 use Rattle.ini.specs.Texts.{Text}
-use Rattle.ini_edit.specs.Added.{IsAdded, IsWritable, LoadsEdited, RefusesToAdd}
+use Rattle.ini_edit.specs.Added.{IsAdded, LoadsEdited, RefusesToAdd}
 use Rattle.ini_edit.specs.Edited.{IsDeleted, IsSetThere}
 use Rattle.ini_edit.specs.Editings.{Editing, Set, SetExisting, Add, Delete, RenameKey}
 use Rattle.ini_edit.specs.Editings.{DeleteSection, RenameSection}
@@ -53,23 +54,23 @@ HasNothing o (RenameKey name old new) T = LacksPair o T name old
 HasNothing o (DeleteSection name) T = LacksSection o T (Some name)
 HasNothing o (RenameSection old new) T = LacksSection o T (Some old)
 
--- The edit has a word that can't be written, whatever the text is. (Key and name of a setting, and the name of
--- an adding, are written in some texts only.)
-abbrev pub HasUnplainWord : ParseOption → WriteOption → Editing → Type 0
-HasUnplainWord o w (Set name key value) = ¬ IsPlainValue o w.escape_policy value
-HasUnplainWord o w (SetExisting name key value) = ¬ IsPlainValue o w.escape_policy value
-HasUnplainWord o w (Add name key value) = ¬ IsWritable o w key value
-HasUnplainWord o w (RenameKey name old new) = ¬ IsPlainBareKey o w.escape_policy new
-HasUnplainWord o w (RenameSection old new) = ¬ IsPlainName o w.escape_policy new
-HasUnplainWord o w _ = ⊥
+-- The edit has a word that can't be written, whatever the text is. (What else setting and adding are refused
+-- with for their words may depend on the text.)
+abbrev pub HasUnplainWord : ParseOption → EscapePolicy → Editing → Type 0
+HasUnplainWord o policy (Set name key value) = ¬ IsPlainValue o policy value
+HasUnplainWord o policy (SetExisting name key value) = ¬ IsPlainValue o policy value
+HasUnplainWord o policy (Add name key value) = ¬ IsPlainPair o policy key value
+HasUnplainWord o policy (RenameKey name old new) = ¬ IsPlainBareKey o policy new
+HasUnplainWord o policy (RenameSection old new) = ¬ IsPlainName o policy new
+HasUnplainWord o policy _ = ⊥
 
 -- What an edit of the text T is refused with: setting and adding as their calls say; each other edit with
 -- its new word, whatever the text is, and else with the text's fault, or memory's.
 abbrev pub Refuses : ParseOption → WriteOption → Editing → Text → EditError → Type 0
 Refuses o w (Set name key value) T e = RefusesToSet o w T name key value e
 Refuses o w (Add name key value) T e = RefusesToAdd o w T name key value e
-Refuses o w e T (refusal.Text (Parse fault)) = (¬ HasUnplainWord o w e) × IsStopOf o T fault
-Refuses o w e T (refusal.Text (Memory _)) = ¬ HasUnplainWord o w e
+Refuses o w e T (refusal.Text (Parse fault)) = (¬ HasUnplainWord o w.escape_policy e) × IsStopOf o T fault
+Refuses o w e T (refusal.Text (Memory _)) = ¬ HasUnplainWord o w.escape_policy e
 Refuses o w (SetExisting name key value) T refusal.Value = ¬ IsPlainValue o w.escape_policy value
 Refuses o w (RenameKey name old new) T refusal.Key = ¬ IsPlainBareKey o w.escape_policy new
 Refuses o w (RenameSection old new) T refusal.Name = ¬ IsPlainName o w.escape_policy new

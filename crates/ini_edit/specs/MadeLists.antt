@@ -29,7 +29,7 @@ module _ (o : ParseOption) (w : WriteOption) where
   pub data AreMade (T : Text) : List Editing → List Bool → Text → Type 0 where
     none : AreMade T [] [] T
     then : {edits : List Editing} {found : List Bool} {U : Text} → AreMade T edits found U
-        → {e : Editing} {is_found : Bool} {V : Text} → ¬ HasUnplainWord o w e
+        → {e : Editing} {is_found : Bool} {V : Text} → ¬ HasUnplainWord o w.escape_policy e
         → Makes e U is_found V → AreMade T (edits ++ e ∷ []) (found ++ is_found ∷ []) V
 
   -- memory is refused, or of the text T the first of the edits

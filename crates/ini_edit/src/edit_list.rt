@@ -105,7 +105,7 @@ fn go_on(
     ensures found { IfOk result (λ is_found. found.new.items ≡ found.old.items ++ is_found ∷ []) }
     ensures made { IfOk result (λ is_found. Makes read write.now (editing_of edit.entry)
         (string_text text.old) is_found (string_text text.new)) }
-    ensures plain { OnOk result (¬ HasUnplainWord read write.now (editing_of edit.entry)) }
+    ensures plain { OnOk result (¬ HasUnplainWord read write.now.escape_policy (editing_of edit.entry)) }
     ensures refused { IfErr result
         (RefusesFirst read write.now (editing_of edit.entry ∷ []) (string_text text.old)) }
 {
@@ -124,7 +124,7 @@ fn make_in_place(
 ) -> Result<bool, EditError>
     ensures made { IfOk result (λ is_found. Makes read write.now (editing_of edit.entry)
         (string_text text.old) is_found (string_text text.new)) }
-    ensures plain { OnOk result (¬ HasUnplainWord read write.now (editing_of edit.entry)) }
+    ensures plain { OnOk result (¬ HasUnplainWord read write.now.escape_policy (editing_of edit.entry)) }
     ensures refused { IfErr result (Refuses read write.now (editing_of edit.entry) (string_text text.old)) }
 {
     match make_edit(alloc, text.as_str(), read, write, edit)? {

@@ -73,7 +73,7 @@ pub fn make_edit(
     ensures made { IfOk result (λ made. MatchOption made
         (HasNothing read (editing_of edit.entry) (chars text.now))
         (λ new. IsMade read write.now (editing_of edit.entry) (chars text.now) (string_text new))) }
-    ensures plain { OnOk result (¬ HasUnplainWord read write.now (editing_of edit.entry)) }
+    ensures plain { OnOk result (¬ HasUnplainWord read write.now.escape_policy (editing_of edit.entry)) }
     ensures refused { IfErr result (Refuses read write.now (editing_of edit.entry) (chars text.now)) }
 {
     let policy = write.escape_policy;

@@ -57,16 +57,17 @@ RefusesQuestion o separator T (refusal.Text (Memory _)) = Separates separator
 RefusesQuestion o separator T _ = ⊥
 
 -- what a request is refused with
-abbrev pub RefusesRequest : Options → Option Word → Request → Text → EditError → Type 0
-RefusesRequest o separator (Ask q) T refused = RefusesQuestion o separator T refused
-RefusesRequest o separator (Change e) T refused = RefusesEdit o separator e T refused
+abbrev pub RefusesRequest : Options → Option Word → Request → List ℕ → Text → EditError → Type 0
+RefusesRequest o separator (Ask q) byte_order_mark T refused = RefusesQuestion o separator T refused
+RefusesRequest o separator (Change e) byte_order_mark T refused =
+    RefusesEdit o separator e byte_order_mark T refused
 
 -- how a run ends that asks for the request of a file with this mark and text
 abbrev pub EndsAs : Options → Option Word → Request → List ℕ → Text → Outcome → Type 0
 EndsAs o separator r byte_order_mark T (Done bytes) = IsWritten o separator r byte_order_mark T bytes.items
 EndsAs o separator r byte_order_mark T NotFound = IsAbsent o separator r T
 EndsAs o separator r byte_order_mark T Usage = ⊥
-EndsAs o separator r byte_order_mark T (Refused refused) = RefusesRequest o separator r T refused
+EndsAs o separator r byte_order_mark T (Refused refused) = RefusesRequest o separator r byte_order_mark T refused
 
 -- the same of a file's bytes, which may be no text
 abbrev pub EndsOn : List ℕ → Asks → Outcome → Type 0

@@ -2,7 +2,7 @@
 ghost use Rattle.std.specs.Prelude.{◌≡◌, ◌++◌, Err, IfErr, IfOk, IsOkUnless, OnErr, OnOk, alloc_error};
 ghost use Rattle.std.specs.Str.{IsUtf8};
 ghost use Rattle.ini.specs.Loading.{without_byte_order_mark};
-ghost use Rattle.ini_file.specs.Bytes.{byte_order_mark_of};
+ghost use Rattle.ini_file.specs.Bytes.{byte_order_mark_of, has_byte_order_mark};
 ghost use Rattle.ini_text.specs.declared.error.Error.TheVariants.{Memory, NotUtf8};
 
 use ini::Error;
@@ -10,6 +10,13 @@ use std::alloc::Global;
 
 // The byte order mark, EF BB BF.
 const BYTE_ORDER_MARK: [u8; 3] = [0xEF, 0xBB, 0xBF];
+
+/// Whether a byte order mark is at the front of bytes.
+pub fn has_byte_order_mark(bytes: &[u8]) -> bool
+    ensures { result ≡ has_byte_order_mark bytes.now }
+{
+    bytes.starts_with(&BYTE_ORDER_MARK)
+}
 
 /// The byte order mark at the front of a file's bytes, if there is one, and the text behind it.
 ///
@@ -20,7 +27,7 @@ pub fn text_of(bytes: &[u8]) -> Result<(&[u8], &str), Error>
     ensures not_utf8 { OnErr result (¬ (IsUtf8 (without_byte_order_mark bytes.now))) }
     ensures only { IsOkUnless result NotUtf8 }
 {
-    let (byte_order_mark, behind) = if bytes.starts_with(&BYTE_ORDER_MARK) {
+    let (byte_order_mark, behind) = if has_byte_order_mark(bytes) {
         bytes.split_at(BYTE_ORDER_MARK.len())
     } else {
         bytes.split_at(0)

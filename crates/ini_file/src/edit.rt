@@ -1,11 +1,12 @@
 //! A file's bytes with an edit made in their text. This file knows no word of the program.
-ghost use Rattle.std.specs.Prelude.{IfErr, IfOk, MatchOption, OnOk, chars};
+ghost use Rattle.std.specs.Prelude.{◌≡◌, IfErr, IfOk, MatchOption, OnOk, [], chars, false, true};
 ghost use Rattle.ini_edit.specs.Editings.{editing_of};
 ghost use Rattle.ini_edit.specs.Made.{HasNothing, HasUnplainWord};
+ghost use Rattle.ini_file.specs.Bytes.{has_byte_order_mark};
 ghost use Rattle.ini_file.specs.Edits.{IsChanged, RefusesEdit};
 ghost use Rattle.ini_file.specs.Writing.{word_of};
 
-use crate::bytes::joined;
+use crate::bytes::{has_byte_order_mark, joined};
 use crate::writing::writing;
 use ini_edit::{Edit, EditError, make_edit};
 use ini_options::Options;
@@ -16,7 +17,8 @@ use std::alloc::Global;
 ///
 /// # Errors
 ///
-/// Those of `ini_edit`'s `make_edit`, and want of memory.
+/// Those of `ini_edit`'s `make_edit`, and out of memory; and `Key` where the file has no mark and the new text
+/// begins with U+FEFF. That would be its mark, so the key there wouldn't be read back.
 pub fn change(
     alloc: Global,
     options: Options,
@@ -32,11 +34,22 @@ pub fn change(
     ensures plain { OnOk result (¬ HasUnplainWord options.reading options.escape_policy
         (editing_of edit.entry)) }
     ensures refused { IfErr result (RefusesEdit options (word_of separator.entry) (editing_of edit.entry)
-        (chars text.now)) }
+        byte_order_mark.now (chars text.now)) }
 {
     let write = writing(alloc, options, separator)?;
     let Some(new) = make_edit(alloc, text, options.reading, &write, edit)? else {
         return Ok(None);
     };
+    if gets_byte_order_mark(byte_order_mark, new.as_str()) {
+        return Err(EditError::Key);
+    }
     Ok(Some(joined(alloc, byte_order_mark, new.as_str())?))
+}
+
+// Whether a file that has no mark, if it has none, gets one from the text.
+fn gets_byte_order_mark(byte_order_mark: &[u8], text: &str) -> bool
+    ensures yes { result ≡ true → (byte_order_mark.now ≡ []) × (has_byte_order_mark text.now ≡ true) }
+    ensures no { result ≡ false → byte_order_mark.now ≡ [] → has_byte_order_mark text.now ≡ false }
+{
+    byte_order_mark.is_empty() && has_byte_order_mark(text.as_bytes())
 }
