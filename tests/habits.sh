@@ -86,8 +86,39 @@ if has bash completions; then
     offered '-- --dry-run --output ' ini_file delete --
     offered ' ' ini_file get --default ''
     offered 'one.ini ' ini_file set --existing --output one.
+    offered 'one.ini ' ini_tool get key '<' one.
+    offered 'one.ini ' ini_merge one.ini '>' one.
     is 'completions are registered' "$programs" "$(bash -c '. "$0" && for name; do complete -p "$name"; done' \
         "$top/completions/bigrosk" $programs | sed 's/^complete -F _bigrosk //' | tr '\n' ' ' | sed 's/ $//')"
+fi
+
+# The same where the words are typed at a terminal: bash puts what is offered into the line. Each row is a line that a tab follows,
+# and the line that it becomes.
+cat >"$room/rows" <<'ROWS'
+ini_tool ge|ini_tool get |
+ini_file ge|ini_file get |
+ini_file get on|ini_file get on|
+ini_file get one|ini_file get one\ two |
+ini_file get one\ |ini_file get one\ two |
+ini_file get "one |ini_file get "one two" |
+ini_file set --output 'one|ini_file set --output 'one two' |
+ini_file get a|ini_file get a\ folder/|
+ini_file get a\ folder/i|ini_file get a\ folder/in/|
+ini_file --crlf list a\ folder/in/|ini_file --crlf list a\ folder/in/x.ini |
+ini_file check i|ini_file check it\'s |
+ini_merge \$|ini_merge \$HOME |
+ini_merge --policy Basics ~/a|ini_merge --policy Basics ~/a\ folder/|
+ini_tool get k <one|ini_tool get k <one\ two |
+ini_tool fmt >a|ini_tool fmt >a\ folder/|
+ROWS
+mkdir -p "$room/typed/a folder/in" "$room/typed/only" "$room/typed/get"
+: >"$room/typed/one two"
+: >"$room/typed/a folder/in/x.ini"
+: >"$room/typed/it's"
+: >"$room/typed/\$HOME"
+if has bash 'completions at a terminal' && has python3 'completions at a terminal'; then
+    cut -d '|' -f 1 "$room/rows" | python3 "$top/tests/habits/typed.py" "$top/completions/bigrosk" "$room/typed" >"$room/became" 2>&1
+    is 'lines as they are completed' "$(cut -d '|' -f 2 "$room/rows" | sed 's/$/./')" "$(sed 's/$/./' "$room/became")"
 fi
 
 # Installing, over a copy whose run.sh writes down what is built. The programs there are of a line.

@@ -5,9 +5,10 @@
     calls.py compare OURS THEIRS [N ..]
     calls.py count OURS THEIRS [N ..]
 
-`build` builds crate_calls.rs, the program `ini_calls` over the crate: SOURCE is the folder of the crate's source, with its
-Cargo.toml, rust-ini 0.21.3 with its default features. FOLDER is made where it isn't there; the program's path is printed.
-The further words go to `cargo build`.
+`build` builds two programs over the crate, and prints their paths: crate_calls.rs, which does what `ini_calls` does, and
+crate_fmt.rs, which does what `ini_tool fmt` does (speed.py compares these two). SOURCE is the folder of the crate's source,
+with its Cargo.toml, rust-ini 0.21.3 with its default features. FOLDER is made where it isn't there. The further words go to
+`cargo build`.
 
 `compare` makes each call on a document of N keys in one section, and of N sections (10,000 and 300,000 where no N is given),
 and prints for the two programs the nanoseconds of one call, and their ratio. The time is user time, the shortest of some
@@ -23,13 +24,17 @@ import subprocess
 import sys
 
 MANIFEST = """[package]
-name = "crate_calls"
+name = "over_the_crate"
 version = "0.1.0"
 edition = "2021"
 
 [[bin]]
 name = "crate_calls"
-path = "{program}"
+path = "{here}/crate_calls.rs"
+
+[[bin]]
+name = "crate_fmt"
+path = "{here}/crate_fmt.rs"
 
 [dependencies]
 rust-ini = {{ path = "{source}" }}
@@ -52,13 +57,13 @@ CALLS = {
 
 
 def build(source, folder, words):
-    """Builds the program over the crate."""
-    program = pathlib.Path(__file__).resolve().with_name("crate_calls.rs")
+    """Builds the programs over the crate."""
     folder.mkdir(parents=True, exist_ok=True)
-    (folder / "Cargo.toml").write_text(MANIFEST.format(program=program, source=source))
+    (folder / "Cargo.toml").write_text(MANIFEST.format(here=pathlib.Path(__file__).resolve().parent, source=source))
     command = ["cargo", "build", "--release", "--quiet", "--target-dir", str(folder / "target"), *words]
     subprocess.run(command, cwd=folder, check=True)
-    print(folder / "target/release/crate_calls")
+    for program in ("crate_calls", "crate_fmt"):
+        print(folder / "target/release" / program)
 
 
 def run(program, line, rounds):
