@@ -144,6 +144,14 @@ for name in $programs; do
     is "the completions of $name" 0 $?
 done
 is 'nothing else is installed' 9 "$(find "$room/a place" -type f | wc -l | tr -d ' ')"
+for mask in 000 077; do
+    (umask "$mask" && "$copy/tools/install.sh" "$room/under $mask" 2>/dev/null)
+    is "what each may do with what is installed under $mask" "$(printf '644 file in share\n755 file in bin\n755 folder')" "$(
+        cd "$room/under $mask" || exit
+        { find . -type f -exec stat -c '%a file in %n' {} + && find . -type d -exec stat -c '%a folder' {} +; } |
+            sed 's,\./\([a-z]*\)/.*,\1,' | sort -u
+    )"
+done
 echo ini_merge >"$room/broken"
 "$copy/tools/install.sh" "$room/nothing" >/dev/null 2>&1
 is 'a program that is not built' 'status 1, nothing there' "status $?, $([ -e "$room/nothing" ] || echo nothing there)"

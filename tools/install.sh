@@ -4,7 +4,8 @@
 #     tools/install.sh PREFIX
 #
 # The programs go to PREFIX/bin, the pages to PREFIX/share/man/man1, and the completions to
-# PREFIX/share/bash-completion/completions, under each program's name. Programs are built first where they have to be
+# PREFIX/share/bash-completion/completions, under each program's name. All may read what is installed, and
+# its owner alone may write to it, whatever the umask is. Programs are built first where they have to be
 # (tools/run.sh). The status is 2 where no one folder is named, and else that of the step that failed.
 set -eu
 top=$(dirname "$(dirname "$(readlink -f "$0")")")
@@ -16,6 +17,7 @@ programs='ini_tool ini_merge ini_file'
 for name in $programs; do
     "$top/tools/run.sh" --build "$name"
 done
+umask 022
 completions=$1/share/bash-completion/completions
 mkdir -p -- "$1/bin" "$1/share/man/man1" "$completions"
 for name in $programs; do
