@@ -25,12 +25,15 @@ A text itself is edited by functions that keep its comments, its blank lines and
     text = edit_delete_section(text, "files")
 
 The shared library is the one that BIGROSK_INI_LIBRARY names, or libbigrosk_ini.so. A text that is refused raises Broken, which
-has .line, .column, .kind and .message.
+has .line, .column, .kind and .message. Several threads may use a document at the same time: each call has it alone. A document
+can't be copied or pickled; Document(str(document)) is another, with the same content where document.is_plain().
 """
 import ctypes
 import os
+import threading
 from collections.abc import MutableMapping
 
+# A call leaves the interpreter's lock, so that other threads run meanwhile: Document has a lock of its own.
 _library = ctypes.CDLL(os.environ.get("BIGROSK_INI_LIBRARY", "libbigrosk_ini.so"))
 _OK, _ABSENT, _NO_ROOM, _BROKEN, _NOT_UTF8, _NO_MEMORY, _NO_DOCUMENT, _UNPLAIN_VALUE, _UNPLAIN_KEY, _NO_PLACE = range(10)
 _UNPLAIN_NAME = 10
@@ -132,6 +135,8 @@ def _is_done(status):
         raise UnicodeError("not UTF-8")
     if status == _NO_MEMORY:
         raise MemoryError
+    if status == _NO_DOCUMENT:
+        raise ValueError("nothing is loaded")
     return status == _OK
 
 
@@ -200,7 +205,7 @@ class Document:
     """A document: its sections by name, None for the general one. A name that is there twice stands for its first section."""
 
     def __init__(self, text="", option=None, drop_mark=True):
-        self._it = _Document()
+        self._it, self._lock = _Document(), threading.RLock()
         fault = _Fault()
         text = text if isinstance(text, bytes) else text.encode()
         status = _library.bigrosk_ini_load(text, len(text), drop_mark, option or ReadOption(), self._it, fault)
@@ -212,8 +217,17 @@ class Document:
         if hasattr(self, "_it"):
             _library.bigrosk_ini_free(self._it)
 
+    def _call(self, call, *words):
+        """Calls the library with the document, which no other thread does meanwhile."""
+        with self._lock:
+            return call(self._it, *words)
+
+    def __reduce_ex__(self, protocol):
+        """Copies by copy and pickle would share what the library keeps, and free it twice."""
+        raise TypeError("a Document can't be copied or pickled: load its text, str(document), into another")
+
     def __contains__(self, section):
-        return _is_done(_library.bigrosk_ini_has_section(self._it, *_texts(section)))
+        return _is_done(self._call(_library.bigrosk_ini_has_section, *_texts(section)))
 
     def __iter__(self):
         """Each section's name once, in the order of first occurrence."""
@@ -226,7 +240,7 @@ class Document:
         return Section(self, section)
 
     def __delitem__(self, section):
-        if not _is_done(_library.bigrosk_ini_delete_section(self._it, *_texts(section))):
+        if not _is_done(self._call(_library.bigrosk_ini_delete_section, *_texts(section))):
             raise KeyError(section)
 
     def keys(self):
@@ -240,31 +254,31 @@ class Document:
         return [(name, self[name]) for name in self]
 
     def get(self, section, key, fallback=None):
-        value = _copied(_library.bigrosk_ini_get, self._it, *_texts(section, key))
+        value = _copied(self._call, _library.bigrosk_ini_get, *_texts(section, key))
         return fallback if value is None else value
 
     def set(self, section, key, value):
-        _is_done(_library.bigrosk_ini_set(self._it, *_texts(section, key, value)))
+        _is_done(self._call(_library.bigrosk_ini_set, *_texts(section, key, value)))
 
     def add(self, section, key, value):
         """Puts the pair last in the section, also where the key is there."""
-        _is_done(_library.bigrosk_ini_add(self._it, *_texts(section, key, value)))
+        _is_done(self._call(_library.bigrosk_ini_add, *_texts(section, key, value)))
 
     def walk(self):
         """All sections in order, each its name and the list of its pairs; two may have one name."""
-        listing, sections = _Listing(_library.bigrosk_ini_items, self._it), []
+        listing, sections = _Listing(self._call, _library.bigrosk_ini_items), []
         while not listing.is_over():
             sections.append((listing.text(), listing.pairs(listing.number())))
         return sections
 
     def text(self, option=None):
-        return _copied(_library.bigrosk_ini_write, self._it, option or WriteOption())
+        return _copied(self._call, _library.bigrosk_ini_write, option or WriteOption())
 
     __str__ = text
 
     def is_plain(self, write=None, read=None):
         """Whether the document, written by one option, loads by the other as it is."""
-        return _library.bigrosk_ini_is_plain(self._it, write or WriteOption(), read or ReadOption())
+        return self._call(_library.bigrosk_ini_is_plain, write or WriteOption(), read or ReadOption())
 
 
 class Section(MutableMapping):
@@ -275,7 +289,7 @@ class Section(MutableMapping):
         self._document, self.name = document, name
 
     def __contains__(self, key):
-        return _is_done(_library.bigrosk_ini_has(self._document._it, *_texts(self.name, key)))
+        return _is_done(self._document._call(_library.bigrosk_ini_has, *_texts(self.name, key)))
 
     def __getitem__(self, key):
         value = self._document.get(self.name, key)
@@ -287,7 +301,7 @@ class Section(MutableMapping):
         self._document.set(self.name, key, value)
 
     def __delitem__(self, key):
-        if not _is_done(_library.bigrosk_ini_delete(self._document._it, *_texts(self.name, key))):
+        if not _is_done(self._document._call(_library.bigrosk_ini_delete, *_texts(self.name, key))):
             raise KeyError(key)
 
     def __iter__(self):
@@ -302,11 +316,11 @@ class Section(MutableMapping):
 
     def get_all(self, key):
         """All values of the key, in order."""
-        return list(_Listing(_library.bigrosk_ini_get_all, self._document._it, *_texts(self.name, key)).texts())
+        return list(_Listing(self._document._call, _library.bigrosk_ini_get_all, *_texts(self.name, key)).texts())
 
     def pairs(self):
         """All pairs in order; two may have one key."""
-        texts = _Listing(_library.bigrosk_ini_pairs, self._document._it, *_texts(self.name)).texts()
+        texts = _Listing(self._document._call, _library.bigrosk_ini_pairs, *_texts(self.name)).texts()
         return list(zip(texts, texts))
 
 

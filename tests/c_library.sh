@@ -81,8 +81,11 @@ checked='-fsanitize=address,undefined -fno-sanitize-recover=all'
 has gcc 'everything that uses the C library' || finish
 CC=gcc
 export CC
-run 'install' "$top/tools/c_library.sh" "$room/it"
+# shellcheck disable=SC2016
+run 'install' sh -c 'umask 000 && exec "$0" "$1"' "$top/tools/c_library.sh" "$room/it"
 [ "$failed" -eq 0 ] || finish
+run 'what others may not do with what is installed' test -z "$(find "$room/it" ! -perm 755 \( -type d -o -name '*.so' \) -o \
+    ! -perm 644 -type f ! -name '*.so')"
 run 'install without a heap' "$top/tools/c_library.sh" "$room/bare" --no-heap
 run 'install with the heap of the kit' "$top/tools/c_library.sh" "$room/kit" --kit-heap
 include="-I$room/it/include"
@@ -139,5 +142,11 @@ if has python3 'the Python module, and the comparison of header, module and sour
         PYTHONPATH="$top/python" python3 "$clients/borders.py" "$room/it/include/bigrosk_ini.h"
     run 'Python module' env BIGROSK_INI_LIBRARY="$room/it/lib/libbigrosk_ini.so" PYTHONDONTWRITEBYTECODE=1 \
         PYTHONPATH="$top/python" python3 "$clients/test_python.py"
+    run 'options and refusals of the Python module' env BIGROSK_INI_LIBRARY="$room/it/lib/libbigrosk_ini.so" \
+        PYTHONDONTWRITEBYTECODE=1 PYTHONPATH="$top/python" python3 "$clients/test_python_options.py"
+    run 'compile the memory of the Python test' gcc $warnings -fPIC -shared -o "$room/refusing.so" "$clients/python_heap.c" \
+        -Wl,--whole-archive "$room/bare/lib/libbigrosk_ini.a" -Wl,--no-whole-archive
+    run 'memory and threads of the Python module' env BIGROSK_INI_LIBRARY="$room/refusing.so" \
+        PYTHONDONTWRITEBYTECODE=1 PYTHONPATH="$top/python" python3 "$clients/test_python_memory.py"
 fi
 finish

@@ -12,6 +12,7 @@
 # crates/ini_c/out has no proof of it yet. The gate, which has just proved the crates below it, names a file that it made before
 # in BIGROSK_PROVED_SINCE, and they aren't proved again.
 set -eu
+umask 022
 top=$(dirname "$(dirname "$(readlink -f "$0")")")
 prefix=${1:?'usage: tools/c_library.sh PREFIX [--kit-heap | --no-heap]'}
 heap=${2:-}

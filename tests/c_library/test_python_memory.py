@@ -1,0 +1,93 @@
+"""The Python module over a library with the memory of python_heap.c: out of memory is raised by each call and
+changes nothing, each block is freed, and of several threads one at a time is in a document."""
+import threading
+import time
+from ctypes import c_int, c_long
+from bigrosk_ini import Document, _library, edit_add, edit_delete, edit_delete_section
+from bigrosk_ini import edit_rename_key, edit_rename_section, edit_set
+
+requests = c_long.in_dll(_library, "heap_requests")
+refused = c_long.in_dll(_library, "heap_refused")
+blocks = c_long.in_dll(_library, "heap_blocks")
+shut = c_int.in_dll(_library, "heap_shut")
+TEXT = "k=1\n[s]\nk=2\nj=" + "long" * 200 + "\nk=3\n[t]\n"
+CALLS = {
+    "load": lambda _: Document(TEXT).is_plain(),
+    "set": lambda document: document.set("s", "k", "v" * 999),
+    "set a new key": lambda document: document.set("s", "new", "v"),
+    "set in a new section": lambda document: document.set("new", "k", "v"),
+    "add": lambda document: document.add("s", "k", "v"),
+    "text": lambda document: document.text(),
+    "get_all": lambda document: document["s"].get_all("k"),
+    "pairs": lambda document: document["s"].pairs(),
+    "walk": lambda document: document.walk(),
+    "edit_set": lambda _: edit_set(TEXT, "s", "k", "v"),
+    "edit_add": lambda _: edit_add(TEXT, "s", "k", "v"),
+    "edit_delete": lambda _: edit_delete(TEXT, "s", "k"),
+    "edit_rename_key": lambda _: edit_rename_key(TEXT, "s", "k", "l"),
+    "edit_delete_section": lambda _: edit_delete_section(TEXT, "s"),
+    "edit_rename_section": lambda _: edit_rename_section(TEXT, "s", "u"),
+}
+
+
+def run(call, document, number):
+    """What the call gives, or MemoryError, where each request from this number on is refused; and how many
+    requests it made."""
+    requests.value, refused.value = 0, number
+    try:
+        given = call(document)
+    except MemoryError:
+        given = MemoryError
+    finally:
+        refused.value = -1
+    return given, requests.value
+
+
+def memory():
+    """Each call, refused each request in turn: it raises MemoryError and leaves the document, or does all."""
+    before = Document(TEXT).walk()
+    for name, call in CALLS.items():
+        document, outcomes = Document(TEXT), []
+        given, made = run(call, document, -1)
+        done = given, document.walk()
+        for number in range(made):
+            document = Document(TEXT)
+            outcomes.append((run(call, document, number)[0], document.walk()))
+            assert outcomes[-1] in ((MemoryError, before), done), (name, number, outcomes[-1])
+        assert outcomes[0] == (MemoryError, before), name
+    del document
+    assert blocks.value == 0, blocks.value
+
+
+def threads():
+    """While one thread is in a document another waits for it, and a third is in a document of its own."""
+    new, other = "new" * 100, Document("k=other\n")
+    for read, wanted in (
+        (lambda document: document.get(None, "k"), new),
+        (lambda document: "j" in document[None], True),
+        (lambda document: document.is_plain(), True),
+        (lambda document: document[None].get_all("k"), [new]),
+        (lambda document: document[None].pairs(), [("k", new), ("j", "")]),
+        (lambda document: document.walk(), [(None, [("k", new), ("j", "")])]),
+        (lambda document: document.text(), f"k={new}\nj=\n"),
+    ):
+        document, had = Document("k=old\nj=\n"), []
+        writer = threading.Thread(target=document.set, args=(None, "k", new))
+        reader = threading.Thread(target=lambda: had.append(read(document)))
+        requests.value, shut.value = 0, 1
+        writer.start()
+        while requests.value == 0:
+            time.sleep(0.001)
+        reader.start()
+        assert other.get(None, "k") == "other" and writer.is_alive()
+        reader.join(0.05)
+        assert had == [], "two threads are in one document"
+        shut.value = 0
+        writer.join()
+        reader.join()
+        assert had == [wanted], had
+
+
+memory()
+threads()
+print("all of the Python module's memory and threads")
