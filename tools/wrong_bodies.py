@@ -8,10 +8,11 @@ it stands. Then each of its edits is made, and the function that it changes is p
 in the whole crate. Only where the function is proved all the same, its module is tried, and last the whole crate.
 
 By default it takes every crate, and as many edits at a time as there are processors (N). It prints a line for each edit, and
-last how many were refused, how many were not, and how many couldn't be read. The status is 0 where all were refused.
+last how many were refused, how many were not, and how many couldn't be read. The status is 0 where all were refused. An EDIT
+that is named may stand in must-fail/ too.
 
-With --read nothing is proved: it prints the edits that can no longer be made, since a text that they replace doesn't stand in
-its file once. The status is 0 where there are none.
+With --read nothing is proved: it prints the edits of both folders that can no longer be made, since a text that they replace
+doesn't stand in its file once. The status is 0 where there are none.
 """
 import os
 import re
@@ -117,20 +118,20 @@ def tried(edit, crate):
             (crate / path).write_text(text, encoding="utf-8")
 
 
-def edits_of(words):
-    """The edits that are asked for, by crate."""
-    wanted = words or sorted(it.parent.name for it in TOP.glob("crates/*/wrong-bodies"))
+def edits_of(words, reads=False):
+    """The edits that are asked for, by crate; those that the gate tries only where one is named, or where all are read."""
+    wanted = words or sorted({it.parent.name for it in TOP.glob("crates/*/wrong-bodies")})
     found = {}
     for word in wanted:
         name, _, edit = word.partition("/")
-        folder = TOP / "crates" / name / "wrong-bodies"
-        found.setdefault(name, []).extend(sorted(folder.glob(f"{edit or '*'}.edit")))
+        for folder in ["wrong-bodies", "must-fail"] if edit or reads else ["wrong-bodies"]:
+            found.setdefault(name, []).extend(sorted((TOP / "crates" / name / folder).glob(f"{edit or '*'}.edit")))
     return found
 
 
 def stale(words):
     """The edits that can't be made, and why."""
-    for name, edits in edits_of(words).items():
+    for name, edits in edits_of(words, reads=True).items():
         for edit in edits:
             try:
                 made(edit, TOP / "crates" / name)
