@@ -1,6 +1,7 @@
 #!/bin/sh
-# What a program's surroundings are used to: the pages of the manual, the completions of bash, and the script that installs
-# them. Pages are read by man and mandoc, completions are asked of bash; what has no such tool here is skipped and told. Each
+# What a program's surroundings are used to: the pages of the manual, the completions of bash, and the script
+# that installs them. Pages are read by man and mandoc, completions are asked of bash, and options, commands
+# and statuses are compared wherever they are documented; what has no such tool here is skipped and told. Each
 # case that fails is told. The last line is 'N passed, M failed', and the status is 1 if a case failed.
 set -u
 LC_ALL=C
@@ -40,12 +41,6 @@ if has mandoc 'pages under mandoc'; then
         is "mandoc $name" '' "$(mandoc -T lint "$top/man/$name.1" 2>&1)"
     done
 fi
-for name in $programs; do
-    page=$(tr -d '\\' <"$top/man/$name.1")
-    for option in --noescape --noquote --multiline --indent --brackets --crlf --policy; do
-        is "$name.1 tells $option" yes "$(case $page in *"$option"*) echo yes ;; esac)"
-    done
-done
 
 # offered WANTED WORD ..: what bash offers for the last of these words
 offered() {
@@ -92,8 +87,8 @@ if has bash completions; then
         "$top/completions/bigrosk" $programs | sed 's/^complete -F _bigrosk //' | tr '\n' ' ' | sed 's/ $//')"
 fi
 
-# The same where the words are typed at a terminal: bash puts what is offered into the line. Each row is a line that a tab follows,
-# and the line that it becomes.
+# The same where the words are typed at a terminal: bash puts what is offered into the line. Each row is a
+# line that a tab follows, and the line that it becomes.
 cat >"$room/rows" <<'ROWS'
 ini_tool ge|ini_tool get |
 ini_file ge|ini_file get |
@@ -117,8 +112,19 @@ mkdir -p "$room/typed/a folder/in" "$room/typed/only" "$room/typed/get"
 : >"$room/typed/it's"
 : >"$room/typed/\$HOME"
 if has bash 'completions at a terminal' && has python3 'completions at a terminal'; then
-    cut -d '|' -f 1 "$room/rows" | python3 "$top/tests/habits/typed.py" "$top/completions/bigrosk" "$room/typed" >"$room/became" 2>&1
-    is 'lines as they are completed' "$(cut -d '|' -f 2 "$room/rows" | sed 's/$/./')" "$(sed 's/$/./' "$room/became")"
+    cut -d '|' -f 1 "$room/rows" |
+        python3 "$top/tests/habits/typed.py" "$top/completions/bigrosk" "$room/typed" >"$room/became" 2>&1
+    is 'lines as they are completed' "$(cut -d '|' -f 2 "$room/rows" | sed 's/$/./')" "$(
+        sed 's/$/./' "$room/became"
+    )"
+fi
+
+# What is documented of the programs, beside what they do.
+if has bash 'what is documented of the programs' && has python3 'what is documented of the programs'; then
+    for name in $programs; do
+        "$top/tools/run.sh" --build "$name" || exit 1
+    done
+    is 'what is documented of the programs' '' "$(python3 "$top/tests/habits/documented.py" "$top" 2>&1)"
 fi
 
 # Installing, over a copy whose run.sh writes down what is built. The programs there are of a line.
@@ -146,10 +152,13 @@ done
 is 'nothing else is installed' 9 "$(find "$room/a place" -type f | wc -l | tr -d ' ')"
 for mask in 000 077; do
     (umask "$mask" && "$copy/tools/install.sh" "$room/under $mask" 2>/dev/null)
-    is "what each may do with what is installed under $mask" "$(printf '644 file in share\n755 file in bin\n755 folder')" "$(
+    wanted=$(printf '644 file in share\n755 file in bin\n755 folder')
+    is "what each may do with what is installed under $mask" "$wanted" "$(
         cd "$room/under $mask" || exit
-        { find . -type f -exec stat -c '%a file in %n' {} + && find . -type d -exec stat -c '%a folder' {} +; } |
-            sed 's,\./\([a-z]*\)/.*,\1,' | sort -u
+        {
+            find . -type f -exec stat -c '%a file in %n' {} +
+            find . -type d -exec stat -c '%a folder' {} +
+        } | sed 's,\./\([a-z]*\)/.*,\1,' | sort -u
     )"
 done
 echo ini_merge >"$room/broken"

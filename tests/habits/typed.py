@@ -1,4 +1,4 @@
-"""Types the lines of standard input into a bash of its own, a tab behind each, and prints what they become.
+"""Types the lines of standard input into a bash of its own, a tab after each, and prints what they become.
 
     typed.py COMPLETIONS FOLDER
 

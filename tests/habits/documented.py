@@ -1,0 +1,198 @@
+"""Compares what is documented of the programs with what they do: options, commands, policies and exit
+statuses in `ini_file --help`, the usage lines, the pages of the manual, the tables of docs/PROGRAM.md and the
+completions of bash.
+
+    documented.py TOP
+
+TOP is the repository; its programs are built. Each difference is a line, and the status is 1 where there is one.
+"""
+import os
+import pathlib
+import re
+import subprocess
+import sys
+import tempfile
+
+TOP = pathlib.Path(sys.argv[1]).resolve()
+PROGRAMS = ("ini_tool", "ini_merge", "ini_file")
+OFFER = """. "$0" && COMP_WORDS=("$@") COMP_CWORD=$(($# - 1)) && _bigrosk
+printf '%s\\n' "${COMPREPLY[@]}" """
+# What each outcome is called, wherever a status is explained.
+OUTCOMES = {
+    "done": r"\bdone\b",
+    "not found": r"not found|isn't there|found no",
+    "wrong words": r"\bwords\b",
+    "a refused text": r"\brefused\b.*\b(text|UTF-8)|\brefused text",
+    "a fault": r"\bmemory\b",
+}
+differences = []
+
+
+def same(what, **sources):
+    """Notes a difference where not all sources say the same, or one says nothing."""
+    first = next(iter(sources.values()))
+    if not first or any(source != first for source in sources.values()):
+        said = "; ".join(f"{name} {sorted(words)}" for name, words in sources.items())
+        differences.append(f"{what}: {said}")
+
+
+def run(program, *words, stdin=subprocess.DEVNULL):
+    """The status, the output and the errors of a run."""
+    command = [TOP / "crates" / program / "out" / program, *words]
+    ran = subprocess.run(command, stdin=stdin, capture_output=True)
+    return ran.returncode, ran.stdout.decode(), ran.stderr.decode()
+
+
+def offered(*words):
+    """What bash offers for the last of the words."""
+    asked = ["bash", "-c", OFFER, TOP / "completions/bigrosk", *words]
+    return set(subprocess.run(asked, capture_output=True, text=True, check=True).stdout.split())
+
+
+def options_in(text):
+    return set(re.findall(r"(?<![\w-])--[a-z][a-z-]*", text))
+
+
+def page(program):
+    """The page of the manual, with hyphens as they are shown."""
+    return (TOP / "man" / f"{program}.1").read_text().replace("\\-", "-")
+
+
+def part(text, head):
+    """The part of a page below the head."""
+    return text.split(f".SH {head}\n")[1].split("\n.SH ")[0]
+
+
+def documented(program):
+    """What docs/PROGRAM.md has of the program."""
+    return (TOP / "docs/PROGRAM.md").read_text().split(f"\n## `{program}`\n")[1].split("\n## ")[0]
+
+
+def rows(text):
+    """The first columns of its tables' rows."""
+    return re.findall(r"^\| (.*?) \|", text, re.M)
+
+
+def commands():
+    """The commands of ini_tool and ini_file, and of the choices of ini_file each that a command takes."""
+    usage, shown = run("ini_tool")[2], run("ini_file", "--help")[1]
+    same(
+        "commands of ini_tool",
+        usage=set(re.findall(r"(?:NAME\] |\|)([a-z]+)", usage)),
+        page=set(re.findall(r"^\.RI \[ OPTIONS \]\n\.B (.*)", page("ini_tool"), re.M)),
+        document={row.strip("`").split()[0] for row in rows(documented("ini_tool")) if re.match("`[a-z]", row)},
+        completions=offered("ini_tool", ""),
+    )
+    lines = re.findall(r"^  ([a-z].*?)  ", shown, re.M)
+    arguments = {line.split()[0]: re.findall(r" ([A-Z]+)\b(?!\])", line) for line in lines}
+    same(
+        "commands of ini_file",
+        help=set(arguments),
+        page=set(re.findall(r"^\.RI \[ OPTIONS \]\n\.B (.*)", page("ini_file"), re.M)),
+        document=set(re.findall(r"^    ini_file \[OPTIONS\] ([a-z-]+)", documented("ini_file"), re.M)),
+        completions=offered("ini_file", ""),
+    )
+    choices = dict(re.findall(r"^  (--[a-z-]+)( [A-Z]+)? ", shown.split("\nChoices:\n")[1], re.M))
+    for command, names in arguments.items():
+        taken = set()
+        for choice, argument in choices.items():
+            chosen = [choice, "="] if argument else [choice]
+            status, _, errors = run("ini_file", command, *chosen, *("k" for _ in names))
+            if status != 2 or not errors.startswith("usage: "):
+                taken.add(choice)
+        same(f"choices of {command}", program=taken | {"--"}, completions=offered("ini_file", command, "--"))
+
+
+def options():
+    """The options of each program."""
+    shown = run("ini_file", "--help")[1]
+    before = options_in(shown.split("\nChoices:\n")[0])
+    for program in PROGRAMS:
+        usage = options_in(run(program)[2])
+        same(f"options of {program}", usage=usage, help=before, completions=offered(program, "-"))
+    for program in ("ini_tool", "ini_merge"):
+        same(f"options on the page of {program}", help=before, page=options_in(page(program)))
+    by_commands = set()
+    for command in offered("ini_file", ""):
+        by_commands |= offered("ini_file", command, "--") - {"--"}
+    same(
+        "options and choices of ini_file",
+        help=options_in(shown),
+        page=options_in(page("ini_file")),
+        document=before | options_in(documented("ini_file")) & options_in(shown),
+        completions=offered("ini_file", "-") | by_commands,
+    )
+    table = {row.strip("`").split()[0] for row in rows(documented("ini_tool")) if row.startswith("`--")}
+    same("options in the table", help=before, document=table)
+
+
+def policies():
+    """The names of policies, each of which the program takes."""
+    named = page("ini_tool").split('.BI --policy " NAME"\n')[1].split("Of several")[0]
+    names = offered("ini_tool", "--policy", "")
+    same(
+        "policies",
+        page=set(re.findall(r"^\.BR? ([A-Z]\w*)", named, re.M)),
+        document=set(re.findall(r"`([A-Z]\w*)`", " ".join(rows(documented("ini_tool"))))),
+        completions=names,
+        program={name for name in names if run("ini_tool", "--policy", name, "fmt")[0] == 0},
+    )
+
+
+def statuses():
+    """What each status of a run is called, in the help and on the page."""
+    pathlib.Path("plain.ini").write_text("k=v\n")
+    pathlib.Path("refused.ini").write_text("=\n")
+    folder = os.open(".", os.O_RDONLY)
+    ran = {
+        ("ini_tool", "done"): run("ini_tool", "fmt"),
+        ("ini_tool", "not found"): run("ini_tool", "get", "k"),
+        ("ini_tool", "wrong words"): run("ini_tool", "frob"),
+        ("ini_tool", "a refused text"): run("ini_tool", "fmt", stdin=open("refused.ini", "rb")),
+        ("ini_tool", "a fault"): run("ini_tool", "fmt", stdin=folder),
+        ("ini_merge", "done"): run("ini_merge", "plain.ini"),
+        ("ini_merge", "wrong words"): run("ini_merge"),
+        ("ini_merge", "a refused text"): run("ini_merge", "refused.ini"),
+        ("ini_merge", "a fault"): run("ini_merge", "nowhere.ini"),
+        ("ini_file", "done"): run("ini_file", "get", "plain.ini", "k"),
+        ("ini_file", "not found"): run("ini_file", "get", "plain.ini", "j"),
+        ("ini_file", "wrong words"): run("ini_file", "frob"),
+        ("ini_file", "a refused text"): run("ini_file", "get", "refused.ini", "k"),
+        ("ini_file", "a fault"): run("ini_file", "get", "nowhere.ini", "k"),
+    }
+    in_help = run("ini_file", "--help")[1].split("\nStatus: ")[1].replace("\n", " ").split(".")[0]
+    explained = {("ini_file --help", status): words for status, words in re.findall(r"(\d) ([^,]*)", in_help)}
+    for program in PROGRAMS:
+        paragraphs = part(page(program), "EXIT STATUS")
+        for status, words in re.findall(r"\.B (\d)\n(.*?)(?=\n\.TP|\n\.PP|\Z)", paragraphs, re.S):
+            explained[f"{program}.1", status] = words.replace("\n", " ")
+    for (program, outcome), (status, _, _) in ran.items():
+        for place in (f"{program}.1", "ini_file --help")[: 1 + (program == "ini_file")]:
+            words = explained.get((place, str(status)), "")
+            if not re.search(OUTCOMES[outcome], words):
+                differences.append(f"{program}, {outcome}: status {status}, which {place} calls '{words}'")
+
+
+def locks():
+    """What becomes of a lock that is there."""
+    pathlib.Path("locked.ini").write_text("k=v\n")
+    pathlib.Path("locked.ini.lock").write_text("another's\n")
+    status, _, _ = run("ini_file", "set", "locked.ini", "k", "w")
+    left = status, *(pathlib.Path("locked.ini" + end).read_text() for end in ("", ".lock"))
+    sentences = part(page("ini_file"), "FILES").split(".IR FILE .lock\n")[1]
+    says_so = re.search(r"there already\b.*(isn't|not) written", sentences, re.S)
+    if left != (4, "k=v\n", "another's\n") or not says_so:
+        differences.append(f"a lock that is there: {left}, and ini_file.1 says '{sentences}'")
+
+
+def main():
+    with tempfile.TemporaryDirectory() as folder:
+        os.chdir(folder)
+        for compared in (commands, options, policies, statuses, locks):
+            compared()
+        os.chdir("/")
+    print("\n".join(differences))
+    sys.exit(bool(differences))
+
+
+main()
