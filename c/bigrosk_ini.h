@@ -9,10 +9,10 @@
  *   - a struct bigrosk_ini_document is written by these calls alone; it may be moved, but of two copies only one may be
  *     used further;
  *   - what a call lends is read before the next call with the document, and never written;
- *   - one call at a time uses a document, a look-up too; another thread may use it once the call has returned and the two
- *     are ordered (a lock, a join). Different documents may be used at the same time;
- *   - every pointer points to as many bytes as are named, also where these are 0 (never NULL), and the memory of an argument
- *     that is written overlaps no other argument's;
+ *   - one call at a time uses a document, a look-up too; another thread may go on with it once the call has returned and the
+ *     two are ordered (a lock, a thread's start or join). Different documents may be used at the same time;
+ *   - every pointer points to as many items as are named (`counts` to so many size_t, the others to so many bytes), also where
+ *     that is 0 (never NULL). Memory that a call writes is the caller's, holds some value, and overlaps no other argument's;
  *   - a bool is 0 or 1; no call is made from a signal handler, nor in the child of a fork of a program with threads;
  *   - malloc, realloc and free are one allocator's, and align a block to each power of two up to 16 that divides its size.
  */
@@ -288,7 +288,7 @@ static inline uint32_t bigrosk_ini_load_str(const char *text, struct bigrosk_ini
 static inline uint32_t bigrosk_ini_get_str(struct bigrosk_ini_document *document, const char *section, const char *key,
                                            char *value, size_t room, size_t *count)
 {
-    size_t unused;
+    size_t unused = 0;
     return bigrosk_ini_get(document, section != NULL, bigrosk_ini_bytes(section), bigrosk_ini_count(section),
                            bigrosk_ini_bytes(key), bigrosk_ini_count(key), (uint8_t *)value, room,
                            count ? count : &unused);

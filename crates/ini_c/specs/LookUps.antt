@@ -1,7 +1,7 @@
 -- What calls name, and what is found there.
-use Rattle.std.specs.Prelude.{ℕ, Bool, true, false, List, Option, Some, None, IsSome}
+use Rattle.std.specs.Prelude.{ℕ, Bool, true, false, List, Option, Some, None, IsSome, encode_utf8_all}
 use Rattle.std.specs.Str.{IsUtf8, chars}
-use Rattle.std.specs.Option.{option_and_then}
+use Rattle.std.specs.Option.{option_and_then, option_map}
 use Rattle.ini.specs.Texts.{Text}
 use Rattle.ini.specs.Documents.{Document, first_section, value_in}
 
@@ -17,6 +17,10 @@ AreTexts section key = IsUtf8 section × IsUtf8 key
 -- the first value of the key in the first section of the name
 abbrev pub found_in : Option Text → Text → Option Document → Option Text
 found_in name key document = option_and_then (value_in name key) document
+
+-- the bytes of a text, where there is one: its UTF-8
+abbrev pub utf8_of : Option Text → Option (List ℕ)
+utf8_of text = option_map encode_utf8_all text
 
 -- the first section of the name is there
 abbrev pub HasSection : Option Text → Option Document → Type 0

@@ -4,7 +4,7 @@ ghost use Rattle.std.specs.Borrow.{sem};
 ghost use Rattle.std.specs.Str.{chars};
 ghost use Rattle.ini_c.specs.Held.{document_in};
 ghost use Rattle.ini_c.specs.Loans.{document_stays};
-ghost use Rattle.ini_c.specs.LookUps.{AreTexts, found_in, name_if};
+ghost use Rattle.ini_c.specs.LookUps.{AreTexts, found_in, name_if, utf8_of};
 ghost use Rattle.ini_c.specs.Statuses.{absent, is_among, no_document, not_utf8, ok};
 
 use crate::document::Document;
@@ -27,8 +27,8 @@ fn value_or<'a>(
     ensures absent { result.1 ≡ absent →
         found_in (name_if named section.now) (chars key.now) (document_in document.old) ≡ None }
     ensures value { result.1 ≡ ok →
-        found_in (name_if named section.now) (chars key.now) (document_in document.old)
-        ≡ Some (chars result.0.now) }
+        utf8_of (found_in (name_if named section.now) (chars key.now) (document_in document.old))
+        ≡ Some result.0.now }
     ensures rest { ¬ (result.1 ≡ ok) → result.0 ≡ before.entry }
     ensures statuses { IsTrue (is_among result.1 (ok ∷ absent ∷ not_utf8 ∷ no_document ∷ [])) }
 {
@@ -60,8 +60,8 @@ pub extern "C" fn bigrosk_ini_borrow<'a>(
     ensures absent { result ≡ absent →
         found_in (name_if named section.now) (chars key.now) (document_in document.old) ≡ None }
     ensures value { result ≡ ok →
-        found_in (name_if named section.now) (chars key.now) (document_in document.old)
-        ≡ Some (chars value.new.now) }
+        utf8_of (found_in (name_if named section.now) (chars key.now) (document_in document.old))
+        ≡ Some value.new.now }
     ensures rest { ¬ (result ≡ ok) → value.new ≡ value.old }
     ensures statuses { IsTrue (is_among result (ok ∷ absent ∷ not_utf8 ∷ no_document ∷ [])) }
 {

@@ -6,7 +6,7 @@ ghost use Rattle.ini_c.specs.Inside.Ownership.{held_or_closed, kept_coded};
 use crate::document::Kept;
 use crate::parts::Parts;
 use std::alloc::Global;
-use std::marker::Model;
+use std::marker::{Model, Send};
 use std::ptr;
 
 /// A box, or none. It is no `Drop`: derived, that would forget the box, so that no code may let one go.
@@ -22,6 +22,9 @@ pub struct Handle {
 impl Model for Handle {
     ghost also_owns = { λ h. held_or_closed h.is_open h.at h.alloc h.value };
 }
+
+// Between calls C may pass it to another thread: what it owns, a box of a document, may go there.
+unsafe impl Send for Handle {}
 
 impl Handle {
     ghost use Rattle.std.specs.Borrow.{sem};

@@ -16,7 +16,7 @@ ghost use Rattle.ini_c.specs.Faults.{IsStopAt};
 ghost use Rattle.ini_c.specs.Held.{document_in};
 ghost use Rattle.ini_c.specs.Listings.{AreSizesOf, all_found_in, copied_listing, document_listed, fits};
 ghost use Rattle.ini_c.specs.Listings.{pairs_found_in, pairs_listed, values_listed};
-ghost use Rattle.ini_c.specs.LookUps.{AreTexts, HasSection, found_in, name_if};
+ghost use Rattle.ini_c.specs.LookUps.{AreTexts, HasSection, found_in, name_if, utf8_of};
 ghost use Rattle.ini_c.specs.Statuses.{absent, broken, is_among, no_document};
 ghost use Rattle.ini_c.specs.Statuses.{no_memory, no_room, not_utf8, ok};
 
@@ -133,11 +133,12 @@ pub extern "C" fn bigrosk_ini_get(
     ensures absent { result ≡ absent →
         found_in (name_if named section.now) (chars key.now) (document_in document.old) ≡ None }
     ensures value { result ≡ ok
-        → found_in (name_if named section.now) (chars key.now) (document_in document.old)
-        ≡ Some (chars (take count.new value.new)) }
+        → utf8_of (found_in (name_if named section.now) (chars key.now) (document_in document.old))
+        ≡ Some (take count.new value.new) }
     ensures zero { result ≡ ok → slice_get value.new count.new ≡ Some 0 }
-    ensures there { result ≡ no_room →
-        IsSome (found_in (name_if named section.now) (chars key.now) (document_in document.old)) }
+    ensures count { result ≡ no_room → option_map length
+        (utf8_of (found_in (name_if named section.now) (chars key.now) (document_in document.old)))
+        ≡ Some count.new }
     ensures no_room { result ≡ no_room → length value.old ≤ count.new }
     ensures rest { ¬ (result ≡ ok) → value.new ≡ value.old }
     ensures statuses { IsTrue (is_among result (ok ∷ absent ∷ no_room ∷ not_utf8 ∷ no_document ∷ [])) }

@@ -1,10 +1,11 @@
 //! Look-ups over a document, by names and keys as bytes.
 ghost use Rattle.std.specs.Prelude.{◌≡◌, ◌∷◌, [], ◌≤◌, ◌↔◌, IsSome, Some, None, length, slice_get};
 ghost use Rattle.std.specs.Prelude.{IfErr, IfOk, IfSome, IsTrue, take};
+ghost use Rattle.std.specs.Option.{option_map};
 ghost use Rattle.std.specs.Str.{IsUtf8, chars};
 ghost use Rattle.ini.specs.Documents.{first_section, value_in};
 ghost use Rattle.ini.specs.Texts.{str_name, str_text};
-ghost use Rattle.ini_c.specs.LookUps.{AreTexts, name_if};
+ghost use Rattle.ini_c.specs.LookUps.{AreTexts, name_if, utf8_of};
 ghost use Rattle.ini_c.specs.Statuses.{absent, is_among, no_room, not_utf8, ok};
 
 use crate::copies::give;
@@ -39,6 +40,8 @@ pub(crate) fn value_at<'a>(
     ensures texts { IfOk result (λ value. AreTexts section.now key.now) }
     ensures value { IfOk result (λ value.
         value_in (name_if named section.now) (chars key.now) document.now ≡ Some (str_text value)) }
+    ensures bytes { IfOk result (λ value.
+        utf8_of (value_in (name_if named section.now) (chars key.now) document.now) ≡ Some value.now) }
     ensures not_utf8 { IfErr result (λ status. status ≡ not_utf8 ↔ ¬ (AreTexts section.now key.now)) }
     ensures absent { IfErr result (λ status. status ≡ absent →
         value_in (name_if named section.now) (chars key.now) document.now ≡ None) }
@@ -67,11 +70,11 @@ pub(crate) fn find(
     ensures not_utf8 { result ≡ not_utf8 ↔ ¬ (AreTexts section.now key.now) }
     ensures absent { result ≡ absent →
         value_in (name_if named section.now) (chars key.now) document.now ≡ None }
-    ensures value { result ≡ ok → value_in (name_if named section.now) (chars key.now) document.now
-        ≡ Some (chars (take count.new out.new)) }
+    ensures value { result ≡ ok → utf8_of (value_in (name_if named section.now) (chars key.now) document.now)
+        ≡ Some (take count.new out.new) }
     ensures zero { result ≡ ok → slice_get out.new count.new ≡ Some 0 }
-    ensures there { result ≡ no_room →
-        IsSome (value_in (name_if named section.now) (chars key.now) document.now) }
+    ensures count { result ≡ no_room → option_map length
+        (utf8_of (value_in (name_if named section.now) (chars key.now) document.now)) ≡ Some count.new }
     ensures no_room { result ≡ no_room → length out.old ≤ count.new }
     ensures stays { ¬ (result ≡ ok) → out.new ≡ out.old }
     ensures statuses { IsTrue (is_among result (ok ∷ absent ∷ no_room ∷ not_utf8 ∷ [])) }
