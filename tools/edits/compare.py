@@ -67,7 +67,8 @@ FRONTS = {
     "rename_section": ["[a]\nk=v\n", "  [\ta ] ", "[b] [a]k=v\n", "[a]] \t\n", "[\\x0061]", "[a\\\n] "],
 }
 # Values as a text spells them, and what they are.
-SPELLED = [("\\\\ ", "\\"), ("\\x0041b", "Ab"), ("'v' w", "v w"), ('"it\'s"', "it's"), ("v\n w", "v\nw"), ("a\\\nb", "ab"), ("\\;", ";")]
+SPELLED = [("\\\\ ", "\\"), ("\\x0041b", "Ab"), ("'v' w", "v w"), ('"it\'s"', "it's"), ("v\n w", "v\nw")]
+SPELLED += [("a\\\nb", "ab"), ("\\;", ";")]
 
 
 def random_question(chance):

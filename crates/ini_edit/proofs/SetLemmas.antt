@@ -100,8 +100,8 @@ sets_value o policy T value plain p name key old before after s target quote may
     sets value s target (replaced s (source_in plain may)) later d document
 
 -- the pair with what was put in its value's place
-module _ {o : ParseOption} {policy : EscapePolicy} {T value source : Text} (plain : IsPlainValue o policy value)
-    {p : Stretches} {key old : Text} {before after : List Given}
+module _ {o : ParseOption} {policy : EscapePolicy} {T value source : Text}
+    (plain : IsPlainValue o policy value) {p : Stretches} {key old : Text} {before after : List Given}
     (s : StandsAt o T p key old before after) where
   put_derives : IsPut o policy p.own old value source
       → Derives o (text_with p source) (before ++ (Pair key value ∷ after))

@@ -31,8 +31,8 @@ pub record IsDeleted (o : ParseOption) (T : Text) (name : Option Text) (key : Te
   pub is : IsDocumentOf o U (delete_in name key document)
 
 -- The text U is T with the value in the place of that of the first pair of the key in the first section of
--- the name, where that is another one: as the policy writes it, in the quotes that the old one stands in where
--- it can be; and without the later pairs of the key in that section; and no other byte than those that go
+-- the name, where that is another one: as the policy writes it, in the quotes that the old one stands in
+-- where it can be; and without the later pairs of the key in that section; and no other byte than those that go
 -- with these is another one: it loads as the document in which the key is set.
 pub record IsSetThere (o : ParseOption) (policy : EscapePolicy) (T : Text) (name : Option Text)
     (key value U : Text) : Type 0 where

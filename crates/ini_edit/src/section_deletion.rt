@@ -24,11 +24,11 @@ pub(crate) struct SectionPlace<'a> {
 /// The text without the first section of a name, and `None` where it has none. The general section has no
 /// name, and doesn't go.
 ///
-/// The section goes from its header's bracket up to the next header's, or to the text's end: blanks before its
-/// own header stay, and those before the next one go. Where the section's header is in column one, the comments
-/// behind its last pair stay, from the first one on, with all that follows: they may be about the next section.
-/// Where it isn't, they go, since a comment must be in column one. Every other byte stays, and the new text
-/// loads as the document without the section.
+/// The section goes from its header's bracket up to the next header's, or to the text's end: blanks before
+/// its own header stay, and those before the next one go. Where the section's header is in column one, the
+/// comments behind its last pair stay, from the first one on, with all that follows: they may be about the
+/// next section. Where it isn't, they go, since a comment must be in column one. Every other byte stays, and
+/// the new text loads as the document without the section.
 ///
 /// # Errors
 ///

@@ -28,10 +28,21 @@ fn edited(alloc: Global, asked: &Question) -> Result<Option<String>, EditError> 
 }
 
 /// The new text of an edit that is about the first section of a name.
-fn section_edited(alloc: Global, asked: &Question, name: &str) -> Result<Option<String>, EditError> {
+fn section_edited(
+    alloc: Global,
+    asked: &Question,
+    name: &str,
+) -> Result<Option<String>, EditError> {
     let (text, read, policy) = (asked.text.as_str(), asked.read, asked.write.escape_policy);
     match asked.call {
-        Call::RenameSection => rename_section(alloc, text, read, policy, name, asked.value.as_str()),
+        Call::RenameSection => rename_section(
+            alloc,
+            text,
+            read,
+            policy,
+            name,
+            asked.value.as_str(),
+        ),
         _ => delete_section(alloc, text, read, name),
     }
 }

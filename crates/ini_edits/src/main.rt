@@ -5,8 +5,8 @@
 //! flags, each `0` or `1` (escapes, quotes, multiline values, kept indentation, brackets in names); the
 //! escape policy by its name; the line end, `LF` or `CRLF`; the separator; the section, `G` for the general
 //! one or `S` and its name; the key; the value, or the new key or name; and the text. Separator, name, key,
-//! value and text stand as the hexadecimal of their UTF-8, which may be nothing. A call takes of these what it
-//! has a use for. The general section has no header, so there is none to take out or to name.
+//! value and text stand as the hexadecimal of their UTF-8, which may be nothing. A call takes of these what
+//! it has a use for. The general section has no header, so there is none to take out or to name.
 //!
 //! For each there is a line of standard output: `new` and the new text in hexadecimal; `none`, where there
 //! is nothing to edit; or `refused` and why, a refused text with line, column and kind.

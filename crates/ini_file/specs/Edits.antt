@@ -28,8 +28,8 @@ pub record IsChanged (o : Options) (separator : Option Word) (e : Editing) (byte
   pub gets_none : byte_order_mark ≡ [] → has_byte_order_mark new ≡ false
 
 -- the file has no mark, and with the edit made in its text T it would get one
-pub record GetsMark (o : Options) (separator : Option Word) (e : Editing) (byte_order_mark : List ℕ) (T : Text)
-    : Type 0 where
+pub record GetsMark (o : Options) (separator : Option Word) (e : Editing) (byte_order_mark : List ℕ)
+    (T : Text) : Type 0 where
   pub option : WriteOption
   pub is_option : IsWriting o separator option
   pub new : List ℕ

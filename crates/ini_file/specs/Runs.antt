@@ -67,7 +67,8 @@ abbrev pub EndsAs : Options → Option Word → Request → List ℕ → Text �
 EndsAs o separator r byte_order_mark T (Done bytes) = IsWritten o separator r byte_order_mark T bytes.items
 EndsAs o separator r byte_order_mark T NotFound = IsAbsent o separator r T
 EndsAs o separator r byte_order_mark T Usage = ⊥
-EndsAs o separator r byte_order_mark T (Refused refused) = RefusesRequest o separator r byte_order_mark T refused
+EndsAs o separator r byte_order_mark T (Refused refused) =
+    RefusesRequest o separator r byte_order_mark T refused
 
 -- the same of a file's bytes, which may be no text
 abbrev pub EndsOn : List ℕ → Asks → Outcome → Type 0

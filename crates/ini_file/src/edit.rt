@@ -17,8 +17,8 @@ use std::alloc::Global;
 ///
 /// # Errors
 ///
-/// Those of `ini_edit`'s `make_edit`, and out of memory; and `Key` where the file has no mark and the new text
-/// begins with U+FEFF. That would be its mark, so the key there wouldn't be read back.
+/// Those of `ini_edit`'s `make_edit`, and out of memory; and `Key` where the file has no mark and the new
+/// text begins with U+FEFF. That would be its mark, so the key there wouldn't be read back.
 pub fn change(
     alloc: Global,
     options: Options,

@@ -1,4 +1,5 @@
-//! Edits of a text, and its warnings, again and again in a heap of few bytes: what they ask for is given back.
+//! Edits of a text, and its warnings, again and again in a heap of few bytes: what they ask for is given
+//! back.
 use crate::scarce::Famine;
 use ini::{Error, ParseOption, WriteOption};
 use ini_check::check;

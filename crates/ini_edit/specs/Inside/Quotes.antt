@@ -29,7 +29,8 @@ pub record IsBetweenQuoteMarks (text : Text) (m : ℕ) : Type 0 where
   pub ends : behind_quote_mark m false behind ≡ Some []
 
 -- The text `old` goes on with what stands in the place of a value's source.
-pub record PutsSource (o : ParseOption) (policy : EscapePolicy) (own before value old new : Text) : Type 0 where
+pub record PutsSource (o : ParseOption) (policy : EscapePolicy) (own before value old new : Text)
+    : Type 0 where
   pub source : Text
   pub is_put : IsPut o policy own before value source
   pub is_new : new ≡ old ++ source
