@@ -13,7 +13,7 @@ use Rattle.ini.specs.Edits.{set_in}
 use Rattle.ini.specs.Loading.{IsDocumentOf}
 use Rattle.ini.proofs.KeepingLemmas.{name_refl, text_refl}
 use Rattle.ini_edit.specs.Places.{StandsAt, Stretches, pair_with, text_with, up_to_end}
-use Rattle.ini_edit.specs.Quotes.{IsPut, written_in}
+use Rattle.ini_edit.specs.Quotes.{IsPut, KeepsQuote, written_in}
 use Rattle.ini_edit.specs.Targets.{IsTarget}
 use Rattle.ini_edit.specs.EditedTexts.{KeepsValue, LaterOut, SetsValue}
 use Rattle.ini_edit.proofs.CutLemmas.{cut_derives}
@@ -99,23 +99,32 @@ pub sets_value : (o : ParseOption) (policy : EscapePolicy) (T value : Text) → 
 sets_value o policy T value plain p name key old before after s target quote may U later d document =
     sets value s target (replaced s (source_in plain may)) later d document
 
+-- what is put in an old value's place is its source, or the written value
+by_put : {o : ParseOption} {policy : EscapePolicy} {own old value source : Text} (P : Text → Type 0)
+    → IsPut o policy own old value source → (value ≡ old → P own)
+    → ((quote : Text) → KeepsQuote o own value quote → P (written_in policy quote value)) → P source
+by_put P (IsPut.stays same) stays written = stays same
+by_put P (IsPut.written {quote} apart keeps) stays written = written quote keeps
+
 -- the pair with what was put in its value's place
 module _ {o : ParseOption} {policy : EscapePolicy} {T value source : Text}
     (plain : IsPlainValue o policy value) {p : Stretches} {key old : Text} {before after : List Given}
     (s : StandsAt o T p key old before after) where
   put_derives : IsPut o policy p.own old value source
       → Derives o (text_with p source) (before ++ (Pair key value ∷ after))
-  put_derives (IsPut.stays same) =
-      subst (λ z. Derives o z (before ++ (Pair key value ∷ after))) s.text
-      (subst (λ v. Derives o T (before ++ (Pair key v ∷ after))) (sym same) (stands_derives s))
-  put_derives (IsPut.written apart keeps) = replaced s (source_in plain (quote_for keeps))
+  put_derives put =
+      by_put (λ z. Derives o (text_with p z) (before ++ (Pair key value ∷ after))) put
+      (λ same. subst (λ z. Derives o z (before ++ (Pair key value ∷ after))) s.text
+      (subst (λ v. Derives o T (before ++ (Pair key v ∷ after))) (sym same) (stands_derives s)))
+      (λ quote keeps. replaced s (source_in plain (quote_for keeps)))
 
   pub put_front : IsPut o policy p.own old value source
       → Reads o (text_with p source) [] (before ++ Pair key value ∷ []) (p.front ++ pair_with p source)
-  put_front (IsPut.stays same) =
-      subst (λ z. Reads o z [] (before ++ Pair key value ∷ []) (up_to_end p)) s.text
-      (subst (λ v. Reads o T [] (before ++ Pair key v ∷ []) (up_to_end p)) (sym same) (stands_up_to s))
-  put_front (IsPut.written apart keeps) = replaced_front s (source_in plain (quote_for keeps))
+  put_front put =
+      by_put (λ z. Reads o (text_with p z) [] (before ++ Pair key value ∷ []) (p.front ++ pair_with p z)) put
+      (λ same. subst (λ z. Reads o z [] (before ++ Pair key value ∷ []) (up_to_end p)) s.text
+      (subst (λ v. Reads o T [] (before ++ Pair key v ∷ []) (up_to_end p)) (sym same) (stands_up_to s)))
+      (λ quote keeps. replaced_front s (source_in plain (quote_for keeps)))
 
   pub sets_put : {name : Option Text} (target : IsTarget name key before after)
       → IsPut o policy p.own old value source → {U : Text}
