@@ -147,6 +147,9 @@ impl Desk {
                 self.document = Ini::load_from_str_opt(alloc, text, self.options.reading)?;
             }
             "reload" => return self.reloaded(text),
+            "load_bom" => {
+                self.document = Ini::load_from_str_bom(alloc, text, self.options.reading)?;
+            }
             "section" => return self.shown(self.document.section(name)),
             "section_by_bytes" => {
                 return self.shown(self.document.section_by_bytes(bytes_of(name)));
@@ -155,6 +158,8 @@ impl Desk {
                 let deleted = self.document.delete(name);
                 return self.shown(deleted.as_ref());
             }
+            "delete_all" => self.document.delete_all(name),
+            "make_general" => self.document.rename_section(name, None)?,
             "iter" => return walk::iter(alloc, &self.document, text),
             "into_iter" => return walk::into_iter(alloc, &self.document, text),
             "iter_mut" => return walk::iter_mut(alloc, &mut self.document, text),
@@ -226,6 +231,10 @@ impl Desk {
                 Some(section) => value(alloc, section.remove(key).as_deref()),
                 None => value(alloc, None),
             },
+            "rename_section" => {
+                self.document.rename_section(name, Some(key))?;
+                Ok(String::new(alloc))
+            }
             "delete" => {
                 self.document.with_section(name).delete(key);
                 Ok(String::new(alloc))
@@ -254,6 +263,8 @@ impl Desk {
             "add" => {
                 self.document.with_section(name).add(key, value)?;
             }
+            "rename_key_in" => self.document.rename_key_in(name, key, value)?,
+            "append_section" => self.append_section(name, key, value)?,
             "pair" => return self.only_pair(name, key, value),
             "or_insert" | "or_insert_with" | "append" => {
                 return self.enter(call, name, Some((key, value)));
@@ -261,6 +272,14 @@ impl Desk {
             _ => return self.put_in_section(call, name, key, value),
         }
         Ok(String::new(alloc))
+    }
+
+    // Appends a section with this pair.
+    fn append_section(&mut self, name: Option<&str>, key: &str, value: &str) -> Result<(), Error> {
+        let name = self.key_of(name)?;
+        let mut pairs = Properties::new(self.alloc);
+        pairs.append(key, value)?;
+        Ok(self.document.append_section(name, pairs)?)
     }
 
     // A document of this pair alone: whether it is plain, and what its text loads as.

@@ -1,11 +1,12 @@
 //! Examples of the library, run one after another. Each is a file of its own, to be read and copied; this
-//! file knows what they print and no more. Those in `callers` are proved and not run.
+//! file knows what they print and no more. Those in `callers` are proved; of them the loops over walks run.
 #![tactic(auto)]
 
 mod callers;
 mod faults;
 mod fleet;
 mod migration;
+mod peers;
 mod report;
 mod save;
 mod service;
@@ -51,5 +52,7 @@ fn main(rt: HostRuntime) -> Result<(), Error> {
 
     let told = faults::told(alloc, "[paths]\nlog = /tmp/log\n= /tmp/cache\n")?;
     println!(rt; "{told}")?;
+    let walked = peers::walked(alloc)?;
+    println!(rt; "{walked}")?;
     Ok(())
 }
