@@ -1,8 +1,9 @@
 #!/bin/sh
 # Counts the instructions of the built programs, by valgrind, since neither a clause nor an output shows what something costs:
-# a text, a section or a document of twice the size costs twice as much, a call on a document eight times as large hardly more,
-# and long lines cost few instructions a byte. Where there is no valgrind it says that it skipped all. Each case that fails is
-# told. The last line is 'N passed, M failed', and the status is 1 if a case failed.
+# a text, a section or a document of twice the size costs twice as much, a call on a document eight times as large hardly more
+# (or eight times as much, where it goes over all of it), and long lines and escapes cost few instructions a byte. Where there
+# is no valgrind it says that it skipped all. Each case that fails is told. The last line is 'N passed, M failed', and the
+# status is 1 if a case failed.
 #
 #     tests/costs.sh [INI_TOOL [INI_CALLS]]
 #
@@ -55,6 +56,18 @@ at_most() {
 : >"$room/in"
 own=$(instructions 0 "$tool" fmt)
 
+# What ini_calls itself takes.
+calls_own=$(instructions 0 "$calls" elements)
+
+# grows_no_faster NAME MAKE N WORD: of the text that MAKE gives for twice N ini_calls takes at most 2.5 times what it takes for N
+grows_no_faster() {
+    "$2" "$3" >"$room/in"
+    one=$(instructions 0 "$calls" "$4")
+    "$2" $((2 * $3)) >"$room/in"
+    two=$(instructions 0 "$calls" "$4")
+    at_most "$1, twice the size" "${two:+$((two - calls_own))}" "${one:+$(((one - calls_own) * 5 / 2))}"
+}
+
 # doubles NAME STATUS MAKE N WORD ..: of the text that MAKE gives for twice N the program takes at most 2.5 times what it takes
 # for N
 doubles() {
@@ -84,21 +97,31 @@ doubles 'a value full of escapes' 0 escapes 50000 fmt
 doubles 'pairs of one section, one set' 0 pairs 20000 set key7 v
 doubles 'pairs of one section, listed' 0 pairs 20000 list
 doubles 'a text that is refused at its end' 3 refused 20000 fmt
+grows_no_faster 'items' pairs 20000 items
+grows_no_faster 'elements' pairs 20000 elements
 
-# A call on a document of 8,000 keys or sections costs at most four times what it costs on one of 1,000: what 2,000 more calls
-# take, beside the making of the document.
+# What so many calls take, beside what half as many do, so without the making of the document.
 call() {
-    echo "$1 $2 $3 2000" >"$room/in"
+    echo "$1 $2 $3 $(($4 / 2))" >"$room/in"
     first=$(instructions 0 "$calls")
-    echo "$1 $2 $3 4000" >"$room/in"
+    echo "$1 $2 $3 $4" >"$room/in"
     second=$(instructions 0 "$calls")
     [ -n "$first" ] && [ -n "$second" ] && echo $((second - first))
 }
+# A call on a document of 8,000 keys or sections costs at most four times what it costs on one of 1,000.
 for shape in keys sections; do
-    for it in get_from set_there set_new append section setter; do
-        small=$(call $it $shape 1000)
-        large=$(call $it $shape 8000)
+    for it in get_from set_there set_new append section setter len layered; do
+        small=$(call $it $shape 1000 4000)
+        large=$(call $it $shape 8000 4000)
         at_most "$it, $shape, eight times as many" "$large" "${small:+$((small * 4))}"
+    done
+done
+# What goes over the whole document costs at most twelve times as much.
+for it in is_plain clone merged; do
+    for shape in keys sections; do
+        small=$(call $it $shape 500 4)
+        large=$(call $it $shape 4000 4)
+        at_most "$it, $shape, eight times as many" "$large" "${small:+$((small * 12))}"
     done
 done
 
@@ -111,6 +134,11 @@ at_most '40,000 pairs' "${short:+$((short - own))}" 120000
 awk 'BEGIN { for (i = 0; i < 4000; i++) x = x "x"; for (i = 0; i < 250; i++) print "key" i "=" x }' >"$room/in"
 long=$(instructions 0 "$tool" fmt)
 at_most 'lines of 4,000 bytes, a megabyte' "${long:+$((long - own))}" 7500
+
+# Few instructions an escape.
+escapes 50000 >"$room/in"
+short=$(instructions 0 "$tool" fmt)
+at_most '100,000 escapes' "${short:+$((short - own))}" 44000
 
 echo "$passed passed, $failed failed"
 [ "$failed" -eq 0 ]

@@ -1,6 +1,16 @@
 //! The calls on a document, by the texts that name its parts.
-use ini::{Error, Ini};
+use ini::{Error, Ini, ParseOption, WriteOption};
+use ini_layers::{Layers, NoLayer};
 use std::alloc::{AllocError, Global};
+
+/// The document as the only layer.
+pub fn layers_of(alloc: Global, document: Ini) -> Result<Layers, Error> {
+    let mut layers = Layers::new(alloc);
+    match layers.push(document) {
+        Ok(()) => Ok(layers),
+        Err(NoLayer { doc: _ }) => Err(Error::Memory(AllocError)),
+    }
+}
 
 /// The texts of a document, and behind them those that it doesn't have.
 #[derive(Drop)]
@@ -67,6 +77,14 @@ impl Names {
         Ok(0)
     }
 
+    /// What the layers have at the number: the length of the value.
+    pub fn layered(&self, layers: &Layers, number: usize) -> usize {
+        let (section, key) = self.place(number);
+        layers
+            .get_from(Some(section), key)
+            .map_or(0, |value| value.len())
+    }
+
     /// Makes one call at a number that is there, or at one that is new, and answers the length of what it
     /// gives.
     pub fn call(
@@ -88,6 +106,16 @@ impl Names {
             "len" if self.has_sections => Ok(document.len()),
             "len" => Ok(document.section(Some(section)).map_or(0, |s| s.len())),
             "sections" => Ok(document.sections().count()),
+            "is_plain" => {
+                let plain = document.is_plain(&WriteOption::default(), ParseOption::default());
+                Ok(plain as usize)
+            }
+            "clone" => Ok(document.clone()?.len()),
+            "merged" => Ok(layers_of(self.alloc, document.clone()?)?.merged()?.len()),
+            "delete" => {
+                let _ = document.with_section(Some(section)).delete(key);
+                Ok(0)
+            }
             "set_there" => self.set(document, there),
             "set_new" => self.set(document, new),
             "append" => self.append(document, there, new),

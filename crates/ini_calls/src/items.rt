@@ -16,6 +16,19 @@ pub(crate) fn items(alloc: Global, text: &str) -> Result<u64, Error> {
     Ok(items)
 }
 
+/// How many elements a text has.
+pub(crate) fn elements(alloc: Global, text: &str) -> Result<u64, Error> {
+    let mut parser = Parser::new(alloc, text, ParseOption::default());
+    let mut elements: u64 = 0;
+    for _ in 0..u64::MAX {
+        if parser.next_element()?.is_none() {
+            return Ok(elements);
+        }
+        elements = elements.wrapping_add(1);
+    }
+    Ok(elements)
+}
+
 #[cfg(test)]
 mod tests {
     use super::items;

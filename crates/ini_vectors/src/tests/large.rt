@@ -1,11 +1,9 @@
 //! Large documents, names and texts, past the sizes at which a call might stop: none is told to be out of
 //! memory.
 use crate::{Edit, apply};
-use ini::{Error, Ini, ParseOption, Properties};
+use ini::{Error, Ini, Properties};
 use std::alloc::Global;
-use std::panic::Expect;
 use std::process::Abort;
-use std::test::Fail;
 
 /// How many pairs or sections there are.
 const MANY: usize = 70_000;
@@ -138,74 +136,4 @@ fn many_edits_are_made(rt: HostRuntime) {
         let made = matches!(edits_made(rt.alloc(), count), Ok(names) if names == count + 1);
         assert!(rt; made, "{count} edits");
     }
-}
-
-// The number of pairs of the general section.
-fn general_pairs(document: &Ini) -> usize {
-    match document.section(None) {
-        Some(section) => section.iter().size_hint().0,
-        None => 0,
-    }
-}
-
-// The number of pairs that are read behind a mark.
-fn pairs_read(alloc: Global, text: &str) -> Result<usize, Error> {
-    let marked = format!(in alloc; "\u{FEFF}{text}")?;
-    let option = ParseOption::default();
-    let document = Ini::read_from_bom(alloc, &mut marked.as_bytes(), option)?;
-    Ok(general_pairs(&document))
-}
-
-#[test]
-fn many_pairs_are_read_behind_a_mark(rt: HostRuntime) -> Result<(), Fail> {
-    for count in [17, 20, 300, 65_536, MANY] {
-        let text = "k=v\n".repeat(rt.alloc(), count)?;
-        let pairs = pairs_read(rt.alloc(), &text);
-        assert!(rt; matches!(pairs, Ok(read) if read == count), "{count} pairs");
-    }
-    Ok(())
-}
-
-// Work that grows with the square of the pairs wouldn't end in time.
-#[test]
-fn more_than_a_million_pairs_are_loaded(rt: HostRuntime) -> Result<(), Fail> {
-    let text = "k=v\n".repeat(rt.alloc(), 1_100_000)?;
-    let document = Ini::load_from_str(rt.alloc(), &text)?;
-    assert!(rt; general_pairs(&document) == 1_100_000);
-    Ok(())
-}
-
-// So many lines, each a number between two texts.
-fn many_lines(alloc: Global, before: &str, behind: &str) -> Result<String, Error> {
-    let mut lines = String::new(alloc);
-    for number in 0..MANY {
-        let line = format!(in alloc; "{before}{number}{behind}\n")?;
-        lines.push_str(&line)?;
-    }
-    Ok(lines)
-}
-
-// How many numbers are found as general keys, and as sections.
-fn found(alloc: Global, document: &Ini) -> Result<usize, Error> {
-    let mut found: usize = 0;
-    for number in 0..2_000_000 {
-        let name = name(alloc, number)?;
-        let is_key = document.get_from(None, &name).is_some();
-        let is_section = document.section(Some(&name)).is_some();
-        found = found.saturating_add(usize::from(is_key));
-        found = found.saturating_add(usize::from(is_section));
-    }
-    Ok(found)
-}
-
-// Look-ups that go over all keys, or over all sections, wouldn't end in time.
-#[test]
-fn keys_and_sections_that_were_loaded_are_found(rt: HostRuntime) -> Result<(), Fail> {
-    let keys = many_lines(rt.alloc(), "", "=v")?;
-    let headers = many_lines(rt.alloc(), "[", "]")?;
-    let text = format!(in rt.alloc(); "{keys}{headers}")?;
-    let document = Ini::load_from_str(rt.alloc(), &text)?;
-    let found = found(rt.alloc(), &document)?;
-    assert!(rt; found == 2 * MANY, "{found}");
-    Ok(())
 }

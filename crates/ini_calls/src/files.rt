@@ -1,0 +1,79 @@
+//! Loading from files and saving into files, by each form, again and again, and what a loaded document finds.
+
+use ini::{Error, EscapePolicy, Ini, ParseOption, WriteOption};
+use std::alloc::Global;
+use std::path::Path;
+use std::rt::Files;
+
+// Loads the file by the form.
+fn load<R: Files>(rt: &R, alloc: Global, form: &str, path: Path<'_>) -> Result<Ini, Error> {
+    match form {
+        "load_from_file" => Ini::load_from_file(rt, alloc, path),
+        "load_from_file_noescape" => Ini::load_from_file_noescape(rt, alloc, path),
+        _ => Ini::load_from_file_opt(rt, alloc, path, ParseOption::default()),
+    }
+}
+
+// Saves the document by the form, where it is one of saving.
+fn save<R: Files>(rt: &R, document: &Ini, form: &str, path: Path<'_>) -> Result<(), Error> {
+    match form {
+        "write_to_file" => document.write_to_file(rt, path),
+        "write_to_file_policy" => {
+            document.write_to_file_policy(rt, path, EscapePolicy::Everything)
+        }
+        "write_to_file_opt" => document.write_to_file_opt(rt, path, WriteOption::default()),
+        _ => Ok(()),
+    }
+}
+
+// How many of the numbers below that are keys of the general section, and how many are sections.
+fn found(alloc: Global, document: &Ini, numbers: usize) -> Result<(usize, usize), Error> {
+    let mut keys: usize = 0;
+    let mut sections: usize = 0;
+    for number in 0..numbers {
+        let name = format!(in alloc; "{number}")?;
+        if document.get_from(None, &name).is_some() {
+            keys = keys.wrapping_add(1);
+        }
+        if document.section(Some(&name)).is_some() {
+            sections = sections.wrapping_add(1);
+        }
+    }
+    Ok((keys, sections))
+}
+
+/// Loads the file, and looks for so many numbers.
+pub(crate) fn numbers_found<R: Files>(
+    rt: &R,
+    alloc: Global,
+    numbers: usize,
+    path: &str,
+) -> Result<String, Error> {
+    let document = Ini::load_from_file(rt, alloc, Path::new(path))?;
+    let (keys, sections) = found(alloc, &document, numbers)?;
+    Ok(format!(in alloc; "{keys} keys, {sections} sections")?)
+}
+
+/// Makes the call of the form so many times. The number of sections, or the last refusal's text.
+pub(crate) fn file_calls<R: Files>(
+    rt: &R,
+    alloc: Global,
+    form: &str,
+    times: usize,
+    path: &str,
+) -> Result<String, Error> {
+    let mut told = String::from_str(alloc, "none")?;
+    let saved = Ini::load_from_str(alloc, "k = v\n[s]\nj = w\n")?;
+    for _ in 0..times {
+        let answer = if form.starts_with("load") {
+            load(rt, alloc, form, Path::new(path)).map(|document| document.len())
+        } else {
+            save(rt, &saved, form, Path::new(path)).map(|_| 0)
+        };
+        told = match answer {
+            Ok(sections) => format!(in alloc; "{sections}")?,
+            Err(refusal) => format!(in alloc; "{refusal}")?,
+        };
+    }
+    Ok(told)
+}
