@@ -5,13 +5,13 @@
 //! or elements. With `files` a line of standard input is `FORM TIMES PATH`: the file is loaded, or a small
 //! document saved into it, by the form, and the answer is the number of sections or the refusal. The form
 //! `found` tells how many numbers below TIMES are keys of the file, and how many are sections. With `pairs` a
-//! line is steps on a multimap, as `append 17 remove 3`, and the answer is the number of its pairs, and of those
-//! that are found.
+//! line is steps on a multimap, as `append 17 remove 3`, and the answer is the number of its pairs, and of
+//! those that are found.
 //!
 //! Else a line is `CALL SHAPE N TIMES`. The document has N keys in one section where SHAPE is `keys`, and N
 //! sections of one key where it is `sections`. The call is made so many times, each time with the next key or
-//! section, and the answer is a line: the number of pairs that are left, and a sum over the lengths of what the
-//! calls answered.
+//! section, and the answer is a line: the number of pairs that are left, and a sum over the lengths of what
+//! the calls answered.
 //!
 //! CALL is `none`, `get_from`, `set_there`, `set_new`, `append`, `delete_from`, `section`, `len`, `sections`,
 //! `setter`, `delete` (a setter's), `is_plain`, `clone`, `merged` (of one layer) or `layered` (a look-up in

@@ -104,8 +104,8 @@ impl Pairs {
     }
 }
 
-/// Makes the steps of a line: names, each with how often it is made. How many pairs there are then, and how many
-/// of them are found.
+/// Makes the steps of a line: names, each with how often it is made. How many pairs there are then, and how
+/// many of them are found.
 pub(crate) fn steps(alloc: Global, line: &str) -> Result<(usize, usize), Error> {
     let mut pairs = Pairs {
         alloc,
