@@ -6,7 +6,7 @@
 #
 #     tests/long.sh [INI_FILE [PART]]
 #
-# The program is by default the one that its script builds. Each size is divided by PART, for a build that is slow.
+# The program is by default the one that its script builds. The texts' sizes are divided by PART, for a build that is slow.
 #
 # The size at which each call is asked once here, PART being 1, beside those of 2 MB and 100,000 lines:
 #
@@ -54,8 +54,9 @@ while [ "$bound" -lt 200000 ] && ! bounded list empty >out 2>&1; do
     bound=$((bound + 1000))
 done
 own=$bound
-# what edits, and what readers, which make a document, may take of 2 MB: one and a half times what they take
-editing=$((own + 12000))
+# what a check, edits, and readers, which make a document, may take of 2 MB: some one and a half times what they take
+checking=$((own + 10000))
+editing=$((own + 24000))
 reading=$((own + 32000))
 most=$((own + 400000))
 
@@ -198,18 +199,18 @@ for size in (300, 70000):
     put(f"words.{size}.other", [f"[{name}]", key + "=" + value[1:]])
     put(f"words.{size}.merge", lines[:7] + [key + "=" + value[1:]] + lines[8:])
 # a list of edits, and warnings of two kinds
-n = 2000 // part
+n = 2000
 put("list", [f"key {i}=old" for i in range(0, n, 2)])
 put("list.other", [f"key {i}=new" for i in range(n)])
 put("list.merge", [f"key {i}=new" for i in range(0, n, 2)] + [f"key {i}=new" for i in range(1, n, 2)])
-n = 1000 // part
+n = 1000
 put("warned", ["[a]"] + ["k=1", "j=C:\\temp"] * (n + 1))
 there = "this key was there before in its section"
 escape = "a backslash begins an escape in this value"
-places = [f"warned:3:5: warning: {escape}"]
+places = [f"warned:3:3: warning: {escape}"]
 for i in range(1, n + 1):
     places += [f"warned:{2 * i + 2}:1: warning: {there}"]
-    places += [(f"warned:{2 * i + 3}:1: warning: {there}", f"warned:{2 * i + 3}:5: warning: {escape}")]
+    places += [(f"warned:{2 * i + 3}:1: warning: {there}", f"warned:{2 * i + 3}:3: warning: {escape}")]
 put("warned.places", [line for at in places for line in (at if isinstance(at, tuple) else (at,))])
 # millions
 n = 1000000 // part
@@ -237,20 +238,19 @@ put("longest.list", [f"[{name}]\t{key}\t{value}", "[z]\ty\t2"])
 put("longest.sections", [name, "z"])
 put("longest.format", [f"[{name}]", f"{key}={value}", "", "[z]", "y=2"])
 put("longest.set", [f"[{name}]", f"{key}={value}", "[z]", "y=3"])
-put("longest.merge", [f"[{name}]", f"{key}={value}", "", "[z]", "y=2"])
 # texts of which one is four times the other
 for n in (250, 1000):
     put(f"cost.many.{n}", many(n))
     put(f"cost.wide.{n}", ["[section]"] + [f"key {i}=value {i}" for i in range(10 * n)])
 # many files
-n = 2000 // part
+n = 2000
 for i in range(n):
     put(f"f{i}", [f"k{i % 10}={i}", f"k{i % 10}=x"])
 put("files.check", [f"f{i}:2:1: warning: {there}" for i in range(n)])
 put("files.merge", [f"k{i}={n - 10 + i}" for i in range(10)])
-# a pair on its header's line, with blanks behind it; values go on over indented lines
-put("tail", ["; a"] * (1000 // part) + ["[a]key=v" + " " * 100, "; b", "[b]", "k=v"], "\r\n")
-put("tail.delete", ["; a"] * (1000 // part) + ["[a]", "; b", "[b]", "k=v"], "\r\n")
+# a pair on its header's line, with empty lines behind it; values go on over indented lines
+put("tail", ["; a"] * 1000 + ["[a]key=v"] + [""] * 100 + ["; b", "[b]", "k=v"], "\r\n")
+put("tail.delete", ["; a"] * 1000 + ["[a]", "; b", "[b]", "k=v"], "\r\n")
 END
 n=$((10000 / part))
 mid=$((n / 2))
@@ -304,7 +304,9 @@ leaves many.general-set many set it.ini name other
 leaves many.general-new many set it.ini new v
 leaves many.general-delete many delete it.ini name
 leaves many.merge many merge it.ini other.ini
+bound=$checking
 writes 0 empty check many
+bound=$editing
 cp many it.ini
 writes 0 many.diff set --dry-run it.ini 'key 3' other "section $mid"
 writes 1 empty delete it.ini none "section $last"
@@ -332,7 +334,12 @@ pipes empty many check -
 edited 'many sections, a mark and CR LF' crlf crlf "section $mid" 'key 3' 'key 7'
 leaves crlf.new-section crlf set it.ini new v 'no such section'
 label='a pair on the line of its header, CR LF'
-leaves tail.delete tail --multiline delete it.ini key a
+cp tail it.ini
+bounded --multiline delete it.ini key a >out 2>err
+status=$?
+# how many of the empty lines go is not what this asks
+grep -v "^$(printf '\r')*\$" it.ini >stripped
+count "$label: delete" 0 "$status" tail.delete stripped
 read_all 'many pairs' wide s "key $wide"
 edited 'many pairs' wide wide s 'key 3' 'key '"$wide"
 # the fourth pair stands behind the header, the second line
@@ -360,9 +367,9 @@ label='warnings'
 writes 1 warned.places check warned
 label='many files'
 # shellcheck disable=SC2046
-writes 1 files.check check $(seq -f f%.0f 0 $((2000 / part - 1)))
+writes 1 files.check check $(seq -f f%.0f 0 1999)
 # shellcheck disable=SC2046
-writes 0 files.merge merge --output - none.ini $(seq -f f%.0f 0 $((2000 / part - 1)))
+writes 0 files.merge merge --output - none.ini $(seq -f f%.0f 0 1999)
 
 
 bound=$most
@@ -392,10 +399,7 @@ writes 0 longest.sections sections longest
 writes 0 empty check longest
 leaves longest.set longest set it.ini y 3 z
 leaves longest.format longest format it.ini
-cp longest.merge none.ini
-writes 0 longest.merge format --output - longest
-rm none.ini
-writes 0 longest.merge merge --output - none.ini longest
+writes 0 longest.format merge --output - none.ini longest
 label='many options'
 # shellcheck disable=SC2046
 writes 0 many.list $(yes -- --crlf | head -n $((10000 / part))) list many

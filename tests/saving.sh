@@ -110,15 +110,16 @@ places() {
     there 'merge --output, a new file' settings.ini "$source" other.ini "$other" new.ini "$merged"
     ended 'merge --output, a file that is there' 0 merge --output other.ini settings.ini other.ini
     there 'merge --output, a file that is there' settings.ini "$source" other.ini "$merged" new.ini "$merged"
-    fresh
     for words in format list sections keys 'get none.ini k' 'delete none.ini k' 'delete-section none.ini s' \
         'rename-key none.ini a b' 'rename-section none.ini a b' 'set --existing none.ini k v' 'check' \
         'merge settings.ini' 'format --dry-run' 'format --output new.ini'; do
         case $words in *none.ini*) ;; *) words="$words none.ini" ;; esac
+        fresh
         # shellcheck disable=SC2086
         ended "$words, which is not there" 4 $words
+        there "$words, which is not there: none is made" settings.ini "$source" other.ini "$other"
     done
-    there 'a file that is not there is made by set, add and merge alone' settings.ini "$source" other.ini "$other"
+    fresh
     ended 'merge --dry-run of a file that is not there' 0 merge --dry-run new.ini other.ini
     there 'merge --dry-run of a file that is not there: none is made' settings.ini "$source" other.ini "$other"
     printf '\055-- /dev/null\n+++ new.ini\n@@ -0,0 +1,5 @@\n+[client]\n+id=8\n+\n+[new]\n+k=v\n' >"$room/want"
@@ -175,6 +176,9 @@ refusals() {
     { echo '[s]'; cat unwritable.ini; } >section.ini
     ends 'merge: the section and the key are told' 2 '' "ini_file: settings.ini: [s] b: $unwritable" \
         merge settings.ini section.ini
+    printf '[a]\n  junk' >no_place.ini
+    ends 'a name that can not be written is told before a place that is not there' 2 '' \
+        "ini_file: no_place.ini: this name can't be written so that it is read back" --multiline set no_place.ini k v 'a]b'
     printf 'a=1\r\n  =v\r\n' >refused.ini
     ends 'a refused line is shown without its CR' 3 '' 'refused.ini:2:4: missing key
   =v
