@@ -546,7 +546,7 @@ if can_trace; then
     short
     changes
 else
-    skipped=$((skipped + 118))
+    skipped=$((skipped + 117))
 fi
 if [ "$skipped" -gt 0 ]; then
     echo "$skipped skipped: strace isn't here or may trace no program, or there is no other file system"
