@@ -1,10 +1,11 @@
 #!/bin/sh
 # Every proof and every test: `rt ci`, and then the programs that it built, over real streams, files and long texts
-# (tests/program.sh, tests/files.sh, tests/streams.sh, tests/passing.sh), the scripts that build and run them
-# (tests/scripts.sh), what the programs cost (tests/costs.sh), the page of the public calls and the edits that the gate leaves
-# out (tests/pages.sh), pages of the manual, completions and installing (tests/habits.sh), ini_file beside its peers
-# (tests/peers.sh), and clients of the C library (tests/c_library.sh). Each step ends with the time that it took. The last line is
-# 'N passed, M failed' over all, and the status is 1 if anything failed.
+# (tests/program.sh, tests/files.sh, tests/saving.sh, tests/long.sh, tests/streams.sh, tests/passing.sh), the scripts that build
+# and run them (tests/scripts.sh), what the programs cost (tests/costs.sh) and ask of memory (tests/memory.sh),
+# the pages that are made by scripts and the edits that the gate leaves out (tests/pages.sh), pages of the manual, completions
+# and installing (tests/habits.sh), ini_file beside its peers (tests/peers.sh), and clients of the C library
+# (tests/c_library.sh). Each step ends with the time that it took. The last line is 'N passed, M failed' over all, and the
+# status is 1 if anything failed.
 set -u
 cd "$(dirname "$0")/.." || exit 1
 log=$(mktemp)
@@ -38,10 +39,13 @@ if [ "$failed" -eq 0 ]; then
 fi
 run tests/program.sh
 run tests/files.sh
+run tests/saving.sh
+run tests/long.sh
 run tests/streams.sh
 run tests/passing.sh
 run tests/scripts.sh
 run tests/costs.sh
+run tests/memory.sh
 run tests/pages.sh
 run tests/habits.sh
 run tests/peers.sh
