@@ -1,11 +1,11 @@
 #!/bin/sh
 # Makes the pages anew that are made of the sources, and compares them: docs/API.md, by tools/pages/api.py, and docs/LEMMAS.md,
-# by tools/pages/lemmas.py. What differs is shown. Then the edits of wrong-bodies/, which the gate doesn't try, are read: whether each can be made still. The last line is
-# 'N passed, M failed', and the status is 1 if anything failed.
+# by tools/pages/lemmas.py. What differs is shown. Then the edits of must-fail and wrong-bodies.txt are read: whether each can
+# be made still. The last line is 'N passed, M failed', and the status is 1 if anything failed.
 set -u
 top=$(cd "$(dirname "$0")/.." && pwd)
 if ! command -v python3 >/dev/null; then
-    echo 'skipped: docs/API.md, docs/LEMMAS.md and the edits of wrong-bodies (no python3)'
+    echo 'skipped: docs/API.md, docs/LEMMAS.md and the edits of wrong bodies (no python3)'
     echo '0 passed, 0 failed'
     exit 0
 fi
@@ -27,6 +27,6 @@ count 'docs/API.md; tools/pages/api.py > docs/API.md makes it' $?
 "$top/tools/pages/lemmas.py" >"$made" && diff "$top/docs/LEMMAS.md" "$made"
 count 'docs/LEMMAS.md; tools/pages/lemmas.py > docs/LEMMAS.md makes it' $?
 "$top/tools/wrong_bodies.py" --read
-count 'edits of wrong-bodies that can be made' $?
+count 'edits of must-fail and wrong-bodies.txt that can be made' $?
 echo "$passed passed, $failed failed"
 [ "$failed" -eq 0 ]

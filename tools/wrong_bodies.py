@@ -3,6 +3,8 @@
 
     tools/wrong_bodies.py [--jobs N | --read] [CRATE | CRATE/EDIT ..]
 
+They stand in crates/NAME/wrong-bodies.txt: a line `== NAME OF THE EDIT`, and below it the lines that a must-fail edit has.
+
 It works on copies of the files that git knows, with the libraries' `out` where there is one. A crate is proved there once as
 it stands. Then each of its edits is made, and the function that it changes is proved anew: what is refused there is refused
 in the whole crate. Only where the function is proved all the same, its module is tried, and last the whole crate.
@@ -21,8 +23,10 @@ import subprocess
 import sys
 import tempfile
 from concurrent.futures import ThreadPoolExecutor
+from fnmatch import fnmatch
 from pathlib import Path
 from queue import Queue
+from typing import NamedTuple
 
 TOP = Path(__file__).resolve().parents[1]
 # What a check says of an edit that no prover judged.
@@ -38,6 +42,13 @@ NAMES = re.compile(r"(has no field|is not in scope|has no `|was not admitted)")
 
 class Bad(Exception):
     """An edit that can't be made."""
+
+
+class Edit(NamedTuple):
+    """An edit by its name, with its lines."""
+
+    name: str
+    lines: list[str]
 
 
 def copy_of_tree(room):
@@ -61,7 +72,7 @@ def link_work(source, room):
 def made(edit, crate):
     """The texts of the files that an edit changes, by their path in the crate."""
     texts, path, old = {}, None, None
-    for line in edit.read_text(encoding="utf-8").split("\n"):
+    for line in edit.lines:
         if line.startswith("file: "):
             path = line[len("file: ") :].strip()
             texts.setdefault(path, (crate / path).read_text(encoding="utf-8"))
@@ -120,13 +131,38 @@ def tried(edit, crate):
 
 def edits_of(words, reads=False):
     """The edits that are asked for, by crate; those that the gate tries only where one is named, or where all are read."""
-    wanted = words or sorted({it.parent.name for it in TOP.glob("crates/*/wrong-bodies")})
+    crates = {it.parent.name for it in TOP.glob("crates/*/wrong-bodies.txt")}
+    crates |= {it.parent.name for it in TOP.glob("crates/*/must-fail") if reads}
     found = {}
-    for word in wanted:
-        name, _, edit = word.partition("/")
-        for folder in ["wrong-bodies", "must-fail"] if edit or reads else ["wrong-bodies"]:
-            found.setdefault(name, []).extend(sorted((TOP / "crates" / name / folder).glob(f"{edit or '*'}.edit")))
+    for word in words or sorted(crates):
+        crate, _, name = word.partition("/")
+        listed = listed_in(crate) + (tried_by_the_gate(crate) if name or reads else [])
+        listed = [it for it in listed if fnmatch(it.name, name or "*")]
+        if not listed:
+            sys.exit(f"{word}: there is no such edit")
+        found.setdefault(crate, []).extend(listed)
     return found
+
+
+def listed_in(crate):
+    """The edits of a crate's file."""
+    path = TOP / "crates" / crate / "wrong-bodies.txt"
+    found = []
+    for line in path.read_text(encoding="utf-8").split("\n") if path.is_file() else []:
+        if line.startswith("== "):
+            found.append(Edit(line[len("== ") :], []))
+        elif found:
+            found[-1].lines.append(line)
+    names = [it.name for it in found]
+    if len(names) > len(set(names)):
+        sys.exit(f"{crate}: two edits have one name")
+    return found
+
+
+def tried_by_the_gate(crate):
+    """The edits in a crate's folder must-fail."""
+    folder = TOP / "crates" / crate / "must-fail"
+    return [Edit(it.stem, it.read_text(encoding="utf-8").split("\n")) for it in sorted(folder.glob("*.edit"))]
 
 
 def stale(words):
@@ -136,7 +172,7 @@ def stale(words):
             try:
                 made(edit, TOP / "crates" / name)
             except (Bad, OSError) as why:
-                yield f"{name}/{edit.stem}: {why}"
+                yield f"{name}/{edit.name}: {why}"
 
 
 def main(words):
@@ -176,7 +212,7 @@ def main(words):
             with ThreadPoolExecutor(jobs) as pool:
                 for edit, (kind, why) in zip(edits, pool.map(one, edits)):
                     counts[kind] += 1
-                    print(f"{name}/{edit.stem}: {kind}: {why}", flush=True)
+                    print(f"{name}/{edit.name}: {kind}: {why}", flush=True)
     print(", ".join(f"{count} {kind}" for kind, count in counts.items()))
     return 0 if counts["refused"] == sum(counts.values()) else 1
 
