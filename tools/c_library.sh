@@ -28,8 +28,8 @@ built=$top/crates/ini_c/out/libini_c.a
 newer_than() {
     (cd "$top" && find crates.txt crates/ini_multimap crates/ini_text crates/ini crates/ini_edit crates/ini_c \
         -name out -prune -o \
-        -name must-fail -prune -o -name wrong-bodies.txt -prune -o -name tests -prune -o -name tests.rt -prune -o -name '*.md' -prune \
-        -o -type f -newer "$1" -print)
+        -name must-fail -prune -o -name wrong-bodies.txt -prune -o -name tests -prune -o -name tests.rt -prune -o \
+        -name '*.md' -prune -o -type f -newer "$1" -print)
 }
 
 # whether the library is there and no older than its sources and those of the crates below it
