@@ -12,5 +12,5 @@ mod multimap;
 mod slots;
 
 pub use iter::{IntoIter, Iter, IterMut, Keys, Removed, Values, ValuesMut};
-pub use key::{MapKey, Probe};
+pub use key::{MapKey, Probe, code_of, is_same};
 pub use multimap::{Multimap, Refused};

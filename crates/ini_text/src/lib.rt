@@ -16,7 +16,7 @@ mod write;
 
 pub use device::Watched;
 pub use error::{Error, ParseError, ParseKind};
-pub use item::Item;
+pub use item::{BorrowedItem, Item};
 pub use lines::whole_lines;
 pub use option::ParseOption;
 pub use parser::Parser;

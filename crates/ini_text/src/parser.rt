@@ -7,10 +7,10 @@
 ghost use Rattle.std.specs.Prelude.{◌≡◌, ◌++◌, chars, [], None, Some, Ok, IfSome, IsOkAnd, IsErrAnd, OnErr};
 ghost use Rattle.ini_text.specs.Parsing.Fronts.{IsRest, front_of};
 ghost use Rattle.ini_text.specs.Parsing.Parser.{AnswersItem, KeepsRefusal, TellsRefusal, refusal_of};
-ghost use Rattle.ini_text.specs.Inside.ItemSearch.{FindsItem, StopIsWithin};
+ghost use Rattle.ini_text.specs.Inside.ItemSearch.{FindsBorrowed, FindsItem, StopIsWithin};
 
 use crate::error::{Error, ParseError};
-use crate::item::Item;
+use crate::item::{BorrowedItem, Item};
 use crate::option::ParseOption;
 use crate::parser::element::read_element;
 use crate::parser::fault::Stop;
@@ -20,6 +20,7 @@ use std::alloc::{AllocError, Global};
 use std::borrow::CowStr;
 use std::marker::Model;
 
+mod borrowed;
 mod element;
 mod endpoints;
 mod fault;
@@ -127,7 +128,7 @@ impl<'a> Parser<'a> {
         if let Some(stop) = self.refusal {
             return Err(told(self.text, stop));
         }
-        match find_item(
+        match find_owned(
             self.alloc,
             &mut self.scratch,
             self.text,
@@ -146,9 +147,9 @@ impl<'a> Parser<'a> {
     }
 }
 
-/// The first item of what is left of a text, and what follows it.
+/// The first item of what is left of a text, in strings of its own, and what follows it.
 #[inline(always)]
-fn find_item<'a>(
+fn find_owned<'a>(
     alloc: Global,
     scratch: &mut String,
     text: &'a str,
@@ -157,6 +158,27 @@ fn find_item<'a>(
 ) -> Result<(Option<Item>, &'a str), Stop<'a>>
     requires { IsRest (chars text.now) (chars start.now) }
     ensures item { FindsItem read (chars text.now) (chars start.now) result }
+    ensures ended { chars start.now ≡ [] → IsOkAnd result (λ p. p.0 ≡ None) }
+{
+    let (found, rest) = find_item(alloc, scratch, text, start, read)?;
+    let Some(item) = found else {
+        return Ok((None, rest));
+    };
+    let owned = item.into_owned(alloc)?;
+    Ok((Some(owned), rest))
+}
+
+/// The first item of what is left of a text, and what follows it.
+#[inline(always)]
+fn find_item<'a>(
+    alloc: Global,
+    scratch: &mut String,
+    text: &'a str,
+    start: &'a str,
+    read: ParseOption,
+) -> Result<(Option<BorrowedItem<'a>>, &'a str), Stop<'a>>
+    requires { IsRest (chars text.now) (chars start.now) }
+    ensures item { FindsBorrowed read (chars text.now) (chars start.now) result }
     ensures ended { chars start.now ≡ [] → IsOkAnd result (λ p. p.0 ≡ None) }
 {
     let mut rest = start;

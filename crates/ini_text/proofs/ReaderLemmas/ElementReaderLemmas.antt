@@ -25,7 +25,7 @@ use Rattle.ini_text.specs.Inside.ValueReader.{value}
 use Rattle.ini_text.specs.Parsing.Fronts.{front_of, IsRest}
 use Rattle.ini_text.proofs.GrammarLemmas.BracketedNameLemmas.{finds_name, name_found, no_name, none_found}
 use Rattle.ini_text.proofs.GrammarLemmas.KindLemmas.{no_white_no_blank, line_end_no_blank, comment_mark-apart}
-use Rattle.ini_text.proofs.ReaderLemmas.ReaderLemmas.{Says, IsReader}
+use Rattle.ini_text.proofs.ReaderLemmas.ReaderLemmas.{Says, IsReader, prepend-nil}
 use Rattle.ini_text.proofs.ReaderLemmas.RunReaderLemmas.{run-finds, run-sound}
 use Rattle.ini_text.proofs.ReaderLemmas.StringReaderLemmas.{StringSays, string-reads}
 use Rattle.ini_text.proofs.ReaderLemmas.ValueReaderLemmas.{value-reads}
@@ -72,6 +72,12 @@ behind_key o (c ∷ key) r some = refl
 pub key_at : (o : ParseOption) (w : List ℕ) {t cs : List ℕ} {c : ℕ} → t ≡ c ∷ cs → is_line_end c ≡ false
     → c ≢ open_bracket → behind_blanks o w t ≡ indented_pair o w t
 key_at o w {c = c} is end bracket = rw is (rw (end, ne_eqb c 91 bracket))
+
+-- where blanks aren't kept, a key is trimmed at both ends
+pub unkept : (o : ParseOption) (w : List ℕ) (a : Answer ℕ)
+    → o.enabled_preserve_key_leading_whitespace ≡ false
+    → trimmed_key o (prepend (kept_blanks o w) a) ≡ altered_answer (trimmed_at true) a
+unkept o w a off = rw off (ap (altered_answer (trimmed_at true)) (prepend-nil a))
 
 module _ (o : ParseOption) (b : List ℕ) where
   no_line_start : (c : ℕ) → (is_blank c ≡ true → starts_line b ≡ false)

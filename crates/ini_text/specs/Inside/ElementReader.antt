@@ -13,17 +13,17 @@ use Rattle.ini_text.specs.Inside.Reading.{Answer, found, stopped, prepend, alter
 use Rattle.ini_text.specs.Inside.Scans.{run_of, skipped, trimmed_at}
 use Rattle.ini_text.specs.Inside.StringReader.{string}
 use Rattle.ini_text.specs.Inside.ValueReader.{value}
-use Rattle.ini_text.specs.Parsing.Items.{item_of}
+use Rattle.ini_text.specs.Parsing.Items.{borrowed_item_of}
 use Rattle.ini_text.specs.declared.error.ParseKind.{ParseKind}
 use Rattle.ini_text.specs.declared.error.ParseKind.TheVariants.{EndOfText, HeaderEnd, InlineComment}
 use Rattle.ini_text.specs.declared.error.ParseKind.TheVariants.{MissingKey}
-use Rattle.ini_text.specs.declared.item.Item.{Item}
+use Rattle.ini_text.specs.declared.item.BorrowedItem.{BorrowedItem}
 use Rattle.ini_text.specs.declared.option.ParseOption.{ParseOption}
 
 -- one item or none
-abbrev pub given : Option Item → List Given
+abbrev pub given : Option BorrowedItem → List Given
 given None = []
-given (Some item) = item_of item ∷ []
+given (Some item) = borrowed_item_of item ∷ []
 
 -- the name that begins with c, by the name in what follows c
 abbrev pub name_from : ℕ → List ℕ → Option (List ℕ) → Option (List ℕ)

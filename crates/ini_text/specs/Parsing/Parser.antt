@@ -2,14 +2,15 @@
 use Rattle.std.specs.Prelude.{◌≡◌, ℕ, ◌<◌, List, [], ◌∷◌, ◌++◌, length, ⊤, chars, Option, Some, None}
 use Rattle.std.specs.Prelude.{Result, Ok, Err, IsSomeAnd, MatchOption, MatchResult}
 use Rattle.std.specs.Cow.{cow_str_bytes}
-use Rattle.ini_text.specs.Grammar.Elements.{ElementStops}
-use Rattle.ini_text.specs.Parsing.Items.{item_of}
+use Rattle.ini_text.specs.Grammar.Elements.{Given, ElementStops}
+use Rattle.ini_text.specs.Parsing.Items.{borrowed_item_of, item_of}
 use Rattle.ini_text.specs.Errors.Messages.{HasMessage}
 use Rattle.ini_text.specs.Grammar.Positions.{line_of, column_of}
 use Rattle.ini_text.specs.Grammar.Texts.{Reads}
 use Rattle.ini_text.specs.declared.error.Error.{Error}
 use Rattle.ini_text.specs.declared.error.Error.TheVariants as errors
 use Rattle.ini_text.specs.declared.error.ParseKind.{ParseKind}
+use Rattle.ini_text.specs.declared.item.BorrowedItem.{BorrowedItem}
 use Rattle.ini_text.specs.declared.item.Item.{Item}
 use Rattle.ini_text.specs.declared.option.ParseOption.{ParseOption}
 use Rattle.ini_text.specs.declared.parser.fault.Stop.{Stop}
@@ -55,12 +56,21 @@ Refuses o T b _ = ⊥
 
 -- from the front b to the front c of the text T: no item, only at the text's end; an item, and a longer
 -- front; or a refusal
-abbrev pub AnswersItem : ParseOption → List ℕ → List ℕ → List ℕ → Result (Option Item) Error → Type 0
-AnswersItem o T b c r =
+abbrev pub Answers : {I : Type 0} → (I → Given) → ParseOption → List ℕ → List ℕ → List ℕ
+    → Result (Option I) Error → Type 0
+Answers view o T b c r =
     MatchResult r
     (λ found. MatchOption found ((c ≡ T) × Reads o T b [] T)
-    (λ item. (length b < length c) × Reads o T b (item_of item ∷ []) c))
+    (λ item. (length b < length c) × Reads o T b (view item ∷ []) c))
     (Refuses o T b)
+
+abbrev pub AnswersItem : ParseOption → List ℕ → List ℕ → List ℕ → Result (Option Item) Error → Type 0
+AnswersItem o T b c r = Answers item_of o T b c r
+
+-- the same, of an item that may borrow
+abbrev pub AnswersBorrowed : ParseOption → List ℕ → List ℕ → List ℕ → Result (Option BorrowedItem) Error
+    → Type 0
+AnswersBorrowed o T b c r = Answers borrowed_item_of o T b c r
 
 -- a refusal stays, and the first one is kept
 abbrev pub KeepsRefusal : {X : Type 0} → Option AnsweredRefusal → Option AnsweredRefusal → Result X Error

@@ -5,7 +5,7 @@ ghost use Rattle.ini_text.specs.Inside.ElementReader.{element, given};
 ghost use Rattle.ini_text.specs.Inside.Reading.{Gives};
 
 use crate::error::ParseKind;
-use crate::item::Item;
+use crate::item::BorrowedItem;
 use crate::option::ParseOption;
 use crate::parser::fault::Stop;
 use crate::parser::header::read_header;
@@ -26,7 +26,7 @@ pub(crate) fn read_element<'a>(
     c: char,
     after: &'a str,
     read: ParseOption,
-) -> Result<(Option<Item>, &'a str), Stop<'a>>
+) -> Result<(Option<BorrowedItem<'a>>, &'a str), Stop<'a>>
     requires { chars text.now ≡ c ∷ chars after.now }
     ensures { Gives given result (element read (chars front.now) (chars text.now)) }
 {

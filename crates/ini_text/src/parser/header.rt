@@ -6,7 +6,7 @@ ghost use Rattle.ini_text.specs.Inside.Reading.{Gives};
 ghost use Rattle.ini_text.specs.Inside.StringReader.{string};
 
 use crate::error::ParseKind;
-use crate::item::Item;
+use crate::item::BorrowedItem;
 use crate::option::ParseOption;
 use crate::parser::endpoints::Endpoints;
 use crate::parser::fault::Stop;
@@ -14,6 +14,7 @@ use crate::parser::string::read_string;
 use crate::parser::trimmed::read_trimmed;
 use crate::text::{Class, after_first, split_last, trim};
 use std::alloc::Global;
+use std::borrow::CowStr;
 
 // header = "[" name "]" / bracketed-header
 /// A header behind its bracket.
@@ -22,7 +23,7 @@ pub(crate) fn read_header<'a>(
     scratch: &mut String,
     text: &'a str,
     read: ParseOption,
-) -> Result<(Option<Item>, &'a str), Stop<'a>>
+) -> Result<(Option<BorrowedItem<'a>>, &'a str), Stop<'a>>
     ensures { Gives given result (behind_bracket read (chars text.now)) }
 {
     if read.enabled_brackets_in_section_names {
@@ -36,7 +37,7 @@ pub(crate) fn read_header<'a>(
         Endpoints::Name,
         true,
     )?;
-    Ok((Some(Item::Header(name)), after_first(rest)))
+    Ok((Some(BorrowedItem::Header(name)), after_first(rest)))
 }
 
 // bracketed-header = "[" name "]" *blank, up to LF or CR
@@ -45,7 +46,7 @@ fn read_bracketed_header<'a>(
     alloc: Global,
     text: &'a str,
     read: ParseOption,
-) -> Result<(Option<Item>, &'a str), Stop<'a>>
+) -> Result<(Option<BorrowedItem<'a>>, &'a str), Stop<'a>>
     ensures { Gives given result
         (bracketed_header (string read.enabled_escape bracketed_name_ends (chars text.now))) }
 {
@@ -64,7 +65,7 @@ fn read_bracketed_header<'a>(
         ));
     };
     let name = trim(alloc, String::from_str(alloc, before)?, true)?;
-    Ok((Some(Item::Header(name)), rest))
+    Ok((Some(BorrowedItem::Header(CowStr::Owned(name))), rest))
 }
 
 /// What stands before the last closing bracket of a text, if blanks alone stand behind that.

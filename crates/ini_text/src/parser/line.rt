@@ -4,7 +4,7 @@ ghost use Rattle.std.specs.Prelude.{◌≡◌, true, chars, option_map};
 ghost use Rattle.ini_text.specs.Inside.LineReader.{line, quote_at};
 ghost use Rattle.ini_text.specs.Inside.Endpoints.{ends_of};
 ghost use Rattle.ini_text.specs.Inside.Reading.{prepend, Appends, Gives};
-ghost use Rattle.ini_text.specs.Parsing.Items.{string_text};
+ghost use Rattle.ini_text.specs.Parsing.Items.{cow_text, string_text};
 
 use crate::option::ParseOption;
 use crate::parser::endpoints::Endpoints;
@@ -13,6 +13,7 @@ use crate::parser::string::read_string;
 use crate::parser::trimmed::read_trimmed;
 use crate::text::{after_first, split_first, trim_from};
 use std::alloc::Global;
+use std::borrow::CowStr;
 
 /// Where the quoted part that begins here ends, and what follows its mark.
 fn split_quote_mark(text: &str, read: ParseOption) -> Option<(Endpoints, &str)>
@@ -36,8 +37,8 @@ pub(crate) fn read_first_line<'a>(
     scratch: &mut String,
     text: &'a str,
     read: ParseOption,
-) -> Result<(String, &'a str), Stop<'a>>
-    ensures { Gives string_text result (line read true (chars text.now)) }
+) -> Result<(CowStr<'a>, &'a str), Stop<'a>>
+    ensures { Gives cow_text result (line read true (chars text.now)) }
 {
     match split_quote_mark(text, read) {
         None => read_trimmed(
@@ -51,7 +52,8 @@ pub(crate) fn read_first_line<'a>(
         Some(_) => {
             scratch.clear();
             let end = read_line(alloc, scratch, text, read, true)?;
-            Ok((String::from_str(alloc, scratch.as_str())?, end))
+            let value = String::from_str(alloc, scratch.as_str())?;
+            Ok((CowStr::Owned(value), end))
         }
     }
 }

@@ -1,16 +1,19 @@
 //! Pairs: keys, indented or not, and what follows them; and what else a line may give that begins with
 //! blanks. This file knows strings and values.
-ghost use Rattle.std.specs.Prelude.{◌≡◌, ℕ, chars, drop, IfOk};
+ghost use Rattle.std.specs.Prelude.{◌≡◌, ℕ, chars, drop};
 ghost use Rattle.ini_text.specs.Grammar.CharacterKinds.{is_blank};
 ghost use Rattle.ini_text.specs.Inside.ElementReader.{behind_blanks, behind_separator, given};
-ghost use Rattle.ini_text.specs.Inside.ElementReader.{indented_pair_of_key, kept_blanks, unindented_pair};
-ghost use Rattle.ini_text.specs.Inside.Reading.{Answer, Gives, StopsBy};
+ghost use Rattle.ini_text.specs.Inside.ElementReader.{indented_pair_of_key, kept_blanks, trimmed_key};
+ghost use Rattle.ini_text.specs.Inside.ElementReader.{unindented_pair};
+ghost use Rattle.ini_text.specs.Grammar.Strings.{key_ends};
+ghost use Rattle.ini_text.specs.Inside.Reading.{Answer, Gives, StopsBy, prepend};
 ghost use Rattle.ini_text.specs.Inside.Scans.{run_of, skipped};
-ghost use Rattle.ini_text.specs.Parsing.Items.{string_text};
+ghost use Rattle.ini_text.specs.Inside.StringReader.{string};
+ghost use Rattle.ini_text.specs.Parsing.Items.{cow_text};
 ghost use Rattle.ini_text.specs.declared.option.ParseOption.{ParseOption};
 
 use crate::error::ParseKind;
-use crate::item::Item;
+use crate::item::BorrowedItem;
 use crate::option::ParseOption;
 use crate::parser::endpoints::Endpoints;
 use crate::parser::fault::Stop;
@@ -18,7 +21,8 @@ use crate::parser::string::read_string;
 use crate::parser::trimmed::read_trimmed;
 use crate::parser::value::read_value;
 use crate::text::{Class, after_first, front_before, is_line_end, skip, split_first, trim};
-use std::alloc::{AllocError, Global};
+use std::alloc::Global;
+use std::borrow::CowStr;
 
 // pair = key separator value
 /// A pair whose key isn't indented.
@@ -28,7 +32,7 @@ pub(crate) fn read_unindented<'a>(
     scratch: &mut String,
     text: &'a str,
     read: ParseOption,
-) -> Result<(Option<Item>, &'a str), Stop<'a>>
+) -> Result<(Option<BorrowedItem<'a>>, &'a str), Stop<'a>>
     ensures { Gives given result (unindented_pair read (chars text.now)) }
 {
     let both = !read.enabled_preserve_key_leading_whitespace;
@@ -50,7 +54,7 @@ pub(crate) fn read_indented<'a>(
     scratch: &mut String,
     text: &'a str,
     read: ParseOption,
-) -> Result<(Option<Item>, &'a str), Stop<'a>>
+) -> Result<(Option<BorrowedItem<'a>>, &'a str), Stop<'a>>
     ensures { Gives given result
         (behind_blanks read (run_of is_blank (chars text.now)) (skipped is_blank (chars text.now))) }
 {
@@ -64,28 +68,42 @@ pub(crate) fn read_indented<'a>(
     if c == '[' {
         return Ok((None, start));
     }
-    let mut key = begin_key(alloc, front_before(text, start), read)?;
-    match read_string(&mut key, start, read.enabled_escape, Endpoints::Key) {
-        Ok(rest) => {
-            let key = trim(alloc, key, !read.enabled_preserve_key_leading_whitespace)?;
-            read_pair(alloc, scratch, key, rest, read)
-        }
+    match read_indented_key(alloc, scratch, front_before(text, start), start, read) {
+        Ok((key, rest)) => read_pair(alloc, scratch, key, rest, read),
         Err(stop) => drop_tail(stop),
     }
 }
 
-/// What an indented key begins with: its blanks, where they are kept.
-fn begin_key(alloc: Global, blanks: &str, read: ParseOption) -> Result<String, AllocError>
-    ensures { IfOk result (λ key. string_text key ≡ kept_blanks read (chars blanks.now)) }
+/// An indented key, which stands after its blanks, and what follows it, from its separator on. It is
+/// borrowed where its blanks aren't kept.
+fn read_indented_key<'a>(
+    alloc: Global,
+    scratch: &mut String,
+    blanks: &str,
+    text: &'a str,
+    read: ParseOption,
+) -> Result<(CowStr<'a>, &'a str), Stop<'a>>
+    ensures { Gives cow_text result (trimmed_key read (prepend (kept_blanks read (chars blanks.now))
+        (string read.enabled_escape key_ends (chars text.now)))) }
 {
-    if read.enabled_preserve_key_leading_whitespace {
-        return String::from_str(alloc, blanks);
+    if !read.enabled_preserve_key_leading_whitespace {
+        return read_trimmed(
+            alloc,
+            scratch,
+            text,
+            read.enabled_escape,
+            Endpoints::Key,
+            true,
+        );
     }
-    Ok(String::new(alloc))
+    let mut key = String::from_str(alloc, blanks)?;
+    let rest = read_string(&mut key, text, read.enabled_escape, Endpoints::Key)?;
+    let key = trim(alloc, key, false)?;
+    Ok((CowStr::Owned(key), rest))
 }
 
 /// What is left of a text that ends within an indented key gives nothing; other stops stay.
-fn drop_tail(stop: Stop<'_>) -> Result<(Option<Item>, &str), Stop<'_>>
+fn drop_tail<'a>(stop: Stop<'a>) -> Result<(Option<BorrowedItem<'a>>, &'a str), Stop<'a>>
     ensures { (o : ParseOption) (a : Answer ℕ) → StopsBy a stop.entry
         → Gives given result (indented_pair_of_key o a) }
 {
@@ -104,16 +122,16 @@ fn drop_tail(stop: Stop<'_>) -> Result<(Option<Item>, &str), Stop<'_>>
 fn read_pair<'a>(
     alloc: Global,
     scratch: &mut String,
-    key: String,
+    key: CowStr<'a>,
     rest: &'a str,
     read: ParseOption,
-) -> Result<(Option<Item>, &'a str), Stop<'a>>
-    ensures { Gives given result (behind_separator read (string_text key) (drop 1 (chars rest.now))) }
+) -> Result<(Option<BorrowedItem<'a>>, &'a str), Stop<'a>>
+    ensures { Gives given result (behind_separator read (cow_text key.entry) (drop 1 (chars rest.now))) }
 {
     let after = after_first(rest);
-    if key.is_empty() {
+    if key.as_str().is_empty() {
         return Err(Stop::new(ParseKind::MissingKey, "missing key", after));
     }
     let (value, end) = read_value(alloc, scratch, after, read)?;
-    Ok((Some(Item::Pair(key, value)), end))
+    Ok((Some(BorrowedItem::Pair(key, value)), end))
 }

@@ -13,7 +13,7 @@ ghost use Rattle.ini_text.specs.Parsing.Parser.{KeepsRefusal, TellsRefusal};
 ghost use Rattle.ini_text.specs.Parsing.Places.{AnswersElement};
 
 use crate::error::Error;
-use crate::item::Item;
+use crate::item::BorrowedItem;
 use crate::option::ParseOption;
 use crate::parser::element::read_element;
 use crate::parser::endpoints::Endpoints;
@@ -143,9 +143,11 @@ fn find_element<'a>(
     let source = front_before(start, rest);
     let content = match given {
         None => Content::Nothing,
-        Some(Item::Header(name)) => Content::Header(name),
-        Some(Item::Pair(key, value)) => {
+        Some(BorrowedItem::Header(name)) => Content::Header(name.into_owned(alloc)?),
+        Some(BorrowedItem::Pair(key, value)) => {
             let places = place_pair(alloc, scratch, start, rest, read)?;
+            let key = key.into_owned(alloc)?;
+            let value = value.into_owned(alloc)?;
             Content::Pair(PlacedPair { key, value, places })
         }
     };

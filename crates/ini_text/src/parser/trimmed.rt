@@ -5,13 +5,14 @@ ghost use Rattle.ini_text.specs.Inside.Endpoints.{ends_of};
 ghost use Rattle.ini_text.specs.Inside.Reading.{altered_answer, Gives};
 ghost use Rattle.ini_text.specs.Inside.Scans.{trimmed_at};
 ghost use Rattle.ini_text.specs.Inside.StringReader.{string};
-ghost use Rattle.ini_text.specs.Parsing.Items.{string_text};
+ghost use Rattle.ini_text.specs.Parsing.Items.{cow_text};
 
 use crate::parser::endpoints::Endpoints;
 use crate::parser::fault::Stop;
 use crate::parser::string::{read_string, split_raw};
 use crate::text::trimmed;
 use std::alloc::Global;
+use std::borrow::CowStr;
 
 /// A string up to an endpoint, trimmed at its end or at both ends, and what follows it, from its endpoint
 /// on. What `scratch` holds is lost.
@@ -23,17 +24,16 @@ pub(crate) fn read_trimmed<'a>(
     escapes: bool,
     ends: Endpoints,
     both: bool,
-) -> Result<(String, &'a str), Stop<'a>>
-    ensures { Gives string_text result
+) -> Result<(CowStr<'a>, &'a str), Stop<'a>>
+    ensures { Gives cow_text result
         (altered_answer (trimmed_at both) (string escapes (ends_of ends) (chars text.now))) }
 {
-    // Most strings are one run of the text: they are copied once, as long as they are.
+    // Most strings are one run of the text: they are borrowed.
     if let Some((run, rest)) = split_raw(text, ends) {
-        let kept = String::from_str(alloc, trimmed(run, both))?;
-        return Ok((kept, rest));
+        return Ok((CowStr::Borrowed(trimmed(run, both)), rest));
     }
     scratch.clear();
     let rest = read_string(scratch, text, escapes, ends)?;
     let kept = String::from_str(alloc, trimmed(scratch.as_str(), both))?;
-    Ok((kept, rest))
+    Ok((CowStr::Owned(kept), rest))
 }

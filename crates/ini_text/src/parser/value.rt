@@ -4,7 +4,7 @@ ghost use Rattle.std.specs.Prelude.{◌≡◌, [], chars, option_map, IfOk};
 ghost use Rattle.ini_text.specs.Grammar.WhiteSpace.{without_outer_line_feeds};
 ghost use Rattle.ini_text.specs.Inside.Reading.{prepend, Appends, Gives};
 ghost use Rattle.ini_text.specs.Inside.ValueReader.{after_end, empty_cr, more_lines, value};
-ghost use Rattle.ini_text.specs.Parsing.Items.{string_text};
+ghost use Rattle.ini_text.specs.Parsing.Items.{cow_text, string_text};
 
 use crate::error::ParseKind;
 use crate::option::ParseOption;
@@ -12,6 +12,7 @@ use crate::parser::fault::Stop;
 use crate::parser::line::{read_first_line, read_line};
 use crate::text::{Class, push, skip, split_first, split_last};
 use std::alloc::{AllocError, Global};
+use std::borrow::CowStr;
 
 // value = *inline-white line [line-end more-lines]
 /// The value that begins behind a separator, and what follows it.
@@ -22,19 +23,20 @@ pub(crate) fn read_value<'a>(
     scratch: &mut String,
     text: &'a str,
     read: ParseOption,
-) -> Result<(String, &'a str), Stop<'a>>
-    ensures { Gives string_text result (value read (chars text.now)) }
+) -> Result<(CowStr<'a>, &'a str), Stop<'a>>
+    ensures { Gives cow_text result (value read (chars text.now)) }
 {
     let start = skip(text, Class::InlineWhite);
-    let (mut value, end) = read_first_line(alloc, scratch, start, read)?;
+    let (first, end) = read_first_line(alloc, scratch, start, read)?;
     if !read.enabled_indented_mutiline_value {
-        return Ok((value, end));
+        return Ok((first, end));
     }
     let Some(next) = after_line_end(end) else {
-        return Ok((trim_line_feeds(alloc, value.as_str())?, end));
+        return Ok((trim_line_feeds(alloc, first)?, end));
     };
+    let mut value = first.into_owned(alloc)?;
     let rest = read_more(alloc, &mut value, next, read)?;
-    Ok((trim_line_feeds(alloc, value.as_str())?, rest))
+    Ok((trim_line_feeds(alloc, CowStr::Owned(value))?, rest))
 }
 
 /// What follows a line end, if the text begins with one.
@@ -102,11 +104,17 @@ fn read_more<'a>(
     Ok(rest)
 }
 
-/// A copy of a text without the line feeds at its ends.
-fn trim_line_feeds(alloc: Global, text: &str) -> Result<String, AllocError>
-    ensures { IfOk result (λ trimmed. string_text trimmed ≡ without_outer_line_feeds (chars text.now)) }
+/// A text without the line feeds at its ends. What is borrowed stays so.
+fn trim_line_feeds<'a>(alloc: Global, text: CowStr<'a>) -> Result<CowStr<'a>, AllocError>
+    ensures { IfOk result (λ trimmed. cow_text trimmed ≡ without_outer_line_feeds (cow_text text.entry)) }
 {
-    String::from_str(alloc, without_line_feeds(text))
+    match text {
+        CowStr::Borrowed(text) => Ok(CowStr::Borrowed(without_line_feeds(text))),
+        CowStr::Owned(text) => {
+            let trimmed = String::from_str(alloc, without_line_feeds(text.as_str()))?;
+            Ok(CowStr::Owned(trimmed))
+        }
+    }
 }
 
 /// The part of a text without the line feeds at its ends.

@@ -1,11 +1,10 @@
-use Rattle.std.proofs.Common.{chars, ap, ◌∙◌, sym, drop, subst}
+use Rattle.std.proofs.Common.{chars, ap, ◌∙◌, sym, subst}
 use Rattle.ini_text.specs.Grammar.CharacterKinds.{is_blank}
 use Rattle.ini_text.specs.Grammar.Strings.{key_ends}
-use Rattle.ini_text.specs.Inside.ElementReader.{behind_blanks, behind_separator, given, indented_pair_of_key, kept_blanks, trimmed_key}
+use Rattle.ini_text.specs.Inside.ElementReader.{behind_blanks, given, indented_pair_of_key, kept_blanks, trimmed_key}
 use Rattle.ini_text.specs.Inside.Reading.{Gives, prepend}
 use Rattle.ini_text.specs.Inside.Scans.{run_of}
 use Rattle.ini_text.specs.Inside.StringReader.{string}
-use Rattle.ini_text.proofs.ReaderLemmas.ReaderLemmas.{stays}
 use Rattle.ini_text.proofs.ReaderLemmas.ElementReaderLemmas.{blanks_front, key_at}
 use Rattle.ini_text.proofs.parser.pair.read_indented.Goals as goal
 
@@ -20,24 +19,23 @@ returns-in-Ok c =
     let read =
     key_at o w c.in-Some.ensures.characters (sym c.is_line_end.ensures ∙ c.if-is_line_end.false)
     c.if-c-eq91.false
-    ∙ ap (λ k. indented_pair_of_key o (trimmed_key o (prepend k (string o.enabled_escape key_ends start))))
-    (sym (c.in_ok-key.ensures
-    ∙ ap (kept_blanks o) (c.front_before.ensures ∙ (blanks_front c.skip-start.ensures).0)))
-    ∙ ap (λ a. indented_pair_of_key o (trimmed_key o a)) c.in-Ok.ensures
-    ∙ ap (λ k. behind_separator o k (drop 1 (chars c.in-Ok.rest.now))) (sym c.in_ok-key-in-Ok.ensures) in
+    ∙ ap (λ b. indented_pair_of_key o (trimmed_key o (prepend (kept_blanks o b)
+    (string o.enabled_escape key_ends start))))
+    (sym (c.front_before.ensures ∙ (blanks_front c.skip-start.ensures).0))
+    ∙ ap (indented_pair_of_key o) c.in-Ok.ensures in
     subst (Gives given c.read_pair.result) (sym (ap (behind_blanks o w) (sym c.skip-start.ensures) ∙ read))
     c.read_pair.ensures
 
-pub returns : goal.returns
-returns c =
+pub returns-in-Err : goal.returns-in-Err
+returns-in-Err c =
     let o = c.args.read in
     let w = run_of is_blank (chars c.args.text.now) in
     let start = chars c.skip-start.result.now in
     let read =
     key_at o w c.in-Some.ensures.characters (sym c.is_line_end.ensures ∙ c.if-is_line_end.false)
     c.if-c-eq91.false
-    ∙ ap (λ k. indented_pair_of_key o (trimmed_key o (prepend k (string o.enabled_escape key_ends start))))
-    (sym (c.in_ok-key.ensures
-    ∙ ap (kept_blanks o) (c.front_before.ensures ∙ (blanks_front c.skip-start.ensures).0))) in
+    ∙ ap (λ b. indented_pair_of_key o (trimmed_key o (prepend (kept_blanks o b)
+    (string o.enabled_escape key_ends start))))
+    (sym (c.front_before.ensures ∙ (blanks_front c.skip-start.ensures).0)) in
     subst (Gives given c.drop_tail.result) (sym (ap (behind_blanks o w) (sym c.skip-start.ensures) ∙ read))
-    (c.drop_tail.ensures o _ (stays c.in-Err.stop c.in-Err.ensures (λ r k h. ap (trimmed_key o) h)))
+    (c.drop_tail.ensures o _ c.in-Err.ensures)

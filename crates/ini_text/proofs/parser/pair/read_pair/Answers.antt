@@ -1,7 +1,8 @@
-use Rattle.std.proofs.Common.{◌≢◌, [], string_bytes, sym, ap, ◌∙◌, eqb-true, eq-eqb, true≢false}
-use Rattle.std.proofs.lemmas.Str.{IsUtf8-string_bytes}
+use Rattle.std.proofs.Common.{◌≢◌, [], length, ap, sym, ◌∙◌, eqb-true, eq-eqb, subst, true≢false}
+use Rattle.std.specs.Cow.{cow_str_bytes}
+use Rattle.std.specs.Str.{IsUtf8}
 use Rattle.ini_text.specs.Inside.ElementReader.{behind_separator, pair_of_value}
-use Rattle.ini_text.specs.Parsing.Items.{string_text}
+use Rattle.ini_text.specs.Parsing.Items.{cow_text}
 use Rattle.ini_text.proofs.StringLemmas.PushLemmas.{no_characters, some_characters}
 use Rattle.ini_text.proofs.ReaderLemmas.ReaderLemmas.{passed}
 use Rattle.ini_text.proofs.ReaderLemmas.ElementReaderLemmas.{behind_key}
@@ -10,28 +11,31 @@ use Rattle.ini_text.proofs.parser.pair.read_pair.Goals as goal
 pub returns-then-is_empty : goal.returns-then-is_empty
 returns-then-is_empty c =
     rw (
-      no_characters (string_bytes c.args.key)
-          (sym c.args.key.bytes.ok.0 ∙ eqb-true _ 0 (sym c.is_empty.ensures ∙ c.if-is_empty.true)),
+      no_characters (cow_str_bytes c.args.key)
+          (ap length (sym c.as_str.ensures.value)
+          ∙ eqb-true _ 0 (sym c.is_empty.ensures ∙ c.if-is_empty.true)),
       c.new.ensures,
       c.after_first-after.ensures,
     )
 
 pub returns-in_err-value : goal.returns-in_err-value
 returns-in_err-value c =
-    let some : string_text c.args.key ≢ [] =
-    some_characters (string_bytes c.args.key) (IsUtf8-string_bytes c.args.key)
+    let some : cow_text c.args.key ≢ [] =
+    some_characters (cow_str_bytes c.args.key) (subst IsUtf8 c.as_str.ensures.value c.as_str.utf8)
     (λ none. true≢false
-    (sym (eq-eqb _ 0 (c.args.key.bytes.ok.0 ∙ none)) ∙ sym c.is_empty.ensures ∙ c.if-is_empty.false)) in
+    (sym (eq-eqb _ 0 (ap length c.as_str.ensures.value ∙ none)) ∙ sym c.is_empty.ensures
+    ∙ c.if-is_empty.false)) in
     passed _ _ _ c.from_residual.ensures.1 c.in_err-value.ensures λ r k h.
-    ap (behind_separator c.args.read (string_text c.args.key)) (sym c.after_first-after.ensures)
-    ∙ behind_key c.args.read _ _ some ∙ ap (pair_of_value (string_text c.args.key)) h
+    ap (behind_separator c.args.read (cow_text c.args.key)) (sym c.after_first-after.ensures)
+    ∙ behind_key c.args.read _ _ some ∙ ap (pair_of_value (cow_text c.args.key)) h
 
 pub returns : goal.returns
 returns c =
-    let some : string_text c.args.key ≢ [] =
-    some_characters (string_bytes c.args.key) (IsUtf8-string_bytes c.args.key)
+    let some : cow_text c.args.key ≢ [] =
+    some_characters (cow_str_bytes c.args.key) (subst IsUtf8 c.as_str.ensures.value c.as_str.utf8)
     (λ none. true≢false
-    (sym (eq-eqb _ 0 (c.args.key.bytes.ok.0 ∙ none)) ∙ sym c.is_empty.ensures ∙ c.if-is_empty.false)) in
-    ap (behind_separator c.args.read (string_text c.args.key)) (sym c.after_first-after.ensures)
+    (sym (eq-eqb _ 0 (ap length c.as_str.ensures.value ∙ none)) ∙ sym c.is_empty.ensures
+    ∙ c.if-is_empty.false)) in
+    ap (behind_separator c.args.read (cow_text c.args.key)) (sym c.after_first-after.ensures)
     ∙ behind_key c.args.read _ _ some
-    ∙ ap (pair_of_value (string_text c.args.key)) c.in_ok-value.ensures
+    ∙ ap (pair_of_value (cow_text c.args.key)) c.in_ok-value.ensures

@@ -1,11 +1,11 @@
-use Rattle.std.proofs.Common.{[], ◌∷◌, ◌∙◌, ap, subst, chars}
+use Rattle.std.proofs.Common.{[], ◌∷◌, ◌∙◌, ap, subst, sym, chars}
 use Rattle.std.proofs.lemmas.Result.{err_from_is_err_and}
-use Rattle.ini_text.specs.Grammar.Elements.{Element}
+use Rattle.ini_text.specs.Grammar.Elements.{Element, Header, Pair}
 use Rattle.ini_text.specs.Inside.ElementReader.{given}
 use Rattle.ini_text.specs.Parsing.Fronts.{front_of}
-use Rattle.ini_text.specs.Parsing.Items.{item_of}
+use Rattle.ini_text.specs.Parsing.Items.{borrowed_item_of, cow_text, string_text}
 use Rattle.ini_text.proofs.PlaceLemmas.PairLemmas.{front_all, refuses_element, source_within, begins_pair, stands}
-use Rattle.ini_text.proofs.parser.placed.find_element.Goals.{in-None, in-Some-Header, in-Some-Pair+in_ok-places-in-Some-Pair}
+use Rattle.ini_text.proofs.parser.placed.find_element.Goals.{in-None, in-Some-Header+in_ok-into_owned-in-Some-Header, in-Some-Pair+in_ok-places-in-Some-Pair+in_ok-key-in-Some-Pair+in_ok-value-in-Some-Pair}
 use Rattle.ini_text.proofs.parser.placed.find_element.Goals as goal
 
 pub returns-in_default-clause-element : goal.returns-in_default-clause-element
@@ -32,7 +32,7 @@ front_before-source-requires c =
 pub place_pair-requires : goal.place_pair-requires
 place_pair-requires c = begins_pair c.args.read c.requires c.in-Some.ensures.characters
     c.front_before-front.ensures c.in_ok-given.ensures
-    (ap given c.in-Some-Pair.is ∙ ap (λ i. item_of i ∷ []) c.in-Some-Pair.field-0-is)
+    (ap given c.in-Some-Pair.is ∙ ap (λ i. borrowed_item_of i ∷ []) c.in-Some-Pair.field-0-is)
 
 pub returns-clause-element : goal.returns-clause-element
 returns-clause-element c =
@@ -44,16 +44,20 @@ returns-clause-element c =
           rw w.content-is (stands o c.requires c.in-Some.ensures.characters c.front_before-front.ensures
           c.in_ok-given.ensures _ c.front_before-source.ensures (ap given w.in-None.is)
           (λ s holds whole. tt))
-      | in-Some-Header w ↦
+      | in-Some-Header+in_ok-into_owned-in-Some-Header w ↦
           rw w.content-is (stands o c.requires c.in-Some.ensures.characters c.front_before-front.ensures
           c.in_ok-given.ensures _ c.front_before-source.ensures
-          (ap given w.in-Some-Header.is ∙ ap (λ i. item_of i ∷ []) w.in-Some-Header.field-0-is)
+          (ap given w.in-Some-Header.is ∙ ap (λ i. borrowed_item_of i ∷ []) w.in-Some-Header.field-0-is
+          ∙ ap (λ b. Header (chars b) ∷ []) (sym w.in_ok-into_owned-in-Some-Header.ensures.ok))
           (λ s holds whole. tt))
-      | in-Some-Pair+in_ok-places-in-Some-Pair w ↦
+      | in-Some-Pair+in_ok-places-in-Some-Pair+in_ok-key-in-Some-Pair+in_ok-value-in-Some-Pair w ↦
+          let given_is = ap given w.in-Some-Pair.is ∙ ap (λ i. borrowed_item_of i ∷ []) w.in-Some-Pair.field-0-is
+          ∙ ap (λ b. Pair (chars b) (cow_text w.in-Some-Pair.value) ∷ [])
+          (sym w.in_ok-key-in-Some-Pair.ensures.ok)
+          ∙ ap (λ b. Pair (string_text w.in_ok-key-in-Some-Pair.key) (chars b) ∷ [])
+          (sym w.in_ok-value-in-Some-Pair.ensures.ok) in
           rw w.content-is (stands o c.requires c.in-Some.ensures.characters c.front_before-front.ensures
-          c.in_ok-given.ensures _ c.front_before-source.ensures
-          (ap given w.in-Some-Pair.is ∙ ap (λ i. item_of i ∷ []) w.in-Some-Pair.field-0-is)
+          c.in_ok-given.ensures _ c.front_before-source.ensures given_is
           (λ s holds whole. w.in_ok-places-in-Some-Pair.ensures b s _ _
-          (subst (Element o b s r)
-          (ap given w.in-Some-Pair.is ∙ ap (λ i. item_of i ∷ []) w.in-Some-Pair.field-0-is) holds) whole))
+          (subst (Element o b s r) given_is holds) whole))
     ]

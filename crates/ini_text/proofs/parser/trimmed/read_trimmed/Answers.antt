@@ -6,7 +6,7 @@ use Rattle.ini_text.proofs.parser.trimmed.read_trimmed.Goals as goal
 
 pub returns-in_err-rest : goal.returns-in_err-rest
 returns-in_err-rest c =
-    passed _ _ _ c.from_residual-in_err-rest.ensures.1 c.in_err-rest.ensures
+    passed _ _ _ c.from_residual.ensures.1 c.in_err-rest.ensures
     (λ r k h. ap (altered_answer (trimmed_at c.args.both)) (sym (from_nothing _ c.clear.ensures.bytes) ∙ h))
 
 pub returns : goal.returns
@@ -14,5 +14,5 @@ returns c =
     ap (altered_answer (trimmed_at c.args.both))
     (sym (from_nothing _ c.clear.ensures.bytes) ∙ c.in_ok-rest.ensures)
     ∙ ap (λ v. found v (chars c.in_ok-rest.rest.now))
-    (sym (ap chars c.in_ok-kept-2.ensures.ok ∙ c.trimmed-2.ensures
+    (sym (ap chars c.in_ok-kept.ensures.ok ∙ c.trimmed-2.ensures
     ∙ ap (λ bytes. trimmed_at c.args.both (chars bytes)) c.as_str.ensures.value))

@@ -1,0 +1,48 @@
+//! Items that borrow. This file knows what `parser` knows.
+ghost use Rattle.std.specs.Prelude.{◌≡◌, None, Ok, IfSome, IsErrAnd, OnErr};
+ghost use Rattle.ini_text.specs.Parsing.Parser.{AnswersBorrowed, KeepsRefusal, TellsRefusal};
+
+use crate::error::Error;
+use crate::item::BorrowedItem;
+use crate::parser::{Parser, find_item, told};
+
+impl<'a> Parser<'a> {
+    /// The next item, and `None` at the text's end. What stands in the text as it is read is borrowed from it.
+    ///
+    /// The rest is as `next_item` has it. Owned are names, keys and values with escapes, values with quotes,
+    /// and where they are enabled names with brackets, indented keys whose blanks are kept and values that
+    /// a line end follows which may go on; nothing else takes memory.
+    #[inline(always)]
+    pub fn next_borrowed(&mut self) -> Result<Option<BorrowedItem<'a>>, Error>
+        ensures option { self.new.option ≡ self.old.option }
+        ensures text { self.new.text ≡ self.old.text }
+        ensures item { self.old.refusal ≡ None
+            → AnswersBorrowed self.old.option self.old.text self.old.front self.new.front result }
+        ensures ended { self.old.refusal ≡ None → self.old.front ≡ self.old.text → result ≡ Ok None }
+
+        // A refusal is kept, and told again.
+        ensures refused_again { IfSome self.old.refusal (λ refusal. IsErrAnd result (TellsRefusal refusal)) }
+        ensures refusal { KeepsRefusal self.old.refusal self.new.refusal result }
+        ensures stays { OnErr result (self.new.front ≡ self.old.front) }
+    {
+        if let Some(stop) = self.refusal {
+            return Err(told(self.text, stop));
+        }
+        match find_item(
+            self.alloc,
+            &mut self.scratch,
+            self.text,
+            self.rest,
+            self.option,
+        ) {
+            Ok((item, rest)) => {
+                self.rest = rest;
+                Ok(item)
+            }
+            Err(stop) => {
+                self.refusal = Some(stop);
+                Err(told(self.text, stop))
+            }
+        }
+    }
+}
