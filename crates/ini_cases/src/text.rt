@@ -4,7 +4,7 @@ use crate::places::places;
 use crate::show::{load, loaded};
 use crate::token::unreadable;
 use ini::{Error, EscapePolicy, Ini, ParseOption, Watched, write_escaped};
-use ini_text::{Item, Parser};
+use ini_text::{BorrowedItem, Item, Parser};
 use std::alloc::Global;
 
 // What the text loads as and, where it is another, what its bytes do. Bytes that are no text load as bytes
@@ -108,18 +108,38 @@ fn cut_fronts(alloc: Global, text: &str, read: ParseOption) -> Result<String, Er
     Ok(format!(in alloc; "{cut}")?)
 }
 
-// What a parser answers to four calls: items in brackets, `end`, or the refusal as it prints.
+// An item in brackets, `end`, or the refusal as it prints.
+fn shown(alloc: Global, found: Result<Option<Item>, Error>) -> Result<String, Error> {
+    Ok(match found {
+        Ok(Some(Item::Header(name))) => format!(in alloc; "[{name}] ")?,
+        Ok(Some(Item::Pair(key, value))) => format!(in alloc; "<{key}|{value}> ")?,
+        Ok(None) => String::from_str(alloc, "end ")?,
+        Err(refusal) => format!(in alloc; "({refusal}) ")?,
+    })
+}
+
+fn owned(
+    alloc: Global,
+    found: Result<Option<BorrowedItem<'_>>, Error>,
+) -> Result<Option<Item>, Error> {
+    match found? {
+        Some(item) => Ok(Some(item.into_owned(alloc)?)),
+        None => Ok(None),
+    }
+}
+
+// What a parser answers to four calls. Items that borrow are to be the same.
 fn items(alloc: Global, text: &str, read: ParseOption) -> Result<String, Error> {
     let mut out = String::new(alloc);
     let mut parser = Parser::new(alloc, text, read);
+    let mut borrowing = Parser::new(alloc, text, read);
     for _ in 0..4u32 {
-        let shown = match parser.next_item() {
-            Ok(Some(Item::Header(name))) => format!(in alloc; "[{name}] ")?,
-            Ok(Some(Item::Pair(key, value))) => format!(in alloc; "<{key}|{value}> ")?,
-            Ok(None) => String::from_str(alloc, "end ")?,
-            Err(refusal) => format!(in alloc; "({refusal}) ")?,
-        };
-        out.push_str(shown.as_str())?;
+        let item = shown(alloc, parser.next_item())?;
+        let borrowed = shown(alloc, owned(alloc, borrowing.next_borrowed()))?;
+        if item != borrowed {
+            return Ok(format!(in alloc; "borrowed: {borrowed}")?);
+        }
+        out.push_str(item.as_str())?;
     }
     Ok(out)
 }
