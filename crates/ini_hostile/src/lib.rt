@@ -30,6 +30,4 @@ mod scarce;
 #[cfg(test)]
 mod show;
 #[cfg(test)]
-mod texts;
-#[cfg(test)]
 mod writing;
