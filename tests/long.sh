@@ -55,7 +55,7 @@ while [ "$bound" -lt 200000 ] && ! bounded list empty >out 2>&1; do
 done
 own=$bound
 # what a check, edits, and readers, which make a document, may take of 2 MB: some one and a half times what they take
-checking=$((own + 10000))
+checking=$((own + 16000))
 editing=$((own + 24000))
 reading=$((own + 32000))
 most=$((own + 400000))
