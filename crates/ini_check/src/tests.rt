@@ -69,7 +69,7 @@ fn traps(rt: std::rt::HostRuntime) -> Result<(), Fail> {
             ("qe", "k = v;note", ""),
             ("qe", "color = #fff", ""),
             ("qe", "k = ; note", "1:5 MarkInValue;"),
-            ("qe", "k=;note\nj =\t#", "1:3 MarkInValue;2:4 MarkInValue;"),
+            ("qe", "k=;note\nj =\t#", "1:3 MarkInValue;2:5 MarkInValue;"),
             ("qe", "password = # set me\n", "1:12 MarkInValue;"),
             ("qe", "k = '; note'\nj = #a;b", ""),
             ("qem", "k = v\n  # note\n", "1:5 MarkInValue;"),
