@@ -93,7 +93,8 @@ kept() {
 # itself, where it is made (1).
 count_growths() {
     grows 2 'none 1' append key
-    for n in 1 7 9 15; do
+    # room is asked for where none is left, so not before: the columns have 16 slots, 32, or 64
+    for n in 1 7 9 10 11 12 13 14 15 21 22 23 24 42 43 44; do
         grows 0 "append $n" append key
         grows 0 "append $n" insert key
     done
@@ -135,7 +136,8 @@ count_growths() {
     done
 }
 
-# What was taken is given back: by each call on a document, by each form of loading, also where it is refused, and by merging.
+# What was taken is given back: by each call on a document, by each form of loading, also where it is refused, by merging, and by
+# the commands of ini_file.
 count_kept() {
     for shape in keys sections; do
         for it in none get_from set_there set_new append delete_from section len sections setter delete is_plain clone merged \
@@ -165,6 +167,32 @@ TEXTS
     for call in write_to_file write_to_file_policy write_to_file_opt; do
         echo "$call 3 $room/saved" >"$room/in"
         kept "$call" "$calls" files
+    done
+    # edits, a list of them, and the linter, over a text and over one that is refused
+    n=0
+    printf 'a = 2\nz = 1\n[s]\nb = 5\n[new]\nq = 1\n' >"$room/text"
+    for text in 'a = 1\n[s]\nb = 2\nb = 3\n[t]\nc = "x\\ty"\n[s]\nb = 9\n' 'k = v\n[b\nx = 1\n'; do
+        n=$((n + 1))
+        printf '%b' "$text" >"$room/in"
+        cp "$room/in" "$room/merging"
+        while IFS= read -r words; do
+            # shellcheck disable=SC2086
+            kept "ini_file ${words%% *}, text $n" "$file" $words
+        done <<WORDS
+check -
+get - b s
+list -
+format -
+set - a 2
+set - new v s
+set - new v u
+add - b 4 s
+delete - b s
+delete-section - s
+rename-key - b d s
+rename-section - s u
+merge --dry-run $room/merging $room/text
+WORDS
     done
 }
 
