@@ -8,17 +8,7 @@
 #
 # The program is by default the one that its script builds. The texts' sizes are divided by PART, for a build that is slow.
 #
-# The size at which each call is asked once here, PART being 1, beside those of 2 MB and 100,000 lines:
-#
-#     get, list, format, check                        14 MB: a section of 1,000,000 pairs
-#     set, add, delete, rename-key, delete-section    the same
-#     sections, get, set, rename-section              8 MB: 300,000 sections
-#     merge                                           2,000 keys; 2,000 files; 1 key into 1,000,000 pairs
-#     check                                           300,000 warnings; 2,000 files
-#     a name, a key, a value                          2,100,000 bytes each in a file; 70,000 in a word, of which the
-#                                                     system takes 131,071
-#     words                                           10,000 options
-#     standard input                                  14 MB by a pipe
+# tests/memory.sh has the size at which each call is asked once, PART being 1, beside those of 2 MB and 100,000 lines.
 set -u
 LC_ALL=C
 export LC_ALL
@@ -242,6 +232,8 @@ put("longest.set", [f"[{name}]", f"{key}={value}", "[z]", "y=3"])
 for n in (250, 1000):
     put(f"cost.many.{n}", many(n))
     put(f"cost.wide.{n}", ["[section]"] + [f"key {i}=value {i}" for i in range(10 * n)])
+put("cost.many.other", ["name=w", "[section 9]", "key 7=w", "new=w"])
+put("cost.wide.other", ["name=w", "[section]", "key 7=w", "new=w"])
 # many files
 n = 2000
 for i in range(n):
@@ -459,13 +451,14 @@ if command -v valgrind >/dev/null 2>&1; then
         four_times $shape rename-section --output - TEXT SECTION new
         four_times $shape delete-section --output - TEXT SECTION
         four_times $shape set --dry-run TEXT KEY w SECTION
+        four_times $shape merge --output - TEXT cost.$shape.other
     done
     # the text isn't gone over more often than needs be
     existing=$(instructions set --existing --output - cost.many.1000 'key 7' w 'section 999')
     at_most 'set of a key that is there, beside set --existing' \
         "$(instructions set --output - cost.many.1000 'key 7' w 'section 999')" "${existing:+$((existing * 3 / 2))}"
 else
-    echo "skipped: 31 counts of instructions, since valgrind isn't there"
+    echo "skipped: 33 counts of instructions, since valgrind isn't there"
 fi
 
 echo "$passed passed, $failed failed"

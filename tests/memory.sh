@@ -9,6 +9,31 @@
 #     tests/memory.sh [INI_CALLS [INI_TOOL [INI_MERGE [INI_FILE]]]]
 #
 # The programs are by default those that tools/run.sh builds.
+#
+# The size at which each call that takes or makes a text, a list or a document is asked once, here or by the script named:
+#
+#     ini_tool fmt, load_from_file             2,200,000 pairs, behind a byte order mark too
+#     ini_tool fmt                             a key, a name, a value of 3,000,000 bytes; a value of 1,500,000 escapes
+#     ini_tool get, list, set, del             1,000,000 pairs
+#     ini_file keys, get --all                 1,000,000 keys; 2,200,000 values of a key
+#     next_item, next_element                  2,200,000 items; 4,400,000 elements
+#     look-ups in what was loaded              150,000 keys and 150,000 sections; 1,000,000 sections of one name
+#     append, append_unindexed, clone          2,100,000 pairs of a multimap
+#     insert, make_index, remove               1,000,000; 300,000; 300,000
+#     clone, is_plain, get_from                1,000,000 keys of a document
+#     merged, clone, delete_from, layered      300,000 sections, or keys
+#     set_to                                   150,000 new sections
+#     remove_all, setters, Entry               70,000 (crates/ini_vectors)
+#     ini_merge                                5,000 files, and as many words
+#     skip_trivia                              200 MB (tests/passing.sh)
+#     ini_file get, list, format, check        14 MB: a section of 1,000,000 pairs (tests/long.sh, also what follows)
+#     set, add, delete, rename-key, delete-section, merge of a key    the same, by name and by a pipe
+#     sections, get, set, rename-section       8 MB: 300,000 sections
+#     merge                                    2,000 keys; 2,000 files
+#     check                                    300,000 warnings; 2,000 files
+#     a name, a key, a value                   2,100,000 bytes each in a file; 70,000 in a word (the system takes 131,071)
+#     words                                    10,000 options
+#     each call of the C library               4.7 MB, 200,000 pairs; a value of 3,000,000 bytes (tests/c_library/large.c)
 # shellcheck disable=SC3045
 set -u
 LC_ALL=C
@@ -289,16 +314,20 @@ sums() { cksum <"$1"; }
 # sum_of COMMAND ..: what stands for what it writes
 sum_of() { bounded "$@" 2>&1 | cksum; }
 
+tab=$(printf '\t')
 long() { head -c "$1" /dev/zero | tr '\0' "$2"; }
 { long 3000000 k; printf '=v\n['; long 3000000 s; printf ']\nk='; long 3000000 v; echo; } >"$room/lines"
 sed 's/^\[/\n[/' "$room/lines" >"$room/in"
 is 'a key, a name and a value of 3,000,000 bytes' "$(sums "$room/in")" "$(sum_of "$tool" fmt <"$room/lines")"
 # each line end is an element of its own
 is 'the same, elements' 6 "$(bounded "$calls" elements <"$room/lines" 2>&1)"
+{ printf 'k=x'; yes '\t\\' | head -n 750000 | tr -d '\n'; echo; } >"$room/in"
+is 'a value of 1,500,000 escapes' "$(sums "$room/in")" "$(sum_of "$tool" fmt <"$room/in")"
 yes 'k=v' | head -n 2200000 >"$room/in"
 is '2,200,000 pairs' "$(sums "$room/in")" "$(sum_of "$tool" fmt <"$room/in")"
 sized 2200000 items 2200000 "$calls" items
 sized 4400000 elements 4400000 "$calls" elements
+is 'ini_file get --all of them' "$(yes v | head -n 2200000 | cksum)" "$(sum_of "$file" get --all - k <"$room/in")"
 { printf '\357\273\277'; cat "$room/in"; } >"$room/marked"
 is '2,200,000 pairs behind a mark' "$(sums "$room/in")" "$(sum_of "$tool" fmt <"$room/marked")"
 is 'load_from_file of them' "load_from_file 1 $room/marked: 1" \
@@ -311,6 +340,10 @@ is '1,000,000 sections of one name' 1 "$(bounded "$tool" get k s <"$room/in" >/d
 awk 'BEGIN { for (i = 0; i < 1000000; i++) print "k" i "=" }' >"$room/in"
 sed 's/=$//' "$room/in" >"$room/keys"
 is 'ini_file keys of 1,000,000' "$(sums "$room/keys")" "$(sum_of "$file" keys - <"$room/in")"
+is 'ini_tool get of 1,000,000' "$(echo | cksum)" "$(sum_of "$tool" get k999999 <"$room/in")"
+is 'ini_tool list of 1,000,000' "$(sed "s/.*/$tab&$tab/" "$room/keys" | cksum)" "$(sum_of "$tool" list <"$room/in")"
+is 'ini_tool set of 1,000,000' "$(sed '$s/$/v/' "$room/in" | cksum)" "$(sum_of "$tool" set k999999 v <"$room/in")"
+is 'ini_tool del of 1,000,000' "$(sed 1d "$room/in" | cksum)" "$(sum_of "$tool" del k0 <"$room/in")"
 # of a multimap: steps, and how many pairs there are then and are found
 while IFS='|' read -r line answer; do
     echo "$line" >"$room/in"
