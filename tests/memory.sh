@@ -182,6 +182,9 @@ count_kept() {
             kept "$form of text $n" "$calls" files
         done
         kept "ini_merge of text $n" "$merge" "$room/text" "$room/text"
+        cp "$room/text" "$room/in"
+        kept "items of text $n" "$calls" items
+        kept "elements of text $n" "$calls" elements
     done <<'TEXTS'
 k = "quoted" and \\t escapes \\x0041\n[a\\tb]\n"k" = 'v\\n'\n
 k = "quoted\n[a]\nk\\t = w \\x00e9 and \\\\ more than a few pieces, so that they take room\nj = "a" b "c"\n= v\n
