@@ -176,19 +176,57 @@ long() {
 long ini_tool pairs "$tool" fmt
 long ini_merge nothing "$merge" pairs
 
-# A reader that is interrupted isn't asked again.
+# A reader that fails at a call, the first or the one behind the last byte, isn't asked again.
 reads() {
     if [ "$traced" = no ]; then
         skipped=$((skipped + 1))
         return
     fi
     cp nothing out
-    strace -o trace -P "$room/pair" -e trace=read -e inject=read:error=EINTR:when=1 "$tool" fmt <pair >out 2>err
+    # shellcheck disable=SC2086
+    strace -o trace -P "$room/pair" -e trace=read -e "inject=read:error=$2:when=$1" "$tool" $4 <pair >out 2>err
     { echo "status $?, calls $(grep -c '^read(0,' trace), $(cat err)"; cksum <out; } >have
-    { echo 'status 4, calls 1, ini_tool: standard input: Interrupted system call (os error 4)'; cksum <nothing; } >want
-    count 'ini_tool, a read that is interrupted'
+    { echo "status 4, calls $1, ini_tool: standard input: $3"; cksum <nothing; } >want
+    count "ini_tool $4, $2 at read $1"
 }
-reads
+for call in 1 2; do
+    for words in fmt list 'get k' 'set k w' 'del k'; do
+        reads "$call" EINTR 'Interrupted system call (os error 4)' "$words"
+        reads "$call" EIO 'Input/output error (os error 5)' "$words"
+    done
+done
+
+# A file that may not grow past so many blocks of 512 bytes gets a front of that length; one of just that length is written.
+limited() {
+    cp nothing out
+    (
+        trap '' XFSZ
+        ulimit -f "$1"
+        exec "$tool" fmt <"$2" >out 2>err
+    )
+}
+for blocks in 1 2 33; do
+    limited "$blocks" pairs
+    ended=$?
+    head -c $((blocks * 512)) pairs >wrote
+    told "ini_tool, $blocks blocks of room" $ended 4 'ini_tool: standard output: File too large (os error 27)'
+done
+printf 'k=%0509d\n' 7 >block
+limited 1 block
+ended=$?
+cp block wrote
+told 'ini_tool, just enough room' $ended 0 ''
+cp nothing wrote
+
+# What can't be told is dropped, and the status stays.
+cp nothing out
+cp nothing err
+"$tool" frob <pair >out 2>&-
+told 'ini_tool, usage, errors closed' $? 2 ''
+if [ -c /dev/full ]; then
+    "$tool" frob <pair >out 2>/dev/full
+    told 'ini_tool, usage, errors on a full device' $? 2 ''
+fi
 
 if [ "$skipped" -gt 0 ]; then
     echo "$skipped skipped: strace isn't here, or may trace no program"

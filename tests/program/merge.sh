@@ -73,12 +73,16 @@ in|k = a\\tb\n|k=a\\tb\n
 -- in|k=1|k=1\n
 --crlf -- in|k=1|k=1\r\n
 --crlf in in|k=1\nk=2|k=1\r\n
+in|\0357\0273\0277k=1\n|k=1\n
+--brackets --noquote --noescape --policy Reserved -- in|k="a=b"\n[[*]]\npath=C:\\temp\n|k="a\\=b"\n\n[[*]]\npath=C\\:\\\\temp\n
+--crlf --policy Nothing --noescape --brackets -- in|k="a=b"\n[[*]]\npath=C:\\temp\n|k=a=b\r\n\r\n[[*]]\r\npath=C:\\temp\r\n
 in|k=1\nk=2\n[p]\nj=1\n[p]\nj=2\n[e]|k=1\n\n[p]\nj=1\n
 ROWS
 echo 'k=1' >"$here/in"
 echo 'k=3' >"$here/--crlf"
 echo 'k=3' >"$room/merged"
 merges 'a file named as an option, behind --' 0 "$room/merged" -- --crlf
+refuses 'a file named as an option, which is not there' 4 '--none.ini: No such file or directory (os error 2)' --crlf -- --none.ini
 merges 'a file named as an option, behind another' 0 "$room/merged" in --crlf
 while read -r words; do
     eval "set -- $words"
