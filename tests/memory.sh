@@ -19,7 +19,7 @@
 #     next_item, next_element                  2,200,000 items; 4,400,000 elements
 #     look-ups in what was loaded              150,000 keys and 150,000 sections; 1,000,000 sections of one name
 #     append, append_unindexed, clone          2,100,000 pairs of a multimap
-#     insert, make_index, remove               1,000,000; 300,000; 300,000
+#     insert, remove, make_index               1,000,000; the first 1,000,000 times; 300,000
 #     clone, is_plain, get_from                1,000,000 keys of a document
 #     merged, clone, delete_from, layered      300,000 sections, or keys
 #     set_to                                   150,000 new sections
@@ -357,7 +357,7 @@ append_unindexed 300000 make_index 1|300000 300000
 append_unindexed 300000 append 1|300001 300001
 append 1000000|1000000 1000000
 insert 1000000 replace 1000|1000000 1000000
-append 300000 remove 300000|0 0
+append 1000000 remove 1000000|0 0
 STEPS
 # of documents: calls
 while read -r call shape n times; do
