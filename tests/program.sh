@@ -1,7 +1,7 @@
 #!/bin/sh
-# Runs the built programs over real streams and files. The cases are the rows of a table, the streams, the large inputs and the
-# runs of ini_merge below it, and the commands that README.md and docs/PROGRAM.md show. Each case that fails is told. The last
-# line is 'N passed, M failed', and the status is 1 if a case failed.
+# Runs the built programs over real streams and files. The cases are the rows of a table, the streams, the large inputs, the
+# runs of ini_merge and the warnings below it, and the commands that README.md and docs/PROGRAM.md show. Each case that fails is
+# told. The last line is 'N passed, M failed', and the status is 1 if a case failed.
 #
 #     tests/program.sh [INI_TOOL [INI_MERGE [INI_FILE]]]
 #
@@ -154,6 +154,8 @@ get k|k=a\\tb\\n\\\\|0|a\tb\n\\\n|
 --crlf get k|k=1|0|1\n|
 get k a|k=1\n[a]\nk=2\n[a]\nk=3\n|0|2\n|
 get --crlf|--crlf=1|0|1\n|
+--brackets --policy Nothing --crlf get --noquote|--noquote="1"\n|0|1\n|
+get "$(printf '\303\251')"|\0303\0251=1\n|0|1\n|
 set k 1||0|k=1\n|
 set k 9|k=1\na=2\nk=3\n|0|k=9\na=2\n|
 set b 9|a=1\n[s]\nx=y\n|0|a=1\nb=9\n\n[s]\nx=y\n|
@@ -412,9 +414,10 @@ lines 5000 'k%d=%d\n' >"$room/some"
 )
 is_cut 'an output that is full before the end' $? "$out_fault$large" "$room/some"
 
-# Large texts, and ini_merge.
+# Large texts, ini_merge, and warnings by ini_file.
 . "$top/tests/program/large.sh"
 . "$top/tests/program/merge.sh"
+. "$top/tests/program/check.sh"
 
 # The commands that a page shows: in its blocks marked `console`, each line that begins with '$ ' is a command, and what
 # follows it, up to the next one, is what the shell then shows. A page's commands run in turn, in a folder with the examples.

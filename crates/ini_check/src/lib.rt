@@ -3,8 +3,6 @@
 #![tactic(auto)]
 
 mod position;
-#[cfg(test)]
-mod tests;
 mod text;
 mod trap;
 mod walk;

@@ -10,6 +10,3 @@ mod words;
 pub use fault::named;
 pub use options::Options;
 pub use words::words_of;
-
-#[cfg(test)]
-mod tests;
