@@ -204,7 +204,7 @@ fn found(
             "{} <{}> <{}>",
             pair.front.len(),
             pair.places.own,
-            pair.value
+            pair.value.as_str()
         )?),
         Ok(None) => Ok(String::from_str(alloc, "none")?),
         Err(refused) => refusal(alloc, refused),

@@ -3,7 +3,7 @@ use Rattle.std.specs.Prelude.{◌≡◌, ◌↔◌, ◌||◌, ◌∷◌, ◌++�
 use Rattle.ini_text.specs.Grammar.Places as grammar
 use Rattle.ini_text.specs.Grammar.Positions.{column_of, line_of}
 use Rattle.ini_text.specs.Laws.Plain.{IsPlainName, IsPlainPair}
-use Rattle.ini_text.specs.Parsing.Items.{string_text}
+use Rattle.ini_text.specs.Parsing.Items.{cow_text}
 use Rattle.ini_text.specs.Parsing.Places.{StandsBetween, stretches_of}
 use Rattle.ini_text.specs.declared.option.ParseOption.{ParseOption}
 use Rattle.ini_text.specs.declared.parser.placed.Content.{Content}
@@ -53,28 +53,28 @@ pub record HeaderWarns (o : ParseOption) (b : Text) (before : Pairs) (name : Tex
 pub record PairWarns (o : ParseOption) (b : Text) (before : Pairs) (p : PlacedPair) (ws : List Warning)
     : Type 0 where
   pub plain : Bool
-  pub is_plain : IsTrue plain ↔ IsPlainPair o Basics (string_text p.key) (string_text p.value)
-  pub warnings : ws ≡ key_warnings b before (chars p.places.key.now) (string_text p.key)
+  pub is_plain : IsTrue plain ↔ IsPlainPair o Basics (cow_text p.key) (cow_text p.value)
+  pub warnings : ws ≡ key_warnings b before (chars p.places.key.now) (cow_text p.key)
       ++ (warned (not plain) b traps.NotPlain
       ++ value_warnings o (value_front b (stretches_of p.places)) (chars p.places.own.now)
-      (string_text p.value))
+      (cow_text p.value))
 
 -- of an element; the names of headers before it, and the keys of its section, stand there as keys of pairs
 abbrev pub ElementWarns : ParseOption → Text → Pairs → Pairs → Content → List Warning → Type 0
 ElementWarns o b names pairs contents.Nothing ws = ws ≡ []
-ElementWarns o b names pairs (contents.Header name) ws = HeaderWarns o b names (string_text name) ws
+ElementWarns o b names pairs (contents.Header name) ws = HeaderWarns o b names (cow_text name) ws
 ElementWarns o b names pairs (contents.Pair pair) ws = PairWarns o b pairs pair ws
 
 -- the names behind an element
 abbrev pub names_behind : Pairs → Content → Pairs
-names_behind names (contents.Header name) = names ++ (string_text name, []) ∷ []
+names_behind names (contents.Header name) = names ++ (cow_text name, []) ∷ []
 names_behind names _ = names
 
 -- the keys of the section behind an element
 abbrev pub keys_behind : Pairs → Content → Pairs
 keys_behind keys contents.Nothing = keys
 keys_behind keys (contents.Header name) = []
-keys_behind keys (contents.Pair pair) = keys ++ (string_text pair.key, []) ∷ []
+keys_behind keys (contents.Pair pair) = keys ++ (cow_text pair.key, []) ∷ []
 
 -- elements reach the front b of the text T, with headers of these names, the last section's keys, and these
 -- warnings

@@ -32,6 +32,7 @@ pub fn check(alloc: Global, text: &str, read: ParseOption) -> Result<Vec<Warning
         warn_element(&mut warnings, position, &element, &names, &keys, read)?;
         note_element(alloc, &mut names, &mut keys, &element.content)?;
         position = position.over(element.source);
+        drop(element);
     }
     Ok(warnings)
 }

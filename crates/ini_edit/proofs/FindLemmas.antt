@@ -12,7 +12,7 @@ use Rattle.ini_text.specs.Grammar.Elements.{Given, Header, Pair, Element}
 use Rattle.ini_text.specs.Grammar.Places.{Padded, pair_source}
 use Rattle.ini_text.specs.Grammar.Texts.{Reads}
 use Rattle.ini_text.specs.Laws.PlainLaws.{BeginsWithHeader}
-use Rattle.ini_text.specs.Parsing.Items.{string_text}
+use Rattle.ini_text.specs.Parsing.Items.{cow_text}
 use Rattle.ini_text.specs.Parsing.Parser.{Place}
 use Rattle.ini_text.specs.Parsing.Places.{HasPlaces, gives}
 use Rattle.ini_text.specs.Parsing.Places as parsing
@@ -233,7 +233,7 @@ module _ {o : ParseOption} {T b : Text} {p : Place} {key : Text} (s : Searches o
   -- the pair of the key
   pub search_pair : {q : Place} {e : PlacedElement} {pair : PlacedPair} (found : FoundPair)
       → Steps o T p.front q e
-      → e.content ≡ contents.Pair pair → string_text pair.key ≡ key → chars found.front.now ≡ p.front
+      → e.content ≡ contents.Pair pair → cow_text pair.key ≡ key → chars found.front.now ≡ p.front
       → found.value ≡ pair.value → found.places ≡ pair.places → q.front ++ chars found.rest.now ≡ q.text
       → ReachesPair o T b q key found
   search_pair {q} {e} {pair} found t is same front value places rest =
@@ -281,7 +281,7 @@ module _ {o : ParseOption} {T : Text} {p : Place} {name : Option Text} (key : Te
   unfoldable pub found_before : {q : Place} {found : FoundPair} {after : List Given} (later : Pairs)
       (rest : List Given)
       → ReachesPair o T p.front q key found → after ≡ pair_items later ++ rest → BeginsWithHeader rest
-      → Reads o T q.front after T → IsFirstPair o T name key (stretches_of found) (string_text found.value)
+      → Reads o T q.front after T → IsFirstPair o T name key (stretches_of found) (cow_text found.value)
   found_before {after = after} later rest reaches is header then = record {
     before = opens.items ++ pair_items reaches.passes.pairs;
     after = after;
@@ -314,7 +314,7 @@ module _ {o : ParseOption} {T : Text} {p : Place} {name : Option Text} (key : Te
 
   -- the same, in a text that is read to its end
   pub found_first : {q : Place} {pair : FoundPair} → ReachesPair o T p.front q key pair → ReadsOn o T q.front
-      → IsFirstPair o T name key (stretches_of pair) (string_text pair.value)
+      → IsFirstPair o T name key (stretches_of pair) (cow_text pair.value)
   found_first reaches on =
       let split = items_split on.items in
       found_before split.0 split.1.0 reaches split.1.1.0 split.1.1.1 on.reads
@@ -357,11 +357,11 @@ module _ {o : ParseOption} {T : Text} {p : Place} {name : Option Text} (key : Te
 
   -- where the parser stands then
   pair_reads : {q : Place} {pair : FoundPair} → ReachesPair o T p.front q key pair
-      → Reads o T (chars pair.front.now) (Pair key (string_text pair.value) ∷ []) q.front
+      → Reads o T (chars pair.front.now) (Pair key (cow_text pair.value) ∷ []) q.front
   pair_reads {q} {pair} h =
       let x = stretches_of pair in
       let placed = h.placed in
-      subst (Reads o T x.front (Pair key (string_text pair.value) ∷ [])) (sym h.front)
+      subst (Reads o T x.front (Pair key (cow_text pair.value) ∷ [])) (sym h.front)
       (Reads.step h.whole (Element.pair placed.key_front placed.some placed.separates placed.gives)
       (Reads.stay x.rest (h.whole ∙ sym (append_assoc x.front (pair_of x) x.rest))))
 
@@ -382,7 +382,7 @@ module _ {o : ParseOption} {T : Text} {p : Place} {name : Option Text} (key : Te
       → MatchOption found (ReachesEnd o T p.front q key) (ReachesPair o T p.front q key)
       → ReadsOn o T q.front
       → MatchOption found (LacksPair o T name key)
-      (λ pair. IsFirstPair o T name key (stretches_of pair) (string_text pair.value))
+      (λ pair. IsFirstPair o T name key (stretches_of pair) (cow_text pair.value))
   found_answers q None h on = lacks_first h on
   found_answers q (Some x) h on = found_first h on
 
@@ -398,7 +398,7 @@ module _ {o : ParseOption} {T : Text} {p : Place} {name : Option Text} (key : Te
     goes_on_within = reached_within q found here
 
     pub finds : ReadsOn q.option q.text q.front → MatchOption found (LacksPair o T name key)
-        (λ pair. IsFirstPair o T name key (stretches_of pair) (string_text pair.value))
+        (λ pair. IsFirstPair o T name key (stretches_of pair) (cow_text pair.value))
     finds on = found_answers q found here
         (told (λ o T. ReadsOn o T q.front) (reached_reading q found here) on)
 

@@ -10,7 +10,7 @@ use Rattle.ini_text.specs.Grammar.Places.{Tail}
 use Rattle.ini_text.specs.Grammar.Values.{LineEnd}
 use Rattle.ini_text.specs.Laws.Plain.{IsPlainValue}
 use Rattle.ini_text.specs.Laws.PlainLaws.{BeginsWithHeader}
-use Rattle.ini_text.specs.Parsing.Items.{string_text}
+use Rattle.ini_text.specs.Parsing.Items.{cow_text}
 use Rattle.ini_text.specs.Parsing.Parser.{Place}
 use Rattle.ini_text.specs.declared.write.policy.EscapePolicy.{EscapePolicy}
 use Rattle.ini.specs.Documents.{document_of}
@@ -315,7 +315,7 @@ pub set_there : {o : ParseOption} {T : Text} {p q r : Place} {name : Option Text
     {policy : EscapePolicy} {value source g : Text} (left : Text) → OpensFirst o T p name
     → ReachesPair o T p.front q key found
     → (plain : IsPlainValue o policy value)
-    → IsPut o policy (stretches_of found).own (string_text found.value) value source
+    → IsPut o policy (stretches_of found).own (cow_text found.value) value source
     → TakesLaterOut o T key q.front (chars found.front.now ++ pair_with (stretches_of found) source)
     (chars found.rest.now) r g
     → ReadsOn o T r.front → T ≡ r.front ++ left → IsSetThere o policy T name key value (g ++ left)
@@ -344,11 +344,11 @@ set_there {o} {T} {p} {q} {r} {name} {key} {found} {policy} {value} {source}
     (sym (later.same left whole))
     (LaterOut.none (subst (Lacks key) (sym (append-nil takes.kept)) takes.lacks))))) in
     let document : IsDocumentOf o T
-    (document_of (first.before ++ (Pair key (string_text found.value) ∷ first.after))) =
+    (document_of (first.before ++ (Pair key (cow_text found.value) ∷ first.after))) =
     record { items = _; derives = stands_derives first.stands; document = refl } in
     record {
       pair = x;
-      old = string_text found.value;
+      old = cow_text found.value;
       is_first = first;
       source = source;
       is_put = put;

@@ -3,7 +3,7 @@ use Rattle.std.proofs.Common.{◌≡◌, ◌∙◌, [], ◌++◌, ap, sym, subst
 use Rattle.std.proofs.lemmas.List.{append_cancel_left}
 use Rattle.ini_text.specs.Grammar.Texts.{Reads}
 use Rattle.ini_text.specs.Laws.Plain.{IsPlainValue}
-use Rattle.ini_text.specs.Parsing.Items.{string_text}
+use Rattle.ini_text.specs.Parsing.Items.{cow_text}
 use Rattle.ini_text.specs.Parsing.Parser.{Place}
 use Rattle.ini_text.specs.declared.option.ParseOption.{ParseOption}
 use Rattle.ini_text.specs.declared.write.policy.EscapePolicy.{EscapePolicy}
@@ -57,7 +57,7 @@ module _ {o : ParseOption} {T : Text} {p : Place} {name : Option Text} (key : Te
 
     -- the text that was read to its end
     pub is_set : {policy : EscapePolicy} {value source : Text} (left new : Text) → IsPlainValue o policy value
-        → IsPut o policy pair.own (string_text x.value) value source
+        → IsPut o policy pair.own (cow_text x.value) value source
         → f ≡ pair.front ++ pair_with pair source
         → ReadsOn r.option r.text r.front
         → r.front ++ left ≡ r.text → new ≡ g ++ left → IsSetThere o policy T name key value new

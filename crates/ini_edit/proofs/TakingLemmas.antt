@@ -6,7 +6,7 @@ use Rattle.ini_text.specs.Grammar.Elements.{Given, Header, Pair}
 use Rattle.ini_text.specs.Grammar.Places as grammar
 use Rattle.ini_text.specs.Grammar.Texts.{Reads}
 use Rattle.ini_text.specs.Parsing.Fronts.{IsRest, front_of}
-use Rattle.ini_text.specs.Parsing.Items.{string_text}
+use Rattle.ini_text.specs.Parsing.Items.{cow_text}
 use Rattle.ini_text.specs.Parsing.Parser.{Place}
 use Rattle.ini_text.specs.Parsing.Places.{HasPlaces, gives, stretches_of}
 use Rattle.ini_text.specs.declared.option.ParseOption.{ParseOption}
@@ -132,12 +132,12 @@ module _ {o : ParseOption} {T key b f g : Text} {p : Place} (t : Taking o T key 
       placed = subst (HasPlaces o p.front source r) has s.stands.places
 
       abbrev old : Text
-      old = string_text pair.value
+      old = cow_text pair.value
 
       pub pair_tail : grammar.Tail o x.tail rest
       pair_tail = subst (grammar.Tail o x.tail) behind_is placed.1.tail
 
-      module _ (same : string_text pair.key ≡ key) {stays left : Text}
+      module _ (same : cow_text pair.key ≡ key) {stays left : Text}
           (cut : Cut o (placed_between g x rest) stays left) where
         here : Cut o (placed_between g x r) stays left
         here = subst (λ z. Cut o (placed_between g x z) stays left) (sym behind_is) cut

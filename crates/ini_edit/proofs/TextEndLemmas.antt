@@ -5,7 +5,7 @@ use Rattle.ini_text.specs.Grammar.CharacterKinds.{is_comment_mark}
 use Rattle.ini_text.specs.Grammar.Elements.{Given, Header, Element}
 use Rattle.ini_text.specs.Inside.PlainTests.{begins}
 use Rattle.ini_text.specs.Grammar.Texts.{Reads}
-use Rattle.ini_text.specs.Parsing.Items.{string_text}
+use Rattle.ini_text.specs.Parsing.Items.{cow_text}
 use Rattle.ini_text.specs.Parsing.Parser.{Place}
 use Rattle.ini_text.specs.Parsing.Places.{gives}
 use Rattle.ini_text.specs.declared.option.ParseOption.{ParseOption}
@@ -99,7 +99,7 @@ module _ {o : ParseOption} {T : Text} {p : Place} {place : Option TextPlace}
         at : (x : Content) → e.content ≡ x → NoEndYet o T q.front
         at contents.Nothing is = absurd (some (ap gives is))
         at (contents.Header name) is = record {
-          name = Some (string_text name);
+          name = Some (cow_text name);
           sections = document_of s.items;
           front = q.front;
           opens = opened (ap gives is);

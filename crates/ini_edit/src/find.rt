@@ -5,7 +5,7 @@ ghost use Rattle.std.specs.Prelude.{None};
 ghost use Rattle.ini.specs.Texts.{str_name};
 ghost use Rattle.ini.specs.Loading.{IfParse, IsParseOrMemory, IsStopOf};
 ghost use Rattle.ini_text.specs.Grammar.Elements.{Header};
-ghost use Rattle.ini_text.specs.Parsing.Items.{string_text};
+ghost use Rattle.ini_text.specs.Parsing.Items.{cow_text};
 ghost use Rattle.ini_text.specs.Parsing.Places.{gives};
 ghost use Rattle.ini_edit.specs.FirstPairs.{IsFirstPair, LacksPair, LacksSection, stretches_of};
 ghost use Rattle.ini_edit.specs.Inside.Walks.{OpensFirst, OpensNone, ReachesEnd, ReachesPair, StandsWithin};
@@ -13,6 +13,7 @@ ghost use Rattle.ini_edit.specs.Inside.Walks.{OpensFirst, OpensNone, ReachesEnd,
 use crate::walk::{is_same_text, read_on, step};
 use ini_text::{Content, Error, PairPlaces, ParseOption, Parser, PlacedElement, front_before};
 use std::alloc::Global;
+use std::borrow::CowStr;
 
 /// A pair of a text, and where it stands there.
 #[derive(Debug, Drop)]
@@ -20,7 +21,7 @@ pub struct FoundPair<'a> {
     /// What stands before the pair's element. Its end is where the pair begins, for a line and a column.
     pub front: &'a str,
     /// The value, without quotes and escapes.
-    pub value: String,
+    pub value: CowStr<'a>,
     /// The stretches of the pair's element.
     pub places: PairPlaces<'a>,
     /// What follows the element.
@@ -46,7 +47,7 @@ pub fn find_pair<'a>(
     ensures found { IfOk result (λ found. MatchOption found
         (LacksPair read (chars text.now) (str_name name.entry) (chars key.now))
         (λ pair. IsFirstPair read (chars text.now) (str_name name.entry) (chars key.now)
-        (stretches_of pair) (string_text pair.value))) }
+        (stretches_of pair) (cow_text pair.value))) }
     ensures fault { IfParse result (IsStopOf read (chars text.now)) }
     ensures only { IfErr result IsParseOrMemory }
 {
@@ -126,6 +127,7 @@ pub(crate) fn reach_pair<'a>(
                         rest: parser.rest(),
                     }));
                 }
+                drop(pair);
             }
         }
     }

@@ -144,6 +144,7 @@ pub(crate) fn reach_pair_or_end<'a>(
                         rest,
                     }));
                 }
+                drop(pair);
                 place = next;
             }
             Content::Nothing => place = chosen(source, place, next),

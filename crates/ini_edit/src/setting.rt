@@ -4,7 +4,7 @@ ghost use Rattle.std.specs.Prelude.{alloc_error, chars};
 ghost use Rattle.ini.specs.Texts.{str_name};
 ghost use Rattle.ini.specs.Loading.{IfParse, IsParseOrMemory, IsStopOf};
 ghost use Rattle.ini_text.specs.Laws.Plain.{IsPlainValue};
-ghost use Rattle.ini_text.specs.Parsing.Items.{string_text};
+ghost use Rattle.ini_text.specs.Parsing.Items.{cow_text, string_text};
 ghost use Rattle.ini_text.specs.declared.error.Error.TheVariants.{Memory};
 ghost use Rattle.ini.specs.Edits.{set_in};
 ghost use Rattle.ini_edit.specs.Added.{LoadsEdited};
@@ -172,7 +172,7 @@ fn push_with(
 ) -> Result<(), Error>
     requires own { IsOwnSource read (chars pair.now.places.own.now) }
     ensures only { IsOkUnless result (Memory alloc_error) }
-    ensures written { OnOk result (PutsValue read policy (stretches_of pair.now) (string_text pair.now.value)
+    ensures written { OnOk result (PutsValue read policy (stretches_of pair.now) (cow_text pair.now.value)
         (chars value.now) (string_text out.old) (string_text out.new)) }
 {
     push_text(out, pair.front)?;
@@ -197,7 +197,7 @@ fn push_source(
     requires own { IsOwnSource read (chars pair.now.places.own.now) }
     ensures only { IsOkUnless result (Memory alloc_error) }
     ensures put { OnOk result (PutsSource read policy (chars pair.now.places.own.now)
-        (string_text pair.now.value) (chars value.now) (string_text out.old) (string_text out.new)) }
+        (cow_text pair.now.value) (chars value.now) (string_text out.old) (string_text out.new)) }
 {
     let own = pair.places.own;
     if is_same_text(value, pair.value.as_str()) {
@@ -245,6 +245,7 @@ fn take_later_out<'a>(
                 let cutting = cut(out.as_str(), &pair.places, parser.rest(), read);
                 push_text(out, cutting.kept)?;
                 *parser = Parser::behind(alloc, text, cutting.rest, read);
+                drop(pair);
             }
         }
     }

@@ -7,7 +7,8 @@
 ghost use Rattle.std.specs.Prelude.{◌≡◌, ◌++◌, chars, [], None, Some, Ok, IfSome, IsOkAnd, IsErrAnd, OnErr};
 ghost use Rattle.ini_text.specs.Parsing.Fronts.{IsRest, front_of};
 ghost use Rattle.ini_text.specs.Parsing.Parser.{AnswersItem, KeepsRefusal, TellsRefusal, refusal_of};
-ghost use Rattle.ini_text.specs.Inside.ItemSearch.{FindsBorrowed, FindsItem, StopIsWithin};
+ghost use Rattle.ini_text.specs.Inside.ItemSearch.{AnswersFound, FindsBorrowed, FindsItem};
+ghost use Rattle.ini_text.specs.Inside.ItemSearch.{IsWithin, StopIsWithin};
 
 use crate::error::{Error, ParseError};
 use crate::item::{BorrowedItem, Item};
@@ -15,6 +16,7 @@ use crate::option::ParseOption;
 use crate::parser::element::read_element;
 use crate::parser::fault::Stop;
 use crate::parser::position::position;
+use crate::parser::rests::Rests;
 use crate::text::{front_before, split_first};
 use std::alloc::{AllocError, Global};
 use std::borrow::CowStr;
@@ -29,6 +31,7 @@ mod line;
 mod pair;
 pub(crate) mod placed;
 mod position;
+mod rests;
 mod short;
 mod string;
 mod tables;
@@ -128,13 +131,25 @@ impl<'a> Parser<'a> {
         if let Some(stop) = self.refusal {
             return Err(told(self.text, stop));
         }
-        match find_owned(
+        let found = find_owned(
             self.alloc,
             &mut self.scratch,
             self.text,
             self.rest,
             self.option,
-        ) {
+        );
+        self.answer(found)
+    }
+
+    /// Goes behind what was found and answers it; or stays, keeps why reading stopped, and answers that.
+    #[inline(always)]
+    fn answer<T>(&mut self, found: Result<(T, &'a str), Stop<'a>>) -> Result<T, Error>
+        requires { IsWithin self.now.text found }
+        ensures option { self.new.option ≡ self.old.option }
+        ensures text { self.new.text ≡ self.old.text }
+        ensures found { AnswersFound self.old self.new found.entry result }
+    {
+        match found {
             Ok((item, rest)) => {
                 self.rest = rest;
                 Ok(item)
@@ -181,10 +196,11 @@ fn find_item<'a>(
     ensures item { FindsBorrowed read (chars text.now) (chars start.now) result }
     ensures ended { chars start.now ≡ [] → IsOkAnd result (λ p. p.0 ≡ None) }
 {
+    let mut rests = Rests::new(start);
     let mut rest = start;
     'elements: while let Some((c, after)) = split_first(rest) {
         let front = front_before(text, rest);
-        let (given, end) = read_element(alloc, scratch, front, rest, c, after, read)?;
+        let (given, end) = read_element(alloc, scratch, &mut rests, front, rest, c, after, read)?;
         if let Some(item) = given {
             return Ok((Some(item), end));
         }

@@ -5,7 +5,7 @@ use Rattle.ini_text.specs.Grammar.Elements.{Given, Header, Pair, Element}
 use Rattle.ini_text.specs.Inside.PlainTests.{begins}
 use Rattle.ini_text.specs.Grammar.Texts.{Reads}
 use Rattle.ini_text.specs.Grammar.Places.{ArePlaced}
-use Rattle.ini_text.specs.Parsing.Items.{string_text}
+use Rattle.ini_text.specs.Parsing.Items.{cow_text}
 use Rattle.ini_text.specs.Parsing.Parser.{Place}
 use Rattle.ini_text.specs.Parsing.Places.{StandsBetween}
 use Rattle.ini_text.specs.declared.option.ParseOption.{ParseOption}
@@ -87,7 +87,7 @@ module _ (o : ParseOption) (T : Text) where
     pub whole : T ≡ text_with (stretches_of pair) (stretches_of pair).own
     pub front : q.front ≡ up_to_end (stretches_of pair)
     pub placed : ArePlaced o (chars pair.front.now) (source_of (stretches_of pair)) (chars pair.rest.now)
-        key (string_text pair.value)
+        key (cow_text pair.value)
 
   -- behind such pairs the section ended, and now the parser stands behind what ended it
   pub record ReachesEnd (b : Text) (q : Place) (key : Text) : Type 0 where

@@ -1,7 +1,8 @@
 -- The stretches of a pair's source, from the rests that were found, and the element that they make.
-use Rattle.std.proofs.Common.{◌≡◌, ◌≢◌, ◌≤◌, ℕ, true, ◌||◌, ◌==◌, List, [], ◌∷◌, ◌++◌, length, None, Result, MatchResult, Ok, Err, IsErrAnd, refl, sym, ap, ◌∙◌, subst, subst₂, append_assoc, append-nil, length-append, arith, chars}
+use Rattle.std.proofs.Common.{◌≡◌, ◌≢◌, ◌≤◌, ℕ, true, false, ◌||◌, ◌==◌, List, [], ◌∷◌, ◌++◌, length, Option, None, Some, Result, Ok, Err, IfOk, refl, sym, ap, ◌∙◌, subst, subst₂, append_assoc, append-nil, length-append, arith, chars}
 use Rattle.std.proofs.lemmas.Bool.{or_parts, not-true}
 use Rattle.std.proofs.lemmas.List.{append_cancel_right}
+use Rattle.std.specs.Borrow.{Bor}
 use Rattle.std.specs.Char.{is_whitespace}
 use Rattle.std.specs.List.{list_all}
 use Rattle.ini_text.specs.declared.option.ParseOption.{ParseOption}
@@ -10,7 +11,10 @@ use Rattle.ini_text.specs.declared.error.Error.TheVariants as errors
 use Rattle.ini_text.specs.declared.error.ParseKind.{ParseKind}
 use Rattle.ini_text.specs.declared.parser.fault.Stop.{Stop}
 use Rattle.ini_text.specs.declared.parser.fault.Stop.TheVariants as stops
+use Rattle.ini_text.specs.declared.item.BorrowedItem.{BorrowedItem}
+use Rattle.ini_text.specs.declared.item.BorrowedItem.TheVariants as items
 use Rattle.ini_text.specs.declared.parser.placed.PlacedElement.{PlacedElement}
+use Rattle.ini_text.specs.declared.parser.rests.Rests.{Rests}
 use Rattle.ini_text.specs.Errors.Messages.{HasMessage}
 use Rattle.ini_text.specs.Grammar.CharacterKinds.{open_bracket, is_blank, is_line_end, is_comment_mark, is_inline_white, is_separator, BeginsWith, BeginsWithNo}
 use Rattle.ini_text.specs.Grammar.Elements.{Given, Pair, Element, ElementStops}
@@ -21,8 +25,9 @@ use Rattle.ini_text.specs.Grammar.Strings.{key_ends}
 use Rattle.ini_text.specs.Grammar.Values.{Value}
 use Rattle.ini_text.specs.Inside.ElementReader.{element}
 use Rattle.ini_text.specs.Inside.ItemSearch.{StopIsWithin}
-use Rattle.ini_text.specs.Inside.PlaceReader.{HasTail, BeginsPair}
-use Rattle.ini_text.specs.Inside.Reading.{Answer, found, stopped, prepend, StopsBy, fault_of}
+use Rattle.ini_text.specs.Inside.PlaceReader.{BeginsPair, HasRests, HasTail, HasValueRests, IsHeader, ReadsPair}
+use Rattle.ini_text.specs.Inside.Reading.{Answer, found, stopped, altered_answer, StopsBy}
+use Rattle.ini_text.specs.Parsing.Items.{cow_text}
 use Rattle.ini_text.specs.Inside.Scans.{run_of, skipped}
 use Rattle.ini_text.specs.Inside.StringReader.{string}
 use Rattle.ini_text.specs.Inside.ValueReader.{value}
@@ -44,18 +49,6 @@ rest_of f r t h = ap (λ x. x ++ r) (front_is f r t h) ∙ h
 pub front_all : {t r : List ℕ} → IsRest t r → r ≡ [] → front_of t r ≡ t
 front_all {t} {r} within none =
     sym (append-nil (front_of t r)) ∙ ap (λ x. front_of t r ++ x) (sym none) ∙ within
-
--- what is found isn't a fault
-no_fault : {A : Type 0} {v : List A} {r : List ℕ} {a : Answer A} → a ≡ found v r → (stop : Stop)
-    → StopsBy a stop → fault_of stop ≡ None
-no_fault h stops.Memory s = refl
-no_fault h (stops.Fault fault) s = absurd (found_stopped (sym s ∙ h))
-
-pub memory_only : {A R : Type 0} {v : List A} {x : List ℕ} {a : Answer A} (P : R → Type 0) (stop : Stop)
-    (r : Result R Stop) → IsErrAnd r (λ e. e ≡ stop) → StopsBy a stop → a ≡ found v x
-    → MatchResult r P (λ s. fault_of s ≡ None)
-memory_only P stop (Ok x) h s is = absurd h
-memory_only P stop (Err e) h s is = subst (λ s. fault_of s ≡ None) (sym h) (no_fault is stop s)
 
 -- a pair's source, in its parts
 record PairParts (o : ParseOption) (b s r key v : List ℕ) : Type 0 where
@@ -156,10 +149,6 @@ pub pair_read : {o : ParseOption} {t r name : List ℕ} → BeginsPair o t r →
 pair_read (b, s, key, v, holds, whole) name_is = read_of name_is holds whole
 
 module _ {o : ParseOption} {t r name : List ℕ} (p : PairRead o t r name) where
-  pub key_found : (w : List ℕ)
-      → prepend w (string o.enabled_escape key_ends name) ≡ found (w ++ p.u) (p.m ∷ p.behind)
-  key_found w = ap (prepend w) p.key_is
-
   module _ {out behind_key : List ℕ}
       (read : string o.enabled_escape key_ends name ≡ found out behind_key) where
     pub behind_key_is : behind_key ≡ p.m ∷ p.behind
@@ -181,17 +170,11 @@ module _ {o : ParseOption} {t r name : List ℕ} (p : PairRead o t r name) where
       pub separator_is : sep ≡ p.m
       separator_is = let z : sep ∷ after ≡ p.m ∷ p.behind = sym splits ∙ behind_key_is in cc
 
-      pub value_found : value o after ≡ found p.v r
-      value_found = ap (value o) after_is ∙ p.value_is
+pub tail_within : {o : ParseOption} {after start tail gives r : List ℕ}
+    → HasTail o after start tail gives r → IsRest tail r
+tail_within {tail = tail} {r = r} h = rest_of h.behind r tail (sym h.tail_is)
 
-      pub tail_rest : {start tail : List ℕ} (h : HasTail o after start tail) → h.rest ≡ r
-      tail_rest h = found_rest (sym h.reads ∙ value_found)
-
-      pub tail_within : {start tail : List ℕ} → HasTail o after start tail → IsRest tail r
-      tail_within {tail = tail} h =
-          rest_of h.behind r tail (ap (λ x. h.behind ++ x) (sym (tail_rest h)) ∙ sym h.tail_is)
-
-pub own_within : {o : ParseOption} {after start tail : List ℕ} → HasTail o after start tail
+pub own_within : {o : ParseOption} {after start tail gives r : List ℕ} → HasTail o after start tail gives r
     → IsRest start tail
 own_within {start = start} {tail} h = rest_of h.own tail start (sym h.own_is)
 
@@ -200,8 +183,8 @@ lead_whole : {after start : List ℕ} → start ≡ skipped is_inline_white afte
 lead_whole {after} skips =
     ap (λ x. run_of is_inline_white after ++ x) skips ∙ (run-sound is_inline_white after).whole
 
-pub lead_within : {o : ParseOption} {after start tail : List ℕ} → HasTail o after start tail
-    → IsRest after start
+pub lead_within : {o : ParseOption} {after start tail gives r : List ℕ}
+    → HasTail o after start tail gives r → IsRest after start
 lead_within {after = after} {start} h =
     rest_of (run_of is_inline_white after) start after (lead_whole h.skips)
 
@@ -211,10 +194,10 @@ made_of key_s sep lead_s own pad tail_s =
 
 -- the stretches, from the rests at which they end
 module _ {o : ParseOption} (t r : List ℕ)
-    {name out behind_key after start tail own pad key_s lead_s tail_s : List ℕ} {sep : ℕ}
+    {name out behind_key after start tail own pad key_s lead_s tail_s gives : List ℕ} {sep : ℕ}
     (name_is : name ≡ skipped is_blank t)
     (read : string o.enabled_escape key_ends name ≡ found out behind_key)
-    (splits : behind_key ≡ sep ∷ after) (h : HasTail o after start tail)
+    (splits : behind_key ≡ sep ∷ after) (h : HasTail o after start tail gives r)
     (key_cut : key_s ≡ front_of t behind_key) (lead_cut : lead_s ≡ front_of after start)
     (own_cut : front_of start tail ≡ own ++ pad) (padded : Padded own pad)
     (tail_cut : tail_s ≡ front_of tail r) where
@@ -235,11 +218,8 @@ module _ {o : ParseOption} (t r : List ℕ)
     unfolding read_of
     key_is = sym (key_cut ∙ front_is p.k behind_key t (behind_key_whole q read))
 
-    rest_is : h.rest ≡ r
-    rest_is = tail_rest q read splits h
-
     tail_whole : h.behind ++ r ≡ tail
-    tail_whole = ap (λ x. h.behind ++ x) (sym rest_is) ∙ sym h.tail_is
+    tail_whole = sym h.tail_is
 
     tail_is : h.behind ≡ tail_s
     tail_is = sym (tail_cut ∙ front_is h.behind r tail tail_whole)
@@ -293,7 +273,7 @@ module _ {o : ParseOption} (t r : List ℕ)
         };
         own = subst₂ (OwnLines o) own_is tail_at h.own_lines;
         pad = padded;
-        tail = subst₂ (Tail o) tail_is rest_is h.is_tail;
+        tail = subst (λ y. Tail o y r) tail_is h.is_tail;
       },
     )
 
@@ -380,8 +360,43 @@ module _ (o : ParseOption) {T rest front cs : List ℕ} {c : ℕ} (within : IsRe
           },
         )
 
--- where nothing but memory can be wanting
-pub refuses_memory : {o : ParseOption} {T b : List ℕ} (stop : Stop) → fault_of stop ≡ None
-    → StopIsWithin T stop × ((e : Error) → TellsRefusal (refusal_of T stop) e → RefusesElement o T b e)
-refuses_memory {o} {T} {b} stops.Memory none = (tt, tells_memory o T b)
-refuses_memory (stops.Fault fault) none = cc
+-- where what was read is no pair, and where it is one
+module _ (o : ParseOption) (t : List ℕ) (rests : Rests) where
+  no_rests : (r : List ℕ) (g : Option BorrowedItem) → IsHeader g → HasRests o t rests g r
+  no_rests r None h = tt
+  no_rests r (Some (items.Header name)) h = tt
+  no_rests r (Some (items.Pair k v)) h = absurd h
+
+  pub header_rests : (r : Result (Option BorrowedItem × Bor (List ℕ)) Stop) → IfOk r (λ p. IsHeader p.0)
+      → IfOk r (λ p. HasRests o t rests p.0 (chars p.1.now))
+  header_rests (Ok x) h = no_rests (chars x.1.now) x.0 h
+  header_rests (Err e) h = tt
+
+  some_rests : {behind_key : List ℕ} (r u : List ℕ)
+      → string o.enabled_escape key_ends (skipped is_blank t) ≡ found u behind_key
+      → (g : Option BorrowedItem) → HasValueRests o behind_key rests g r → HasRests o t rests g r
+  some_rests r u read None h = tt
+  some_rests r u read (Some (items.Header name)) h = tt
+  some_rests r u read (Some (items.Pair k v)) h =
+      subst (λ b. ReadsPair o t b (chars rests.start.now) (chars rests.tail.now)
+      (cow_text v) r) (sym h.0) (record { key = u; key_is = read; value_is = h.1 })
+
+  pub value_rests : {behind_key u : List ℕ}
+      → string o.enabled_escape key_ends (skipped is_blank t) ≡ found u behind_key
+      → (r : Result (Option BorrowedItem × Bor (List ℕ)) Stop)
+      → IfOk r (λ p. HasValueRests o behind_key rests p.0 (chars p.1.now))
+      → IfOk r (λ p. HasRests o t rests p.0 (chars p.1.now))
+  value_rests {u = u} read (Ok x) h = some_rests (chars x.1.now) u read x.0 h
+  value_rests read (Err e) h = tt
+
+-- a string that was altered behind reading
+pub unaltered : (f : List ℕ → List ℕ) {v r : List ℕ} (a : Answer ℕ) → altered_answer f a ≡ found v r
+    → (u : List ℕ) × (a ≡ found u r)
+unaltered f (found u x) h = (u, cc)
+unaltered f (stopped x k) h = absurd (found_stopped h)
+
+-- no blank begins a text that no white space begins
+pub no_blanks : {t cs : List ℕ} {c : ℕ} → t ≡ c ∷ cs → is_whitespace c ≡ false → skipped is_blank t ≡ t
+no_blanks {cs = cs} {c} is white =
+    let same : skipped is_blank (c ∷ cs) ≡ c ∷ cs = rw (no_white_no_blank c white) refl in
+    subst (λ x. skipped is_blank x ≡ x) (sym is) same

@@ -13,7 +13,7 @@ use Rattle.ini_text.specs.Grammar.Lines.{Line, LineStops}
 use Rattle.ini_text.specs.Grammar.Values.{LineEnd, MoreLines}
 use Rattle.ini_text.specs.Grammar.Places.{LastLine, OwnLines, Tail}
 use Rattle.ini_text.specs.Inside.LineReader.{line}
-use Rattle.ini_text.specs.Inside.PlaceReader.{HasTail}
+use Rattle.ini_text.specs.Inside.PlaceReader.{HasTail, TailSoFar}
 use Rattle.ini_text.specs.Inside.Reading.{found, stopped, prepend, altered_answer}
 use Rattle.ini_text.specs.Inside.Scans.{run_of, skipped}
 use Rattle.ini_text.specs.Inside.ValueReader.{after_end, empty_cr, more_lines, value}
@@ -135,38 +135,18 @@ module _ (o : ParseOption) where
         sym here.whole ∙ ap (λ x. (here.w ++ here.l) ++ x) (sym is) ∙ append_assoc here.w here.l (e ++ next)
         ∙ sym (seam next)
 
--- Of a value the own lines are known up to `tail`, and the lines behind them, which give nothing, up to
--- `rest`.
-pub record TailSoFar (o : ParseOption) (text start tail rest : List ℕ) : Type 0 where
-  pub before : List ℕ
-  pub own : List ℕ
-  pub end : List ℕ
-  pub lines : List ℕ
-  pub given : List ℕ
-  pub start_is : start ≡ before ++ rest
-  pub own_is : start ≡ own ++ tail
-  pub tail_is : tail ≡ end ++ (lines ++ rest)
-  pub own_lines : OwnLines o own tail
-  pub ends : LineEnd end (lines ++ rest)
-  pub reads : value o text ≡ altered_answer without_outer_line_feeds (prepend given (more_lines o rest))
-  pub closes : (s r v : List ℕ) → s ++ r ≡ rest → MoreLines o s r v → list_all is_line_feed v ≡ true
-      → (u : List ℕ) × MoreLines o (lines ++ s) r u × (list_all is_line_feed u ≡ true)
-  pub grows : (s r : List ℕ) → s ++ r ≡ rest → LastLine o s r → OwnLines o (before ++ s) r
-
 first_said : (o : ParseOption) {start tail u : List ℕ} → line o true start ≡ found u tail
     → (l : List ℕ) × Line o true l tail u × (l ++ tail ≡ start)
 first_said o {start} h = subst (Says (Line o true) (LineStops o) start) h ((line-reads o true).sound start)
 
 module _ (o : ParseOption) {text start : List ℕ} (skips : start ≡ skipped is_inline_white text) where
   pub one_line : {tail u : List ℕ} → o.enabled_indented_mutiline_value ≡ false
-      → line o true start ≡ found u tail → HasTail o text start tail
+      → line o true start ≡ found u tail → HasTail o text start tail u tail
   one_line {tail} {u} off h =
       let (l, ln, whole) = first_said o h in
       record {
         own = l;
         behind = [];
-        rest = tail;
-        gives = u;
         skips = skips;
         own_is = sym whole;
         tail_is = refl;
@@ -176,14 +156,13 @@ module _ (o : ParseOption) {text start : List ℕ} (skips : start ≡ skipped is
       }
 
   pub line_to_end : {tail u : List ℕ} → o.enabled_indented_mutiline_value ≡ true
-      → line o true start ≡ found u tail → after_end tail ≡ None → HasTail o text start tail
+      → line o true start ≡ found u tail → after_end tail ≡ None
+      → HasTail o text start tail (without_outer_line_feeds u) tail
   line_to_end {tail} {u} on h none =
       let (l, ln, whole) = first_said o h in
       record {
         own = l;
         behind = [];
-        rest = tail;
-        gives = without_outer_line_feeds u;
         skips = skips;
         own_is = sym whole;
         tail_is = refl;
@@ -193,7 +172,8 @@ module _ (o : ParseOption) {text start : List ℕ} (skips : start ≡ skipped is
       }
 
   pub tail_begins : {tail next u : List ℕ} → o.enabled_indented_mutiline_value ≡ true
-      → line o true start ≡ found u tail → after_end tail ≡ Some next → TailSoFar o text start tail next
+      → line o true start ≡ found u tail → after_end tail ≡ Some next
+      → TailSoFar o text start tail next u
   tail_begins {tail} {next} {u} on h some =
       let (l, ln, whole) = first_said o h in
       let (e, le, is) = subst (EndSays tail) some (after_end-sound tail) in
@@ -202,7 +182,6 @@ module _ (o : ParseOption) {text start : List ℕ} (skips : start ≡ skipped is
         own = l;
         end = e;
         lines = [];
-        given = u;
         start_is = sym whole ∙ ap (λ x. l ++ x) (sym is) ∙ sym (append_assoc l e next);
         own_is = sym whole;
         tail_is = sym is;
@@ -217,23 +196,23 @@ module _ (o : ParseOption) {text start : List ℕ} (skips : start ≡ skipped is
       }
 
   -- a row that gives nothing stays behind the value's own lines
-  tail_row : {tail rest next : List ℕ} (p u : List ℕ) → TailSoFar o text start tail rest → rest ≡ p ++ next
+  tail_row : {tail rest next given : List ℕ} (p u : List ℕ) → TailSoFar o text start tail rest given
+      → rest ≡ p ++ next
       → more_lines o rest ≡ prepend u (more_lines o next)
-      → Row o p next u → list_all is_line_feed u ≡ true → TailSoFar o text start tail next
-  tail_row {tail} {rest} {next} p u st is turn row all = record {
+      → Row o p next u → list_all is_line_feed u ≡ true → TailSoFar o text start tail next (given ++ u)
+  tail_row {tail} {rest} {next} {given} p u st is turn row all = record {
     before = st.before ++ p;
     own = st.own;
     end = st.end;
     lines = st.lines ++ p;
-    given = st.given ++ u;
     start_is = st.start_is ∙ ap (λ x. st.before ++ x) is ∙ sym (append_assoc st.before p next);
     own_is = st.own_is;
     tail_is =
         st.tail_is ∙ ap (λ x. st.end ++ x) (ap (λ x. st.lines ++ x) is ∙ sym (append_assoc st.lines p next));
     own_lines = st.own_lines;
     ends = subst (LineEnd st.end) (ap (λ x. st.lines ++ x) is ∙ sym (append_assoc st.lines p next)) st.ends;
-    reads = st.reads ∙ ap (λ a. altered_answer without_outer_line_feeds (prepend st.given a)) turn
-        ∙ ap (altered_answer without_outer_line_feeds) (prepend-prepend st.given u (more_lines o next));
+    reads = st.reads ∙ ap (λ a. altered_answer without_outer_line_feeds (prepend given a)) turn
+        ∙ ap (altered_answer without_outer_line_feeds) (prepend-prepend given u (more_lines o next));
     closes = λ s r v q m feeds.
         let x = st.closes (p ++ s) r (u ++ v) (append_assoc p s r ∙ ap (λ y. p ++ y) q ∙ sym is)
         (row.more s r v q m) (all_behind u v all feeds) in
@@ -243,66 +222,70 @@ module _ (o : ParseOption) {text start : List ℕ} (skips : start ≡ skipped is
         (st.grows (p ++ s) r (append_assoc p s r ∙ ap (λ y. p ++ y) q ∙ sym is) (row.last s r q last));
   }
 
-  pub tail_lf : {tail rest next : List ℕ} {c : ℕ} → TailSoFar o text start tail rest → rest ≡ c ∷ next
-      → c ≡ line_feed → TailSoFar o text start tail next
+  pub tail_lf : {tail rest next given : List ℕ} {c : ℕ} → TailSoFar o text start tail rest given
+      → rest ≡ c ∷ next → c ≡ line_feed → TailSoFar o text start tail next (given ++ line_feed ∷ [])
   tail_lf {next = next} {c} st is feed =
       tail_row (line_feed ∷ []) (line_feed ∷ []) st (is ∙ ap (λ x. x ∷ next) feed) (empty_line o is feed)
       (lf_row o next) refl
 
-  pub tail_cr_lf : {tail rest cs next : List ℕ} {c : ℕ} → TailSoFar o text start tail rest → rest ≡ c ∷ cs
-      → c ≡ carriage_return → empty_cr cs ≡ found [] next → TailSoFar o text start tail next
+  pub tail_cr_lf : {tail rest cs next given : List ℕ} {c : ℕ} → TailSoFar o text start tail rest given
+      → rest ≡ c ∷ cs → c ≡ carriage_return → empty_cr cs ≡ found [] next
+      → TailSoFar o text start tail next (given ++ line_feed ∷ [])
   tail_cr_lf {cs = cs} {next} {c} st is cr h =
       tail_row (carriage_return ∷ line_feed ∷ []) (line_feed ∷ []) st
       (is ∙ ap (λ x. x ∷ cs) cr ∙ ap (λ x. carriage_return ∷ x) (behind_cr-is cs next h))
       (empty_cr_line o is cr h) (cr_lf_row o next) refl
 
   -- reading stops behind what is known
-  pub tail_stops : {tail rest r : List ℕ} {k : ParseKind} → TailSoFar o text start tail rest
+  pub tail_stops : {tail rest given r : List ℕ} {k : ParseKind} → TailSoFar o text start tail rest given
       → more_lines o rest ≡ stopped r k → value o text ≡ stopped r k
-  tail_stops st h = st.reads ∙ ap (λ a. altered_answer without_outer_line_feeds (prepend st.given a)) h
+  tail_stops {given = given} st h =
+      st.reads ∙ ap (λ a. altered_answer without_outer_line_feeds (prepend given a)) h
 
   -- the lines end before r
-  tail_done : {tail rest : List ℕ} → o.enabled_indented_mutiline_value ≡ true
-      → TailSoFar o text start tail rest → (s r v : List ℕ) → s ++ r ≡ rest → MoreLines o s r v
-      → list_all is_line_feed v ≡ true → HasTail o text start tail
-  tail_done {rest = rest} on st s r v q m all =
+  tail_done : {tail rest given : List ℕ} → o.enabled_indented_mutiline_value ≡ true
+      → TailSoFar o text start tail rest given → (s r v : List ℕ) → s ++ r ≡ rest → MoreLines o s r v
+      → list_all is_line_feed v ≡ true
+      → HasTail o text start tail (without_outer_line_feeds (given ++ v)) r
+  tail_done {rest = rest} {given} on st s r v q m all =
       let x = st.closes s r v q m all in
       let whole : st.lines ++ rest ≡ (st.lines ++ s) ++ r =
       ap (λ y. st.lines ++ y) (sym q) ∙ sym (append_assoc st.lines s r) in
       record {
         own = st.own;
         behind = st.end ++ (st.lines ++ s);
-        rest = r;
-        gives = without_outer_line_feeds (st.given ++ v);
         skips = skips;
         own_is = st.own_is;
         tail_is = st.tail_is ∙ ap (λ y. st.end ++ y) whole ∙ sym (append_assoc st.end (st.lines ++ s) r);
-        reads = st.reads ∙ ap (λ a. altered_answer without_outer_line_feeds (prepend st.given a))
+        reads = st.reads ∙ ap (λ a. altered_answer without_outer_line_feeds (prepend given a))
             (ap (more_lines o) (sym q) ∙ MoreLines-finds o s r v m);
         own_lines = st.own_lines;
         is_tail = Tail.lines on (subst (LineEnd st.end) whole st.ends) x.1 x.2;
       }
 
-  tail_ends : {tail rest : List ℕ} → o.enabled_indented_mutiline_value ≡ true
-      → TailSoFar o text start tail rest → BeginsWithNo is_blank rest → BeginsWithNo is_line_end rest
-      → HasTail o text start tail
-  tail_ends {rest = rest} on st n m = tail_done on st [] rest [] refl (MoreLines.done n m) refl
+  tail_ends : {tail rest given : List ℕ} → o.enabled_indented_mutiline_value ≡ true
+      → TailSoFar o text start tail rest given → BeginsWithNo is_blank rest → BeginsWithNo is_line_end rest
+      → HasTail o text start tail (without_outer_line_feeds given) rest
+  tail_ends {tail} {rest} {given} on st n m =
+      subst (λ v. HasTail o text start tail (without_outer_line_feeds v) rest) (append-nil given)
+      (tail_done on st [] rest [] refl (MoreLines.done n m) refl)
 
-  pub tail_other : {tail rest cs : List ℕ} {c : ℕ} → o.enabled_indented_mutiline_value ≡ true
-      → TailSoFar o text start tail rest → rest ≡ c ∷ cs → c ≢ line_feed → c ≢ carriage_return
-      → is_blank c ≡ false → HasTail o text start tail
+  pub tail_other : {tail rest cs given : List ℕ} {c : ℕ} → o.enabled_indented_mutiline_value ≡ true
+      → TailSoFar o text start tail rest given → rest ≡ c ∷ cs → c ≢ line_feed → c ≢ carriage_return
+      → is_blank c ≡ false → HasTail o text start tail (without_outer_line_feeds given) rest
   tail_other {c = c} on st is n m b =
       tail_ends on st (subst (BeginsWithNo is_blank) (sym is) b)
       (subst (BeginsWithNo is_line_end) (sym is) (rw (ne_eqb c 10 n, ne_eqb c 13 m) refl))
 
-  pub tail_at_end : {tail rest : List ℕ} → o.enabled_indented_mutiline_value ≡ true
-      → TailSoFar o text start tail rest → rest ≡ [] → HasTail o text start tail
+  pub tail_at_end : {tail rest given : List ℕ} → o.enabled_indented_mutiline_value ≡ true
+      → TailSoFar o text start tail rest given → rest ≡ []
+      → HasTail o text start tail (without_outer_line_feeds given) rest
   tail_at_end on st none =
       tail_ends on st (subst (BeginsWithNo is_blank) (sym none) tt)
       (subst (BeginsWithNo is_line_end) (sym none) tt)
 
-  pub tail_line_stops : {tail rest cs behind r : List ℕ} {c : ℕ} {k : ParseKind}
-      → TailSoFar o text start tail rest → rest ≡ c ∷ cs → is_blank c ≡ true
+  pub tail_line_stops : {tail rest cs behind r given : List ℕ} {c : ℕ} {k : ParseKind}
+      → TailSoFar o text start tail rest given → rest ≡ c ∷ cs → is_blank c ≡ true
       → behind ≡ skipped is_inline_white rest → line o false behind ≡ stopped r k
       → value o text ≡ stopped r k
   tail_line_stops {rest = rest} st is b from h =
@@ -310,8 +293,8 @@ module _ (o : ParseOption) {text start : List ℕ} (skips : start ≡ skipped is
       ∙ line_stops o [] (line_feed ∷ []) is b from refl (ap (prepend (line_feed ∷ [])) h))
 
   -- a line that begins with a blank
-  module _ {tail rest cs behind end u : List ℕ} {c : ℕ} (on : o.enabled_indented_mutiline_value ≡ true)
-      (st : TailSoFar o text start tail rest) (is : rest ≡ c ∷ cs) (b : is_blank c ≡ true)
+  module _ {tail rest cs behind end u given : List ℕ} {c : ℕ}
+      (on : o.enabled_indented_mutiline_value ≡ true) (st : TailSoFar o text start tail rest given) (is : rest ≡ c ∷ cs) (b : is_blank c ≡ true)
       (from : behind ≡ skipped is_inline_white rest) (read : line o false behind ≡ found u end) where
     here : LineAt o rest end u
     here = line_at o is b from read
@@ -333,25 +316,26 @@ module _ (o : ParseOption) {text start : List ℕ} (skips : start ≡ skipped is
       ended = no_end end (Line-closes here.ln) none
 
       -- it is the last, and gives nothing
-      pub last_line-empty : list_all is_line_feed u ≡ true → HasTail o text start tail
+      pub last_line-empty : list_all is_line_feed u ≡ true
+          → HasTail o text start tail (without_outer_line_feeds (given ++ (line_feed ∷ u))) end
       last_line-empty all =
           let lead : Lead here.w here.l =
           subst (Lead here.w) (ap (λ x. here.l ++ x) ended ∙ append-nil here.l) here.lead in
           let whole : (here.w ++ here.l) ++ [] ≡ rest =
           ap (λ x. (here.w ++ here.l) ++ x) (sym ended) ∙ here.whole in
-          tail_done on st (here.w ++ here.l) [] (line_feed ∷ u) whole
-          (MoreLines.last here.begins lead (subst (λ x. Line o false here.l x u) ended here.ln)) all
+          subst (HasTail o text start tail (without_outer_line_feeds (given ++ (line_feed ∷ u)))) (sym ended)
+          (tail_done on st (here.w ++ here.l) [] (line_feed ∷ u) whole
+          (MoreLines.last here.begins lead (subst (λ x. Line o false here.l x u) ended here.ln)) all)
 
-      pub last_line-own : list_all is_line_feed u ≡ false → HasTail o text start end
+      pub last_line-own : list_all is_line_feed u ≡ false
+          → HasTail o text start end (without_outer_line_feeds (given ++ (line_feed ∷ u))) end
       last_line-own some = record {
         own = st.before ++ (here.w ++ here.l);
         behind = [];
-        rest = end;
-        gives = without_outer_line_feeds (st.given ++ (line_feed ∷ u));
         skips = skips;
         own_is = own_whole;
         tail_is = refl;
-        reads = st.reads ∙ ap (λ a. altered_answer without_outer_line_feeds (prepend st.given a))
+        reads = st.reads ∙ ap (λ a. altered_answer without_outer_line_feeds (prepend given a))
             (sym (prepend-nil (more_lines o rest))
             ∙ line_ends o [] (line_feed ∷ []) is b from refl feed_first none);
         own_lines = own_line some;
@@ -372,13 +356,15 @@ module _ (o : ParseOption) {text start : List ℕ} (skips : start ≡ skipped is
       end_said : (e : List ℕ) × LineEnd e next × (e ++ next ≡ end)
       end_said = subst (EndSays end) some (after_end-sound end)
 
-      pub line-empty : list_all is_line_feed u ≡ true → TailSoFar o text start tail next
+      pub line-empty : list_all is_line_feed u ≡ true
+          → TailSoFar o text start tail next (given ++ (line_feed ∷ u))
       line-empty all =
           let (e, le, q) = end_said in
           tail_row (row_source o here e le q) (line_feed ∷ u) st (row_whole o here e le q) turn
           (line_row o here e le q) all
 
-      pub line-own : list_all is_line_feed u ≡ false → TailSoFar o text start end next
+      pub line-own : list_all is_line_feed u ≡ false
+          → TailSoFar o text start end next (given ++ (line_feed ∷ u))
       line-own gives =
           let (e, le, q) = end_said in
           let p = row_source o here e le q in
@@ -389,15 +375,14 @@ module _ (o : ParseOption) {text start : List ℕ} (skips : start ≡ skipped is
             own = st.before ++ (here.w ++ here.l);
             end = e;
             lines = [];
-            given = st.given ++ (line_feed ∷ u);
             start_is = moved;
             own_is = own_whole;
             tail_is = sym q;
             own_lines = own_line gives;
             ends = le;
-            reads = st.reads ∙ ap (λ a. altered_answer without_outer_line_feeds (prepend st.given a)) turn
+            reads = st.reads ∙ ap (λ a. altered_answer without_outer_line_feeds (prepend given a)) turn
                 ∙ ap (altered_answer without_outer_line_feeds)
-                (prepend-prepend st.given (line_feed ∷ u) (more_lines o next));
+                (prepend-prepend given (line_feed ∷ u) (more_lines o next));
             closes = λ s r v h m all. (v, m, all);
             grows = λ s r h last.
                 subst (λ y. OwnLines o y r) (sym (append_assoc st.before p s))

@@ -1,35 +1,98 @@
 -- How the places of a pair are found in a text of which it is known what it gives.
-use Rattle.std.specs.Prelude.{◌≡◌, ℕ, List, [], ◌∷◌, ◌++◌, chars, Option, Result, MatchOption}
+use Rattle.std.specs.Prelude.{◌≡◌, ℕ, true, List, [], ◌∷◌, ◌++◌, drop, ⊤, chars, Option, Some, Result, MatchOption}
 use Rattle.std.specs.Prelude.{MatchResult}
 use Rattle.std.specs.Borrow.{Bor}
-use Rattle.ini_text.specs.Grammar.CharacterKinds.{is_inline_white}
+use Rattle.std.specs.List.{list_all}
+use Rattle.ini_text.specs.Grammar.CharacterKinds.{is_blank, is_inline_white, is_line_feed}
 use Rattle.ini_text.specs.Grammar.Elements.{Pair, Element}
-use Rattle.ini_text.specs.Grammar.Places.{OwnLines, Padded, Tail, ArePlaced, pair_source}
+use Rattle.ini_text.specs.Grammar.Places.{LastLine, OwnLines, Padded, Tail, ArePlaced, pair_source}
+use Rattle.ini_text.specs.Grammar.Values.{LineEnd, MoreLines}
+use Rattle.ini_text.specs.Grammar.WhiteSpace.{without_outer_line_feeds}
+use Rattle.ini_text.specs.Grammar.Strings.{key_ends}
 use Rattle.ini_text.specs.Inside.ItemSearch.{StopIsWithin}
-use Rattle.ini_text.specs.Inside.Reading.{found}
+use Rattle.ini_text.specs.Inside.Reading.{found, prepend, altered_answer, StopsBy}
 use Rattle.ini_text.specs.Inside.Scans.{skipped}
-use Rattle.ini_text.specs.Inside.ValueReader.{value}
+use Rattle.ini_text.specs.Inside.StringReader.{string}
+use Rattle.ini_text.specs.Inside.ValueReader.{more_lines, value}
 use Rattle.ini_text.specs.Parsing.Fronts.{front_of, IsRest}
 use Rattle.ini_text.specs.Parsing.Parser.{TellsRefusal, refusal_of}
 use Rattle.ini_text.specs.Parsing.Places.{StandsBetween, RefusesElement, stretches_of}
 use Rattle.ini_text.specs.declared.error.Error.{Error}
+use Rattle.ini_text.specs.Parsing.Items.{cow_text}
 use Rattle.ini_text.specs.declared.option.ParseOption.{ParseOption}
+use Rattle.ini_text.specs.declared.item.BorrowedItem.{BorrowedItem}
+use Rattle.ini_text.specs.declared.item.BorrowedItem.TheVariants as items
 use Rattle.ini_text.specs.declared.parser.fault.Stop.{Stop}
+use Rattle.ini_text.specs.declared.parser.rests.Rests.{Rests}
+use Rattle.std.specs.declared.alloc.Global.{Global}
+use Rattle.std.specs.declared.borrow.CowStr.{CowStr}
 use Rattle.ini_text.specs.declared.parser.placed.PairPlaces.{PairPlaces}
 use Rattle.ini_text.specs.declared.parser.placed.PlacedElement.{PlacedElement}
 
--- Of the value behind a separator its own lines begin at `start`, and end at `tail`.
-pub record HasTail (o : ParseOption) (text start tail : List ℕ) : Type 0 where
+-- Of the value behind a separator, which is `gives`, its own lines begin at `start`, and end at `tail`; `rest`
+-- follows it.
+pub record HasTail (o : ParseOption) (text start tail gives rest : List ℕ) : Type 0 where
   pub own : List ℕ
   pub behind : List ℕ
-  pub rest : List ℕ
-  pub gives : List ℕ
   pub skips : start ≡ skipped is_inline_white text
   pub own_is : start ≡ own ++ tail
   pub tail_is : tail ≡ behind ++ rest
   pub reads : value o text ≡ found gives rest
   pub own_lines : OwnLines o own tail
   pub is_tail : Tail o behind rest
+
+-- Of a value the own lines are known up to `tail`, and the lines behind them, which give nothing, up to
+-- `rest`. So far they give `given`.
+pub record TailSoFar (o : ParseOption) (text start tail rest given : List ℕ) : Type 0 where
+  pub before : List ℕ
+  pub own : List ℕ
+  pub end : List ℕ
+  pub lines : List ℕ
+  pub start_is : start ≡ before ++ rest
+  pub own_is : start ≡ own ++ tail
+  pub tail_is : tail ≡ end ++ (lines ++ rest)
+  pub own_lines : OwnLines o own tail
+  pub ends : LineEnd end (lines ++ rest)
+  pub reads : value o text ≡ altered_answer without_outer_line_feeds (prepend given (more_lines o rest))
+  pub closes : (s r v : List ℕ) → s ++ r ≡ rest → MoreLines o s r v → list_all is_line_feed v ≡ true
+      → (u : List ℕ) × MoreLines o (lines ++ s) r u × (list_all is_line_feed u ≡ true)
+  pub grows : (s r : List ℕ) → s ++ r ≡ rest → LastLine o s r → OwnLines o (before ++ s) r
+
+-- what reading a value answers, with where its lines stand
+abbrev pub ReadsValue : ParseOption → List ℕ → Rests → Result (CowStr Global × Bor (List ℕ)) Stop → Type 0
+ReadsValue o text rests r =
+    MatchResult r
+    (λ p. HasTail o text (chars rests.start.now) (chars rests.tail.now) (cow_text p.0) (chars p.1.now))
+    (StopsBy (value o text))
+
+-- a pair was read at the front of a text: behind the blanks of its key a string ends before `behind_key`, and
+-- the value's own lines stand between `start` and `tail`
+pub record ReadsPair (o : ParseOption) (text behind_key start tail gives rest : List ℕ) : Type 0 where
+  pub key : List ℕ
+  pub key_is : string o.enabled_escape key_ends (skipped is_blank text) ≡ found key behind_key
+  pub value_is : HasTail o (drop 1 behind_key) start tail gives rest
+
+-- where the value stands that was read
+abbrev pub HasRestsOf : ParseOption → List ℕ → Rests → List ℕ → List ℕ → Type 0
+HasRestsOf o text rests value rest =
+    ReadsPair o text (chars rests.behind_key.now) (chars rests.start.now) (chars rests.tail.now) value rest
+
+-- where what was read stands, if it is a pair
+abbrev pub HasRests : ParseOption → List ℕ → Rests → Option BorrowedItem → List ℕ → Type 0
+HasRests o text rests (Some (items.Pair key value)) rest = HasRestsOf o text rests (cow_text value) rest
+HasRests o text rests _ rest = ⊤
+
+-- the same behind the key
+abbrev pub HasValueRests : ParseOption → List ℕ → Rests → Option BorrowedItem → List ℕ → Type 0
+HasValueRests o behind_key rests (Some (items.Pair key value)) rest =
+    (chars rests.behind_key.now ≡ behind_key)
+    × HasTail o (drop 1 behind_key) (chars rests.start.now) (chars rests.tail.now) (cow_text value) rest
+HasValueRests o behind_key rests _ rest = ⊤
+
+-- no pair was read
+abbrev pub IsHeader : Option BorrowedItem → Type 0
+IsHeader (Some (items.Pair key value)) = ⊥
+IsHeader _ = ⊤
 
 -- of lines this part stands before their pad
 abbrev pub IsBeforePad : List ℕ → List ℕ → Type 0

@@ -7,7 +7,7 @@ use Rattle.ini_text.specs.Grammar.Elements.{Given, Header, Pair, Element, Elemen
 use Rattle.ini_text.specs.Grammar.Places.{Stretches, pair_source, ArePlaced}
 use Rattle.ini_text.specs.Grammar.Positions.{line_of, column_of}
 use Rattle.ini_text.specs.Errors.Messages.{HasMessage}
-use Rattle.ini_text.specs.Parsing.Items.{string_text}
+use Rattle.ini_text.specs.Parsing.Items.{cow_text}
 use Rattle.ini_text.specs.declared.error.Error.{Error}
 use Rattle.ini_text.specs.declared.error.Error.TheVariants as errors
 use Rattle.ini_text.specs.declared.error.ParseKind.{ParseKind}
@@ -30,13 +30,13 @@ stretches_of p = record {
 -- what an element gives
 abbrev pub gives : Content → List Given
 gives contents.Nothing = []
-gives (contents.Header name) = Header (string_text name) ∷ []
-gives (contents.Pair pair) = Pair (string_text pair.key) (string_text pair.value) ∷ []
+gives (contents.Header name) = Header (cow_text name) ∷ []
+gives (contents.Pair pair) = Pair (cow_text pair.key) (cow_text pair.value) ∷ []
 
 -- behind the front b and before r, the source of a pair is made of its stretches
 abbrev pub HasPlaces : ParseOption → List ℕ → List ℕ → List ℕ → Content → Type 0
 HasPlaces o b source r (contents.Pair pair) = (source ≡ pair_source (stretches_of pair.places))
-    × ArePlaced o b (stretches_of pair.places) r (string_text pair.key) (string_text pair.value)
+    × ArePlaced o b (stretches_of pair.places) r (cow_text pair.key) (cow_text pair.value)
 HasPlaces o b source r _ = ⊤
 
 -- between the fronts b and c of the text T stands the element

@@ -28,21 +28,13 @@ impl<'a> Parser<'a> {
         if let Some(stop) = self.refusal {
             return Err(told(self.text, stop));
         }
-        match find_item(
+        let found = find_item(
             self.alloc,
             &mut self.scratch,
             self.text,
             self.rest,
             self.option,
-        ) {
-            Ok((item, rest)) => {
-                self.rest = rest;
-                Ok(item)
-            }
-            Err(stop) => {
-                self.refusal = Some(stop);
-                Err(told(self.text, stop))
-            }
-        }
+        );
+        self.answer(found)
     }
 }

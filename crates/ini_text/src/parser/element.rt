@@ -1,7 +1,8 @@
 //! Elements: white space, comments, and where a header or a pair begins. This file knows headers and
 //! pairs, and no string.
-ghost use Rattle.std.specs.Prelude.{◌≡◌, ◌∷◌, chars};
+ghost use Rattle.std.specs.Prelude.{◌≡◌, ◌∷◌, chars, IfOk};
 ghost use Rattle.ini_text.specs.Inside.ElementReader.{element, given};
+ghost use Rattle.ini_text.specs.Inside.PlaceReader.{HasRests};
 ghost use Rattle.ini_text.specs.Inside.Reading.{Gives};
 
 use crate::error::ParseKind;
@@ -10,6 +11,7 @@ use crate::option::ParseOption;
 use crate::parser::fault::Stop;
 use crate::parser::header::read_header;
 use crate::parser::pair::{read_indented, read_unindented};
+use crate::parser::rests::Rests;
 use crate::text::{Class, after_first, is_column_one, is_comment_mark, skip_line, starts_line};
 use std::alloc::Global;
 
@@ -21,6 +23,7 @@ use std::alloc::Global;
 pub(crate) fn read_element<'a>(
     alloc: Global,
     scratch: &mut String,
+    rests: &mut Rests<'a>,
     front: &str,
     text: &'a str,
     c: char,
@@ -28,11 +31,16 @@ pub(crate) fn read_element<'a>(
     read: ParseOption,
 ) -> Result<(Option<BorrowedItem<'a>>, &'a str), Stop<'a>>
     requires { chars text.now ≡ c ∷ chars after.now }
-    ensures { Gives given result (element read (chars front.now) (chars text.now)) }
+    ensures gives { Gives given result (element read (chars front.now) (chars text.now)) }
+    ensures rests { IfOk result (λ p. HasRests read (chars text.now) rests.new p.0 (chars p.1.now)) }
 {
     if Class::Blank.contains(c) {
         if starts_line(front) {
-            return read_indented(alloc, scratch, text, read);
+            // a call that isn't inlined gets a place of its own, so that the caller's stays in registers
+            let mut seen = *rests;
+            let given = read_indented(alloc, scratch, &mut seen, text, read);
+            *rests = seen;
+            return given;
         }
         return Ok((None, after));
     }
@@ -52,5 +60,5 @@ pub(crate) fn read_element<'a>(
     if c == '[' {
         return read_header(alloc, scratch, after, read);
     }
-    read_unindented(alloc, scratch, text, read)
+    read_unindented(alloc, scratch, rests, text, read)
 }

@@ -1,7 +1,8 @@
 //! Headers, with and without brackets in names. This file knows strings, and no element.
-ghost use Rattle.std.specs.Prelude.{◌≡◌, chars, option_map};
+ghost use Rattle.std.specs.Prelude.{◌≡◌, chars, option_map, IfOk};
 ghost use Rattle.ini_text.specs.Grammar.Strings.{bracketed_name_ends};
 ghost use Rattle.ini_text.specs.Inside.ElementReader.{behind_bracket, bracketed_header, given, name_in};
+ghost use Rattle.ini_text.specs.Inside.PlaceReader.{IsHeader};
 ghost use Rattle.ini_text.specs.Inside.Reading.{Gives};
 ghost use Rattle.ini_text.specs.Inside.StringReader.{string};
 
@@ -24,7 +25,8 @@ pub(crate) fn read_header<'a>(
     text: &'a str,
     read: ParseOption,
 ) -> Result<(Option<BorrowedItem<'a>>, &'a str), Stop<'a>>
-    ensures { Gives given result (behind_bracket read (chars text.now)) }
+    ensures gives { Gives given result (behind_bracket read (chars text.now)) }
+    ensures header { IfOk result (λ p. IsHeader p.0) }
 {
     if read.enabled_brackets_in_section_names {
         return read_bracketed_header(alloc, text, read);
@@ -47,7 +49,8 @@ fn read_bracketed_header<'a>(
     text: &'a str,
     read: ParseOption,
 ) -> Result<(Option<BorrowedItem<'a>>, &'a str), Stop<'a>>
-    ensures { Gives given result
+    ensures header { IfOk result (λ p. IsHeader p.0) }
+    ensures gives { Gives given result
         (bracketed_header (string read.enabled_escape bracketed_name_ends (chars text.now))) }
 {
     let mut line = String::new(alloc);

@@ -1,11 +1,12 @@
 //! Pairs: keys, indented or not, and what follows them; and what else a line may give that begins with
 //! blanks. This file knows strings and values.
-ghost use Rattle.std.specs.Prelude.{◌≡◌, ℕ, chars, drop};
+ghost use Rattle.std.specs.Prelude.{◌≡◌, ℕ, chars, drop, IfOk};
 ghost use Rattle.ini_text.specs.Grammar.CharacterKinds.{is_blank};
 ghost use Rattle.ini_text.specs.Inside.ElementReader.{behind_blanks, behind_separator, given};
 ghost use Rattle.ini_text.specs.Inside.ElementReader.{indented_pair_of_key, kept_blanks, trimmed_key};
 ghost use Rattle.ini_text.specs.Inside.ElementReader.{unindented_pair};
 ghost use Rattle.ini_text.specs.Grammar.Strings.{key_ends};
+ghost use Rattle.ini_text.specs.Inside.PlaceReader.{HasRests, HasValueRests, IsHeader};
 ghost use Rattle.ini_text.specs.Inside.Reading.{Answer, Gives, StopsBy, prepend};
 ghost use Rattle.ini_text.specs.Inside.Scans.{run_of, skipped};
 ghost use Rattle.ini_text.specs.Inside.StringReader.{string};
@@ -17,6 +18,7 @@ use crate::item::BorrowedItem;
 use crate::option::ParseOption;
 use crate::parser::endpoints::Endpoints;
 use crate::parser::fault::Stop;
+use crate::parser::rests::Rests;
 use crate::parser::string::read_string;
 use crate::parser::trimmed::read_trimmed;
 use crate::parser::value::read_value;
@@ -30,10 +32,13 @@ use std::borrow::CowStr;
 pub(crate) fn read_unindented<'a>(
     alloc: Global,
     scratch: &mut String,
+    rests: &mut Rests<'a>,
     text: &'a str,
     read: ParseOption,
 ) -> Result<(Option<BorrowedItem<'a>>, &'a str), Stop<'a>>
-    ensures { Gives given result (unindented_pair read (chars text.now)) }
+    requires { skipped is_blank (chars text.now) ≡ chars text.now }
+    ensures gives { Gives given result (unindented_pair read (chars text.now)) }
+    ensures rests { IfOk result (λ p. HasRests read (chars text.now) rests.new p.0 (chars p.1.now)) }
 {
     let both = !read.enabled_preserve_key_leading_whitespace;
     let (key, rest) = read_trimmed(
@@ -44,7 +49,7 @@ pub(crate) fn read_unindented<'a>(
         Endpoints::Key,
         both,
     )?;
-    read_pair(alloc, scratch, key, rest, read)
+    read_pair(alloc, scratch, rests, key, rest, read)
 }
 
 // gap / 1*blank key separator value / dropped-tail, where blanks begin a line
@@ -52,10 +57,12 @@ pub(crate) fn read_unindented<'a>(
 pub(crate) fn read_indented<'a>(
     alloc: Global,
     scratch: &mut String,
+    rests: &mut Rests<'a>,
     text: &'a str,
     read: ParseOption,
 ) -> Result<(Option<BorrowedItem<'a>>, &'a str), Stop<'a>>
-    ensures { Gives given result
+    ensures rests { IfOk result (λ p. HasRests read (chars text.now) rests.new p.0 (chars p.1.now)) }
+    ensures gives { Gives given result
         (behind_blanks read (run_of is_blank (chars text.now)) (skipped is_blank (chars text.now))) }
 {
     let start = skip(text, Class::Blank);
@@ -69,7 +76,7 @@ pub(crate) fn read_indented<'a>(
         return Ok((None, start));
     }
     match read_indented_key(alloc, scratch, front_before(text, start), start, read) {
-        Ok((key, rest)) => read_pair(alloc, scratch, key, rest, read),
+        Ok((key, rest)) => read_pair(alloc, scratch, rests, key, rest, read),
         Err(stop) => drop_tail(stop),
     }
 }
@@ -104,8 +111,9 @@ fn read_indented_key<'a>(
 
 /// What is left of a text that ends within an indented key gives nothing; other stops stay.
 fn drop_tail<'a>(stop: Stop<'a>) -> Result<(Option<BorrowedItem<'a>>, &'a str), Stop<'a>>
-    ensures { (o : ParseOption) (a : Answer ℕ) → StopsBy a stop.entry
+    ensures gives { (o : ParseOption) (a : Answer ℕ) → StopsBy a stop.entry
         → Gives given result (indented_pair_of_key o a) }
+    ensures nothing { IfOk result (λ p. IsHeader p.0) }
 {
     match stop {
         Stop::Memory => Err(stop),
@@ -122,16 +130,20 @@ fn drop_tail<'a>(stop: Stop<'a>) -> Result<(Option<BorrowedItem<'a>>, &'a str), 
 fn read_pair<'a>(
     alloc: Global,
     scratch: &mut String,
+    rests: &mut Rests<'a>,
     key: CowStr<'a>,
     rest: &'a str,
     read: ParseOption,
 ) -> Result<(Option<BorrowedItem<'a>>, &'a str), Stop<'a>>
-    ensures { Gives given result (behind_separator read (cow_text key.entry) (drop 1 (chars rest.now))) }
+    ensures gives { Gives given result
+        (behind_separator read (cow_text key.entry) (drop 1 (chars rest.now))) }
+    ensures rests { IfOk result (λ p. HasValueRests read (chars rest.now) rests.new p.0 (chars p.1.now)) }
 {
     let after = after_first(rest);
     if key.as_str().is_empty() {
         return Err(Stop::new(ParseKind::MissingKey, "missing key", after));
     }
-    let (value, end) = read_value(alloc, scratch, after, read)?;
+    let (value, end) = read_value(alloc, scratch, rests, after, read)?;
+    rests.behind_key = rest;
     Ok((Some(BorrowedItem::Pair(key, value)), end))
 }

@@ -1,13 +1,11 @@
 //! Elements with their places: what each gives, as `element` reads it, and the stretches of a pair's source.
 //! This file knows what a pair is made of, and no escape.
 ghost use Rattle.std.specs.Prelude.{◌≡◌, ◌++◌, [], chars, None, Ok, IfSome, IsOkAnd, IsErrAnd};
-ghost use Rattle.std.specs.Prelude.{OnErr, MatchResult};
+ghost use Rattle.std.specs.Prelude.{OnErr};
 ghost use Rattle.ini_text.specs.Grammar.Places.{Padded};
 ghost use Rattle.ini_text.specs.Grammar.Positions.{line_of, column_of};
-ghost use Rattle.ini_text.specs.Inside.PlaceReader.{BeginsPair, FindsElement, HasTail};
+ghost use Rattle.ini_text.specs.Inside.PlaceReader.{BeginsPair, FindsElement, HasRestsOf};
 ghost use Rattle.ini_text.specs.Inside.PlaceReader.{IsBeforePad, PlacesPair};
-ghost use Rattle.ini_text.specs.Inside.Reading.{StopsBy, fault_of};
-ghost use Rattle.ini_text.specs.Inside.ValueReader.{value};
 ghost use Rattle.ini_text.specs.Parsing.Fronts.{IsRest};
 ghost use Rattle.ini_text.specs.Parsing.Parser.{KeepsRefusal, TellsRefusal};
 ghost use Rattle.ini_text.specs.Parsing.Places.{AnswersElement};
@@ -16,15 +14,13 @@ use crate::error::Error;
 use crate::item::BorrowedItem;
 use crate::option::ParseOption;
 use crate::parser::element::read_element;
-use crate::parser::endpoints::Endpoints;
 use crate::parser::fault::Stop;
-use crate::parser::line::read_line;
 use crate::parser::position::position;
-use crate::parser::string::read_string;
-use crate::parser::value::{after_cr, after_line_end};
+use crate::parser::rests::Rests;
 use crate::parser::{Parser, told};
-use crate::text::{Class, front_before, skip, split_first, split_last};
+use crate::text::{Class, front_before, split_first, split_last};
 use std::alloc::Global;
+use std::borrow::CowStr;
 
 /// One element of a text, as it stands there.
 #[derive(Debug, Drop)]
@@ -41,7 +37,7 @@ pub enum Content<'a> {
     /// Nothing: the element is white space, a comment, or an indented key that the text's end cuts short.
     Nothing,
     /// The name of a section that begins here.
-    Header(String),
+    Header(CowStr<'a>),
     /// A pair of the section that began last.
     Pair(PlacedPair<'a>),
 }
@@ -50,9 +46,9 @@ pub enum Content<'a> {
 #[derive(Debug, Drop)]
 pub struct PlacedPair<'a> {
     /// The key.
-    pub key: String,
+    pub key: CowStr<'a>,
     /// The value, without quotes and escapes.
-    pub value: String,
+    pub value: CowStr<'a>,
     /// Where the parts stand.
     pub places: PairPlaces<'a>,
 }
@@ -96,22 +92,14 @@ impl<'a> Parser<'a> {
         if let Some(stop) = self.refusal {
             return Err(told(self.text, stop));
         }
-        match find_element(
+        let found = find_element(
             self.alloc,
             &mut self.scratch,
             self.text,
             self.rest,
             self.option,
-        ) {
-            Ok((element, rest)) => {
-                self.rest = rest;
-                Ok(element)
-            }
-            Err(stop) => {
-                self.refusal = Some(stop);
-                Err(told(self.text, stop))
-            }
-        }
+        );
+        self.answer(found)
     }
 
     /// The line and the column where the parser stands, each counted from one, the column in characters.
@@ -139,91 +127,50 @@ fn find_element<'a>(
         return Ok((None, start));
     };
     let front = front_before(text, start);
-    let (given, rest) = read_element(alloc, scratch, front, start, c, after, read)?;
+    let mut rests = Rests::new(start);
+    let (given, rest) = read_element(alloc, scratch, &mut rests, front, start, c, after, read)?;
     let source = front_before(start, rest);
     let content = match given {
         None => Content::Nothing,
-        Some(BorrowedItem::Header(name)) => Content::Header(name.into_owned(alloc)?),
+        Some(BorrowedItem::Header(name)) => Content::Header(name),
         Some(BorrowedItem::Pair(key, value)) => {
-            let places = place_pair(alloc, scratch, start, rest, read)?;
-            let key = key.into_owned(alloc)?;
-            let value = value.into_owned(alloc)?;
+            let places = place_pair(start, rests, value.as_str(), rest, read);
             Content::Pair(PlacedPair { key, value, places })
         }
     };
     Ok((Some(PlacedElement { source, content }), rest))
 }
 
-/// The places of the pair with which a text begins, and which ends at a rest of it.
+/// The places of the pair with which a text begins, and which ends at a rest of it, by the rests that were seen
+/// while it was read.
 fn place_pair<'a>(
-    alloc: Global,
-    scratch: &mut String,
     text: &'a str,
+    rests: Rests<'a>,
+    value: &str,
     end: &'a str,
     read: ParseOption,
-) -> Result<PairPlaces<'a>, Stop<'a>>
-    requires { BeginsPair read (chars text.now) (chars end.now) }
-    ensures { MatchResult result
-        (PlacesPair read (chars text.now) (chars end.now)) (λ stop. fault_of stop ≡ None) }
+) -> PairPlaces<'a>
+    requires pair { BeginsPair read (chars text.now) (chars end.now) }
+    requires rests { HasRestsOf read (chars text.now) rests (chars value.now) (chars end.now) }
+    ensures { PlacesPair read (chars text.now) (chars end.now) result }
 {
-    let name = skip(text, Class::Blank);
-    let behind_key = read_string(scratch, name, read.enabled_escape, Endpoints::Key)?;
+    let _ = value;
+    let _ = read;
+    let behind_key = rests.behind_key;
+    let start = rests.start;
+    let tail = rests.tail;
     let Some((separator, after)) = split_first(behind_key) else {
         unreachable!()
     };
-    let (start, tail) = find_tail(alloc, scratch, after, read)?;
     let (own, pad) = split_pad(front_before(start, tail));
-    Ok(PairPlaces {
+    PairPlaces {
         key: front_before(text, behind_key),
         separator,
         lead: front_before(after, start),
         own,
         pad,
         tail: front_before(tail, end),
-    })
-}
-
-/// Where the lines of a value begin that stands behind a separator, and where those end that give more than
-/// line feeds.
-fn find_tail<'a>(
-    alloc: Global,
-    scratch: &mut String,
-    text: &'a str,
-    read: ParseOption,
-) -> Result<(&'a str, &'a str), Stop<'a>>
-    ensures { MatchResult result
-        (λ p. HasTail read (chars text.now) (chars p.0.now) (chars p.1.now))
-        (StopsBy (value read (chars text.now))) }
-{
-    let start = skip(text, Class::InlineWhite);
-    let mut tail = read_line(alloc, scratch, start, read, true)?;
-    if !read.enabled_indented_mutiline_value {
-        return Ok((start, tail));
     }
-    let Some(next) = after_line_end(tail) else {
-        return Ok((start, tail));
-    };
-    let mut rest = next;
-    'lines: while let Some((c, after)) = split_first(rest) {
-        if c == '\n' {
-            rest = after;
-        } else if c == '\r' {
-            rest = after_cr(after)?;
-        } else if Class::Blank.contains(c) {
-            scratch.clear();
-            let end = read_line(alloc, scratch, skip(rest, Class::InlineWhite), read, false)?;
-            if let Some(_) = split_first(skip(scratch.as_str(), Class::LineFeed)) {
-                tail = end;
-            }
-            let Some(next) = after_line_end(end) else {
-                return Ok((start, tail));
-            };
-            rest = next;
-        } else {
-            return Ok((start, tail));
-        }
-    }
-    Ok((start, tail))
 }
 
 /// A value's own lines without the white space at their end, and that; all of them where a backslash stands

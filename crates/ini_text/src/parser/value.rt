@@ -1,42 +1,76 @@
 //! Values: a line, and in multiline values the lines with which it goes on, less the line feeds at both
 //! ends. This file knows lines, and no key.
-ghost use Rattle.std.specs.Prelude.{◌≡◌, [], chars, option_map, IfOk};
+ghost use Rattle.std.specs.Prelude.{◌≡◌, [], true, not, chars, drop, option_map, IfOk, MatchResult};
+ghost use Rattle.std.specs.List.{list_all};
+ghost use Rattle.std.specs.Str.{IsCharBoundary};
+ghost use Rattle.ini_text.specs.Grammar.CharacterKinds.{is_inline_white, is_line_feed};
 ghost use Rattle.ini_text.specs.Grammar.WhiteSpace.{without_outer_line_feeds};
-ghost use Rattle.ini_text.specs.Inside.Reading.{prepend, Appends, Gives};
-ghost use Rattle.ini_text.specs.Inside.ValueReader.{after_end, empty_cr, more_lines, value};
+ghost use Rattle.ini_text.specs.Inside.PlaceReader.{HasTail, ReadsValue, TailSoFar};
+ghost use Rattle.ini_text.specs.Inside.Reading.{Appends, StopsBy};
+ghost use Rattle.ini_text.specs.Inside.Scans.{skipped};
+ghost use Rattle.ini_text.specs.Inside.ValueReader.{after_end, empty_cr, value};
 ghost use Rattle.ini_text.specs.Parsing.Items.{cow_text, string_text};
 
 use crate::error::ParseKind;
 use crate::option::ParseOption;
 use crate::parser::fault::Stop;
 use crate::parser::line::{read_first_line, read_line};
+use crate::parser::rests::Rests;
 use crate::text::{Class, push, skip, split_first, split_last};
 use std::alloc::{AllocError, Global};
 use std::borrow::CowStr;
 
 // value = *inline-white line [line-end more-lines]
-/// The value that begins behind a separator, and what follows it.
+/// The value that begins behind a separator, with where its lines stand, and what follows it.
 #[inline(always)]
-#[tactic(auto, using(crate::proofs::ReaderLemmas::ValueReaderLemmas::value_line))]
 pub(crate) fn read_value<'a>(
     alloc: Global,
     scratch: &mut String,
+    rests: &mut Rests<'a>,
     text: &'a str,
     read: ParseOption,
 ) -> Result<(CowStr<'a>, &'a str), Stop<'a>>
-    ensures { Gives cow_text result (value read (chars text.now)) }
+    ensures { ReadsValue read (chars text.now) rests.new result }
+{
+    if read.enabled_indented_mutiline_value {
+        // a call that isn't inlined gets a place of its own, so that the caller's stays in registers
+        let mut seen = *rests;
+        let value = read_multiline(alloc, scratch, &mut seen, text, read);
+        *rests = seen;
+        return value;
+    }
+    let start = skip(text, Class::InlineWhite);
+    let (value, end) = read_first_line(alloc, scratch, start, read)?;
+    rests.start = start;
+    rests.tail = end;
+    Ok((value, end))
+}
+
+/// The same, where values are multiline.
+fn read_multiline<'a>(
+    alloc: Global,
+    scratch: &mut String,
+    rests: &mut Rests<'a>,
+    text: &'a str,
+    read: ParseOption,
+) -> Result<(CowStr<'a>, &'a str), Stop<'a>>
+    requires { read.enabled_indented_mutiline_value ≡ true }
+    ensures { ReadsValue read (chars text.now) rests.new result }
 {
     let start = skip(text, Class::InlineWhite);
     let (first, end) = read_first_line(alloc, scratch, start, read)?;
-    if !read.enabled_indented_mutiline_value {
-        return Ok((first, end));
-    }
     let Some(next) = after_line_end(end) else {
-        return Ok((trim_line_feeds(alloc, first)?, end));
+        let value = trim_line_feeds(alloc, first)?;
+        rests.start = start;
+        rests.tail = end;
+        return Ok((value, end));
     };
-    let mut value = first.into_owned(alloc)?;
-    let rest = read_more(alloc, &mut value, next, read)?;
-    Ok((trim_line_feeds(alloc, CowStr::Owned(value))?, rest))
+    let mut lines = first.into_owned(alloc)?;
+    let (tail, rest) = read_more(alloc, &mut lines, text, start, end, next, read)?;
+    let value = trim_line_feeds(alloc, CowStr::Owned(lines))?;
+    rests.start = start;
+    rests.tail = tail;
+    Ok((value, rest))
 }
 
 /// What follows a line end, if the text begins with one.
@@ -72,17 +106,30 @@ pub(crate) fn after_cr(text: &str) -> Result<&str, Stop<'_>>
 }
 
 // more-lines = *(LF / CR LF / blank *inline-white line (line-end / end))
-/// Appends the lines with which a value goes on behind its first line end, and gives what follows them.
+/// Appends the lines with which a value goes on behind its first line end, and gives what follows the last of
+/// them that gives more than line feeds, and what follows all. The value's text and where it starts are named
+/// for the clauses alone.
 fn read_more<'a>(
     alloc: Global,
     out: &mut String,
-    text: &'a str,
+    text: &str,
+    start: &str,
+    end: &'a str,
+    next: &'a str,
     read: ParseOption,
-) -> Result<&'a str, Stop<'a>>
-    ensures { Appends (string_text out.new) result
-        (prepend (string_text out.old) (more_lines read (chars text.now))) }
+) -> Result<(&'a str, &'a str), Stop<'a>>
+    requires multiline { read.enabled_indented_mutiline_value ≡ true }
+    requires starts { chars start.now ≡ skipped is_inline_white (chars text.now) }
+    requires known { TailSoFar read (chars text.now) (chars start.now) (chars end.now) (chars next.now)
+        (string_text out.old) }
+    ensures { MatchResult result
+        (λ p. HasTail read (chars text.now) (chars start.now) (chars p.0.now)
+        (without_outer_line_feeds (string_text out.new)) (chars p.1.now))
+        (StopsBy (value read (chars text.now))) }
 {
-    let mut rest = text;
+    let _ = (text, start);
+    let mut tail = end;
+    let mut rest = next;
     'lines: while let Some((c, after)) = split_first(rest) {
         if c == '\n' {
             push(out, '\n')?;
@@ -92,16 +139,31 @@ fn read_more<'a>(
             push(out, '\n')?;
         } else if Class::Blank.contains(c) {
             push(out, '\n')?;
+            let len = out.len();
             let end = read_line(alloc, out, skip(rest, Class::InlineWhite), read, false)?;
+            if gives_more(out.as_str(), len) {
+                tail = end;
+            }
             let Some(next) = after_line_end(end) else {
-                return Ok(end);
+                return Ok((tail, end));
             };
             rest = next;
         } else {
-            return Ok(rest);
+            return Ok((tail, rest));
         }
     }
-    Ok(rest)
+    Ok((tail, rest))
+}
+
+/// Whether what stands behind so many bytes is more than line feeds.
+fn gives_more(text: &str, len: usize) -> bool
+    requires { IsCharBoundary text.now len }
+    ensures { result ≡ not (list_all is_line_feed (chars (drop len text.now))) }
+{
+    match split_first(skip(&text[len..], Class::LineFeed)) {
+        Some(_) => true,
+        _ => false,
+    }
 }
 
 /// A text without the line feeds at its ends. What is borrowed stays so.

@@ -32,22 +32,6 @@ over-position-requires c =
     t.stands.rest c.elements.position (omega (arith, characters_fit c.args.text.now c.utf8.text))
     t.stands.whole s.at
 
-pub elements-preserved-in_ok-note_element : goal.elements-preserved-in_ok-note_element
-elements-preserved-in_ok-note_element c =
-    let s = c.elements.invariant in
-    let noted = c.in_ok-note_element.ensures in
-    checks_step s (step_some s.is_reading c.in_ok-element.ensures.element c.in-Some.is)
-    (c.in_ok-warn_element.ensures.warned c.elements.parser.front s.at) noted.names noted.keys
-    (c.over-position.ensures.at c.elements.parser.front s.at)
-
-pub elements-preserved-in_ok-note_element-2 : goal.elements-preserved-in_ok-note_element-2
-elements-preserved-in_ok-note_element-2 c =
-    let s = c.elements.invariant in
-    let noted = c.in_ok-note_element.ensures in
-    checks_step s (step_some s.is_reading c.in_ok-element.ensures.element c.in-Some.is)
-    (c.in_ok-warn_element.ensures.warned c.elements.parser.front s.at) noted.names noted.keys
-    (c.over-position.ensures.at c.elements.parser.front s.at)
-
 pub elements-preserved : goal.elements-preserved
 elements-preserved c =
     let s = c.elements.invariant in

@@ -1,6 +1,6 @@
 use Rattle.std.proofs.Common.{◌∙◌, ap, chars, subst, sym}
 use Rattle.ini_text.specs.Parsing.Places.{gives}
-use Rattle.ini_text.specs.Parsing.Items.{string_text}
+use Rattle.ini_text.specs.Parsing.Items.{cow_text}
 use Rattle.ini.specs.Texts.{is_text}
 use Rattle.ini.proofs.KeepingLemmas.{texts_equal}
 use Rattle.ini_text.proofs.LawLemmas.ExportedLemmas.{front_is}
@@ -36,9 +36,9 @@ pub returns-then-is_same_text-clause-found : goal.returns-then-is_same_text-clau
 returns-then-is_same_text-clause-found c =
     let s = c.elements.invariant in
     search_pair s _ (step_some s.walked.is_reading c.in_ok-element.ensures.element c.in-Some.is) c.in-Pair.is
-    (sym (texts_equal (chars c.args.key.now) (string_text c.in-Pair.pair.key)
+    (sym (texts_equal (chars c.args.key.now) (cow_text c.in-Pair.pair.key)
     (ap (is_text (chars c.args.key.now))
-    (sym (ap chars c.as_str.ensures.value ∙ ap (λ p. string_text p.key) c.in-Pair.pair-is))
+    (sym (ap chars c.as_str.ensures.value ∙ ap (λ p. cow_text p.key) c.in-Pair.pair-is))
     ∙ sym c.is_same_text.ensures ∙ c.if-is_same_text.true)))
     (c.front_before.ensures
     ∙ front_is c.elements.parser.front (chars c.rest-start.result.now) (chars c.args.text.now)
@@ -52,5 +52,5 @@ elements-preserved c =
     (subst (λ x. PairsWithout (chars c.args.key.now) (gives x)) (sym c.in-Pair.is)
     (PairsWithout.pair
     (ap (is_text (chars c.args.key.now))
-    (sym (ap chars c.as_str.ensures.value ∙ ap (λ p. string_text p.key) c.in-Pair.pair-is))
+    (sym (ap chars c.as_str.ensures.value ∙ ap (λ p. cow_text p.key) c.in-Pair.pair-is))
     ∙ sym c.is_same_text.ensures ∙ c.if-is_same_text.false)))

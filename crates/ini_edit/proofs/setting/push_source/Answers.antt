@@ -3,7 +3,7 @@ use Rattle.std.proofs.lemmas.Bool.{false≢true}
 use Rattle.std.proofs.lemmas.Result.{on_ok_weaker}
 use Rattle.ini.specs.Texts.{is_text}
 use Rattle.ini.proofs.KeepingLemmas.{text_refl, texts_equal}
-use Rattle.ini_text.specs.Parsing.Items.{string_text}
+use Rattle.ini_text.specs.Parsing.Items.{cow_text}
 use Rattle.ini_edit.specs.Quotes.{IsPut}
 use Rattle.ini_edit.proofs.setting.push_source.Goals as goal
 
@@ -11,7 +11,7 @@ pub returns-then-is_same_text-clause-put : goal.returns-then-is_same_text-clause
 returns-then-is_same_text-clause-put c = on_ok_weaker c.push_text.result (λ pushed. record {
   source = chars c.args.pair.now.places.own.now;
   is_put =
-      IsPut.stays (texts_equal (chars c.args.value.now) (string_text c.args.pair.now.value)
+      IsPut.stays (texts_equal (chars c.args.value.now) (cow_text c.args.pair.now.value)
       (ap (λ t. is_text (chars c.args.value.now) (chars t)) (sym c.as_str.ensures.value)
       ∙ (sym c.is_same_text.ensures ∙ c.if-is_same_text.true)));
   is_new = pushed;

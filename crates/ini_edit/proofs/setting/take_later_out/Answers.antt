@@ -1,6 +1,6 @@
 use Rattle.std.proofs.Common.{◌∙◌, ap, chars, subst, sym}
 use Rattle.ini_text.specs.Parsing.Fronts.{IsRest, front_of}
-use Rattle.ini_text.specs.Parsing.Items.{string_text}
+use Rattle.ini_text.specs.Parsing.Items.{cow_text, string_text}
 use Rattle.ini_text.specs.Parsing.Places.{gives, stretches_of}
 use Rattle.ini.specs.Texts.{is_text}
 use Rattle.ini.proofs.KeepingLemmas.{texts_equal}
@@ -46,7 +46,7 @@ elements-preserved-then-not-is_same_text c =
     subst (Taking _ _ _ _ _ _) (sym c.in_ok-push_text-in-Pair.ensures.pushed)
     (taking_pair t s _ _
     (ap (is_text (chars c.args.key.now))
-    (sym (ap chars c.as_str.ensures.value ∙ ap (λ p. string_text p.key) c.in-Pair.pair-is))
+    (sym (ap chars c.as_str.ensures.value ∙ ap (λ p. cow_text p.key) c.in-Pair.pair-is))
     ∙ sym c.is_same_text.ensures ∙ c.if-not-is_same_text.true) (ap gives c.in-Pair.is))
 
 pub cut-cutting-requires : goal.cut-cutting-requires
@@ -61,9 +61,9 @@ pub behind-requires : goal.behind-requires
 behind-requires c =
     let t = c.elements.invariant in
     let s = step_some t.is_reading c.in_ok-element.ensures.element c.in-Some.is in
-    let same = texts_equal (chars c.args.key.now) (string_text c.in-Pair.pair.key)
+    let same = texts_equal (chars c.args.key.now) (cow_text c.in-Pair.pair.key)
     (ap (is_text (chars c.args.key.now))
-    (sym (ap chars c.as_str.ensures.value ∙ ap (λ p. string_text p.key) c.in-Pair.pair-is))
+    (sym (ap chars c.as_str.ensures.value ∙ ap (λ p. cow_text p.key) c.in-Pair.pair-is))
     ∙ sym c.is_same_text.ensures ∙ c.if-not-is_same_text.false) in
     let cut : Cut c.args.parser.now.option
     (placed_between (string_text c.elements.out) (stretches_of c.in-Pair.pair.places)
@@ -78,9 +78,9 @@ pub elements-smaller : goal.elements-smaller
 elements-smaller c =
     let t = c.elements.invariant in
     let s = step_some t.is_reading c.in_ok-element.ensures.element c.in-Some.is in
-    let same = texts_equal (chars c.args.key.now) (string_text c.in-Pair.pair.key)
+    let same = texts_equal (chars c.args.key.now) (cow_text c.in-Pair.pair.key)
     (ap (is_text (chars c.args.key.now))
-    (sym (ap chars c.as_str.ensures.value ∙ ap (λ p. string_text p.key) c.in-Pair.pair-is))
+    (sym (ap chars c.as_str.ensures.value ∙ ap (λ p. cow_text p.key) c.in-Pair.pair-is))
     ∙ sym c.is_same_text.ensures ∙ c.if-not-is_same_text.false) in
     let cut : Cut c.args.parser.now.option
     (placed_between (string_text c.elements.out) (stretches_of c.in-Pair.pair.places)
@@ -96,9 +96,9 @@ pub elements-preserved : goal.elements-preserved
 elements-preserved c =
     let t = c.elements.invariant in
     let s = step_some t.is_reading c.in_ok-element.ensures.element c.in-Some.is in
-    let same = texts_equal (chars c.args.key.now) (string_text c.in-Pair.pair.key)
+    let same = texts_equal (chars c.args.key.now) (cow_text c.in-Pair.pair.key)
     (ap (is_text (chars c.args.key.now))
-    (sym (ap chars c.as_str.ensures.value ∙ ap (λ p. string_text p.key) c.in-Pair.pair-is))
+    (sym (ap chars c.as_str.ensures.value ∙ ap (λ p. cow_text p.key) c.in-Pair.pair-is))
     ∙ sym c.is_same_text.ensures ∙ c.if-not-is_same_text.false) in
     let cut : Cut c.args.parser.now.option
     (placed_between (string_text c.elements.out) (stretches_of c.in-Pair.pair.places)

@@ -20,22 +20,22 @@ returns-in_err-given-clause-item c =
     let p = err_from_is_err_and c.from_residual.result c.from_residual.ensures.1 in
     rw (p.1, p.2) (refuses c.args.read (chars c.args.text.now) _ (chars c.elements.rest.now) _
     c.elements.invariant.within c.elements.invariant.reads c.in-Some.ensures.characters
-    c.front_before-front.ensures c.in_err-given.ensures)
+    c.front_before-front.ensures c.in_err-given.ensures.gives)
 
 pub returns-in-Some-given-clause-item : goal.returns-in-Some-given-clause-item
 returns-in-Some-given-clause-item c =
     let m = moved c.elements.invariant.within c.elements.invariant.reads c.in-Some.ensures.characters
-    c.front_before-front.ensures (ap given c.in-Some-given.is) c.in_ok-given.ensures in
+    c.front_before-front.ensures (ap given c.in-Some-given.is) c.in_ok-given.ensures.gives in
     (m.within, (omega (arith, m.longer, c.elements.invariant.front), m.reads))
 
 pub elements-smaller : goal.elements-smaller
 elements-smaller c = (moved c.elements.invariant.within c.elements.invariant.reads
-    c.in-Some.ensures.characters c.front_before-front.ensures refl c.in_ok-given.ensures).shorter
+    c.in-Some.ensures.characters c.front_before-front.ensures refl c.in_ok-given.ensures.gives).shorter
 
 pub elements-preserved : goal.elements-preserved
 elements-preserved c =
     let m = moved c.elements.invariant.within c.elements.invariant.reads c.in-Some.ensures.characters
-    c.front_before-front.ensures (ap given c.in_default-given.is) c.in_ok-given.ensures in
+    c.front_before-front.ensures (ap given c.in_default-given.is) c.in_ok-given.ensures.gives in
     record {
       text = search rules;
       within = m.within;

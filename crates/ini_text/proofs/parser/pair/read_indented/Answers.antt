@@ -5,14 +5,16 @@ use Rattle.ini_text.specs.Inside.ElementReader.{behind_blanks, given, indented_p
 use Rattle.ini_text.specs.Inside.Reading.{Gives, prepend}
 use Rattle.ini_text.specs.Inside.Scans.{run_of}
 use Rattle.ini_text.specs.Inside.StringReader.{string}
+use Rattle.ini_text.proofs.PlaceLemmas.PairLemmas.{header_rests, unaltered, value_rests}
+use Rattle.ini_text.proofs.ReaderLemmas.ReaderLemmas.{read_behind}
 use Rattle.ini_text.proofs.ReaderLemmas.ElementReaderLemmas.{blanks_front, key_at}
 use Rattle.ini_text.proofs.parser.pair.read_indented.Goals as goal
 
 pub front_before-requires : goal.front_before-requires
 front_before-requires c = (blanks_front c.skip-start.ensures).1
 
-pub returns-in-Ok : goal.returns-in-Ok
-returns-in-Ok c =
+pub returns-in-Ok-clause-gives : goal.returns-in-Ok-clause-gives
+returns-in-Ok-clause-gives c =
     let o = c.args.read in
     let w = run_of is_blank (chars c.args.text.now) in
     let start = chars c.skip-start.result.now in
@@ -24,10 +26,10 @@ returns-in-Ok c =
     (sym (c.front_before.ensures ∙ (blanks_front c.skip-start.ensures).0))
     ∙ ap (indented_pair_of_key o) c.in-Ok.ensures in
     subst (Gives given c.read_pair.result) (sym (ap (behind_blanks o w) (sym c.skip-start.ensures) ∙ read))
-    c.read_pair.ensures
+    c.read_pair.ensures.gives
 
-pub returns-in-Err : goal.returns-in-Err
-returns-in-Err c =
+pub returns-in-Err-clause-gives : goal.returns-in-Err-clause-gives
+returns-in-Err-clause-gives c =
     let o = c.args.read in
     let w = run_of is_blank (chars c.args.text.now) in
     let start = chars c.skip-start.result.now in
@@ -38,4 +40,16 @@ returns-in-Err c =
     (string o.enabled_escape key_ends start))))
     (sym (c.front_before.ensures ∙ (blanks_front c.skip-start.ensures).0)) in
     subst (Gives given c.drop_tail.result) (sym (ap (behind_blanks o w) (sym c.skip-start.ensures) ∙ read))
-    (c.drop_tail.ensures o _ c.in-Err.ensures)
+    (c.drop_tail.ensures.gives o _ c.in-Err.ensures)
+
+pub returns-in-Ok-clause-rests : goal.returns-in-Ok-clause-rests
+returns-in-Ok-clause-rests c =
+    value_rests c.args.read (chars c.args.text.now) c.read_pair.new.rests
+    (ap (string c.args.read.enabled_escape key_ends) (sym c.skip-start.ensures)
+    ∙ (read_behind _ _ (unaltered _ _ c.in-Ok.ensures).1).1)
+    c.read_pair.result c.read_pair.ensures.rests
+
+pub returns-in-Err-clause-rests : goal.returns-in-Err-clause-rests
+returns-in-Err-clause-rests c =
+    header_rests c.args.read (chars c.args.text.now) c.args.rests.now c.drop_tail.result
+    c.drop_tail.ensures.nothing

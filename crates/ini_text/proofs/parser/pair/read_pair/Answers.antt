@@ -1,15 +1,16 @@
-use Rattle.std.proofs.Common.{◌≢◌, [], length, ap, sym, ◌∙◌, eqb-true, eq-eqb, subst, true≢false}
+use Rattle.std.proofs.Common.{◌≢◌, [], chars, length, ap, refl, sym, ◌∙◌, eqb-true, eq-eqb, subst, true≢false}
 use Rattle.std.specs.Cow.{cow_str_bytes}
 use Rattle.std.specs.Str.{IsUtf8}
 use Rattle.ini_text.specs.Inside.ElementReader.{behind_separator, pair_of_value}
+use Rattle.ini_text.specs.Inside.PlaceReader.{HasTail}
 use Rattle.ini_text.specs.Parsing.Items.{cow_text}
 use Rattle.ini_text.proofs.StringLemmas.PushLemmas.{no_characters, some_characters}
 use Rattle.ini_text.proofs.ReaderLemmas.ReaderLemmas.{passed}
 use Rattle.ini_text.proofs.ReaderLemmas.ElementReaderLemmas.{behind_key}
 use Rattle.ini_text.proofs.parser.pair.read_pair.Goals as goal
 
-pub returns-then-is_empty : goal.returns-then-is_empty
-returns-then-is_empty c =
+pub returns-then-is_empty-clause-gives : goal.returns-then-is_empty-clause-gives
+returns-then-is_empty-clause-gives c =
     rw (
       no_characters (cow_str_bytes c.args.key)
           (ap length (sym c.as_str.ensures.value)
@@ -18,8 +19,8 @@ returns-then-is_empty c =
       c.after_first-after.ensures,
     )
 
-pub returns-in_err-value : goal.returns-in_err-value
-returns-in_err-value c =
+pub returns-in_err-value-clause-gives : goal.returns-in_err-value-clause-gives
+returns-in_err-value-clause-gives c =
     let some : cow_text c.args.key ≢ [] =
     some_characters (cow_str_bytes c.args.key) (subst IsUtf8 c.as_str.ensures.value c.as_str.utf8)
     (λ none. true≢false
@@ -29,8 +30,8 @@ returns-in_err-value c =
     ap (behind_separator c.args.read (cow_text c.args.key)) (sym c.after_first-after.ensures)
     ∙ behind_key c.args.read _ _ some ∙ ap (pair_of_value (cow_text c.args.key)) h
 
-pub returns : goal.returns
-returns c =
+pub returns-clause-gives : goal.returns-clause-gives
+returns-clause-gives c =
     let some : cow_text c.args.key ≢ [] =
     some_characters (cow_str_bytes c.args.key) (subst IsUtf8 c.as_str.ensures.value c.as_str.utf8)
     (λ none. true≢false
@@ -38,4 +39,12 @@ returns c =
     ∙ c.if-is_empty.false)) in
     ap (behind_separator c.args.read (cow_text c.args.key)) (sym c.after_first-after.ensures)
     ∙ behind_key c.args.read _ _ some
-    ∙ ap (pair_of_value (cow_text c.args.key)) c.in_ok-value.ensures
+    ∙ ap (pair_of_value (cow_text c.args.key)) c.in_ok-value.ensures.reads
+
+pub returns-clause-rests : goal.returns-clause-rests
+returns-clause-rests c = (
+  refl,
+  subst (λ t. HasTail c.args.read t (chars c.read_value.new.rests.start.now)
+      (chars c.read_value.new.rests.tail.now) (cow_text c.in_ok-value.value) (chars c.in_ok-value.end.now))
+      c.after_first-after.ensures c.in_ok-value.ensures,
+)

@@ -1,8 +1,17 @@
-use Rattle.std.proofs.Common.{ap}
+use Rattle.std.proofs.Common.{◌∙◌, ap, chars}
+use Rattle.ini_text.specs.Grammar.Strings.{key_ends}
+use Rattle.ini_text.specs.Inside.StringReader.{string}
+use Rattle.ini_text.proofs.PlaceLemmas.PairLemmas.{unaltered, value_rests}
 use Rattle.ini_text.specs.Inside.ElementReader.{pair_of_key}
 use Rattle.ini_text.proofs.ReaderLemmas.ReaderLemmas.{passed}
 use Rattle.ini_text.proofs.parser.pair.read_unindented.Goals as goal
 
-pub returns-in_err-key : goal.returns-in_err-key
-returns-in_err-key c =
+pub returns-in_err-key-clause-gives : goal.returns-in_err-key-clause-gives
+returns-in_err-key-clause-gives c =
     passed _ _ _ c.from_residual.ensures.1 c.in_err-key.ensures (λ r k h. ap (pair_of_key c.args.read) h)
+
+pub returns-clause-rests : goal.returns-clause-rests
+returns-clause-rests c =
+    value_rests c.args.read (chars c.args.text.now) c.read_pair.new.rests
+    (ap (string c.args.read.enabled_escape key_ends) c.requires ∙ (unaltered _ _ c.in_ok-key.ensures).1)
+    c.read_pair.result c.read_pair.ensures.rests

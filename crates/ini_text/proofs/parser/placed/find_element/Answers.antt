@@ -5,7 +5,7 @@ use Rattle.ini_text.specs.Inside.ElementReader.{given}
 use Rattle.ini_text.specs.Parsing.Fronts.{front_of}
 use Rattle.ini_text.specs.Parsing.Items.{borrowed_item_of, cow_text, string_text}
 use Rattle.ini_text.proofs.PlaceLemmas.PairLemmas.{front_all, refuses_element, source_within, begins_pair, stands}
-use Rattle.ini_text.proofs.parser.placed.find_element.Goals.{in-None, in-Some-Header+in_ok-into_owned-in-Some-Header, in-Some-Pair+in_ok-places-in-Some-Pair+in_ok-key-in-Some-Pair+in_ok-value-in-Some-Pair}
+use Rattle.ini_text.proofs.parser.placed.find_element.Goals.{in-None, in-Some-Header, in-Some-Pair}
 use Rattle.ini_text.proofs.parser.placed.find_element.Goals as goal
 
 pub returns-in_default-clause-element : goal.returns-in_default-clause-element
@@ -22,16 +22,16 @@ pub returns-in_err-given-clause-element : goal.returns-in_err-given-clause-eleme
 returns-in_err-given-clause-element c =
     let p = err_from_is_err_and c.from_residual.result c.from_residual.ensures.1 in
     rw (p.1, p.2) (refuses_element c.args.read c.requires c.in-Some.ensures.characters
-    c.front_before-front.ensures _ c.in_err-given.ensures)
+    c.front_before-front.ensures _ c.in_err-given.ensures.gives)
 
 pub front_before-source-requires : goal.front_before-source-requires
 front_before-source-requires c =
     source_within c.args.read c.requires c.in-Some.ensures.characters c.front_before-front.ensures
-    c.in_ok-given.ensures
+    c.in_ok-given.ensures.gives
 
-pub place_pair-requires : goal.place_pair-requires
-place_pair-requires c = begins_pair c.args.read c.requires c.in-Some.ensures.characters
-    c.front_before-front.ensures c.in_ok-given.ensures
+pub place_pair-places-requires-clause-pair : goal.place_pair-places-requires-clause-pair
+place_pair-places-requires-clause-pair c = begins_pair c.args.read c.requires c.in-Some.ensures.characters
+    c.front_before-front.ensures c.in_ok-given.ensures.gives
     (ap given c.in-Some-Pair.is ∙ ap (λ i. borrowed_item_of i ∷ []) c.in-Some-Pair.field-0-is)
 
 pub returns-clause-element : goal.returns-clause-element
@@ -42,22 +42,17 @@ returns-clause-element c =
     elim c.match-given.branch [
       | in-None w ↦
           rw w.content-is (stands o c.requires c.in-Some.ensures.characters c.front_before-front.ensures
-          c.in_ok-given.ensures _ c.front_before-source.ensures (ap given w.in-None.is)
+          c.in_ok-given.ensures.gives _ c.front_before-source.ensures (ap given w.in-None.is)
           (λ s holds whole. tt))
-      | in-Some-Header+in_ok-into_owned-in-Some-Header w ↦
+      | in-Some-Header w ↦
           rw w.content-is (stands o c.requires c.in-Some.ensures.characters c.front_before-front.ensures
-          c.in_ok-given.ensures _ c.front_before-source.ensures
-          (ap given w.in-Some-Header.is ∙ ap (λ i. borrowed_item_of i ∷ []) w.in-Some-Header.field-0-is
-          ∙ ap (λ b. Header (chars b) ∷ []) (sym w.in_ok-into_owned-in-Some-Header.ensures.ok))
+          c.in_ok-given.ensures.gives _ c.front_before-source.ensures
+          (ap given w.in-Some-Header.is ∙ ap (λ i. borrowed_item_of i ∷ []) w.in-Some-Header.field-0-is)
           (λ s holds whole. tt))
-      | in-Some-Pair+in_ok-places-in-Some-Pair+in_ok-key-in-Some-Pair+in_ok-value-in-Some-Pair w ↦
+      | in-Some-Pair w ↦
           let given_is = ap given w.in-Some-Pair.is ∙ ap (λ i. borrowed_item_of i ∷ []) w.in-Some-Pair.field-0-is
-          ∙ ap (λ b. Pair (chars b) (cow_text w.in-Some-Pair.value) ∷ [])
-          (sym w.in_ok-key-in-Some-Pair.ensures.ok)
-          ∙ ap (λ b. Pair (string_text w.in_ok-key-in-Some-Pair.key) (chars b) ∷ [])
-          (sym w.in_ok-value-in-Some-Pair.ensures.ok) in
-          rw w.content-is (stands o c.requires c.in-Some.ensures.characters c.front_before-front.ensures
-          c.in_ok-given.ensures _ c.front_before-source.ensures given_is
-          (λ s holds whole. w.in_ok-places-in-Some-Pair.ensures b s _ _
+          in rw w.content-is (stands o c.requires c.in-Some.ensures.characters c.front_before-front.ensures
+          c.in_ok-given.ensures.gives _ c.front_before-source.ensures given_is
+          (λ s holds whole. w.place_pair-places.ensures b s _ _
           (subst (Element o b s r) given_is holds) whole))
     ]

@@ -1,68 +1,153 @@
-use Rattle.std.proofs.Common.{◌∙◌, refl, sym, append-nil, rules}
-use Rattle.ini_text.proofs.ReaderLemmas.ReaderLemmas.{and_more, and_found, and_stopped, passed}
-use Rattle.ini_text.proofs.ReaderLemmas.ValueReaderLemmas.{no_lines, no_more_lines, empty_line, empty_cr_line, empty_cr_stops, line_goes_on, line_ends, line_stops}
+use Rattle.std.proofs.Common.{◌≡◌, ◌∙◌, ◌++◌, ◌∷◌, [], ap, append_assoc, chars, drop, length, not, rules, string_bytes, subst, sym}
+use Rattle.std.proofs.lemmas.Bool.{not-true, not-false}
+use Rattle.std.proofs.lemmas.Str.{IsUtf8-string_bytes}
+use Rattle.std.specs.List.{list_all}
+use Rattle.std.specs.Str.{IsCharBoundary}
+use Rattle.ini_text.specs.Grammar.CharacterKinds.{is_line_feed, line_feed}
+use Rattle.ini_text.specs.Grammar.WhiteSpace.{without_outer_line_feeds}
+use Rattle.ini_text.specs.Inside.PlaceReader.{HasTail, TailSoFar}
+use Rattle.ini_text.specs.Parsing.Items.{string_text}
+use Rattle.ini_text.proofs.PlaceLemmas.TailLemmas.{tail_lf, tail_cr_lf, tail_stops, tail_line_stops, tail_other, tail_at_end, last_line-empty, last_line-own, line_shorter, line-empty, line-own}
+use Rattle.ini_text.proofs.ReaderLemmas.ReaderLemmas.{passed, read_behind, stopped_behind}
+use Rattle.ini_text.proofs.ReaderLemmas.ValueReaderLemmas.{empty_cr_stops}
+use Rattle.ini_text.proofs.StringLemmas.PushLemmas.{grown}
+use Rattle.ini_text.proofs.parser.value.read_more.Goals.{then-gives_more, else-gives_more}
 use Rattle.ini_text.proofs.parser.value.read_more.Goals as goal
 
 pub lines-init : goal.lines-init
-lines-init c = record { text = search rules; read = refl }
+lines-init c = record { tail_text = search rules; text = search rules; known = c.requires.known }
 
 pub lines-preserved-then-c-eq10 : goal.lines-preserved-then-c-eq10
 lines-preserved-then-c-eq10 c = record {
+  tail_text = search rules;
   text = search rules;
-  read = and_more _ _ _ c.lines.invariant.read
-      (empty_line c.args.read c.in-Some.ensures.characters c.if-c-eq10.true) c.in_ok-push.ensures;
+  known = subst (TailSoFar c.args.read (chars c.args.text.now) (chars c.args.start.now)
+      (chars c.lines.tail.now) (chars c.in-Some.after.now))
+      (sym c.in_ok-push.ensures)
+      (tail_lf c.args.read c.requires.starts c.lines.invariant.known c.in-Some.ensures.characters
+      c.if-c-eq10.true);
 }
 
 pub returns-in_err-rest : goal.returns-in_err-rest
 returns-in_err-rest c =
     passed _ _ _ c.from_residual-in_err-rest.ensures.1 c.in_err-rest.ensures
-    (λ r k h. and_stopped _ c.lines.invariant.read
+    (λ r k h. tail_stops c.args.read c.requires.starts c.lines.invariant.known
     (empty_cr_stops c.args.read c.in-Some.ensures.characters c.if-c-eq13.true h))
 
 pub lines-preserved-in-Continue-branch-3 : goal.lines-preserved-in-Continue-branch-3
 lines-preserved-in-Continue-branch-3 c = record {
+  tail_text = search rules;
   text = search rules;
-  read = and_more _ _ _ c.lines.invariant.read
-      (empty_cr_line c.args.read c.in-Some.ensures.characters c.if-c-eq13.true c.in_ok-rest.ensures)
-      c.in_ok-push-2.ensures;
+  known = subst (TailSoFar c.args.read (chars c.args.text.now) (chars c.args.start.now)
+      (chars c.lines.tail.now) (chars c.in_ok-rest.rest.now))
+      (sym c.in_ok-push-2.ensures)
+      (tail_cr_lf c.args.read c.requires.starts c.lines.invariant.known c.in-Some.ensures.characters
+      c.if-c-eq13.true c.in_ok-rest.ensures);
 }
 
 pub returns-in_err-end : goal.returns-in_err-end
 returns-in_err-end c =
     passed _ _ _ c.from_residual-in_err-end.ensures.1 c.in_err-end.ensures
-    (λ r k h. c.lines.invariant.read
-    ∙ line_stops c.args.read _ _ c.in-Some.ensures.characters
-    (sym c.contains.ensures ∙ c.if-contains.true) c.skip.ensures c.in_ok-push-3.ensures h)
+    (λ r k h. tail_line_stops c.args.read c.requires.starts c.lines.invariant.known
+    c.in-Some.ensures.characters (sym c.contains.ensures ∙ c.if-contains.true) c.skip.ensures
+    (stopped_behind _ _ h))
+
+pub gives_more-requires : goal.gives_more-requires
+gives_more-requires c =
+    let read = read_behind _ _ c.in_ok-end.ensures in
+    let g = grown (string_bytes c.push-then-contains.new.out) (string_bytes c.read_line.new.out) read.0
+    (IsUtf8-string_bytes c.push-then-contains.new.out) (IsUtf8-string_bytes c.read_line.new.out) read.2 in
+    subst (λ b. IsCharBoundary b c.len-len.result) (sym c.as_str.ensures.value)
+    (subst (IsCharBoundary (string_bytes c.read_line.new.out))
+    (sym (c.len-len.ensures ∙ c.push-then-contains.new.out.bytes.ok.0)) g.cut)
 
 pub returns-in_default-after_line_end : goal.returns-in_default-after_line_end
 returns-in_default-after_line_end c =
-    c.lines.invariant.read
-    ∙ line_ends c.args.read _ _ c.in-Some.ensures.characters (sym c.contains.ensures ∙ c.if-contains.true)
-    c.skip.ensures c.in_ok-push-3.ensures c.in_ok-end.ensures c.in_default-after_line_end.ensures
+    let read = read_behind _ _ c.in_ok-end.ensures in
+    let u = read.0 in
+    let old = string_text c.lines.out in
+    let g = grown (string_bytes c.push-then-contains.new.out) (string_bytes c.read_line.new.out) read.0
+    (IsUtf8-string_bytes c.push-then-contains.new.out) (IsUtf8-string_bytes c.read_line.new.out) read.2 in
+    let line_is : chars (drop c.len-len.result c.as_str.result.now) ≡ u =
+    ap (λ b. chars (drop c.len-len.result b)) c.as_str.ensures.value
+    ∙ ap (λ n. chars (drop n (string_bytes c.read_line.new.out)))
+    (c.len-len.ensures ∙ c.push-then-contains.new.out.bytes.ok.0) ∙ g.back in
+    let tells : c.gives_more.result ≡ not (list_all is_line_feed u) =
+    c.gives_more.ensures ∙ ap (λ x. not (list_all is_line_feed x)) line_is in
+    let given_is : old ++ (line_feed ∷ u) ≡ string_text c.read_line.new.out =
+    sym (read.2 ∙ ap (λ x. x ++ u) c.in_ok-push-3.ensures ∙ append_assoc old (line_feed ∷ []) u) in
+    let end = chars c.in_ok-end.end.now in
+    elim c.if-gives_more.branch [
+      | then-gives_more w ↦
+          rw w.tail-is (subst (λ x. HasTail c.args.read (chars c.args.text.now) (chars c.args.start.now)
+          end (without_outer_line_feeds x) end) given_is
+          (last_line-own c.args.read c.requires.starts c.requires.multiline
+          c.lines.invariant.known c.in-Some.ensures.characters
+          (sym c.contains.ensures ∙ c.if-contains.true) c.skip.ensures read.1
+          c.in_default-after_line_end.ensures (not-true _ (sym tells ∙ w.if-gives_more.true))))
+      | else-gives_more w ↦
+          rw w.tail-is (subst (λ x. HasTail c.args.read (chars c.args.text.now) (chars c.args.start.now)
+          (chars c.lines.tail.now) (without_outer_line_feeds x) end) given_is
+          (last_line-empty c.args.read c.requires.starts c.requires.multiline
+          c.lines.invariant.known c.in-Some.ensures.characters
+          (sym c.contains.ensures ∙ c.if-contains.true) c.skip.ensures read.1
+          c.in_default-after_line_end.ensures (not-false _ (sym tells ∙ w.if-gives_more.false))))
+    ]
 
 pub lines-smaller : goal.lines-smaller
 lines-smaller c =
-    (line_goes_on c.args.read _ _ c.in-Some.ensures.characters
-    (sym c.contains.ensures ∙ c.if-contains.true) c.skip.ensures c.in_ok-push-3.ensures
-    c.in_ok-end.ensures c.in-Some-after_line_end.ensures).1
+    let read = read_behind _ _ c.in_ok-end.ensures in
+    line_shorter c.args.read c.requires.starts c.requires.multiline
+    c.lines.invariant.known c.in-Some.ensures.characters
+    (sym c.contains.ensures ∙ c.if-contains.true) c.skip.ensures read.1 c.in-Some-after_line_end.ensures
 
 pub lines-preserved : goal.lines-preserved
-lines-preserved c = record {
-  text = search rules;
-  read = c.lines.invariant.read
-      ∙ (line_goes_on c.args.read _ _ c.in-Some.ensures.characters
-      (sym c.contains.ensures ∙ c.if-contains.true) c.skip.ensures c.in_ok-push-3.ensures
-      c.in_ok-end.ensures c.in-Some-after_line_end.ensures).0;
-}
+lines-preserved c =
+    let read = read_behind _ _ c.in_ok-end.ensures in
+    let u = read.0 in
+    let old = string_text c.lines.out in
+    let g = grown (string_bytes c.push-then-contains.new.out) (string_bytes c.read_line.new.out) read.0
+    (IsUtf8-string_bytes c.push-then-contains.new.out) (IsUtf8-string_bytes c.read_line.new.out) read.2 in
+    let line_is : chars (drop c.len-len.result c.as_str.result.now) ≡ u =
+    ap (λ b. chars (drop c.len-len.result b)) c.as_str.ensures.value
+    ∙ ap (λ n. chars (drop n (string_bytes c.read_line.new.out)))
+    (c.len-len.ensures ∙ c.push-then-contains.new.out.bytes.ok.0) ∙ g.back in
+    let tells : c.gives_more.result ≡ not (list_all is_line_feed u) =
+    c.gives_more.ensures ∙ ap (λ x. not (list_all is_line_feed x)) line_is in
+    let given_is : old ++ (line_feed ∷ u) ≡ string_text c.read_line.new.out =
+    sym (read.2 ∙ ap (λ x. x ++ u) c.in_ok-push-3.ensures ∙ append_assoc old (line_feed ∷ []) u) in
+    let next = chars c.in-Some-after_line_end.next.now in
+    elim c.if-gives_more.branch [
+      | then-gives_more w ↦
+          rw w.tail-is record {
+            tail_text = search rules;
+            text = search rules;
+            known = subst (TailSoFar c.args.read (chars c.args.text.now) (chars c.args.start.now)
+                (chars c.in_ok-end.end.now) next) given_is
+                (line-own c.args.read c.requires.starts c.requires.multiline
+                c.lines.invariant.known c.in-Some.ensures.characters
+                (sym c.contains.ensures ∙ c.if-contains.true) c.skip.ensures read.1
+                c.in-Some-after_line_end.ensures (not-true _ (sym tells ∙ w.if-gives_more.true)));
+          }
+      | else-gives_more w ↦
+          rw w.tail-is record {
+            tail_text = search rules;
+            text = search rules;
+            known = subst (TailSoFar c.args.read (chars c.args.text.now) (chars c.args.start.now)
+                (chars c.lines.tail.now) next) given_is
+                (line-empty c.args.read c.requires.starts c.requires.multiline
+                c.lines.invariant.known c.in-Some.ensures.characters
+                (sym c.contains.ensures ∙ c.if-contains.true) c.skip.ensures read.1
+                c.in-Some-after_line_end.ensures (not-false _ (sym tells ∙ w.if-gives_more.false)));
+          }
+    ]
 
 pub returns-else-contains : goal.returns-else-contains
 returns-else-contains c =
-    and_found _ c.lines.invariant.read
-    (no_more_lines c.args.read c.in-Some.ensures.characters c.if-c-eq10.false c.if-c-eq13.false
-    (sym c.contains.ensures ∙ c.if-contains.false))
-    (sym (append-nil _))
+    tail_other c.args.read c.requires.starts c.requires.multiline
+    c.lines.invariant.known c.in-Some.ensures.characters c.if-c-eq10.false c.if-c-eq13.false
+    (sym c.contains.ensures ∙ c.if-contains.false)
 
 pub returns : goal.returns
-returns c =
-    and_found _ c.lines.invariant.read (no_lines c.args.read c.in_default.ensures.characters)
-    (sym (append-nil _))
+returns c = tail_at_end c.args.read c.requires.starts c.requires.multiline
+    c.lines.invariant.known c.in_default.ensures.characters

@@ -1,8 +1,7 @@
-use Rattle.std.proofs.Common.{◌≡◌, length, chars}
+use Rattle.std.proofs.Common.{chars, length}
 use denote.Text.{Utf8}
 use denote.Shadow.{shadow}
-use Rattle.ini_text.specs.Inside.Reading.{prepend}
-use Rattle.ini_text.specs.Inside.ValueReader.{more_lines}
+use Rattle.ini_text.specs.Inside.PlaceReader.{TailSoFar}
 use Rattle.ini_text.specs.Parsing.Items.{string_text}
 use Rattle.ini_text.proofs.parser.value.read_more.Given as goal
 
@@ -11,7 +10,8 @@ decreases-lines l = length (chars l.rest)
 
 abbrev pub invariant-lines : goal.invariant-lines
 invariant-lines l = record {
+  tail_text : shadow (Utf8 l.tail);
   text : shadow (Utf8 l.rest);
-  read : prepend (string_text l.fn.out) (more_lines l.read (chars l.fn.text))
-      ≡ prepend (string_text l.out) (more_lines l.read (chars l.rest));
+  known : TailSoFar l.read (chars l.fn.text) (chars l.fn.start) (chars l.tail) (chars l.rest)
+      (string_text l.out);
 }
