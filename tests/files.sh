@@ -338,6 +338,27 @@ renaming() {
     refused 'rename-section with too many words' 2 "$usage" rename-section settings.ini client x y
 }
 
+# values with backslashes, where escapes are neither read nor written
+paths() {
+    fresh
+    unread="ini_file: settings.ini: this value can't be written so that it is read back"
+    raw='--noescape --policy Nothing'
+    printf "path = C:\\\\temp \nother='D:'\n" >settings.ini
+    edit 'set of a path: its backslash stays' "path = C:\\\\new \nother='D:'\n" $raw set settings.ini path 'C:\new'
+    edit 'set of a path in quotes' "path = C:\\\\new \nother='D:\\\\new'\n" $raw set settings.ini other 'D:\new'
+    edit 'add of a path that ends in two backslashes' \
+        "path = C:\\\\new \nother='D:\\\\new'\npath=E:\\\\\\\\\n" $raw add settings.ini path 'E:\\'
+    case_of 'the paths are read back' 0 'C:\\new\nE:\\\\\n' '' --noescape get --all settings.ini path
+    refused 'set of a path that ends in one backslash' 2 "$unread" $raw set settings.ini path 'C:\new\'
+    refused 'add of a path that ends in three' 2 "$unread" $raw add settings.ini path 'C:\\\'
+    refused 'set of two lines' 2 "$unread" $raw set settings.ini path 'C:\
+new'
+    refused 'set of a path where escapes are read' 2 "$unread" --policy Nothing set settings.ini path 'C:\new'
+    refused 'set of a path that would be escaped' 2 "$unread" --noescape set settings.ini path 'C:\new'
+    printf 'path=F:\\new\n' >../paths.ini
+    edit 'merge of a path' "path = F:\\\\new \nother='D:\\\\new'\n" $raw merge settings.ini ../paths.ini
+}
+
 # a key that begins with a byte order mark, at the front of a file that has none, and of one that has one
 marks() {
     fresh
@@ -353,6 +374,12 @@ marks() {
     edit 'the same behind the mark of the file' '\357\273\277\357\273\277k=v\n' set settings.ini "${mark}k" v
     printf 'a=1\n' >settings.ini
     edit 'the same behind another key' 'a=1\n\357\273\277k=v\n' set settings.ini "${mark}k" v
+    printf '\357\273\277\357\273\277k=v\n' >../mark.ini
+    case_of 'merge of a key that begins with a mark' 2 '' "ini_file: -: $unread" merge - ../mark.ini </dev/null
+    printf '# c\n[a]\n' >settings.ini
+    refused 'the same before a comment' 2 "ini_file: settings.ini: $unread" merge settings.ini ../mark.ini
+    printf '\357\273\277' >settings.ini
+    edit 'the same into a file with a mark' '\357\273\277\357\273\277k=v\n' merge settings.ini ../mark.ini
     printf 'k=\\\\ \nj = \\x0041 \n' >settings.ini
     edit 'a value that is there: a backslash and a blank stay' 'k=\\\\ \nj = \\x0041 \n' set settings.ini k '\'
     edit 'a value that is there: its escape stays' 'k=\\\\ \nj = \\x0041 \n' set settings.ini j A
@@ -1075,6 +1102,7 @@ editing
 adding
 making
 renaming
+paths
 marks
 placing
 merging

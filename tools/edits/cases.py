@@ -135,6 +135,9 @@ NEW_SECTIONS = (
     (MULTILINE, "[a]\nj=w\n  x"),
     (MULTILINE, "[a]\n  x"),
 )
+# Values with backslashes where escapes are off: the text, and the values.
+RAW_TEXTS = ("path = C:\\temp \n", "path='C:\\temp'\n", "[a]\nj=w", "j=w\\", "path=1\npath=2\\\\\r\n")
+RAW_VALUES = ["C:\\new", "C:\\new\\", "C:\\new\\\\", "\\\\\\", "'\\'", "it's\\n", "a\\\nb", "a\\\rb", "a\\ ", "\\", "\\\\"]
 VALUES = ["", " v", '"v', "'", "a\tb", "a\nb", "a\\b", "\v", "é", "\U0001f431", "#", "a=b"]
 KEYS = ["", " k", "k ", "[k", ";k", "a=b", "a:b", "\tk", "é", "k\n", "  \tk", "\xa0k"]
 FAULTS = ["k", "[a", "k=v\n=w", "k='v", "k=\\x", "k=\\x\\k", "k=v\n[a] ; c", "[a]\n #c\nk=\\xd800", "é\r\n\r\n;\n ="]
@@ -175,6 +178,14 @@ def plain_and_unplain():
     for value in VALUES:
         yield Question("set_existing", DEFAULT, BASICS, None, "k", value, "k = v \n")
         yield Question("add", DEFAULT, BASICS._replace(policy=next(policies)), None, "k", value, "j=w")
+    raw = BASICS._replace(policy="Nothing")
+    for text, value in itertools.product(RAW_TEXTS, RAW_VALUES):
+        for call in ("set_existing", "set", "add"):
+            yield Question(call, ESCAPES_OFF, raw, None, "path", value, text)
+    for value in RAW_VALUES:
+        yield Question("set", ESCAPES_OFF._replace(multiline=True, quote=False), raw, None, "path", value, "path=1 \n  2\n\n")
+        yield Question("set", DEFAULT, raw, None, "path", value, "path=1\n")
+        yield Question("set", ESCAPES_OFF, BASICS, None, "path", value, "path=1\n")
     for key in KEYS:
         yield Question("add", DEFAULT, BASICS, None, key, "v", "j=w")
         yield Question("add", INDENT, BASICS._replace(policy=next(policies)), None, key, "v", "j=w")

@@ -259,7 +259,7 @@ class Reader:
         return found
 
 
-# What is plain, and how it is written.
+# What is plain or raw, and how it is written.
 
 
 def is_escaped(policy, c):
@@ -294,6 +294,18 @@ def is_read_back(text, policy, option):
 def is_plain_value(value, policy, option):
     in_quotes = option.quote and value[:1] in ('"', "'")
     return value == value.strip(WHITE) and not in_quotes and is_read_back(value, policy, option)
+
+
+def is_raw_value(value, policy, option):
+    """Whether a value with backslashes stands as it is: escapes are neither read nor written."""
+    in_quotes = option.quote and value[:1] in ('"', "'")
+    is_whole = value == value.strip(WHITE) and not any(c in "\n\r" for c in value)
+    at_end = len(value) - len(value.rstrip("\\"))
+    return policy == "Nothing" and not option.escape and is_whole and not in_quotes and at_end % 2 == 0
+
+
+def is_writable_value(value, policy, option):
+    return is_plain_value(value, policy, option) or is_raw_value(value, policy, option)
 
 
 def is_plain_unspaced_key(key, policy, option):
@@ -517,7 +529,7 @@ def add(question, reader, elements):
 
 
 def check_value(question):
-    if not is_plain_value(question.value, question.writing.policy, question.option):
+    if not is_writable_value(question.value, question.writing.policy, question.option):
         raise Refused("Value")
 
 

@@ -6,9 +6,10 @@ use Rattle.ini.specs.Texts.{Text}
 use Rattle.ini_edit.specs.Added.{IsWritable, RefusesToAdd}
 use Rattle.ini_edit.specs.Edited.{IfEditParse}
 use Rattle.ini_edit.specs.Settings.{RefusesToSet}
+use Rattle.ini_edit.specs.Writable.{IsWritablePair, IsWritableValue}
 use Rattle.ini_edit.specs.declared.error.EditError.{EditError}
 use Rattle.ini_edit.specs.declared.error.EditError.TheVariants as refusals
-use Rattle.ini_text.specs.Laws.Plain.{IsPlainPair, IsPlainSeparator, IsPlainValue}
+use Rattle.ini_text.specs.Laws.Plain.{IsPlainSeparator}
 use Rattle.ini_text.specs.declared.error.Error.TheVariants.{Io, Memory, NoProgress, NotUtf8, Parse}
 use Rattle.ini_text.specs.declared.option.ParseOption.{ParseOption}
 use Rattle.ini_text.specs.declared.write.option.WriteOption.{WriteOption}
@@ -35,10 +36,10 @@ module _ {X : Type 0} (o : ParseOption) (w : WriteOption) (T : Text) (name : Opt
   stop_of_adding (Err refusals.Separator) refused = tt
   stop_of_adding (Err refusals.NoPlace) refused = tt
 
-  -- to set a key is refused for its value exactly where that is not plain
-  pub value_of_setting : (answer : Result X EditError) → OnOk answer (IsPlainValue o w.escape_policy value)
+  -- to set a key is refused for its value exactly where that cannot be written
+  pub value_of_setting : (answer : Result X EditError) → OnOk answer (IsWritableValue o w.escape_policy value)
       → IfErr answer (RefusesToSet o w T name key value)
-      → (answer ≡ Err refusals.Value) ↔ ¬ IsPlainValue o w.escape_policy value
+      → (answer ≡ Err refusals.Value) ↔ ¬ IsWritableValue o w.escape_policy value
   value_of_setting (Ok new) plain refused = neither (λ e. cc) (λ against. against plain)
   value_of_setting (Err refusals.Value) plain refused = (λ e. refused, λ _. refl)
   value_of_setting (Err (refusals.Text (Parse e))) plain refused =
@@ -53,16 +54,16 @@ module _ {X : Type 0} (o : ParseOption) (w : WriteOption) (T : Text) (name : Opt
   value_of_setting (Err refusals.Separator) plain refused = neither (λ e. cc) (λ against. against refused.0)
   value_of_setting (Err refusals.NoPlace) plain refused = neither (λ e. cc) (λ against. against refused.0)
 
-  -- to add a pair is refused for its value, or for its key, exactly where that is not plain
+  -- to add a pair is refused for its value, or for its key, exactly where that cannot be written
   pub record RefusesPairFirst (answer : Result X EditError) : Type 0 where
-    pub of_value : (answer ≡ Err refusals.Value) ↔ ¬ IsPlainValue o w.escape_policy value
+    pub of_value : (answer ≡ Err refusals.Value) ↔ ¬ IsWritableValue o w.escape_policy value
     pub of_key : (answer ≡ Err refusals.Key)
-        ↔ (IsPlainValue o w.escape_policy value × (¬ IsPlainPair o w.escape_policy key value))
+        ↔ (IsWritableValue o w.escape_policy value × (¬ IsWritablePair o w.escape_policy key value))
 
   writable_first : (answer : Result X EditError) → (answer ≡ Err refusals.Value → ⊥)
       → (answer ≡ Err refusals.Key → ⊥) → IsWritable o w key value → RefusesPairFirst answer
   writable_first answer no_value no_key writable = record {
-    of_value = neither no_value (λ against. against writable.pair.plain_value);
+    of_value = neither no_value (λ against. against writable.pair.writable_value);
     of_key = neither no_key (λ against. against.1 writable.pair);
   }
 

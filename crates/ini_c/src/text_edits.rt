@@ -6,12 +6,13 @@ ghost use Rattle.std.specs.Str.{IsUtf8, chars};
 ghost use Rattle.ini.specs.Edits.{add_in, set_in};
 ghost use Rattle.ini.specs.Loading.{IsStopOf, IsTextWith};
 ghost use Rattle.ini.specs.Texts.{str_name, text_of};
-ghost use Rattle.ini_text.specs.Laws.Plain.{IsPlainPair, IsPlainSeparator, IsPlainValue};
+ghost use Rattle.ini_text.specs.Laws.Plain.{IsPlainSeparator};
 ghost use Rattle.ini_edit.specs.Added.{IsAdded, LoadsEdited, RefusesToAdd};
 ghost use Rattle.ini_edit.specs.Edited.{IfEditParse, IsDeleted};
 ghost use Rattle.ini_edit.specs.FirstPairs.{LacksPair};
 ghost use Rattle.ini_edit.specs.NewLines.{like_lines_of};
 ghost use Rattle.ini_edit.specs.Settings.{IsSet, RefusesToSet};
+ghost use Rattle.ini_edit.specs.Writable.{IsWritablePair, IsWritableValue};
 ghost use Rattle.ini_edit.specs.declared.error.EditError.TheVariants.{Key, Name, NoPlace, Value};
 ghost use Rattle.ini_c.specs.Choices.{parse_option, policy_of};
 ghost use Rattle.ini_c.specs.Faults.{IsStopAt};
@@ -46,7 +47,7 @@ fn with_set(
         (set_in (str_name name.entry) (chars key.now) (chars value.now))) }
     ensures refused { IfErr result (RefusesToSet read write.now (chars text.now) (str_name name.entry)
         (chars key.now) (chars value.now)) }
-    ensures value { (result ≡ Err Value) ↔ ¬ IsPlainValue read write.now.escape_policy (chars value.now) }
+    ensures value { (result ≡ Err Value) ↔ ¬ IsWritableValue read write.now.escape_policy (chars value.now) }
 {
     set(alloc, text, read, write, name, key, value)
 }
@@ -84,7 +85,7 @@ pub extern "C" fn bigrosk_ini_edit_set(
     ensures no_room { result ≡ no_room → length out.old ≤ count.new }
     ensures unplain_value { result ≡ unplain_value
         ↔ ((AreEdit text.now section.now key.now × IsUtf8 value.now)
-        × ¬ IsPlainValue (parse_option read.now) (policy_of write.now.policy) (chars value.now)) }
+        × ¬ IsWritableValue (parse_option read.now) (policy_of write.now.policy) (chars value.now)) }
     ensures unplain_key { result ≡ unplain_key → RefusesToSetBy (parse_option read.now) write.now
         (chars text.now) (name_if named section.now) (chars key.now) (chars value.now) Key }
     ensures unplain_name { result ≡ unplain_name → RefusesToSetBy (parse_option read.now) write.now
@@ -127,9 +128,9 @@ fn added(
         (add_in (str_name name.entry) (chars key.now) (chars value.now))) }
     ensures refused { IfErr result (RefusesToAdd read write.now (chars text.now) (str_name name.entry)
         (chars key.now) (chars value.now)) }
-    ensures value { (result ≡ Err Value) ↔ ¬ IsPlainValue read write.now.escape_policy (chars value.now) }
-    ensures key { (result ≡ Err Key) ↔ (IsPlainValue read write.now.escape_policy (chars value.now)
-        × ¬ IsPlainPair read write.now.escape_policy (chars key.now) (chars value.now)) }
+    ensures value { (result ≡ Err Value) ↔ ¬ IsWritableValue read write.now.escape_policy (chars value.now) }
+    ensures key { (result ≡ Err Key) ↔ (IsWritableValue read write.now.escape_policy (chars value.now)
+        × ¬ IsWritablePair read write.now.escape_policy (chars key.now) (chars value.now)) }
     ensures fault { IfEditParse result (IsStopOf read (chars text.now)) }
 {
     add(alloc, text, read, write, name, key, value)
@@ -167,10 +168,10 @@ pub extern "C" fn bigrosk_ini_edit_add(
     ensures no_room { result ≡ no_room → length out.old ≤ count.new }
     ensures unplain_value { result ≡ unplain_value
         ↔ ((AreEdit text.now section.now key.now × IsUtf8 value.now)
-        × ¬ IsPlainValue (parse_option read.now) (policy_of write.now.policy) (chars value.now)) }
+        × ¬ IsWritableValue (parse_option read.now) (policy_of write.now.policy) (chars value.now)) }
     ensures unplain_key { result ≡ unplain_key ↔ ((AreEdit text.now section.now key.now × IsUtf8 value.now)
-        × (IsPlainValue (parse_option read.now) (policy_of write.now.policy) (chars value.now)
-        × ¬ IsPlainPair (parse_option read.now) (policy_of write.now.policy) (chars key.now)
+        × (IsWritableValue (parse_option read.now) (policy_of write.now.policy) (chars value.now)
+        × ¬ IsWritablePair (parse_option read.now) (policy_of write.now.policy) (chars key.now)
         (chars value.now))) }
     ensures unplain_name { result ≡ unplain_name → RefusesToAddBy (parse_option read.now) write.now
         (chars text.now) (name_if named section.now) (chars key.now) (chars value.now) Name }

@@ -6,7 +6,7 @@ use Rattle.std.proofs.lemmas.Grind.{fold-append}
 use Rattle.ini_text.specs.Grammar.CharacterKinds.{open_bracket, close_bracket}
 use Rattle.ini_text.specs.Grammar.Elements.{Given, Header, Pair}
 use Rattle.ini_text.specs.Grammar.Texts.{Reads, Derives}
-use Rattle.ini_text.specs.Laws.Plain.{IsPlainName, IsPlainPair, IsPlainSeparator}
+use Rattle.ini_text.specs.Laws.Plain.{IsPlainName, IsPlainSeparator}
 use Rattle.ini_text.specs.Laws.PlainLaws.{header_source, line_ends}
 use Rattle.ini_text.specs.declared.option.ParseOption.{ParseOption}
 use Rattle.ini_text.specs.declared.write.option.WriteOption.{WriteOption}
@@ -26,6 +26,7 @@ use Rattle.ini.proofs.KeepingLemmas.{name_refl}
 use Rattle.ini_edit.specs.Places.{Follows}
 use Rattle.ini_edit.specs.Targets.{IsSectionEnd}
 use Rattle.ini_edit.specs.EditedTexts.{Adds, Appends, EndsAt, Inserts}
+use Rattle.ini_edit.specs.Writable.{IsWritablePair}
 use Rattle.ini_edit.proofs.DocumentLemmas.{edited_document}
 use Rattle.ini_edit.proofs.InsertedLemmas.{line_inserted, line_read}
 use Rattle.ini_edit.proofs.PairListLemmas.{inserted_new}
@@ -62,7 +63,7 @@ pair_is w key value = simp append_assoc
 
 module _ (o : ParseOption) (w : WriteOption) (key value : Text)
     (sep : IsPlainSeparator (chars w.kv_separator.now))
-    (plain : IsPlainPair o w.escape_policy key value) where
+    (writable : IsWritablePair o w.escape_policy key value) where
   -- the text with the line
   abbrev new_text : Text → Text → Text
   new_text W r = W ++ (written_pair w (key, value) ++ r)
@@ -72,7 +73,7 @@ module _ (o : ParseOption) (w : WriteOption) (key value : Text)
   new_derives {W} {r} at =
       subst (λ l. Derives o (W ++ (l ++ r)) (at.before ++ (Pair key value ∷ at.after)))
       (sym (pair_is w key value))
-      (line_inserted sep plain w.line_separator W r at.starts at.follows at.then)
+      (line_inserted sep writable w.line_separator W r at.starts at.follows at.then)
 
   old_document : {W r : Text} {name : Option Text} {d : Document} (at : EndsAt o W r name d)
       → d ≡ document_of (at.before ++ at.after)
@@ -112,9 +113,9 @@ with_section_last d name key value = at d
 
 pub appends : (o : ParseOption) (w : WriteOption) (name key value : Text)
     → IsPlainSeparator (chars w.kv_separator.now)
-    → IsPlainName o w.escape_policy name → IsPlainPair o w.escape_policy key value
+    → IsPlainName o w.escape_policy name → IsWritablePair o w.escape_policy key value
     → Appends o w name key value
-appends o w name key value sep plain_name plain T items start d document none =
+appends o w name key value sep plain_name writable T items start d document none =
     let hs = header_source w name ++ line_ends w false in
     let ps = escaped w.escape_policy key
     ++ (chars w.kv_separator.now ++ (escaped w.escape_policy value ++ line_end w.line_separator)) in
@@ -123,7 +124,7 @@ appends o w name key value sep plain_name plain T items start d document none =
     let begins : Follows o (hs ++ (ps ++ [])) = record { no_blank = λ _. refl; no_line_end = λ _. refl } in
     let front : Reads o (T ++ (hs ++ (ps ++ []))) [] items T = reached start (hs ++ (ps ++ [])) begins in
     let header = element_then_gaps-gives (text_laws.header_line o w false T name (ps ++ []) plain_name) in
-    let line = line_read sep plain w.line_separator (T ++ hs) [] header.1 nothing in
+    let line = line_read sep writable w.line_separator (T ++ hs) [] header.1 nothing in
     let whole : (T ++ hs) ++ (ps ++ []) ≡ T ++ (hs ++ (ps ++ [])) = append_assoc T hs (ps ++ []) in
     let pair : Reads o (T ++ (hs ++ (ps ++ []))) (T ++ hs) (Pair key value ∷ []) ((T ++ hs) ++ ps) =
     subst (λ z. Reads o z (T ++ hs) (Pair key value ∷ []) ((T ++ hs) ++ ps)) whole line in

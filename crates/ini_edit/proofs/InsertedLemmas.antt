@@ -15,7 +15,7 @@ use Rattle.ini_text.specs.Grammar.Positions.{is_column_one}
 use Rattle.ini_text.specs.Grammar.Elements.{Given, Pair, Element}
 use Rattle.ini_text.specs.Grammar.Texts.{Reads, Derives}
 use Rattle.ini_text.specs.Escaping.EscapedTexts.{escaped}
-use Rattle.ini_text.specs.Laws.Plain.{IsPlainKey, IsPlainPair, IsPlainSeparator}
+use Rattle.ini_text.specs.Laws.Plain.{IsPlainKey, IsPlainSeparator}
 use Rattle.ini_text.specs.Options.WriteOptions.{line_end}
 use Rattle.ini_text.proofs.GrammarLemmas.ItemLemmas.{reads-append}
 use Rattle.ini_text.proofs.GrammarLemmas.KindLemmas.{no_white_no_blank}
@@ -27,6 +27,7 @@ use Rattle.ini_text.proofs.PlainLemmas.PlainPairLemmas.{key_front, key_some, lin
 use Rattle.ini_text.proofs.PlainLemmas.PlainPairLemmas.{source-parts}
 use Rattle.ini_text.specs.Grammar.Places.{Tail}
 use Rattle.ini_edit.specs.Places.{EndsLike, Follows, IsLineStart}
+use Rattle.ini_edit.specs.Writable.{IsWritablePair}
 use Rattle.ini_edit.proofs.BehindLemmas.{Reads-like}
 use Rattle.ini_edit.proofs.StartLemmas.{column_at, reached}
 use Rattle.ini_edit.proofs.AheadLemmas.{any_follows}
@@ -54,7 +55,7 @@ EndsLike-column b c one two =
 
 module _ {o : ParseOption} {policy : EscapePolicy} {key value separator : List ℕ}
     (sep : IsPlainSeparator separator)
-    (plain : IsPlainPair o policy key value) where
+    (writable : IsWritablePair o policy key value) where
   -- a pair as it is written, with a tail
   pub pair_written : {b t r : List ℕ} → is_column_one b ≡ true → Tail o t r
       → Element o b (escaped policy key ++ (separator ++ (escaped policy value ++ t))) r
@@ -62,14 +63,14 @@ module _ {o : ParseOption} {policy : EscapePolicy} {key value separator : List �
   pair_written {b} {t} {r} one tail =
       let ek = escaped policy key in
       let v = escaped policy value ++ t in
-      let read_key = all_read {o = o} policy key plain.key_read_back in
+      let read_key = all_read {o = o} policy key writable.key_read_back in
       let front =
-      key_front {b = b} sep.before ((sep.after ++ v) ++ r) sep.separator one plain.plain_key read_key
+      key_front {b = b} sep.before ((sep.after ++ v) ++ r) sep.separator one writable.plain_key read_key
       sep.blank_before sep.separates in
       subst (λ x. Element o b x r (Pair key value ∷ [])) (source-parts ek v sep)
-      (Element.pair front (key_some plain.plain_key) sep.separates
+      (Element.pair front (key_some writable.plain_key) sep.separates
       (value_written sep.after [] (inline_blanks sep.after sep.blank_after) refl
-      (bare_source plain.plain_value) tail))
+      (bare_source writable.writable_value) tail))
 
   -- the pair's line
   abbrev pub line_of_pair : LineSeparator → List ℕ
@@ -112,7 +113,7 @@ module _ {o : ParseOption} {policy : EscapePolicy} {key value separator : List �
   pub line_follows : (s : LineSeparator) (r : List ℕ) → Follows o (line_of_pair s ++ r)
   line_follows s r =
       let behind = separator ++ (escaped policy value ++ line_end s) in
-      let at : Follows o (escaped policy key ++ (behind ++ r)) = by (behind ++ r) plain.plain_key in
+      let at : Follows o (escaped policy key ++ (behind ++ r)) = by (behind ++ r) writable.plain_key in
       subst (Follows o) (sym (append_assoc (escaped policy key) behind r)) at
     where
       by : {k : List ℕ} (x : List ℕ) → IsPlainKey o policy k → Follows o (escaped policy k ++ x)

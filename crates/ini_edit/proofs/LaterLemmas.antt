@@ -8,7 +8,6 @@ use Rattle.ini_text.specs.Grammar.CharacterKinds.{is_line_end}
 use Rattle.ini_text.specs.Grammar.Elements.{Given, Header, Pair, Element}
 use Rattle.ini_text.specs.Grammar.Places.{Tail}
 use Rattle.ini_text.specs.Grammar.Values.{LineEnd}
-use Rattle.ini_text.specs.Laws.Plain.{IsPlainValue}
 use Rattle.ini_text.specs.Laws.PlainLaws.{BeginsWithHeader}
 use Rattle.ini_text.specs.Parsing.Items.{cow_text}
 use Rattle.ini_text.specs.Parsing.Parser.{Place}
@@ -36,6 +35,7 @@ use Rattle.ini_edit.specs.Places.{Cut, EndsLike, Stretches, StandsAt, pair_with,
 use Rattle.ini_edit.specs.Quotes.{IsPut}
 use Rattle.ini_edit.specs.Targets.{Lacks}
 use Rattle.ini_edit.specs.Inside.Later.{ReadAlike, TakesLaterOut, TakesOut, placed_between}
+use Rattle.ini_edit.specs.Writable.{IsWritableValue}
 use Rattle.ini_edit.proofs.BehindLemmas.{Element-like, EndsLike-behind, EndsLike-one, KeyFront-like}
 use Rattle.ini_edit.proofs.BehindLemmas.{Reads-like, line_end_element}
 use Rattle.ini_edit.proofs.CutLemmas.{CutLeft, cut_left, cut_reads}
@@ -314,14 +314,14 @@ pub set_there : {o : ParseOption} {T : Text} {p q r : Place} {name : Option Text
     {found : FoundPair}
     {policy : EscapePolicy} {value source g : Text} (left : Text) → OpensFirst o T p name
     → ReachesPair o T p.front q key found
-    → (plain : IsPlainValue o policy value)
+    → (writable : IsWritableValue o policy value)
     → IsPut o policy (stretches_of found).own (cow_text found.value) value source
     → TakesLaterOut o T key q.front (chars found.front.now ++ pair_with (stretches_of found) source)
     (chars found.rest.now) r g
     → ReadsOn o T r.front → T ≡ r.front ++ left → IsSetThere o policy T name key value (g ++ left)
 unfolding found_before
 set_there {o} {T} {p} {q} {r} {name} {key} {found} {policy} {value} {source}
-    {g} left opens reaches plain put later on whole =
+    {g} left opens reaches writable put later on whole =
     let takes = later.takes in
     let end = section_ends later.ends on.reads in
     let x = stretches_of found in
@@ -334,7 +334,7 @@ set_there {o} {T} {p} {q} {r} {name} {key} {found} {policy} {value} {source}
     let start : Reads o ((x.front ++ pair_with x source) ++ x.rest) [] upto
     (x.front ++ pair_with x source) =
     subst (λ z. Reads o z [] upto (x.front ++ pair_with x source)) (sym behind)
-    (put_front plain first.stands put) in
+    (put_front writable first.stands put) in
     let out : LaterOut o key upto end.0 new takes.later (g ++ left) =
     subst (λ z. LaterOut o key upto end.0 z takes.later (g ++ left)) behind
     (subst (λ l. LaterOut o key upto end.0 ((x.front ++ pair_with x source) ++ x.rest) l (g ++ left))
@@ -355,5 +355,5 @@ set_there {o} {T} {p} {q} {r} {name} {key} {found} {policy} {value} {source}
       without_later = out;
       document = _;
       was = document;
-      is = sets_put plain first.stands first.target put out _ document;
+      is = sets_put writable first.stands first.target put out _ document;
     }

@@ -48,3 +48,5 @@ pub mod TakingLemmas
 pub mod TextEndLemmas
 pub mod ValueLemmas
 pub mod WalkLemmas
+pub mod WritableLemmas
+pub mod WrittenLemmas

@@ -12,7 +12,7 @@ use Rattle.ini.specs.Texts.{Text}
 use Rattle.ini_edit.specs.Editings.{Editing, Add, Delete, DeleteSection, RenameKey, RenameSection}
 use Rattle.ini_edit.specs.Editings.{Set, SetExisting}
 use Rattle.ini_edit.specs.Editings.{editing_of}
-use Rattle.ini_edit.specs.Made.{HasUnplainWord, IsMade, made_in}
+use Rattle.ini_edit.specs.Made.{HasUnwritableWord, IsMade, made_in}
 use Rattle.ini_edit.specs.MadeLists.{AreMade, Makes, RefusesFirst, RefusesOneOf, all_made_in}
 use Rattle.ini_edit.specs.declared.edits.Edit.{Edit}
 use Rattle.ini_edit.specs.declared.error.EditError.{EditError}
@@ -68,17 +68,17 @@ module _ (o : ParseOption) (w : WriteOption) where
   same_length : {T U : Text} {edits : List Editing} {found : List Bool} → AreMade o w T edits found U
       → length edits ≡ length found
   same_length AreMade.none = refl
-  same_length (AreMade.then {edits} {found} made {e} {is_found} plain makes) =
+  same_length (AreMade.then {edits} {found} made {e} {is_found} writable makes) =
       length-append edits (e ∷ [])
       ∙ (ap (λ n. n + 1) (same_length made) ∙ sym (length-append found (is_found ∷ [])))
 
   pub are_made_load : {T U : Text} {edits : List Editing} {found : List Bool} → AreMade o w T edits found U
       → (d : Document) → IsDocumentOf o T d → IsDocumentOf o U (all_made_in edits found d)
   are_made_load AreMade.none d of = of
-  are_made_load (AreMade.then {edits} {found} made {e} plain (Makes.made m)) d of =
+  are_made_load (AreMade.then {edits} {found} made {e} writable (Makes.made m)) d of =
       subst (IsDocumentOf o _) (sym (all_made_in-found edits found e d (same_length made)))
       (made_loads e m (all_made_in edits found d) (are_made_load made d of))
-  are_made_load (AreMade.then {edits} {found} made {e} plain (Makes.nothing nothing)) d of =
+  are_made_load (AreMade.then {edits} {found} made {e} writable (Makes.nothing nothing)) d of =
       subst (IsDocumentOf o _) (sym (all_made_in-not_found edits found e d (same_length made)))
       (are_made_load made d of)
 
@@ -86,17 +86,17 @@ module _ (o : ParseOption) (w : WriteOption) where
   pub one_more_made : {T U V : Text} {found more : List Bool} {is_found : Bool} (edits : List Edit) (i : ℕ)
       (d : Edit)
       → i < length edits → AreMade o w T (map editing_of (take i edits)) found U
-      → ¬ HasUnplainWord o w.escape_policy (editing_of (get_or edits i d))
+      → ¬ HasUnwritableWord o w.escape_policy (editing_of (get_or edits i d))
       → more ≡ found ++ is_found ∷ [] → Makes o w (editing_of (get_or edits i d)) U is_found V
       → AreMade o w T (map editing_of (take (i + 1) edits)) more V
-  one_more_made {T} {U} {V} {found} {more} {is_found} edits i d within made plain is makes =
+  one_more_made {T} {U} {V} {found} {more} {is_found} edits i d within made writable is makes =
       let taken : map editing_of (take (i + 1) edits) ≡ map editing_of (take i edits) ++ editing_of
       (get_or edits i d) ∷ [] =
       rw (add-one, take-suc edits i d within)
       (map-append editing_of (take i edits) (get_or edits i d ∷ [])) in
       subst (λ es. AreMade o w T es more V) (sym taken)
       (subst (λ fs. AreMade o w T (map editing_of (take i edits) ++ editing_of (get_or edits i d) ∷ []) fs V)
-      (sym is) (AreMade.then made plain makes))
+      (sym is) (AreMade.then made writable makes))
 
   -- of the edits the one at the index is refused
   pub one_refused : {T U : Text} {found : List Bool} (edits : List Edit) (i : ℕ) (d : Edit) (e : EditError)

@@ -7,7 +7,7 @@ use Rattle.ini_text.specs.Grammar.CharacterKinds.{open_bracket, close_bracket}
 use Rattle.ini_text.specs.Grammar.Positions.{is_column_one}
 use Rattle.ini_text.specs.Grammar.Elements.{Given, Header, Pair, Element}
 use Rattle.ini_text.specs.Grammar.Texts.{Reads, Derives}
-use Rattle.ini_text.specs.Laws.Plain.{IsPlainName, IsPlainPair, IsPlainSeparator}
+use Rattle.ini_text.specs.Laws.Plain.{IsPlainName, IsPlainSeparator}
 use Rattle.ini_text.specs.Laws.PlainLaws.{header_source, line_ends}
 use Rattle.ini_text.specs.declared.option.ParseOption.{ParseOption}
 use Rattle.ini_text.specs.declared.write.option.LineSeparator.{LineSeparator}
@@ -28,6 +28,7 @@ use Rattle.ini_edit.specs.Endings.{IsCommentEnd, IsElementEnd}
 use Rattle.ini_edit.specs.Places.{Follows}
 use Rattle.ini_edit.specs.NewSections.{AppendsBehindEmptyLine, EmptyLine, EndsEmpty}
 use Rattle.ini_edit.specs.LinePlaces.{AddsAtPlace, AppendsAtPlace, EndsAtPlace, InsertsAtPlace, IsPlace}
+use Rattle.ini_edit.specs.Writable.{IsWritablePair}
 use Rattle.ini_edit.proofs.EmptyLineLemmas.{behind_empty_line}
 use Rattle.ini_edit.proofs.InsertLemmas.{new_at, pair_is, with_section_last}
 use Rattle.ini_edit.proofs.InsertedLemmas.{line-column, line_follows, line_read}
@@ -66,7 +67,7 @@ place_items (IsPlace.behind_comment ends unblank) follows = comment_end-items en
 
 module _ (o : ParseOption) (w : WriteOption) (key value : Text)
     (sep : IsPlainSeparator (chars w.kv_separator.now))
-    (plain : IsPlainPair o w.escape_policy key value) where
+    (writable : IsWritablePair o w.escape_policy key value) where
   -- the pair's line
   abbrev l : Text
   l = escaped w.escape_policy key
@@ -78,8 +79,8 @@ module _ (o : ParseOption) (w : WriteOption) (key value : Text)
       → Reads o (B ++ (l ++ r)) B (Pair key value ∷ after) (B ++ (l ++ r))
   line_then {B} {r} {after} one follows rest =
       let last : Reads o ((B ++ l) ++ r) (B ++ l) after ((B ++ l) ++ r) =
-      rest (B ++ l) (line-column sep plain w.line_separator B) in
-      reads-append (line_read sep plain w.line_separator B r one follows)
+      rest (B ++ l) (line-column sep writable w.line_separator B) in
+      reads-append (line_read sep writable w.line_separator B r one follows)
       (subst (λ z. Reads o z (B ++ l) after z) (append_assoc B l r) last)
 
   module _ {W r glue : Text} {name : Option Text} {d : Document}
@@ -89,7 +90,7 @@ module _ (o : ParseOption) (w : WriteOption) (key value : Text)
 
     new_derives : Derives o new_text (at.before ++ (Pair key value ∷ at.after))
     new_derives =
-        let first = place_reached at.place (l ++ r) (line_follows sep plain w.line_separator r) in
+        let first = place_reached at.place (l ++ r) (line_follows sep writable w.line_separator r) in
         let rest = line_then (place_column at.place) at.follows
         (λ V one. place_rest at.place V one at.then) in
         let whole : (W ++ glue) ++ (l ++ r) ≡ W ++ (glue ++ (l ++ r)) = append_assoc W glue (l ++ r) in

@@ -7,7 +7,7 @@ use Rattle.std.specs.List.{list_all}
 use Rattle.ini_text.specs.Escaping.Policies.{is_escaped}
 use Rattle.ini_text.specs.Grammar.CharacterKinds.{space}
 use Rattle.ini_text.specs.Inside.PlainTests.{begins}
-use Rattle.ini_text.specs.Laws.Plain.{IsBareKey, IsPlainKey, IsPlainPair}
+use Rattle.ini_text.specs.Laws.Plain.{IsBareKey, IsPlainKey, IsPlainPair, IsPlainValue}
 use Rattle.ini_text.specs.declared.option.ParseOption.{ParseOption}
 use Rattle.ini_text.specs.declared.write.policy.EscapePolicy.{EscapePolicy}
 use Rattle.ini_text.proofs.PlainLemmas.PlainPairLemmas.{space_raw}
@@ -27,18 +27,21 @@ module _ {o : ParseOption} {policy : EscapePolicy} where
           absurd (both_ways (eqb c space) other
           (and_parts (eqb c space) (list_all (λ c. eqb c space) spaces) all).0)
 
+  pub empty_plain : IsPlainValue o policy []
+  empty_plain = record {
+    is_trimmed = refl;
+    no_quote_mark = λ _. tt;
+    read_back = record {
+      of_characters = refl;
+      is_read = inr (record { no_escaped = refl; no_backslash = refl });
+    };
+  }
+
   pub bare_plain : {key : List ℕ} → IsPlainBareKey o policy key → IsPlainPair o policy key []
   bare_plain b = record {
     plain_key = IsPlainKey.bare b.bare;
     key_read_back = b.read_back;
-    plain_value = record {
-      is_trimmed = refl;
-      no_quote_mark = λ _. tt;
-      read_back = record {
-        of_characters = refl;
-        is_read = inr (record { no_escaped = refl; no_backslash = refl });
-      };
-    };
+    plain_value = empty_plain;
   }
 
   pub bare_no_space : {key : List ℕ} → IsPlainBareKey o policy key → begins (λ c. eqb c space) key ≡ false

@@ -1,9 +1,9 @@
--- A plain value written in a quote, and the quote in which an old one stands.
+-- A value written in a quote, and the quote in which an old one stands.
 use Rattle.std.proofs.Common.{◌≡◌, ◌≢◌, ◌∙◌, inl, inr, ℕ, Bool, true, false, not, ◌&&◌, ◌||◌, eqb, [], ◌∷◌}
 use Rattle.std.proofs.Common.{◌++◌, refl, sym, ap, subst, append_assoc, append-nil, eq-eqb, eqb-true, ne_eqb}
 use Rattle.std.proofs.Common.{Some, None}
 use Rattle.std.proofs.lemmas.Bool.{and_from, and_parts, and_right, both_ways, cases_Bool, cond-false}
-use Rattle.std.proofs.lemmas.Bool.{cond-true, false_from_ne_true, or_cases, or_from, or_left, or_parts}
+use Rattle.std.proofs.lemmas.Bool.{cond-true, false_from_ne_true, or_cases, or_left, or_parts}
 use Rattle.std.proofs.lemmas.List.{append_cancel_right}
 use Rattle.std.proofs.lemmas.Option.{cond_some}
 use Rattle.std.specs.Char.{is_digit}
@@ -15,16 +15,14 @@ use Rattle.ini_text.specs.Grammar.CharacterKinds.{BeginsWithNo}
 use Rattle.ini_text.specs.Grammar.EscapeSequences.{EscapeSequence, spelled}
 use Rattle.ini_text.specs.Grammar.Lines.{BeginsPlain, Line, Quoted, plain_value}
 use Rattle.ini_text.specs.Grammar.Places.{OwnLines}
-use Rattle.ini_text.specs.Grammar.Strings.{Closes, Row, Str, is_endpoint, plain_ends, quote_ends}
+use Rattle.ini_text.specs.Grammar.Strings.{Closes, Row, Str, plain_ends, quote_ends}
 use Rattle.ini_text.specs.Escaping.EscapedTexts.{escaped}
-use Rattle.ini_text.specs.Escaping.Policies.{is_escaped}
-use Rattle.ini_text.specs.Laws.Plain.{IsPlainValue}
-use Rattle.ini_text.proofs.PlainLemmas.EscapedTextLemmas.{NoRawEnd, all_read}
-use Rattle.ini_text.proofs.PlainLemmas.PlainLineLemmas.{row_of}
 use Rattle.ini.specs.Texts.{Text}
 use Rattle.ini_edit.specs.Inside.Quotes.{IsOwnSource, IsBetweenQuoteMarks, behind_quote_mark}
 use Rattle.ini_edit.specs.Quotes.{IsQuoteFor, KeepsQuote, StandsInQuotes, has_quote_mark, written_in}
 use Rattle.ini_edit.proofs.PadLemmas.{drop_white, white_row}
+use Rattle.ini_edit.specs.Writable.{IsWritableValue}
+use Rattle.ini_edit.proofs.WrittenLemmas.{IsReadAsWritten, read_as_written}
 use Rattle.ini_edit.proofs.ValueLemmas.{IsSourceOf, bare_source, closes_no_mark}
 
 -- there are two marks
@@ -47,17 +45,12 @@ white_no_mark : (c : ℕ) → is_inline_white c ≡ true → is_quote_mark c ≡
 white_no_mark c h =
     false_from_ne_true (is_quote_mark c) (λ q. both_ways (is_inline_white c) (mark_no_white c q) h)
 
--- a value without the mark, as it is written, up to that
-no_raw_mark : (policy : EscapePolicy) (value : Text) (m : ℕ) → has_quote_mark value m ≡ false
-    → NoRawEnd policy (quote_ends m) value
-no_raw_mark policy [] m h = refl
-no_raw_mark policy (c ∷ cs) m h =
-    let parts = or_parts (eqb c m) (has_quote_mark cs m) h in
-    and_from (not (is_endpoint (quote_ends m) c) || is_escaped policy c) _
-    (or_left _ _ (ap not (or_from (eqb c m) false parts.0 refl))) (no_raw_mark policy cs m parts.1)
+module _ {o : ParseOption} {policy : EscapePolicy} {value : Text}
+    (writable : IsWritableValue o policy value) where
+  abbrev is : IsReadAsWritten o policy value
+  is = read_as_written writable
 
-module _ {o : ParseOption} {policy : EscapePolicy} {value : Text} (plain : IsPlainValue o policy value) where
-  -- a plain value in a mark that it doesn't have
+  -- the value in a mark that it doesn't have
   quoted_source : (m : ℕ) → o.enabled_quote ≡ true → is_quote_mark m ≡ true → has_quote_mark value m ≡ false
       → IsSourceOf o (written_in policy (m ∷ []) value) value
   quoted_source m on mark none = record {
@@ -70,13 +63,11 @@ module _ {o : ParseOption} {policy : EscapePolicy} {value : Text} (plain : IsPla
           subst (Line o true (written_in policy (m ∷ []) value ++ pad) r) (given pad white_pad)
           (Line.line part (unmarked pad r white_pad h) (Str.closed (white_row pad white_pad) h));
     };
-    is_trimmed = plain.is_trimmed;
+    is_trimmed = is.is_trimmed;
   }
     where
       string : Str o.enabled_escape (quote_ends m) (escaped policy value) (m ∷ []) value
-      string = Str.closed
-          (row_of value (all_read {o = o} policy value plain.read_back) (no_raw_mark policy value m none))
-          (or_left (eqb m m) false (eq-eqb m m refl))
+      string = Str.closed (is.quoted m none) (or_left (eqb m m) false (eq-eqb m m refl))
 
       part : Quoted o (written_in policy (m ∷ []) value) (value ++ []) true
       part = Quoted.part on mark string Quoted.none
@@ -95,7 +86,7 @@ module _ {o : ParseOption} {policy : EscapePolicy} {value : Text} (plain : IsPla
   pub source_in : {quote : Text} → IsQuoteFor o value quote
       → IsSourceOf o (written_in policy quote value) value
   source_in IsQuoteFor.empty =
-      subst (λ z. IsSourceOf o z value) (sym (append-nil (escaped policy value))) (bare_source plain)
+      subst (λ z. IsSourceOf o z value) (sym (append-nil (escaped policy value))) (bare_source writable)
   source_in (IsQuoteFor.mark {m} on mark none) = quoted_source m on mark none
 
 pub quote_for : {o : ParseOption} {own value quote : Text} → KeepsQuote o own value quote

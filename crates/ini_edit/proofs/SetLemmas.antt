@@ -2,7 +2,6 @@
 use Rattle.std.proofs.Common.{◌≡◌, ◌∙◌, List, [], ◌∷◌, ◌++◌, ap, sym, subst, append_assoc, Option}
 use Rattle.ini_text.specs.Grammar.Elements.{Given, Pair}
 use Rattle.ini_text.specs.Grammar.Texts.{Derives, Reads}
-use Rattle.ini_text.specs.Laws.Plain.{IsPlainValue}
 use Rattle.ini_text.specs.declared.option.ParseOption.{ParseOption}
 use Rattle.ini_text.specs.declared.write.policy.EscapePolicy.{EscapePolicy}
 use Rattle.ini.specs.Texts.{Text}
@@ -16,6 +15,7 @@ use Rattle.ini_edit.specs.Places.{StandsAt, Stretches, pair_with, text_with, up_
 use Rattle.ini_edit.specs.Quotes.{IsPut, KeepsQuote, written_in}
 use Rattle.ini_edit.specs.Targets.{IsTarget}
 use Rattle.ini_edit.specs.EditedTexts.{KeepsValue, LaterOut, SetsValue}
+use Rattle.ini_edit.specs.Writable.{IsWritableValue}
 use Rattle.ini_edit.proofs.CutLemmas.{cut_derives}
 use Rattle.ini_edit.proofs.ReplacedLemmas.{replaced, replaced_front}
 use Rattle.ini_edit.proofs.DocumentLemmas.{edited_document, pair_items-append}
@@ -94,10 +94,10 @@ sets {o} {new = new} {name = name} {key} {old} value {before} {after} s target d
     }
 
 -- the text with the written value in its place, and without the later pairs
-pub sets_value : (o : ParseOption) (policy : EscapePolicy) (T value : Text) → IsPlainValue o policy value
+pub sets_value : (o : ParseOption) (policy : EscapePolicy) (T value : Text) → IsWritableValue o policy value
     → SetsValue o policy T value
-sets_value o policy T value plain p name key old before after s target quote may U later d document =
-    sets value s target (replaced s (source_in plain may)) later d document
+sets_value o policy T value writable p name key old before after s target quote may U later d document =
+    sets value s target (replaced s (source_in writable may)) later d document
 
 -- what is put in an old value's place is its source, or the written value
 by_put : {o : ParseOption} {policy : EscapePolicy} {own old value source : Text} (P : Text → Type 0)
@@ -108,7 +108,7 @@ by_put P (IsPut.written {quote} apart keeps) stays written = written quote keeps
 
 -- the pair with what was put in its value's place
 module _ {o : ParseOption} {policy : EscapePolicy} {T value source : Text}
-    (plain : IsPlainValue o policy value) {p : Stretches} {key old : Text} {before after : List Given}
+    (writable : IsWritableValue o policy value) {p : Stretches} {key old : Text} {before after : List Given}
     (s : StandsAt o T p key old before after) where
   put_derives : IsPut o policy p.own old value source
       → Derives o (text_with p source) (before ++ (Pair key value ∷ after))
@@ -116,7 +116,7 @@ module _ {o : ParseOption} {policy : EscapePolicy} {T value source : Text}
       by_put (λ z. Derives o (text_with p z) (before ++ (Pair key value ∷ after))) put
       (λ same. subst (λ z. Derives o z (before ++ (Pair key value ∷ after))) s.text
       (subst (λ v. Derives o T (before ++ (Pair key v ∷ after))) (sym same) (stands_derives s)))
-      (λ quote keeps. replaced s (source_in plain (quote_for keeps)))
+      (λ quote keeps. replaced s (source_in writable (quote_for keeps)))
 
   pub put_front : IsPut o policy p.own old value source
       → Reads o (text_with p source) [] (before ++ Pair key value ∷ []) (p.front ++ pair_with p source)
@@ -124,7 +124,7 @@ module _ {o : ParseOption} {policy : EscapePolicy} {T value source : Text}
       by_put (λ z. Reads o (text_with p z) [] (before ++ Pair key value ∷ []) (p.front ++ pair_with p z)) put
       (λ same. subst (λ z. Reads o z [] (before ++ Pair key value ∷ []) (up_to_end p)) s.text
       (subst (λ v. Reads o T [] (before ++ Pair key v ∷ []) (up_to_end p)) (sym same) (stands_up_to s)))
-      (λ quote keeps. replaced_front s (source_in plain (quote_for keeps)))
+      (λ quote keeps. replaced_front s (source_in writable (quote_for keeps)))
 
   pub sets_put : {name : Option Text} (target : IsTarget name key before after)
       → IsPut o policy p.own old value source → {U : Text}
@@ -133,13 +133,13 @@ module _ {o : ParseOption} {policy : EscapePolicy} {T value source : Text}
   sets_put target put later d document = sets value s target (put_derives put) later d document
 
 -- a value written anew
-pub keeps_value : (o : ParseOption) (policy : EscapePolicy) (T value : Text) → IsPlainValue o policy value
+pub keeps_value : (o : ParseOption) (policy : EscapePolicy) (T value : Text) → IsWritableValue o policy value
     → KeepsValue o policy T value
-keeps_value o policy T value plain p key before after s quote may d document =
+keeps_value o policy T value writable p key before after s quote may d document =
     let same : document.items ≡ before ++ (Pair key value ∷ after) =
     derives_one document.derives (stands_derives s) in
     record {
       items = before ++ Pair key value ∷ after;
-      derives = replaced s (source_in plain may);
+      derives = replaced s (source_in writable may);
       document = document.document ∙ ap document_of same;
     }

@@ -2,7 +2,6 @@
 use Rattle.std.proofs.Common.{◌≡◌, ◌∙◌, [], ◌++◌, ap, sym, subst, append_assoc, Option, Some}
 use Rattle.std.proofs.lemmas.List.{append_cancel_left}
 use Rattle.ini_text.specs.Grammar.Texts.{Reads}
-use Rattle.ini_text.specs.Laws.Plain.{IsPlainValue}
 use Rattle.ini_text.specs.Parsing.Items.{cow_text}
 use Rattle.ini_text.specs.Parsing.Parser.{Place}
 use Rattle.ini_text.specs.declared.option.ParseOption.{ParseOption}
@@ -17,6 +16,7 @@ use Rattle.ini_edit.specs.Inside.Later.{IsAlikeBehind, TakesLater, TakesLaterOut
 use Rattle.ini_edit.specs.Inside.Quotes.{IsOwnSource}
 use Rattle.ini_edit.specs.Inside.Walks.{OpensFirst, ReachesPair, ReadsOn, StandsWithin}
 use Rattle.ini_edit.specs.declared.find.FoundPair.{FoundPair}
+use Rattle.ini_edit.specs.Writable.{IsWritableValue}
 use Rattle.ini_edit.proofs.FindLemmas.{end_reads, reached_within}
 use Rattle.ini_edit.proofs.LaterLemmas.{set_there, value_alike}
 use Rattle.ini_edit.proofs.WalkLemmas.{stands_within, told}
@@ -56,12 +56,12 @@ module _ {o : ParseOption} {T : Text} {p : Place} {name : Option Text} (key : Te
         (reads-append (reads-append reads here.out.takes.passes) (end_reads here.out.ends).1)
 
     -- the text that was read to its end
-    pub is_set : {policy : EscapePolicy} {value source : Text} (left new : Text) → IsPlainValue o policy value
-        → IsPut o policy pair.own (cow_text x.value) value source
+    pub is_set : {policy : EscapePolicy} {value source : Text} (left new : Text)
+        → IsWritableValue o policy value → IsPut o policy pair.own (cow_text x.value) value source
         → f ≡ pair.front ++ pair_with pair source
         → ReadsOn r.option r.text r.front
         → r.front ++ left ≡ r.text → new ≡ g ++ left → IsSetThere o policy T name key value new
-    is_set {policy} {value} {source} left new plain put written on rest is_new =
+    is_set {policy} {value} {source} left new writable put written on rest is_new =
         let behind : here.behind ≡ pair.rest =
         append_cancel_left q.front here.behind pair.rest (sym here.whole ∙ text_behind) in
         let out : TakesLaterOut o T key q.front
@@ -69,6 +69,6 @@ module _ {o : ParseOption} {T : Text} {p : Place} {name : Option Text} (key : Te
         subst (λ z. TakesLaterOut o T key q.front z pair.rest r g) written
         (subst (λ z. TakesLaterOut o T key q.front f z r g) behind here.out) in
         subst (IsSetThere o policy T name key value) (sym is_new)
-        (set_there left opens reaches plain put out
+        (set_there left opens reaches writable put out
         (told (λ o T. ReadsOn o T r.front) here.out.is_reading on)
         (sym here.out.is_reading.text ∙ sym rest))

@@ -3,7 +3,6 @@ use Rattle.std.proofs.Common.{◌≡◌, ◌∙◌, ◌∷◌, ◌++◌, ap, sym
 use Rattle.std.specs.Prelude.{option_and_then, String, Result, Ok, Err, OnOk, IfOk}
 use Rattle.std.proofs.lemmas.Bool.{cond-true}
 use Rattle.ini_text.specs.Grammar.Texts.{Derives}
-use Rattle.ini_text.specs.Laws.Plain.{IsPlainValue}
 use Rattle.ini_text.specs.declared.error.Error.TheVariants.{Io, Memory, NoProgress, NotUtf8, Parse}
 use Rattle.ini_text.specs.declared.option.ParseOption.{ParseOption}
 use Rattle.ini_text.specs.declared.write.option.WriteOption.{WriteOption}
@@ -21,6 +20,7 @@ use Rattle.ini_edit.specs.Settings.{IsSet, RefusesToSet}
 use Rattle.ini_edit.specs.Targets.{Lacks}
 use Rattle.ini_edit.specs.declared.error.EditError.{EditError}
 use Rattle.ini_edit.specs.declared.error.EditError.TheVariants as refusals
+use Rattle.ini_edit.specs.Writable.{IsWritableValue}
 use Rattle.ini_edit.proofs.DocumentLemmas.{section_made, sections_behind}
 use Rattle.ini_edit.proofs.FindLemmas.{first_section-behind}
 use Rattle.ini_edit.proofs.InsertLemmas.{items_end}
@@ -74,24 +74,24 @@ module _ {o : ParseOption} {w : WriteOption} {T key value U : Text} where
 
 -- what adding a pair is refused with, where it isn't there
 pub refuses_to_set : {o : ParseOption} {w : WriteOption} {T : Text} {name : Option Text} {key value : Text}
-    (e : EditError) → IsPlainValue o w.escape_policy value → LacksPair o T name key
+    (e : EditError) → IsWritableValue o w.escape_policy value → LacksPair o T name key
     → RefusesToAdd o w T name key value e
     → RefusesToSet o w T name key value e
-refuses_to_set (refusals.Text (Parse e)) plain lacks (RefusesToAdd.pair none) = absurd none
-refuses_to_set (refusals.Text (Parse e)) plain lacks (RefusesToAdd.line writable stop) = (plain, stop)
-refuses_to_set (refusals.Text (Memory e)) plain lacks refused = plain
-refuses_to_set (refusals.Text (Io e)) plain lacks (RefusesToAdd.pair none) = absurd none
-refuses_to_set (refusals.Text (Io e)) plain lacks (RefusesToAdd.line writable none) = absurd none
-refuses_to_set (refusals.Text NoProgress) plain lacks (RefusesToAdd.pair none) = absurd none
-refuses_to_set (refusals.Text NoProgress) plain lacks (RefusesToAdd.line writable none) = absurd none
-refuses_to_set (refusals.Text NotUtf8) plain lacks (RefusesToAdd.pair none) = absurd none
-refuses_to_set (refusals.Text NotUtf8) plain lacks (RefusesToAdd.line writable none) = absurd none
-refuses_to_set refusals.Value plain lacks (RefusesToAdd.pair parts) = parts.1
-refuses_to_set refusals.Value plain lacks (RefusesToAdd.line writable none) = absurd none
-refuses_to_set refusals.Name plain lacks refused = (plain, (lacks, refused))
-refuses_to_set refusals.Key plain lacks refused = (plain, (lacks, refused))
-refuses_to_set refusals.Separator plain lacks refused = (plain, (lacks, refused))
-refuses_to_set refusals.NoPlace plain lacks refused = (plain, (lacks, refused))
+refuses_to_set (refusals.Text (Parse e)) value_is lacks (RefusesToAdd.pair none) = absurd none
+refuses_to_set (refusals.Text (Parse e)) value_is lacks (RefusesToAdd.line writable stop) = (value_is, stop)
+refuses_to_set (refusals.Text (Memory e)) value_is lacks refused = value_is
+refuses_to_set (refusals.Text (Io e)) value_is lacks (RefusesToAdd.pair none) = absurd none
+refuses_to_set (refusals.Text (Io e)) value_is lacks (RefusesToAdd.line writable none) = absurd none
+refuses_to_set (refusals.Text NoProgress) value_is lacks (RefusesToAdd.pair none) = absurd none
+refuses_to_set (refusals.Text NoProgress) value_is lacks (RefusesToAdd.line writable none) = absurd none
+refuses_to_set (refusals.Text NotUtf8) value_is lacks (RefusesToAdd.pair none) = absurd none
+refuses_to_set (refusals.Text NotUtf8) value_is lacks (RefusesToAdd.line writable none) = absurd none
+refuses_to_set refusals.Value value_is lacks (RefusesToAdd.pair parts) = parts.1
+refuses_to_set refusals.Value value_is lacks (RefusesToAdd.line writable none) = absurd none
+refuses_to_set refusals.Name value_is lacks refused = (value_is, (lacks, refused))
+refuses_to_set refusals.Key value_is lacks refused = (value_is, (lacks, refused))
+refuses_to_set refusals.Separator value_is lacks refused = (value_is, (lacks, refused))
+refuses_to_set refusals.NoPlace value_is lacks refused = (value_is, (lacks, refused))
 
 -- the answer where the pair isn't there
 pub sets_by_adding : {Z : Type 0} {o : ParseOption} (w : WriteOption) {T key : Text} (value : Text)

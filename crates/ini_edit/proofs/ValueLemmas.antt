@@ -15,12 +15,12 @@ use Rattle.ini_text.specs.Grammar.Strings.{Closes, Row, Str, plain_ends, is_endp
 use Rattle.ini_text.specs.Grammar.Lines.{Line, Quoted, BeginsPlain}
 use Rattle.ini_text.specs.Grammar.Values.{LineEnd, Value}
 use Rattle.ini_text.specs.Escaping.EscapedTexts.{escaped}
-use Rattle.ini_text.specs.Laws.Plain.{IsPlainValue}
-use Rattle.ini_text.proofs.PlainLemmas.EscapedTextLemmas.{AllRead, all_read, row_escaped}
-use Rattle.ini_text.proofs.PlainLemmas.PlainPairLemmas.{escaped_begins, value_no_end, line_end_no_mark}
+use Rattle.ini_text.proofs.PlainLemmas.PlainPairLemmas.{escaped_begins, line_end_no_mark}
 use Rattle.ini_text.proofs.PlainLemmas.PlainTrimLemmas.{trimmed_begins, without_line_feeds-trimmed}
 use Rattle.ini_text.specs.Grammar.Places.{Tail}
+use Rattle.ini_edit.specs.Writable.{IsWritableValue}
 use Rattle.ini_edit.proofs.PadLemmas.{trimmed-white, white_both, white_row}
+use Rattle.ini_edit.proofs.WrittenLemmas.{IsReadAsWritten, read_as_written}
 
 pub closes_line_end : (c : ℕ) → is_endpoint plain_ends c ≡ true → is_line_end c ≡ true
 closes_line_end c h = at (eqb c 0x0A) (eqb c 0x0D) h
@@ -62,28 +62,26 @@ pub record IsSourceOf (o : ParseOption) (source value : List ℕ) : Type 0 where
 module _ {o : ParseOption} {policy : EscapePolicy} (w pad : List ℕ)
     (white : list_all is_inline_white w ≡ true)
     (white_pad : list_all is_inline_white pad ≡ true) where
-  -- a plain value as it is written, between white space; all of that is a lead where the value is empty
-  written_line : (value r : List ℕ) → IsPlainValue o policy value → Closes plain_ends r
+  -- a value as it is written, between white space; all of that is a lead where the value is empty
+  written_line : (value r : List ℕ) → IsReadAsWritten o policy value → Closes plain_ends r
       → WrittenLine o (w ++ (escaped policy value ++ pad)) r value
-  written_line [] r plain h = record {
+  written_line [] r is h = record {
     lead = w ++ pad;
     line = [];
     whole = sym (append-nil (w ++ pad));
     is_lead = record { white = white_both w pad white white_pad; ends = closes_no_inline r h };
     is_line = Line.line Quoted.none (λ on. closes_no_mark r h) (Str.closed Row.none h);
   }
-  written_line (c ∷ cs) r plain h =
-      let value = c ∷ cs in
-      let line = escaped policy value ++ pad in
-      let read : AllRead o.enabled_escape policy value = all_read {o = o} policy value plain.read_back in
-      let row = row_escaped value read (value_no_end read) (white_row pad white_pad) in
+  written_line (c ∷ cs) r is h =
+      let line = escaped policy (c ∷ cs) ++ pad in
+      let row = is.row (white_row pad white_pad) in
       record {
         lead = w;
         line = line;
         whole = refl;
         is_lead = record { white = white; ends = no_inline };
         is_line =
-            subst (Line o true line r) (trimmed-white c cs pad plain.is_trimmed white_pad)
+            subst (Line o true line r) (trimmed-white c cs pad is.is_trimmed white_pad)
             (Line.line Quoted.none unquoted (Str.closed row h));
       }
     where
@@ -96,18 +94,20 @@ module _ {o : ParseOption} {policy : EscapePolicy} (w pad : List ℕ)
       no_inline : BeginsWithNo is_inline_white ((escaped policy (c ∷ cs) ++ pad) ++ r)
       no_inline =
           begins_no is_inline_white refl
-          (and_left (is_whitespace c) _ (trimmed_begins (c ∷ cs) plain.is_trimmed))
+          (and_left (is_whitespace c) _ (trimmed_begins (c ∷ cs) is.is_trimmed))
 
       unquoted : BeginsPlain o ((escaped policy (c ∷ cs) ++ pad) ++ r)
-      unquoted = λ on. begins_no is_quote_mark refl (plain.no_quote_mark on)
+      unquoted = λ on. begins_no is_quote_mark refl (is.no_quote_mark on)
 
--- a plain value as it is written, bare
-pub bare_source : {o : ParseOption} {policy : EscapePolicy} {value : List ℕ} → IsPlainValue o policy value
+-- a value as it is written, bare
+pub bare_source : {o : ParseOption} {policy : EscapePolicy} {value : List ℕ} → IsWritableValue o policy value
     → IsSourceOf o (escaped policy value) value
-bare_source {value = value} plain = record {
-  line = λ w pad r white white_pad h. written_line w pad white white_pad value r plain h;
-  is_trimmed = plain.is_trimmed;
-}
+bare_source {o} {policy} {value} writable =
+    let is : IsReadAsWritten o policy value = read_as_written writable in
+    record {
+      line = λ w pad r white white_pad h. written_line w pad white white_pad value r is h;
+      is_trimmed = is.is_trimmed;
+    }
 
 module _ {o : ParseOption} (w pad : List ℕ) (white : list_all is_inline_white w ≡ true)
     (white_pad : list_all is_inline_white pad ≡ true) where

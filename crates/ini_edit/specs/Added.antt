@@ -3,7 +3,7 @@ use Rattle.std.specs.Prelude.{◌≡◌, ◌++◌, Option, Some, IsSomeAnd, char
 use Rattle.ini_text.specs.declared.option.ParseOption.{ParseOption}
 use Rattle.ini_text.specs.declared.write.option.WriteOption.{WriteOption}
 use Rattle.ini_text.specs.declared.write.policy.EscapePolicy.{EscapePolicy}
-use Rattle.ini_text.specs.Laws.Plain.{IsPlainName, IsPlainPair, IsPlainSeparator, IsPlainValue}
+use Rattle.ini_text.specs.Laws.Plain.{IsPlainName, IsPlainSeparator}
 use Rattle.ini_text.specs.declared.error.Error.TheVariants.{Memory, Parse}
 use Rattle.ini.specs.Texts.{Text}
 use Rattle.ini.specs.Documents.{Document}
@@ -18,6 +18,7 @@ use Rattle.ini_edit.specs.Targets.{Lacks}
 use Rattle.ini_edit.specs.declared.error.EditError.{EditError}
 use Rattle.ini_edit.specs.declared.error.EditError.TheVariants.{Text as TextError, Separator, Value, Key, Name}
 use Rattle.ini_edit.specs.declared.error.EditError.TheVariants.{NoPlace}
+use Rattle.ini_edit.specs.Writable.{IsWritablePair, IsWritableValue}
 
 -- The text U is T with the pair's line put in at a place where the first section of the name ends, and no
 -- byte changed; so the pair is added to the document, and is set where the section has no pair of the key.
@@ -64,18 +65,18 @@ RefusesLine o policy T name NoPlace = LacksPlace o policy T name
 RefusesLine o policy T name _ = ⊥
 
 module _ (o : ParseOption) (w : WriteOption) where
-  -- separator, key and value are plain
+  -- the separator is plain, and the pair writable
   pub record IsWritable (key value : Text) : Type 0 where
     pub separator : IsPlainSeparator (chars w.kv_separator.now)
-    pub pair : IsPlainPair o w.escape_policy key value
+    pub pair : IsWritablePair o w.escape_policy key value
 
   -- what a pair that isn't is refused with: the separator's fault first, then the value's, then the key's
   abbrev pub RefusesPair : Text → Text → EditError → Type 0
   RefusesPair key value Separator = ¬ IsPlainSeparator (chars w.kv_separator.now)
   RefusesPair key value Value =
-      IsPlainSeparator (chars w.kv_separator.now) × (¬ IsPlainValue o w.escape_policy value)
+      IsPlainSeparator (chars w.kv_separator.now) × (¬ IsWritableValue o w.escape_policy value)
   RefusesPair key value Key = IsPlainSeparator (chars w.kv_separator.now)
-      × (IsPlainValue o w.escape_policy value × (¬ IsPlainPair o w.escape_policy key value))
+      × (IsWritableValue o w.escape_policy value × (¬ IsWritablePair o w.escape_policy key value))
   RefusesPair key value _ = ⊥
 
   -- what adding a pair is refused with: the pair's fault, and behind that the line's

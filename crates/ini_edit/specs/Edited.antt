@@ -57,7 +57,7 @@ abbrev pub IsEditParseOrMemory : EditError → Type 0
 IsEditParseOrMemory (EditErrors.Text e) = IsParseOrMemory e
 IsEditParseOrMemory _ = ⊥
 
--- the same, or the value isn't plain
+-- the same, or the value isn't writable
 abbrev pub IsValueOrRefusal : EditError → Type 0
 IsValueOrRefusal EditErrors.Value = ⊤
 IsValueOrRefusal e = IsEditParseOrMemory e

@@ -5,6 +5,7 @@ pub mod Lines
 pub mod NoPlaceWalks
 pub mod PlaceWalks
 pub mod Quotes
+pub mod RawTests
 pub mod SectionWalks
 pub mod SetWalks
 pub mod Walks

@@ -20,3 +20,4 @@ pub mod Renamed
 pub mod Sections
 pub mod Settings
 pub mod Targets
+pub mod Writable

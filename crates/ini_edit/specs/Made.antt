@@ -1,7 +1,7 @@
 -- What an edit makes of a text, where it finds nothing there, and what it is refused with, in the words of
 -- the calls.
 use Rattle.std.specs.Prelude.{Some}
-use Rattle.ini_text.specs.Laws.Plain.{IsPlainName, IsPlainPair, IsPlainValue}
+use Rattle.ini_text.specs.Laws.Plain.{IsPlainName}
 use Rattle.ini_text.specs.declared.error.Error.TheVariants.{Memory, Parse}
 use Rattle.ini_text.specs.declared.option.ParseOption.{ParseOption}
 use Rattle.ini_text.specs.declared.write.option.WriteOption.{WriteOption}
@@ -21,6 +21,7 @@ use Rattle.ini_edit.specs.Sections.{IsSectionOut, IsSectionRenamed}
 use Rattle.ini_edit.specs.Settings.{IsSet, RefusesToSet}
 use Rattle.ini_edit.specs.declared.error.EditError.{EditError}
 use Rattle.ini_edit.specs.declared.error.EditError.TheVariants as refusal
+use Rattle.ini_edit.specs.Writable.{IsWritablePair, IsWritableValue}
 
 -- the text U is T with the edit made in it
 abbrev pub IsMade : ParseOption → WriteOption → Editing → Text → Text → Type 0
@@ -56,22 +57,22 @@ HasNothing o (RenameSection old new) T = LacksSection o T (Some old)
 
 -- The edit has a word that can't be written, whatever the text is. (What else setting and adding are refused
 -- with for their words may depend on the text.)
-abbrev pub HasUnplainWord : ParseOption → EscapePolicy → Editing → Type 0
-HasUnplainWord o policy (Set name key value) = ¬ IsPlainValue o policy value
-HasUnplainWord o policy (SetExisting name key value) = ¬ IsPlainValue o policy value
-HasUnplainWord o policy (Add name key value) = ¬ IsPlainPair o policy key value
-HasUnplainWord o policy (RenameKey name old new) = ¬ IsPlainBareKey o policy new
-HasUnplainWord o policy (RenameSection old new) = ¬ IsPlainName o policy new
-HasUnplainWord o policy _ = ⊥
+abbrev pub HasUnwritableWord : ParseOption → EscapePolicy → Editing → Type 0
+HasUnwritableWord o policy (Set name key value) = ¬ IsWritableValue o policy value
+HasUnwritableWord o policy (SetExisting name key value) = ¬ IsWritableValue o policy value
+HasUnwritableWord o policy (Add name key value) = ¬ IsWritablePair o policy key value
+HasUnwritableWord o policy (RenameKey name old new) = ¬ IsPlainBareKey o policy new
+HasUnwritableWord o policy (RenameSection old new) = ¬ IsPlainName o policy new
+HasUnwritableWord o policy _ = ⊥
 
 -- What an edit of the text T is refused with: setting and adding as their calls say; each other edit with
 -- its new word, whatever the text is, and else with the text's fault, or memory's.
 abbrev pub Refuses : ParseOption → WriteOption → Editing → Text → EditError → Type 0
 Refuses o w (Set name key value) T e = RefusesToSet o w T name key value e
 Refuses o w (Add name key value) T e = RefusesToAdd o w T name key value e
-Refuses o w e T (refusal.Text (Parse fault)) = (¬ HasUnplainWord o w.escape_policy e) × IsStopOf o T fault
-Refuses o w e T (refusal.Text (Memory _)) = ¬ HasUnplainWord o w.escape_policy e
-Refuses o w (SetExisting name key value) T refusal.Value = ¬ IsPlainValue o w.escape_policy value
+Refuses o w e T (refusal.Text (Parse fault)) = (¬ HasUnwritableWord o w.escape_policy e) × IsStopOf o T fault
+Refuses o w e T (refusal.Text (Memory _)) = ¬ HasUnwritableWord o w.escape_policy e
+Refuses o w (SetExisting name key value) T refusal.Value = ¬ IsWritableValue o w.escape_policy value
 Refuses o w (RenameKey name old new) T refusal.Key = ¬ IsPlainBareKey o w.escape_policy new
 Refuses o w (RenameSection old new) T refusal.Name = ¬ IsPlainName o w.escape_policy new
 Refuses o w _ T _ = ⊥

@@ -6,7 +6,7 @@ use Rattle.ini_text.specs.declared.write.option.WriteOption.{WriteOption}
 use Rattle.ini.specs.Texts.{Text}
 use Rattle.ini.specs.Documents.{Document}
 use Rattle.ini_edit.specs.Editings.{Editing}
-use Rattle.ini_edit.specs.Made.{HasNothing, HasUnplainWord, IsMade, Refuses, made_in}
+use Rattle.ini_edit.specs.Made.{HasNothing, HasUnwritableWord, IsMade, Refuses, made_in}
 use Rattle.ini_edit.specs.declared.error.EditError.{EditError}
 use Rattle.ini_edit.specs.declared.error.EditError.TheVariants.{Text as TextError}
 use Rattle.ini_edit.specs.declared.edit_list.RefusedEdit.{RefusedEdit}
@@ -29,7 +29,7 @@ module _ (o : ParseOption) (w : WriteOption) where
   pub data AreMade (T : Text) : List Editing → List Bool → Text → Type 0 where
     none : AreMade T [] [] T
     then : {edits : List Editing} {found : List Bool} {U : Text} → AreMade T edits found U
-        → {e : Editing} {is_found : Bool} {V : Text} → ¬ HasUnplainWord o w.escape_policy e
+        → {e : Editing} {is_found : Bool} {V : Text} → ¬ HasUnwritableWord o w.escape_policy e
         → Makes e U is_found V → AreMade T (edits ++ e ∷ []) (found ++ is_found ∷ []) V
 
   -- memory is refused, or of the text T the first of the edits

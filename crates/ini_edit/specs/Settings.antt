@@ -1,6 +1,5 @@
 -- A text in which a key is set, wherever its pair stands, or where it doesn't stand yet.
 use Rattle.std.specs.Prelude.{Option, Some}
-use Rattle.ini_text.specs.Laws.Plain.{IsPlainValue}
 use Rattle.ini_text.specs.declared.error.Error.TheVariants.{Memory, Parse}
 use Rattle.ini_text.specs.declared.option.ParseOption.{ParseOption}
 use Rattle.ini_text.specs.declared.write.option.WriteOption.{WriteOption}
@@ -13,6 +12,7 @@ use Rattle.ini_edit.specs.NewSections.{IsInNewSection}
 use Rattle.ini_edit.specs.Targets.{Lacks}
 use Rattle.ini_edit.specs.declared.error.EditError.{EditError}
 use Rattle.ini_edit.specs.declared.error.EditError.TheVariants.{Text as TextError, Value}
+use Rattle.ini_edit.specs.Writable.{IsWritableValue}
 
 -- The value stands in the place of that of the first pair of the key; or, where the first section of the
 -- name lacks the key, in a new line there; or, where the text lacks the section, in a new one.
@@ -24,13 +24,13 @@ pub data IsSet (o : ParseOption) (w : WriteOption) (T key value U : Text) : Opti
   in_new_section : {name : Text} → IsWritable o w key value → IsInNewSection o w T name key value U
       → IsSet o w T key value U (Some name)
 
--- What setting a key is refused with: that the value isn't plain; then the text's fault, or memory's; and
+-- What setting a key is refused with: that the value isn't writable; then the text's fault, or memory's; and
 -- where the pair isn't there what adding it is refused with.
 abbrev pub RefusesToSet : ParseOption → WriteOption → Text → Option Text → Text → Text → EditError → Type 0
-RefusesToSet o w T name key value Value = ¬ IsPlainValue o w.escape_policy value
+RefusesToSet o w T name key value Value = ¬ IsWritableValue o w.escape_policy value
 RefusesToSet o w T name key value (TextError (Parse e)) =
-    IsPlainValue o w.escape_policy value × IsStopOf o T e
-RefusesToSet o w T name key value (TextError (Memory e)) = IsPlainValue o w.escape_policy value
+    IsWritableValue o w.escape_policy value × IsStopOf o T e
+RefusesToSet o w T name key value (TextError (Memory e)) = IsWritableValue o w.escape_policy value
 RefusesToSet o w T name key value (TextError _) = ⊥
-RefusesToSet o w T name key value e = IsPlainValue o w.escape_policy value
+RefusesToSet o w T name key value e = IsWritableValue o w.escape_policy value
     × (LacksPair o T name key × RefusesToAdd o w T name key value e)

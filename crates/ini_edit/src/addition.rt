@@ -17,9 +17,8 @@ use crate::line::push_pair;
 use crate::line_end::like_lines_of;
 use crate::new_section::with_new_section;
 use crate::place::{SectionEnd, TextPlace, find_section_end};
-use ini_text::{
-    Error, ParseOption, WriteOption, is_plain_pair, is_plain_separator, is_plain_value,
-};
+use crate::writable::{is_writable_pair, is_writable_value};
+use ini_text::{Error, ParseOption, WriteOption, is_plain_separator};
 use std::alloc::Global;
 
 /// The text with a pair added, whatever pairs of the key are there: a line of its own behind the last item of
@@ -51,7 +50,7 @@ pub fn add(
         (chars key.now) (chars value.now) (text_of new) (str_name name.entry)) }
     ensures loads { IfOk result (λ new. LoadsEdited read (chars text.now) (text_of new)
         (add_in (str_name name.entry) (chars key.now) (chars value.now))) }
-    ensures plain { OnOk result (IsWritable read write.now (chars key.now) (chars value.now)) }
+    ensures writable { OnOk result (IsWritable read write.now (chars key.now) (chars value.now)) }
     ensures refused { IfErr result (RefusesToAdd read write.now (chars text.now) (str_name name.entry)
         (chars key.now) (chars value.now)) }
 {
@@ -101,16 +100,16 @@ pub(crate) fn check_pair(
     read: ParseOption,
     write: &WriteOption,
 ) -> Result<(), EditError>
-    ensures plain { OnOk result (IsWritable read write.now (chars key.now) (chars value.now)) }
+    ensures writable { OnOk result (IsWritable read write.now (chars key.now) (chars value.now)) }
     ensures refused { IfErr result (RefusesPair read write.now (chars key.now) (chars value.now)) }
 {
     if !is_plain_separator(write.kv_separator) {
         return Err(EditError::Separator);
     }
-    if !is_plain_value(value, write.escape_policy, read) {
+    if !is_writable_value(value, write.escape_policy, read) {
         return Err(EditError::Value);
     }
-    if !is_plain_pair(key, value, write.escape_policy, read) {
+    if !is_writable_pair(key, value, write.escape_policy, read) {
         return Err(EditError::Key);
     }
     Ok(())

@@ -6,7 +6,7 @@ ghost use Rattle.ini_text.specs.declared.error.Error.TheVariants.{Memory};
 ghost use Rattle.ini.specs.Documents.{Document};
 ghost use Rattle.ini.specs.Loading.{IsDocumentOf};
 ghost use Rattle.ini_edit.specs.Editings.{editing_of};
-ghost use Rattle.ini_edit.specs.Made.{HasUnplainWord, Refuses};
+ghost use Rattle.ini_edit.specs.Made.{HasUnwritableWord, Refuses};
 ghost use Rattle.ini_edit.specs.MadeLists.{AreMade, Makes, RefusesFirst, RefusesOneOf};
 ghost use Rattle.ini_edit.specs.MadeLists.{all_made_in};
 ghost use Rattle.ini_edit.specs.declared.error.EditError.TheVariants as EditErrors;
@@ -105,7 +105,8 @@ fn go_on(
     ensures found { IfOk result (λ is_found. found.new.items ≡ found.old.items ++ is_found ∷ []) }
     ensures made { IfOk result (λ is_found. Makes read write.now (editing_of edit.entry)
         (string_text text.old) is_found (string_text text.new)) }
-    ensures plain { OnOk result (¬ HasUnplainWord read write.now.escape_policy (editing_of edit.entry)) }
+    ensures writable { OnOk result
+        (¬ HasUnwritableWord read write.now.escape_policy (editing_of edit.entry)) }
     ensures refused { IfErr result
         (RefusesFirst read write.now (editing_of edit.entry ∷ []) (string_text text.old)) }
 {
@@ -124,7 +125,8 @@ fn make_in_place(
 ) -> Result<bool, EditError>
     ensures made { IfOk result (λ is_found. Makes read write.now (editing_of edit.entry)
         (string_text text.old) is_found (string_text text.new)) }
-    ensures plain { OnOk result (¬ HasUnplainWord read write.now.escape_policy (editing_of edit.entry)) }
+    ensures writable { OnOk result
+        (¬ HasUnwritableWord read write.now.escape_policy (editing_of edit.entry)) }
     ensures refused { IfErr result (Refuses read write.now (editing_of edit.entry) (string_text text.old)) }
 {
     match make_edit(alloc, text.as_str(), read, write, edit)? {

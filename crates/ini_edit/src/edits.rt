@@ -2,7 +2,7 @@
 ghost use Rattle.std.specs.Prelude.{chars, IfErr, IfOk, MatchOption, OnOk};
 ghost use Rattle.ini_text.specs.Parsing.Items.{string_text};
 ghost use Rattle.ini_edit.specs.Editings.{editing_of};
-ghost use Rattle.ini_edit.specs.Made.{HasNothing, HasUnplainWord, IsMade, Refuses};
+ghost use Rattle.ini_edit.specs.Made.{HasNothing, HasUnwritableWord, IsMade, Refuses};
 
 use crate::addition::add;
 use crate::deletion::delete;
@@ -73,7 +73,8 @@ pub fn make_edit(
     ensures made { IfOk result (λ made. MatchOption made
         (HasNothing read (editing_of edit.entry) (chars text.now))
         (λ new. IsMade read write.now (editing_of edit.entry) (chars text.now) (string_text new))) }
-    ensures plain { OnOk result (¬ HasUnplainWord read write.now.escape_policy (editing_of edit.entry)) }
+    ensures writable { OnOk result
+        (¬ HasUnwritableWord read write.now.escape_policy (editing_of edit.entry)) }
     ensures refused { IfErr result (Refuses read write.now (editing_of edit.entry) (chars text.now)) }
 {
     let policy = write.escape_policy;

@@ -14,7 +14,7 @@ pub enum EditError {
     Name,
     /// The key of a new pair isn't plain.
     Key,
-    /// The value isn't plain.
+    /// The value, written, wouldn't be read back.
     Value,
     /// The separator of a new pair isn't plain.
     Separator,

@@ -63,7 +63,8 @@ fn closing(end: TextEnd, read: ParseOption) -> &'static str
     }
 }
 
-fn text_end(text: &str) -> TextEnd
+/// How a text ends.
+pub(crate) fn text_end(text: &str) -> TextEnd
     ensures { ending_of result ≡ ending (chars text.now) }
 {
     let mut end = TextEnd::Line;

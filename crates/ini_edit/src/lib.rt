@@ -27,6 +27,7 @@ mod section_renaming;
 mod setting;
 mod text;
 mod walk;
+mod writable;
 
 pub use addition::add;
 pub use deletion::delete;
@@ -38,3 +39,4 @@ pub use rename::rename_key;
 pub use section_deletion::delete_section;
 pub use section_renaming::rename_section;
 pub use setting::{set, set_existing};
+pub use writable::is_writable_value;

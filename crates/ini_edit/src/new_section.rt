@@ -1,7 +1,7 @@
 //! A new section put into a text, behind all that the text gives. This file knows places and parts of lines,
 //! and no element.
 ghost use Rattle.std.specs.Prelude.{◌≡◌, chars, IfErr, IfOk, IsOkUnless, Some, alloc_error};
-ghost use Rattle.ini_text.specs.Laws.Plain.{IsPlainPair, IsPlainSeparator};
+ghost use Rattle.ini_text.specs.Laws.Plain.{IsPlainSeparator};
 ghost use Rattle.ini.specs.Texts.{text_of};
 ghost use Rattle.ini_edit.specs.Added.{IsWritable, RefusesLine};
 ghost use Rattle.ini_edit.specs.Endings.{front_ending};

@@ -3,7 +3,6 @@ ghost use Rattle.std.specs.Prelude.{◌≡◌, ◌↔◌, Err, IfErr, IfOk, IsOk
 ghost use Rattle.std.specs.Prelude.{alloc_error, chars};
 ghost use Rattle.ini.specs.Texts.{str_name};
 ghost use Rattle.ini.specs.Loading.{IfParse, IsParseOrMemory, IsStopOf};
-ghost use Rattle.ini_text.specs.Laws.Plain.{IsPlainValue};
 ghost use Rattle.ini_text.specs.Parsing.Items.{cow_text, string_text};
 ghost use Rattle.ini_text.specs.declared.error.Error.TheVariants.{Memory};
 ghost use Rattle.ini.specs.Edits.{set_in};
@@ -17,6 +16,7 @@ ghost use Rattle.ini_edit.specs.Inside.Later.{IsAlikeBehind, TakesLater};
 ghost use Rattle.ini_edit.specs.Inside.Quotes.{IsOwnSource, PutsSource, PutsValue};
 ghost use Rattle.ini_edit.specs.Inside.SetWalks.{ComesTo};
 ghost use Rattle.ini_edit.specs.Inside.Walks.{StandsWithin};
+ghost use Rattle.ini_edit.specs.Writable.{IsWritableValue};
 
 use crate::addition::{check_pair, with_pair};
 use crate::append::{push, push_text};
@@ -27,7 +27,8 @@ use crate::find::FoundPair;
 use crate::place::{Opening, Reached, SectionEnd, reach_pair_or_end, reach_section_or_end};
 use crate::quote::kept_quote;
 use crate::walk::{is_same_text, read_on, step};
-use ini_text::{Content, Error, EscapePolicy, ParseOption, Parser, WriteOption, is_plain_value};
+use crate::writable::is_writable_value;
+use ini_text::{Content, Error, EscapePolicy, ParseOption, Parser, WriteOption};
 use std::alloc::Global;
 
 /// Sets the value of a key in a text where the key is there: `None` where it isn't. The value stands in the
@@ -45,8 +46,8 @@ use std::alloc::Global;
 ///
 /// # Errors
 ///
-/// `Value` where the value isn't plain, whatever the text is; `Text` where reading the text stops, with line
-/// and column, also where the pair stands before that; or where memory is refused.
+/// `Value` where the value isn't writable (`is_writable_value`), whatever the text is; `Text` where reading
+/// the text stops, with line and column, also where the pair stands before that; or where memory is refused.
 pub fn set_existing(
     alloc: Global,
     text: &str,
@@ -61,14 +62,14 @@ pub fn set_existing(
         (λ new. IsSetThere read policy (chars text.now) (str_name name.entry) (chars key.now)
         (chars value.now)
         (string_text new))) }
-    ensures value { (result ≡ Err EditErrors.Value) ↔ ¬ IsPlainValue read policy (chars value.now) }
+    ensures value { (result ≡ Err EditErrors.Value) ↔ ¬ IsWritableValue read policy (chars value.now) }
     ensures fault { IfEditParse result (IsStopOf read (chars text.now)) }
     ensures only { IfErr result IsValueOrRefusal }
 {
-    if !is_plain_value(value, policy, read) {
+    if !is_writable_value(value, policy, read) {
         return Err(EditError::Value);
     }
-    match set_plain(alloc, text, read, policy, name, key, value)? {
+    match set_where_there(alloc, text, read, policy, name, key, value)? {
         Setting::Made(new) => Ok(Some(new)),
         Setting::Missing(_) => Ok(None),
     }
@@ -82,10 +83,10 @@ pub fn set_existing(
 ///
 /// # Errors
 ///
-/// `Value` where the value isn't plain, whatever the text is; then `Text` where reading the text stops, with
-/// line and column, or memory is refused. Where the pair isn't there, `Separator` or `Key`, in this order,
-/// where that can't be written; then, where a section is new, `Name` where the name can't be written; and
-/// `NoPlace` where no place was found.
+/// `Value` where the value isn't writable (`is_writable_value`), whatever the text is; then `Text` where
+/// reading the text stops, with line and column, or memory is refused. Where the pair isn't there,
+/// `Separator` or `Key`, in this order, where that can't be written; then, where a section is new, `Name`
+/// where the name can't be written; and `NoPlace` where no place was found.
 pub fn set(
     alloc: Global,
     text: &str,
@@ -100,14 +101,14 @@ pub fn set(
         (chars key.now) (chars value.now) (string_text new) (str_name name.entry)) }
     ensures loads { IfOk result (λ new. LoadsEdited read (chars text.now) (string_text new)
         (set_in (str_name name.entry) (chars key.now) (chars value.now))) }
-    ensures plain { OnOk result (IsPlainValue read write.now.escape_policy (chars value.now)) }
+    ensures writable { OnOk result (IsWritableValue read write.now.escape_policy (chars value.now)) }
     ensures refused { IfErr result (RefusesToSet read write.now (chars text.now) (str_name name.entry)
         (chars key.now) (chars value.now)) }
 {
-    if !is_plain_value(value, write.escape_policy, read) {
+    if !is_writable_value(value, write.escape_policy, read) {
         return Err(EditError::Value);
     }
-    match set_plain(alloc, text, read, write.escape_policy, name, key, value)? {
+    match set_where_there(alloc, text, read, write.escape_policy, name, key, value)? {
         Setting::Made(new) => Ok(new),
         Setting::Missing(end) => {
             check_pair(key, value, read, write)?;
@@ -125,8 +126,8 @@ enum Setting<'a> {
     Missing(SectionEnd<'a>),
 }
 
-// Sets a value that is plain where its key is there, in one walk over the text.
-fn set_plain<'a>(
+// Sets a writable value where its key is there, in one walk over the text.
+fn set_where_there<'a>(
     alloc: Global,
     text: &'a str,
     read: ParseOption,
@@ -135,7 +136,7 @@ fn set_plain<'a>(
     key: &str,
     value: &str,
 ) -> Result<Setting<'a>, Error>
-    requires plain { IsPlainValue read policy (chars value.now) }
+    requires writable { IsWritableValue read policy (chars value.now) }
     ensures came { IfOk result (ComesTo read policy (chars text.now) (str_name name.entry) (chars key.now)
         (chars value.now)) }
     ensures fault { IfParse result (IsStopOf read (chars text.now)) }

@@ -33,6 +33,7 @@ pub record GetsMark (o : Options) (separator : Option Word) (e : Editing) (byte_
   pub option : WriteOption
   pub is_option : IsWriting o separator option
   pub new : List ℕ
+  pub is_utf8 : IsUtf8 new
   pub is_made : IsMade o.reading option e T (chars new)
   pub has_none : byte_order_mark ≡ []
   pub gets : has_byte_order_mark new ≡ true

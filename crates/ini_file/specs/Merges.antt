@@ -1,5 +1,5 @@
 -- How a merge ends: what other files set, set in a file's text.
-use Rattle.std.specs.Prelude.{◌≡◌, ℕ, Bool, List, [], ◌∷◌, ◌++◌, ⊤, chars, flat_map, length, map}
+use Rattle.std.specs.Prelude.{◌≡◌, ℕ, Bool, false, true, List, [], ◌∷◌, ◌++◌, ⊤, chars, flat_map, length, map}
 use Rattle.std.specs.Str.{IsUtf8}
 use Rattle.std.specs.declared.alloc.Global.{Global}
 use Rattle.std.specs.declared.vec.Vec.{Vec}
@@ -14,10 +14,10 @@ use Rattle.ini_edit.specs.MadeLists.{AreMade, RefusesOneOf}
 use Rattle.ini_edit.specs.declared.edit_list.RefusedEdit.{RefusedEdit}
 use Rattle.ini_options.specs.Words.{IsWriteOption}
 use Rattle.ini_options.specs.declared.options.Options.{Options}
-use Rattle.ini_file.specs.Bytes.{byte_order_mark_of}
+use Rattle.ini_file.specs.Bytes.{byte_order_mark_of, has_byte_order_mark}
 use Rattle.ini_file.specs.Settings.{settings_of}
 use Rattle.ini_file.specs.declared.merge.MergeEnd.{MergeEnd}
-use Rattle.ini_file.specs.declared.merge.MergeEnd.TheVariants.{Done, Other, File, Edit}
+use Rattle.ini_file.specs.declared.merge.MergeEnd.TheVariants.{Done, Other, File, Edit, GetsMark}
 
 -- the bytes of files
 abbrev pub bytes_of : List (Vec ℕ Global) → List (List ℕ)
@@ -69,6 +69,20 @@ pub record IsMerged (o : Options) (documents : List Document) (byte_order_mark :
   pub found : List Bool
   pub are_made : AreMade o.reading option T (flat_map settings_of documents) found (chars new)
   pub is_read : flat_map settings_of documents ≡ [] → HasDocument o.reading T
+  -- a file that has no mark gets none, which reading would drop
+  pub gets_none : byte_order_mark ≡ [] → has_byte_order_mark new ≡ false
+
+-- the file has no mark, and with what the documents set in its text T it would get one
+pub record GetsMarkMerged (o : Options) (documents : List Document) (byte_order_mark : List ℕ) (T : Text)
+    : Type 0 where
+  pub option : WriteOption
+  pub is_option : IsWriteOption o option
+  pub new : List ℕ
+  pub is_utf8 : IsUtf8 new
+  pub found : List Bool
+  pub are_made : AreMade o.reading option T (flat_map settings_of documents) found (chars new)
+  pub has_none : byte_order_mark ≡ []
+  pub gets : has_byte_order_mark new ≡ true
 
 -- of what the documents set something is refused in the text T
 pub record RefusesMerge (o : Options) (documents : List Document) (T : Text) (refused : RefusedEdit)
@@ -81,6 +95,7 @@ pub record RefusesMerge (o : Options) (documents : List Document) (T : Text) (re
 abbrev pub EndsOnText : Options → List Document → List ℕ → Text → MergeEnd → Type 0
 EndsOnText o documents byte_order_mark T (Done bytes) = IsMerged o documents byte_order_mark T bytes.items
 EndsOnText o documents byte_order_mark T (Edit refused) = RefusesMerge o documents T refused
+EndsOnText o documents byte_order_mark T GetsMark = GetsMarkMerged o documents byte_order_mark T
 EndsOnText o documents byte_order_mark T (File (Parse e)) = IsStopOf o.reading T e
 EndsOnText o documents byte_order_mark T (File (Memory _)) = ⊤
 EndsOnText o documents byte_order_mark T _ = ⊥

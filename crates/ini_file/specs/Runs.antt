@@ -9,7 +9,7 @@ use Rattle.ini_text.specs.declared.write.option.WriteOption.{WriteOption}
 use Rattle.ini.specs.Documents.{Document}
 use Rattle.ini.specs.Loading.{IsDocumentOf, IsStopOf, IsTextWith, without_byte_order_mark}
 use Rattle.ini.specs.Texts.{Text}
-use Rattle.ini_edit.specs.Made.{HasNothing, HasUnplainWord}
+use Rattle.ini_edit.specs.Made.{HasNothing, HasUnwritableWord}
 use Rattle.ini_edit.specs.declared.error.EditError.{EditError}
 use Rattle.ini_edit.specs.declared.error.EditError.TheVariants as refusal
 use Rattle.ini_options.specs.Words.{Word}
@@ -46,7 +46,7 @@ IsWritten o separator (Change e) byte_order_mark T bytes = IsChanged o separator
 -- what the request is about isn't in the text, and it has no word that can't be written
 abbrev pub IsAbsent : Options → Option Word → Request → Text → Type 0
 IsAbsent o separator (Ask q) T = IsAnswer o separator q T None
-IsAbsent o separator (Change e) T = HasNothing o.reading e T × ¬ HasUnplainWord o.reading o.escape_policy e
+IsAbsent o separator (Change e) T = HasNothing o.reading e T × ¬ HasUnwritableWord o.reading o.escape_policy e
 
 -- what a question is refused with: a separator that isn't read back, whatever the text is; else the text's
 -- fault, or memory's

@@ -1,7 +1,7 @@
 //! A file's bytes with an edit made in their text. This file knows no word of the program.
 ghost use Rattle.std.specs.Prelude.{◌≡◌, IfErr, IfOk, MatchOption, OnOk, [], chars, false, true};
 ghost use Rattle.ini_edit.specs.Editings.{editing_of};
-ghost use Rattle.ini_edit.specs.Made.{HasNothing, HasUnplainWord};
+ghost use Rattle.ini_edit.specs.Made.{HasNothing, HasUnwritableWord};
 ghost use Rattle.ini_file.specs.Bytes.{has_byte_order_mark};
 ghost use Rattle.ini_file.specs.Edits.{IsChanged, RefusesEdit};
 ghost use Rattle.ini_file.specs.Writing.{word_of};
@@ -31,7 +31,7 @@ pub fn change(
         (HasNothing options.reading (editing_of edit.entry) (chars text.now))
         (λ bytes. IsChanged options (word_of separator.entry) (editing_of edit.entry) byte_order_mark.now
         (chars text.now) bytes.items)) }
-    ensures plain { OnOk result (¬ HasUnplainWord options.reading options.escape_policy
+    ensures writable { OnOk result (¬ HasUnwritableWord options.reading options.escape_policy
         (editing_of edit.entry)) }
     ensures refused { IfErr result (RefusesEdit options (word_of separator.entry) (editing_of edit.entry)
         byte_order_mark.now (chars text.now)) }
@@ -46,8 +46,8 @@ pub fn change(
     Ok(Some(joined(alloc, byte_order_mark, new.as_str())?))
 }
 
-// Whether a file that has no mark, if it has none, gets one from the text.
-fn gets_byte_order_mark(byte_order_mark: &[u8], text: &str) -> bool
+/// Whether a file that has no mark, if it has none, gets one from the text.
+pub fn gets_byte_order_mark(byte_order_mark: &[u8], text: &str) -> bool
     ensures yes { result ≡ true → (byte_order_mark.now ≡ []) × (has_byte_order_mark text.now ≡ true) }
     ensures no { result ≡ false → byte_order_mark.now ≡ [] → has_byte_order_mark text.now ≡ false }
 {

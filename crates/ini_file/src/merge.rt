@@ -6,6 +6,7 @@ ghost use Rattle.ini_file.specs.Merges.{AreLoaded, EndsOnText, HasMerge, Loads, 
 ghost use Rattle.ini_file.specs.Merges.{bytes_of};
 
 use crate::bytes::{joined, text_of};
+use crate::edit::gets_byte_order_mark;
 use crate::settings::settings_of;
 use ini::{Error, Ini, ParseOption};
 use ini_edit::{RefusedEdit, make_edits};
@@ -23,6 +24,9 @@ pub enum MergeEnd {
     File(Error),
     /// An edit of the file's text was refused, or the text was.
     Edit(RefusedEdit),
+    /// The file has no mark, and with what the others set it would get one: a key that begins with U+FEFF
+    /// would come to its front.
+    GetsMark,
 }
 
 /// The file's bytes with what the others set: for each of them in order, each key of the first section of
@@ -65,6 +69,9 @@ fn merge_text(
         Ok(new) => new,
         Err(refused) => return MergeEnd::Edit(refused),
     };
+    if gets_byte_order_mark(byte_order_mark, new.text.as_str()) {
+        return MergeEnd::GetsMark;
+    }
     match joined(alloc, byte_order_mark, new.text.as_str()) {
         Ok(bytes) => MergeEnd::Done(bytes),
         Err(refused) => MergeEnd::File(refused),

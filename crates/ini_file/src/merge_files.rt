@@ -61,6 +61,7 @@ fn merge_read(
             refuse(rt, read, name, bytes, Outcome::from(refusal))
         }
         MergeEnd::File(refusal) => refuse(rt, read, file, input, Outcome::from(refusal)),
+        MergeEnd::GetsMark => { refuse(rt, read, file, input, Outcome::Refused(EditError::Key)) }
         MergeEnd::Edit(refused) => match refused.refusal {
             EditError::Text(refusal) => { refuse(rt, read, file, input, Outcome::from(refusal)) }
             refusal => match setting_at(rt.alloc(), merging, others, refused.index) {

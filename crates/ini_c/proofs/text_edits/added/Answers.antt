@@ -11,11 +11,11 @@ returns-clause-fault c =
 pub returns-clause-value : goal.returns-clause-value
 returns-clause-value c =
     (pair_of_adding c.args.read c.args.write.now (chars c.args.text.now) (str_name c.args.name)
-    (chars c.args.key.now) (chars c.args.value.now) c.add.result c.requires c.add.ensures.plain
+    (chars c.args.key.now) (chars c.args.value.now) c.add.result c.requires c.add.ensures.writable
     c.add.ensures.refused).of_value
 
 pub returns-clause-key : goal.returns-clause-key
 returns-clause-key c =
     (pair_of_adding c.args.read c.args.write.now (chars c.args.text.now) (str_name c.args.name)
-    (chars c.args.key.now) (chars c.args.value.now) c.add.result c.requires c.add.ensures.plain
+    (chars c.args.key.now) (chars c.args.value.now) c.add.result c.requires c.add.ensures.writable
     c.add.ensures.refused).of_key

@@ -21,7 +21,7 @@ returns-in-Err-go_on-clause-refused c =
 pub loop-index-preserved : goal.loop-index-preserved
 loop-index-preserved c =
     one_more_made c.args.read c.args.write.now c.args.edits.now c.loop-index.index _ c.loop-index-test.true
-    c.loop-index.invariant c.in_default.ensures.plain c.in_default.ensures.found c.in_default.ensures.made
+    c.loop-index.invariant c.in_default.ensures.writable c.in_default.ensures.found c.in_default.ensures.made
 
 pub returns-clause-loads : goal.returns-clause-loads
 returns-clause-loads c = λ d of.

@@ -7,10 +7,10 @@ pub returns-clause-add : goal.returns-clause-add
 returns-clause-add c =
     adds_at_place c.args.read c.args.write.now (chars c.args.key.now)
     (chars c.args.value.now) c.requires.separator
-    c.requires.plain
+    c.requires.writable
 
 pub returns-clause-set : goal.returns-clause-set
 returns-clause-set c =
     inserts_at_place c.args.read c.args.write.now (chars c.args.key.now)
     (chars c.args.value.now) c.requires.separator
-    c.requires.plain
+    c.requires.writable

@@ -19,7 +19,7 @@ returns-in_ok-check_pair-in-Missing-clause-edited c =
     (str_name c.args.name) (chars c.args.key.now) (chars c.args.value.now)) c.in-Missing.is
     c.in_ok-new.ensures.came in
     sets_by_adding c.args.write.now (chars c.args.value.now) c.with_pair.result missing.0
-    c.in_ok-check_pair-in-Missing.ensures.plain c.with_pair.ensures.added
+    c.in_ok-check_pair-in-Missing.ensures.writable c.with_pair.ensures.added
 
 pub returns-in_ok-check_pair-in-Missing-clause-loads :
     goal.returns-in_ok-check_pair-in-Missing-clause-loads
@@ -29,4 +29,4 @@ returns-in_ok-check_pair-in-Missing-clause-loads c =
     c.in_ok-new.ensures.came in
     IfOk-weaker c.with_pair.result _ _ (λ new set. set_loads set)
     (sets_by_adding c.args.write.now (chars c.args.value.now) c.with_pair.result missing.0
-    c.in_ok-check_pair-in-Missing.ensures.plain c.with_pair.ensures.added)
+    c.in_ok-check_pair-in-Missing.ensures.writable c.with_pair.ensures.added)

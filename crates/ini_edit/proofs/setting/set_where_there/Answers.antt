@@ -8,7 +8,7 @@ use Rattle.ini_edit.specs.Places.{pair_with}
 use Rattle.ini_edit.proofs.FindLemmas.{lacks_told, reached_within}
 use Rattle.ini_edit.proofs.PlaceWalkLemmas.{goes_on_behind, section_ends}
 use Rattle.ini_edit.proofs.SetThereLemmas.{is_set, own_source, pair_alike, taken_within}
-use Rattle.ini_edit.proofs.setting.set_plain.Goals as goal
+use Rattle.ini_edit.proofs.setting.set_where_there.Goals as goal
 
 pub read_on-requires : goal.read_on-requires
 read_on-requires c =
@@ -73,7 +73,7 @@ returns-clause-came c =
     (chars c.args.key.now) c.reach_pair_or_end.new.parser) c.in-Pair.is c.in_ok-pair.ensures.reached in
     let written = c.in_ok-push_with.ensures.written in
     is_set (chars c.args.key.now) opened reached c.in_ok-take_later_out.ensures.taken
-    (chars c.rest-rest.result.now) _ c.requires.plain written.is_put
+    (chars c.rest-rest.result.now) _ c.requires.writable written.is_put
     (written.is_new
     ∙ ap (λ z. z ++ (chars c.in-Pair.pair.front.now ++ pair_with (stretches_of c.in-Pair.pair)
     written.source))

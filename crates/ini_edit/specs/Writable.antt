@@ -1,0 +1,36 @@
+-- Values that an edit writes, and pairs of which it writes a line: those that are read back.
+use Rattle.std.specs.Prelude.{◌≡◌, ◌≢◌, ◌⊎◌, true, false, not}
+use Rattle.std.specs.List.{list_all}
+use Rattle.ini_text.specs.Grammar.CharacterKinds.{is_line_end, is_quote_mark, BeginsWithNo}
+use Rattle.ini_text.specs.Grammar.WhiteSpace.{trimmed}
+use Rattle.ini_text.specs.Laws.Plain.{IsPlainKey, IsPlainValue, IsReadBack}
+use Rattle.ini_text.specs.declared.option.ParseOption.{ParseOption}
+use Rattle.ini_text.specs.declared.write.policy.EscapePolicy.{EscapePolicy}
+use Rattle.ini_text.specs.declared.write.policy.EscapePolicy.TheVariants.{Nothing}
+use Rattle.ini.specs.Texts.{Text}
+use Rattle.ini_edit.specs.Endings.{Ending, ending}
+
+-- a value that stands in a text just as it is, and is read so, its backslashes too
+pub record IsRawValue (o : ParseOption) (policy : EscapePolicy) (value : Text) : Type 0 where
+  -- no escapes are read
+  pub unread : o.enabled_escape ≡ false
+  -- and none are written
+  pub unwritten : policy ≡ Nothing
+  -- it is trimmed
+  pub is_trimmed : trimmed value ≡ value
+  -- with quotes on, no quote's mark begins it
+  pub no_quote_mark : o.enabled_quote ≡ true → BeginsWithNo is_quote_mark value
+  -- no character is LF or CR
+  pub one_line : list_all (λ c. not (is_line_end c)) value ≡ true
+  -- no backslash at its end takes what follows: the number of those at the end is even
+  pub no_lone_backslash : ending value ≢ Ending.escape
+
+-- a value that, written, is read back: a plain one, or a raw one
+abbrev pub IsWritableValue : ParseOption → EscapePolicy → Text → Type 0
+IsWritableValue o policy value = IsPlainValue o policy value ⊎ IsRawValue o policy value
+
+-- a key and its value that can be written in a line of their own
+pub record IsWritablePair (o : ParseOption) (policy : EscapePolicy) (key value : Text) : Type 0 where
+  pub plain_key : IsPlainKey o policy key
+  pub key_read_back : IsReadBack o policy key
+  pub writable_value : IsWritableValue o policy value

@@ -1,0 +1,79 @@
+//! Which values and pairs an edit writes. This file knows kinds of characters and a text's end, and no
+//! element.
+ghost use Rattle.std.specs.Prelude.{◌≡◌, ◌↔◌, IsTrue, chars, not};
+ghost use Rattle.ini_text.specs.Grammar.CharacterKinds.{is_quote_mark};
+ghost use Rattle.ini_text.specs.Inside.PlainTests.{begins, escapes_nothing, is_trimmed};
+ghost use Rattle.ini_edit.specs.Endings.{ending};
+ghost use Rattle.ini_edit.specs.Inside.RawTests.{is_closed, is_one_line, is_raw_value};
+ghost use Rattle.ini_edit.specs.Writable.{IsWritablePair, IsWritableValue};
+
+use crate::glue::{TextEnd, text_end};
+use crate::text::split_first;
+use ini_text::{EscapePolicy, ParseOption, is_plain_pair, is_plain_value};
+
+/// Whether a value can be written so that it is read back: it is plain; or escapes are neither read nor
+/// written, and it is trimmed, without a quote's mark at its front where quotes are read, without LF and CR,
+/// and with an even number of backslashes at its end.
+pub fn is_writable_value(value: &str, policy: EscapePolicy, read: ParseOption) -> bool
+    ensures { IsTrue result ↔ IsWritableValue read policy (chars value.now) }
+{
+    is_plain_value(value, policy, read) || is_raw_value(value, policy, read)
+}
+
+/// Whether a pair can be written in a line of its own so that it is read back: the key is plain, and the
+/// value writable.
+pub(crate) fn is_writable_pair(
+    key: &str,
+    value: &str,
+    policy: EscapePolicy,
+    read: ParseOption,
+) -> bool
+    ensures { IsTrue result ↔ IsWritablePair read policy (chars key.now) (chars value.now) }
+{
+    is_plain_pair(key, "", policy, read) && is_writable_value(value, policy, read)
+}
+
+fn is_raw_value(value: &str, policy: EscapePolicy, read: ParseOption) -> bool
+    ensures { result ≡ is_raw_value read policy (chars value.now) }
+{
+    !read.enabled_escape
+        && escapes_nothing(policy)
+        && is_trimmed(value)
+        && (!read.enabled_quote || !begins_with_quote_mark(value))
+        && is_one_line(value)
+        && !ends_in_lone_backslash(value)
+}
+
+fn escapes_nothing(policy: EscapePolicy) -> bool
+    ensures { result ≡ escapes_nothing policy }
+{
+    matches!(policy, EscapePolicy::Nothing)
+}
+
+fn is_trimmed(text: &str) -> bool
+    ensures { result ≡ is_trimmed (chars text.now) }
+{
+    text.trim() == text
+}
+
+fn begins_with_quote_mark(value: &str) -> bool
+    ensures { result ≡ begins is_quote_mark (chars value.now) }
+{
+    match split_first(value) {
+        Some((c, _)) => c == '"' || c == '\'',
+        None => false,
+    }
+}
+
+fn is_one_line(value: &str) -> bool
+    ensures { result ≡ is_one_line (chars value.now) }
+{
+    value.chars().all(|c| c != '\n' && c != '\r')
+}
+
+// Whether a backslash at the end takes what follows it.
+fn ends_in_lone_backslash(value: &str) -> bool
+    ensures { result ≡ not (is_closed (ending (chars value.now))) }
+{
+    matches!(text_end(value), TextEnd::Escape)
+}
