@@ -75,10 +75,11 @@ if has bash completions; then
     offered '--existing ' ini_file set --e
     offered '--dry-run ' ini_file delete --d
     offered '-- ' ini_file check --
-    offered '-- --all --default --null --output ' ini_file get --
+    offered '-- --all --default --force --in-place --null --output --verbose --wait ' ini_file get --
     offered '--null ' ini_file --crlf list --n
-    offered '-- --dry-run --output --separator ' ini_file format --
-    offered '-- --dry-run --output ' ini_file delete --
+    offered '-- --dry-run --force --in-place --output --separator --verbose --wait ' ini_file format --
+    offered '-- --dry-run --force --in-place --output --verbose --wait ' ini_file delete --
+    offered ' ' ini_file set --wait ''
     offered ' ' ini_file get --default ''
     offered 'one.ini ' ini_file set --existing --output one.
     offered 'one.ini ' ini_tool get key '<' one.

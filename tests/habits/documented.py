@@ -96,10 +96,12 @@ def commands():
     for command, names in arguments.items():
         taken = set()
         for choice, argument in choices.items():
-            chosen = [choice, "="] if argument else [choice]
-            status, _, errors = run("ini_file", command, *chosen, *("k" for _ in names))
-            if status != 2 or not errors.startswith("usage: "):
-                taken.add(choice)
+            chosen = [choice, "1" if choice == "--wait" else "="] if argument else [choice]
+            # what is about the file that is written is taken with --output too
+            for written in [], ["--output", "nowhere/k"]:
+                status, _, errors = run("ini_file", command, *chosen, *written, *("k" for _ in names))
+                if status != 2 or not errors.startswith("usage: "):
+                    taken.add(choice)
         same(f"choices of {command}", program=taken | {"--"}, completions=offered("ini_file", command, "--"))
 
 
@@ -173,22 +175,20 @@ def statuses():
                 differences.append(f"{program}, {outcome}: status {status}, which {place} calls '{words}'")
 
 
-def locks():
-    """What becomes of a lock that is there."""
-    pathlib.Path("locked.ini").write_text("k=v\n")
-    pathlib.Path("locked.ini.lock").write_text("another's\n")
-    status, _, _ = run("ini_file", "set", "locked.ini", "k", "w")
-    left = status, *(pathlib.Path("locked.ini" + end).read_text() for end in ("", ".lock"))
-    sentences = part(page("ini_file"), "FILES").split(".IR FILE .lock\n")[1]
-    says_so = re.search(r"there already\b.*(isn't|not) written", sentences, re.S)
-    if left != (4, "k=v\n", "another's\n") or not says_so:
-        differences.append(f"a lock that is there: {left}, and ini_file.1 says '{sentences}'")
+def neighbours():
+    """What the page says of the files beside one that is written."""
+    pathlib.Path("own.ini").write_text("k=v\n")
+    pathlib.Path("own.ini.lock").write_text("another's\n")
+    status, _, _ = run("ini_file", "set", "own.ini", "k", "w")
+    left = status, *(pathlib.Path("own.ini" + end).read_text() for end in ("", ".lock"))
+    if left != (0, "k=w\n", "another's\n") or not re.search(r"\.ini_file\.", part(page("ini_file"), "FILES")):
+        differences.append(f"a file of somebody's own beside: {left}")
 
 
 def main():
     with tempfile.TemporaryDirectory() as folder:
         os.chdir(folder)
-        for compared in (commands, options, policies, statuses, locks):
+        for compared in (commands, options, policies, statuses, neighbours):
             compared()
         os.chdir("/")
     print("\n".join(differences))

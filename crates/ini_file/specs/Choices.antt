@@ -1,8 +1,9 @@
 -- Which words behind the command are options, what they choose, and where the words behind them begin.
-use Rattle.std.specs.Prelude.{Bool, true, false, not, ◌&&◌, ◌||◌, ◌==◌, if◌then◌else◌, nat_eq, count_by}
-use Rattle.std.specs.Prelude.{List, [], ◌∷◌, codes, map, Option, None, Some, is_some, String, string_bytes}
+use Rattle.std.specs.Prelude.{Bool, true, false, not, ◌&&◌, ◌||◌, ◌==◌, if◌then◌else◌, nat_eq, nat_lt, count_by}
+use Rattle.std.specs.Prelude.{List, [], ◌∷◌, codes, length, map, Option, None, Some, is_some, String, string_bytes}
 use Rattle.std.specs.Borrow.{Bor}
-use Rattle.std.specs.List.{starts_with}
+use Rattle.std.specs.Char.{is_ascii_digit}
+use Rattle.std.specs.List.{list_all, starts_with}
 use Rattle.std.specs.Option.{option_map, option_map_or}
 use Rattle.std.specs.Str.{bytes_eq}
 use Rattle.std.specs.declared.alloc.Global.{Global}
@@ -11,12 +12,14 @@ use Rattle.ini_file.specs.declared.choices.Choices.{Choices}
 use Rattle.ini_file.specs.declared.choices.Switches.{Switches}
 
 -- what is chosen by a word alone; the name of the file that is written, where it isn't the one that is read;
--- the value that is got where there is none; what stands between key and value of new lines
+-- the value that is got where there is none; what stands between key and value of new lines; how many seconds
+-- a run waits for others that write the file
 pub record Chosen : Type 0 where
   pub switches : Switches
   pub output : Option Word
   pub default : Option Word
   pub separator : Option Word
+  pub wait : Option Word
 
 abbrev pub no_switch : Switches
 no_switch = record {
@@ -24,6 +27,9 @@ no_switch = record {
   all = false;
   null = false;
   dry_run = false;
+  in_place = false;
+  force = false;
+  verbose = false;
 }
 
 abbrev pub no_choice : Chosen
@@ -32,6 +38,7 @@ no_choice = record {
   output = None;
   default = None;
   separator = None;
+  wait = None;
 }
 
 -- whether the command writes names, keys or values of the document
@@ -44,6 +51,16 @@ abbrev pub writes_pairs : Word → Bool
 writes_pairs command = bytes_eq command (codes "set") || bytes_eq command (codes "add")
     || bytes_eq command (codes "format")
 
+-- whether a switch is about a file that is written
+abbrev pub are_of_saving : Switches → Bool
+are_of_saving s = s.in_place || s.force || s.verbose
+
+-- the word, if there is one, is a number of seconds: one to nine decimal digits
+abbrev pub are_seconds : Option Word → Bool
+are_seconds None = true
+are_seconds (Some word) =
+    nat_lt 0 (length word) && nat_lt (length word) 10 && list_all is_ascii_digit word
+
 -- whether the command takes the choices
 abbrev pub takes : Word → Chosen → Bool
 takes command c =
@@ -53,6 +70,8 @@ takes command c =
     && (not c.switches.null || writes_texts command)
     && (not (is_some c.separator) || (writes_pairs command && not c.switches.existing))
     && (not c.switches.dry_run || not (writes_texts command))
+    && (not (are_of_saving c.switches || is_some c.wait) || (not (writes_texts command) || is_some c.output))
+    && are_seconds c.wait
 
 -- what a word chooses by itself
 abbrev pub with_switch : Word → Switches → Option Switches
@@ -61,6 +80,9 @@ with_switch word s =
     else if bytes_eq word (codes "--all") then Some (record s { all = true })
     else if bytes_eq word (codes "--null") then Some (record s { null = true })
     else if bytes_eq word (codes "--dry-run") then Some (record s { dry_run = true })
+    else if bytes_eq word (codes "--in-place") then Some (record s { in_place = true })
+    else if bytes_eq word (codes "--force") then Some (record s { force = true })
+    else if bytes_eq word (codes "--verbose") then Some (record s { verbose = true })
     else None
 
 -- no word begins with `--`
@@ -81,6 +103,8 @@ abbrev mutual
       then chosen_text (λ value. record c { default = Some value }) words
       else if bytes_eq word (codes "--separator")
       then chosen_text (λ text. record c { separator = Some text }) words
+      else if bytes_eq word (codes "--wait")
+      then chosen_text (λ seconds. record c { wait = Some seconds }) words
       else option_map_or (λ s. chosen (record c { switches = s }) words) (with_switch word c.switches)
       (if have_no_option (word ∷ words) then Some (c, word ∷ words) else None)
 
@@ -96,6 +120,7 @@ chosen_of c = record {
   output = option_map (λ file. file.now) c.output;
   default = option_map (λ value. value.now) c.default;
   separator = option_map (λ text. text.now) c.separator;
+  wait = option_map (λ seconds. seconds.now) c.wait;
 }
 
 -- what a call answers: the choices, and the words behind them

@@ -35,6 +35,10 @@ place_of c file into_file = unwrap_or c.output (if into_file then file else code
 abbrev pub place_asked : Asks → Word
 place_asked a = place_of a.choices a.file (is_of_file a.request)
 
+-- the file that a fault of writing is told of: the one that is written; of standard output the one that is read
+abbrev pub told : Word → Word → Word
+told file place = if bytes_eq place (codes "-") then file else place
+
 -- the text of an edit goes to standard output
 abbrev pub is_filter : Asks → Bool
 is_filter a = is_edit a.request && bytes_eq (place_asked a) (codes "-")

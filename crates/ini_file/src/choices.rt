@@ -1,8 +1,10 @@
 //! The options of the program's own, which stand behind its command. This file knows no document, and of the
 //! commands their names alone.
 ghost use Rattle.std.specs.Prelude.{◌≡◌, ◌&&◌, ◌||◌, map, not, string_bytes};
+ghost use Rattle.std.specs.Option.{option_map};
 ghost use Rattle.ini_file.specs.Choices.{chosen, chosen_by, chosen_of, no_choice, no_switch, with_switch};
-ghost use Rattle.ini_file.specs.Choices.{have_no_option, takes, writes_pairs, writes_texts};
+ghost use Rattle.ini_file.specs.Choices.{are_of_saving, are_seconds, have_no_option, takes};
+ghost use Rattle.ini_file.specs.Choices.{writes_pairs, writes_texts};
 
 /// What words behind the command choose by themselves.
 #[derive(Clone, Copy)]
@@ -15,6 +17,12 @@ pub struct Switches {
     pub null: bool,
     /// What would change in a file is shown, and no file is written.
     pub dry_run: bool,
+    /// The file itself is written, in place of a new one that takes its name.
+    pub in_place: bool,
+    /// A write-protected file is written too.
+    pub force: bool,
+    /// Whether the file is changed is told.
+    pub verbose: bool,
 }
 
 impl Switches {
@@ -27,7 +35,17 @@ impl Switches {
             all: false,
             null: false,
             dry_run: false,
+            in_place: false,
+            force: false,
+            verbose: false,
         }
+    }
+
+    // Whether something is chosen that is about a file that is written.
+    fn are_of_saving(self) -> bool
+        ensures { result ≡ are_of_saving self }
+    {
+        self.in_place || self.force || self.verbose
     }
 
     // The switches after a word that is one.
@@ -40,6 +58,9 @@ impl Switches {
             "--all" => switches.all = true,
             "--null" => switches.null = true,
             "--dry-run" => switches.dry_run = true,
+            "--in-place" => switches.in_place = true,
+            "--force" => switches.force = true,
+            "--verbose" => switches.verbose = true,
             _ => return None,
         }
         Some(switches)
@@ -57,6 +78,8 @@ pub struct Choices<'a> {
     pub default: Option<&'a str>,
     /// What stands between key and value of new lines.
     pub separator: Option<&'a str>,
+    /// How long a run waits for others that write the file, in seconds.
+    pub wait: Option<&'a str>,
 }
 
 impl<'a> Choices<'a> {
@@ -71,6 +94,7 @@ impl<'a> Choices<'a> {
         let mut output: Option<&'a str> = None;
         let mut default: Option<&'a str> = None;
         let mut separator: Option<&'a str> = None;
+        let mut wait: Option<&'a str> = None;
         let mut rest = words;
         'words: while let Some((word, after)) = rest.split_first() {
             let word = word.as_str();
@@ -80,6 +104,7 @@ impl<'a> Choices<'a> {
                     output,
                     default,
                     separator,
+                    wait,
                 };
                 return Some((choices, after));
             } else if word == "--output" {
@@ -94,6 +119,10 @@ impl<'a> Choices<'a> {
                 let (text, after) = after.split_first()?;
                 separator = Some(text.as_str());
                 rest = after;
+            } else if word == "--wait" {
+                let (seconds, after) = after.split_first()?;
+                wait = Some(seconds.as_str());
+                rest = after;
             } else if let Some(changed) = switches.with_switch(word) {
                 switches = changed;
                 rest = after;
@@ -105,6 +134,7 @@ impl<'a> Choices<'a> {
                     output,
                     default,
                     separator,
+                    wait,
                 };
                 return Some((choices, rest));
             }
@@ -114,6 +144,7 @@ impl<'a> Choices<'a> {
             output,
             default,
             separator,
+            wait,
         };
         Some((choices, rest))
     }
@@ -131,6 +162,21 @@ impl<'a> Choices<'a> {
                 may_separate(command, self.switches.existing),
             )
             && only_where(self.switches.dry_run, !writes_texts(command))
+            && only_where(
+                self.switches.are_of_saving() || self.wait.is_some(),
+                !writes_texts(command) || self.output.is_some(),
+            )
+            && are_seconds(self.wait)
+    }
+}
+
+// Whether the word, if there is one, is a number of seconds: one to nine decimal digits.
+fn are_seconds(wait: Option<&str>) -> bool
+    ensures { result ≡ are_seconds (option_map (λ text. text.now) wait.entry) }
+{
+    match wait {
+        Some(text) => 0 < text.len() && text.len() < 10 && text.bytes().all(|b| b.is_ascii_digit()),
+        None => true,
     }
 }
 

@@ -4,6 +4,8 @@
 //!
 //! No contract says what a disk gets; `tests/files.sh` tests it.
 use crate::diff::diff;
+use crate::lock::{Lock, lock_file};
+use crate::notes::tell_change;
 use crate::save::{find_room, save};
 use crate::target::Target;
 use ini::Error;
@@ -22,6 +24,16 @@ pub(crate) fn read_input(rt: &HostRuntime, file: &str) -> Result<Vec<u8>, Error>
     } else {
         fs::read(rt, file).map_err(Error::Io)
     }
+}
+
+/// Locks the file that a command writes, before anything of it is read. A stream isn't locked, nor is a file of
+/// which the change is shown alone.
+pub(crate) fn lock_place(rt: &HostRuntime, target: Target<'_>) -> Result<Lock, Error> {
+    let place = target.place;
+    if place == "-" || target.shows_change {
+        return Ok(Lock::none());
+    }
+    lock_file(rt, place, target.wait)
 }
 
 /// The bytes of the file that a command is over; `None` where it isn't there and is made. What is no regular
@@ -72,28 +84,21 @@ pub(crate) fn hand_on(
     let shown = if place == "-" {
         diff(rt.alloc(), target.file, old, output)
     } else if place == target.file {
-        put(rt, place, target.shows_change, old, output)
+        put(rt, target, old, output)
     } else {
-        match put_elsewhere(rt, place, target.shows_change, output) {
-            Err(Error::Io(fault)) => Err(Error::Io(named(rt.alloc(), place, fault))),
-            done => done,
-        }
+        put_elsewhere(rt, target, output)
     };
     print(rt, shown?.as_slice())
 }
 
 // Puts bytes into a file, whatever it has, into a new one, or into a pipe, a terminal or a device, of which
 // nothing is read. The answer is what is to be shown of it.
-fn put_elsewhere(
-    rt: &HostRuntime,
-    place: &str,
-    shows_change: bool,
-    output: &[u8],
-) -> Result<Vec<u8>, Error> {
+fn put_elsewhere(rt: &HostRuntime, target: Target<'_>, output: &[u8]) -> Result<Vec<u8>, Error> {
+    let (place, shows_change) = (target.place, target.shows_change);
     match fs::metadata(rt, place) {
         Ok(metadata) if metadata.is_file() || metadata.is_dir() => {
             let there = fs::read(rt, place).map_err(Error::Io)?;
-            put(rt, place, shows_change, Some(there.as_slice()), output)
+            put(rt, target, Some(there.as_slice()), output)
         }
         Ok(_) if shows_change => diff(rt.alloc(), place, None, output),
         Ok(_) => {
@@ -104,7 +109,7 @@ fn put_elsewhere(
             stream.write_all(output).map_err(Error::Io)?;
             Ok(Vec::new(rt.alloc()))
         }
-        Err(fault) if is_missing(&fault) => put(rt, place, shows_change, None, output),
+        Err(fault) if is_missing(&fault) => put(rt, target, None, output),
         Err(fault) => Err(Error::Io(fault)),
     }
 }
@@ -113,22 +118,26 @@ fn put_elsewhere(
 // change is shown it is the answer, and the file stands.
 fn put(
     rt: &HostRuntime,
-    place: &str,
-    shows_change: bool,
+    target: Target<'_>,
     there: Option<&[u8]>,
     output: &[u8],
 ) -> Result<Vec<u8>, Error> {
+    let (place, how) = (target.place, target.switches);
     let is_same = match there {
         Some(there) => there == output,
         None => false,
     };
-    if is_same {
-        return Ok(Vec::new(rt.alloc()));
+    let shown = if is_same {
+        Vec::new(rt.alloc())
+    } else if target.shows_change {
+        find_room(rt, how, place, there.is_some())?;
+        diff(rt.alloc(), place, there, output)?
+    } else {
+        save(rt, how, place, there, output)?;
+        Vec::new(rt.alloc())
+    };
+    if how.verbose {
+        tell_change(rt, !is_same);
     }
-    if shows_change {
-        find_room(rt, rt.alloc(), place, there.is_some())?;
-        return diff(rt.alloc(), place, there, output);
-    }
-    save(rt, rt.alloc(), place, there, output)?;
-    Ok(Vec::new(rt.alloc()))
+    Ok(shown)
 }

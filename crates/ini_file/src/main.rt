@@ -5,6 +5,7 @@
 //! file, and hands on what it answers. Nothing goes out before all is known.
 #![tactic(auto)]
 
+mod beside;
 mod bytes;
 mod check;
 mod check_files;
@@ -16,12 +17,16 @@ mod diff;
 mod edit;
 mod files;
 mod lines;
+mod lock;
 mod lookup;
 mod merge;
 mod merge_files;
 mod merge_words;
+mod notes;
+mod over;
 mod page;
 mod refusals;
+mod rights;
 mod run;
 mod save;
 mod settings;
@@ -32,82 +37,92 @@ mod writing;
 
 use check_files::check_files;
 use check_words::check_of;
-use diagnosis::point_at;
-use files::{hand_on, print, read_file};
-use ini::Error;
-use ini_edit::EditError;
+use files::{hand_on, lock_place, print, read_file};
 use ini_options::words_of;
 use merge_files::merge_files;
 use merge_words::merge_of;
 use page::page_of;
+use refusals::refuse;
 use run::{Outcome, run, status, tell};
 use std::process::ExitCode;
 use target::{Target, handed_on};
-use words::parse;
+use words::{Asked, parse};
+
+/// How a run over a file ended, and the file that it is told of.
+#[derive(Drop)]
+struct End<'a> {
+    outcome: Outcome,
+    told: &'a str,
+}
 
 /// Runs over a file and the process's own streams, and keeps the bytes that were read.
-fn run_here(rt: &HostRuntime, words: &[String], input: &mut Vec<u8>) -> Outcome {
-    if let Some(page) = page_of(words) {
-        return match print(rt, page.text().as_bytes()) {
-            Ok(()) => Outcome::Done(Vec::new(rt.alloc())),
-            Err(refusal) => Outcome::from(refusal),
-        };
-    }
-    let Some(asked) = parse(words) else {
-        return Outcome::Usage;
-    };
+fn run_here<'a>(
+    rt: &HostRuntime,
+    words: &[String],
+    asked: Asked<'a>,
+    input: &mut Vec<u8>,
+) -> End<'a> {
     let target = Target::of_asked(asked);
+    let file = asked.file;
+    let _lock = match lock_place(rt, target) {
+        Ok(lock) => lock,
+        Err(refusal) => return ended(Outcome::from(refusal), target.told()),
+    };
     let is_there = match read_file(rt, target) {
         Ok(Some(bytes)) => {
             *input = bytes;
             true
         }
         Ok(None) => false,
-        Err(refusal) => return Outcome::from(refusal),
+        Err(refusal) => return ended(Outcome::from(refusal), file),
     };
     let outcome = run(rt.alloc(), words, input.as_slice());
-    let refused = match handed_on(asked, &outcome, input.as_slice()) {
-        Some(output) => {
-            let old = if is_there {
-                Some(input.as_slice())
-            } else {
-                None
-            };
-            hand_on(rt, target, old, output).err()
-        }
-        None => None,
+    let Some(output) = handed_on(asked, &outcome, input.as_slice()) else {
+        return ended(outcome, file);
     };
-    match refused {
-        Some(refusal) => Outcome::from(refusal),
-        None => outcome,
+    let old = is_there.then_some(input.as_slice());
+    match hand_on(rt, target, old, output) {
+        Ok(()) => ended(outcome, file),
+        Err(refusal) => ended(Outcome::from(refusal), target.told()),
     }
 }
 
-fn main(rt: HostRuntime) -> ExitCode {
-    let mut words = Vec::new(rt.alloc());
-    let mut input = Vec::new(rt.alloc());
-    let outcome = match words_of(&rt, rt.alloc()) {
-        Ok(given) => {
-            words = given;
-            if let Some(check) = check_of(words.as_slice()) {
-                return ExitCode::from(check_files(&rt, &check));
-            }
-            if let Some(merging) = merge_of(words.as_slice()) {
-                return ExitCode::from(merge_files(&rt, &merging));
-            }
-            run_here(&rt, words.as_slice(), &mut input)
-        }
-        Err(refusal) => Outcome::from(refusal),
-    };
-    let asked = parse(words.as_slice());
-    let file = asked.map_or("", |asked| asked.file);
-    tell(file, &outcome, &mut rt.stderr());
-    if let (Outcome::Refused(EditError::Text(Error::Parse(fault))), Some(asked)) = (
-        &outcome, asked,
-    ) {
-        let read = asked.options.reading;
-        let mut err = rt.stderr();
-        point_at(rt.alloc(), file, input.as_slice(), read, fault, &mut err);
+// A run over a file has ended so.
+fn ended(outcome: Outcome, told: &str) -> End<'_> {
+    End { outcome, told }
+}
+
+// Runs over what the words name, and answers the exit status.
+fn run_words(rt: &HostRuntime, words: &[String]) -> u8 {
+    if let Some(page) = page_of(words) {
+        return match print(rt, page.text().as_bytes()) {
+            Ok(()) => 0,
+            Err(refusal) => tell_alone(rt, &Outcome::from(refusal)),
+        };
     }
-    ExitCode::from(status(&outcome))
+    if let Some(check) = check_of(words) {
+        return check_files(rt, &check);
+    }
+    if let Some(merging) = merge_of(words) {
+        return merge_files(rt, &merging);
+    }
+    let Some(asked) = parse(words) else {
+        return tell_alone(rt, &Outcome::Usage);
+    };
+    let mut input = Vec::new(rt.alloc());
+    let End { outcome, told } = run_here(rt, words, asked, &mut input);
+    refuse(rt, asked.options.reading, told, input.as_slice(), outcome)
+}
+
+// Tells how a run ended that is about no file, and answers its status.
+fn tell_alone(rt: &HostRuntime, outcome: &Outcome) -> u8 {
+    tell("", outcome, &mut rt.stderr());
+    status(outcome)
+}
+
+fn main(rt: HostRuntime) -> ExitCode {
+    match words_of(&rt, rt.alloc()) {
+        Ok(words) => ExitCode::from(run_words(&rt, words.as_slice())),
+        Err(refusal) => ExitCode::from(tell_alone(&rt, &Outcome::from(refusal))),
+    }
 }

@@ -1,7 +1,7 @@
 //! A merge of files that are there: they are read, what they make is handed on, and what is refused is told.
 //! This file knows the process's streams, and no word of the program.
 
-use crate::files::{hand_on, read_file, read_input};
+use crate::files::{hand_on, lock_place, read_file, read_input};
 use crate::merge::{MergeEnd, load_all, merge};
 use crate::merge_words::Merging;
 use crate::refusals::refuse;
@@ -31,7 +31,12 @@ pub fn merge_files(rt: &HostRuntime, merging: &Merging<'_>) -> u8 {
             return refuse(rt, read, other.as_str(), &[], Outcome::from(refusal));
         }
     }
-    match read_file(rt, Target::of_merging(*merging)) {
+    let target = Target::of_merging(*merging);
+    let _lock = match lock_place(rt, target) {
+        Ok(lock) => lock,
+        Err(refusal) => return refuse(rt, read, target.told(), &[], Outcome::from(refusal)),
+    };
+    match read_file(rt, target) {
         Ok(Some(input)) => merge_read(rt, merging, Some(input.as_slice()), others.as_slice()),
         Ok(None) => merge_read(rt, merging, None, others.as_slice()),
         Err(refusal) => refuse(rt, read, merging.file, &[], Outcome::from(refusal)),
@@ -52,7 +57,7 @@ fn merge_read(
             let target = Target::of_merging(*merging);
             match hand_on(rt, target, old, bytes.as_slice()) {
                 Ok(()) => 0,
-                Err(refusal) => refuse(rt, read, file, &[], Outcome::from(refusal)),
+                Err(refusal) => refuse(rt, read, target.told(), &[], Outcome::from(refusal)),
             }
         }
         MergeEnd::Other(index, refusal) => {

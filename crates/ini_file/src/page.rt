@@ -69,9 +69,14 @@ Choices:
   --separator TEXT of set, add and format: what stands between key and value of
                    new lines; one = or : with spaces and tabs alone around it
   --dry-run        of what writes a file: shows the change, and writes none
+  --in-place       the file itself is written, not a new one in its place
+  --force          a write-protected file is written too
+  --wait SECONDS   how long a run waits for others that write the file (10)
+  --verbose        a line tells whether the file is changed or unchanged
   --output FILE    writes this file in place of the other; - is standard output
   --               what follows is no choice, though it begins with --
 
 Status: 0 done, 1 not found or warnings, 2 wrong words, 3 a refused text,
-4 a fault of a file or of memory. Only with status 0 is a file changed.
+4 a fault of a file or of memory. Only with status 0 is a file changed, but
+where a line says that it is written.
 ";

@@ -2,10 +2,11 @@
 ghost use Rattle.std.specs.Prelude.{◌≡◌, true};
 ghost use Rattle.std.specs.Option.{option_map};
 ghost use Rattle.ini_file.specs.Choices.{chosen_of};
-ghost use Rattle.ini_file.specs.Places.{handed_on, is_filter, is_of_file, makes_file, place_asked, place_of};
+ghost use Rattle.ini_file.specs.Places.{handed_on, is_filter, is_of_file, makes_file};
+ghost use Rattle.ini_file.specs.Places.{place_asked, place_of, told};
 ghost use Rattle.ini_file.specs.Requests.{asks_of, request_of};
 
-use crate::choices::Choices;
+use crate::choices::{Choices, Switches};
 use crate::merge_words::Merging;
 use crate::run::Outcome;
 use crate::words::{Asked, Command, Question};
@@ -22,6 +23,10 @@ pub struct Target<'a> {
     pub shows_change: bool,
     /// Whether the file is made where it isn't there.
     pub makes_file: bool,
+    /// What is chosen of the way in which it is saved.
+    pub switches: Switches,
+    /// How long others are waited for that write it, in seconds.
+    pub wait: Option<&'a str>,
 }
 
 impl<'a> Target<'a> {
@@ -31,12 +36,16 @@ impl<'a> Target<'a> {
         ensures place { result.place.now ≡ place_asked (asks_of asked.entry) }
         ensures shows_change { result.shows_change ≡ asked.entry.choices.switches.dry_run }
         ensures makes_file { result.makes_file ≡ makes_file (request_of asked.entry.command) }
+        ensures switches { result.switches ≡ asked.entry.choices.switches }
+        ensures wait { result.wait ≡ asked.entry.choices.wait }
     {
         Target {
             file: asked.file,
             place: place_of(asked.choices, asked.file, is_of_file(asked.command)),
             shows_change: asked.choices.switches.dry_run,
             makes_file: makes_file(asked.command),
+            switches: asked.choices.switches,
+            wait: asked.choices.wait,
         }
     }
 
@@ -47,12 +56,28 @@ impl<'a> Target<'a> {
             ≡ place_of (chosen_of merging.entry.choices) merging.entry.file.now true }
         ensures shows_change { result.shows_change ≡ merging.entry.choices.switches.dry_run }
         ensures makes_file { result.makes_file ≡ true }
+        ensures switches { result.switches ≡ merging.entry.choices.switches }
+        ensures wait { result.wait ≡ merging.entry.choices.wait }
     {
         Target {
             file: merging.file,
             place: place_of(merging.choices, merging.file, true),
             shows_change: merging.choices.switches.dry_run,
             makes_file: true,
+            switches: merging.choices.switches,
+            wait: merging.choices.wait,
+        }
+    }
+
+    /// The file that a fault is told of which arises where its bytes go: the one that is written; where that is
+    /// standard output, the one that is read.
+    pub fn told(self) -> &'a str
+        ensures { result.now ≡ told self.file.now self.place.now }
+    {
+        if self.place == "-" {
+            self.file
+        } else {
+            self.place
         }
     }
 }

@@ -10,6 +10,7 @@ invariant-words l =
       output = option_map (λ file. file.now) l.output;
       default = option_map (λ value. value.now) l.default;
       separator = option_map (λ text. text.now) l.separator;
+      wait = option_map (λ seconds. seconds.now) l.wait;
     })
     (map string_bytes l.rest) ≡ chosen no_choice (map string_bytes l.words)
 
