@@ -922,6 +922,22 @@ owners() {
 --groups=1001|65534:1001|640||640 65534 1001
 --clear-groups|65534:65534|600||600 65534 65534
 END
+    # the bits that let a file run as another user: the system takes them off where this user writes, so the call is looked at
+    if $traces; then
+        for mode in 4664 2664; do
+            fresh
+            chmod 777 .
+            chown 0:1001 settings.ini
+            chmod "$mode" settings.ini
+            strace -f -o "$room/trace" -e trace=fchmod setpriv --reuid=65534 --regid=65534 --groups=1001 "$room/program" \
+                set settings.ini name two >/dev/null 2>&1
+            sed -n 's/.*fchmod([0-9]*, 0*\([0-7]*\)).*/\1/p' "$room/trace" >"$room/have"
+            echo 664 >"$room/want"
+            count "by nobody over a file of mode $mode: no bit is asked for that lets it run as another user"
+        done
+    else
+        skipped=$((skipped + 2))
+    fi
     # write-protected: by the mode for root too, and by the user's rights
     for words in 'set settings.ini name two' 'merge settings.ini other.ini' 'format settings.ini' \
         'set --in-place settings.ini name two' 'list --output settings.ini other.ini' 'set --dry-run settings.ini name two'; do

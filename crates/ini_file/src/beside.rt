@@ -62,7 +62,7 @@ pub fn folder_of(path: &str) -> &str {
 // The name of a file up to that in its folder.
 fn front_of(path: &str) -> &str {
     match path.rsplit_once('/') {
-        Some((folder, _)) => path.split_at(folder.len().saturating_add(1)).0,
+        Some((folder, _)) => path.get(..folder.len().saturating_add(1)).unwrap_or(""),
         None => "",
     }
 }
