@@ -5,7 +5,7 @@
 # is no valgrind it says that it skipped all. Each case that fails is told. The last line is 'N passed, M failed', and the
 # status is 1 if a case failed.
 #
-#     tests/costs.sh [INI_TOOL [INI_CALLS]]
+#     tests/costs.sh [INI_TOOL [INI_REPLAY]]
 #
 # The programs are by default those that tools/run.sh builds.
 set -u
@@ -28,8 +28,8 @@ if [ -z "$tool" ]; then
     tool=$top/crates/ini_tool/out/ini_tool
 fi
 if [ -z "$calls" ]; then
-    "$top/tools/run.sh" ini_calls </dev/null || exit 1
-    calls=$top/crates/ini_calls/out/ini_calls
+    "$top/tools/run.sh" --build ini_replay || exit 1
+    calls=$top/crates/ini_replay/out/ini_replay
 fi
 
 # instructions STATUS COMMAND ..: how many the command takes over the file `in`, in thousands; nothing where it
@@ -56,10 +56,10 @@ at_most() {
 : >"$room/in"
 own=$(instructions 0 "$tool" fmt)
 
-# What ini_calls itself takes.
+# What ini_replay itself takes.
 calls_own=$(instructions 0 "$calls" elements)
 
-# grows_no_faster NAME MAKE N WORD: of the text that MAKE gives for twice N ini_calls takes at most 2.5 times what it takes for N
+# grows_no_faster NAME MAKE N WORD: of the text that MAKE gives for twice N ini_replay takes at most 2.5 times what it takes for N
 grows_no_faster() {
     "$2" "$3" >"$room/in"
     one=$(instructions 0 "$calls" "$4")
@@ -103,9 +103,9 @@ grows_no_faster 'elements' pairs 20000 elements
 # What so many calls take, beside what half as many do, so without the making of the document.
 call() {
     echo "$1 $2 $3 $(($4 / 2))" >"$room/in"
-    first=$(instructions 0 "$calls")
+    first=$(instructions 0 "$calls" calls)
     echo "$1 $2 $3 $4" >"$room/in"
-    second=$(instructions 0 "$calls")
+    second=$(instructions 0 "$calls" calls)
     [ -n "$first" ] && [ -n "$second" ] && echo $((second - first))
 }
 # A call on a document of 8,000 keys or sections costs at most four times what it costs on one of 1,000.

@@ -1,12 +1,12 @@
 #!/bin/sh
 # What the calls of the library ask of the memory and of the system, which no clause says: how many requests an edit makes
 # where slots, links and codes run out of room, that what was taken is given back, that files are read once, left whole and
-# closed, and that no size of some millions is refused. The calls are those of the program ini_calls, whose requests a small
+# closed, and that no size of some millions is refused. The calls are those of the program ini_replay, whose requests a small
 # library counts that is loaded before it (tests/memory/heap.c). Without a C compiler, or a heap that can be counted so, these
 # cases are skipped, and that is told. Each case that fails is told. The last line is 'N passed, M failed', and the status is 1
 # if a case failed.
 #
-#     tests/memory.sh [INI_CALLS [INI_TOOL [INI_MERGE [INI_FILE]]]]
+#     tests/memory.sh [INI_REPLAY [INI_TOOL [INI_MERGE [INI_FILE]]]]
 #
 # The programs are by default those that tools/run.sh builds.
 #
@@ -52,7 +52,7 @@ built() {
         "$top/tools/run.sh" --build "$1" >&2 && echo "$top/crates/$1/out/$1"
     fi
 }
-calls=$(built ini_calls "${1:-}") || exit 1
+calls=$(built ini_replay "${1:-}") || exit 1
 tool=$(built ini_tool "${2:-}") || exit 1
 merge=$(built ini_merge "${3:-}") || exit 1
 file=$(built ini_file "${4:-}") || exit 1
@@ -168,7 +168,7 @@ count_kept() {
         for it in none get_from set_there set_new append delete_from section len sections setter delete is_plain clone merged \
             layered; do
             echo "$it $shape 40 60" >"$room/in"
-            kept "$it, $shape" "$calls"
+            kept "$it, $shape" "$calls" calls
         done
     done
     echo 'append_unindexed 40 append 9 append_again 3 replace 4 remove 30 insert 20 clone 1 make_index 1' >"$room/in"
@@ -227,9 +227,9 @@ WORDS
 # requests_of CALL SHAPE: how many requests sixty more calls make
 requests_of() {
     echo "$1 $2 40 60" >"$room/in"
-    less=$(counted "$calls" <"$room/in" | cut -d ' ' -f 1)
+    less=$(counted "$calls" calls <"$room/in" | cut -d ' ' -f 1)
     echo "$1 $2 40 120" >"$room/in"
-    more=$(counted "$calls" <"$room/in" | cut -d ' ' -f 1)
+    more=$(counted "$calls" calls <"$room/in" | cut -d ' ' -f 1)
     [ -n "$less" ] && [ -n "$more" ] && echo $((more - less))
 }
 
@@ -259,7 +259,7 @@ count_requests() {
 }
 
 if cc -shared -fPIC -O1 -o "$room/heap.so" "$top/tests/memory/heap.c" 2>/dev/null &&
-    [ "$(echo 'none keys 1 1' | counted "$calls" | wc -l)" -eq 1 ]; then
+    [ "$(echo 'none keys 1 1' | counted "$calls" calls | wc -l)" -eq 1 ]; then
     count_growths
     count_kept
     count_requests
@@ -362,7 +362,7 @@ STEPS
 # of documents: calls
 while read -r call shape n times; do
     echo "$call $shape $n $times" >"$room/in"
-    is "$call $shape $n $times" "$call $shape $n $times" "$(bounded "$calls" <"$room/in" 2>&1 | cut -d : -f 1)"
+    is "$call $shape $n $times" "$call $shape $n $times" "$(bounded "$calls" calls <"$room/in" 2>&1 | cut -d : -f 1)"
 done <<'CALLS'
 clone keys 1000000 1
 clone sections 300000 1

@@ -102,8 +102,8 @@ build() {
     trap 'rm -rf "$room"' EXIT
     { room=$(mktemp -d) && : >"$room/log" && : >"$room/start" && mkfifo "$room/said"; } ||
         give_up "$name is not built, and there is no room for its log: set TMPDIR to a folder that can be written to"
-    # the run that builds it: an empty text to format, the version, or an empty file to merge
-    case $name in ini_tool) word=fmt ;; ini_file) word=--version ;; *) word=/dev/null ;; esac
+    # the run that builds it: an empty text to format, the version, no questions, or an empty file to merge
+    case $name in ini_tool) word=fmt ;; ini_file) word=--version ;; ini_replay) word=calls ;; *) word=/dev/null ;; esac
     (cd "$top/crates/$name" && TMPDIR=$room && export TMPDIR && exec rt run -- "$word") </dev/null >"$room/said" 2>&1 &
     builder=$!
     show <"$room/said" &

@@ -1,5 +1,5 @@
 #!/usr/bin/env python3
-"""Builds crate_answers.rs, the program by which the crate rust-ini answers the questions of `ini_answers`.
+"""Builds crate_answers.rs, the program by which the crate rust-ini answers the questions of `ini_replay answers`.
 
     build.py SOURCE FOLDER [WORD ..]
 

@@ -152,3 +152,21 @@ DEPARTURES_SHOWN = (
         "err 1:5 expecting \"\\\\n\" but found \"Some('k')\".",
     ),
 )
+
+# Questions by hand, with what they are answered: options one by one, and lines that are no questions.
+BY_HAND = (
+    ("11000 6b3d760a5b735d", "ok G 6b=76 S73"),
+    ("10011 6b3dC3a9", "ok G 6b=c3a9"),
+    ("Basics LF 11000 6b3d230a5b735d", "written 6b3d230a5b735d0a"),
+    ("Reserved CRLF 11000 6b3d230a5b735d", "written 6b3d5c230d0a5b735d0d0a"),
+    ("Nothing LF 11000 6b20233d", "written 6b20233d0a"),
+    ("Nothing CRLF 11000 3d", "err 1:2 missing key"),
+    *(
+        (line, "no question")
+        for line in (
+            "", "11000", "1100 6b", "110000 6b", "11002 6b", "11000 6", "11000 6g", "11000 c3", "11000  6b", "Basics 11000 6b",
+            "Basics LF 11000", "basics LF 11000 6b", "Basics CR 11000 6b", "Basics LF 1100 6b", "Basics LF 11000 6",
+            "Basics LF 11000 6b ", "LF Basics 11000 6b",
+        )
+    ),
+)  # fmt: skip

@@ -1,11 +1,11 @@
 #!/usr/bin/env python3
-"""Compares `ini_answers` with the Rust crate that this library is a port of, rust-ini 0.21.3.
+"""Compares `ini_replay answers` with the Rust crate that this library is a port of, rust-ini 0.21.3.
 
     compare.py texts ANSWERS CRATE BRACKETS [--written] [--less N] [--random N] [--damaged N] [--seed N]
     compare.py departures ANSWERS CRATE
     compare.py stored CRATE BRACKETS FOLDER
 
-ANSWERS is the program `ini_answers`. CRATE and BRACKETS are the two programs over the Rust crate that build.py makes of
+ANSWERS is the command `ini_replay answers`. CRATE and BRACKETS are the two programs over the Rust crate that build.py makes of
 crate_answers.rs, the second over the crate with brackets in names: they read the same lines, the one those with the last
 flag 0, the other those with 1, and answer in the same form. Each may be a command of several words.
 
@@ -25,13 +25,15 @@ isn't written. With `--less 1` the whole then takes some five minutes.
 `departures` shows the smallest text of each declared departure, with what both programs answer, and fails where that is
 not what cases.py says.
 
-`stored` writes the stored run of `ini_answers`, the files `stdin` and `stdout`, into FOLDER: the texts of cases.py, each
-under one option set for each answer that it has, and the questions of writing.py. What stands in `stdout` is what the
-crate answers. Lines where a departure shows are left out; the status is 1 if an option set has no line.
+`stored` makes the lines of `answers` in the stored run of `ini_replay`, the files `stdin` and `stdout` in FOLDER, anew: the
+texts of cases.py, each under one option set for each answer that it has, and the questions of writing.py. What stands in
+`stdout` is what the crate answers. Lines where a departure shows are left out; the status is 1 if an option set has no line.
+Those by hand, at the end of cases.py, follow.
 """
 import argparse
 import collections
 import itertools
+import pathlib
 import shlex
 import subprocess
 import sys
@@ -249,6 +251,14 @@ def writing_line(program, option, text, way):
     return question, one_line(answers(program, question.encode())) + "\n"
 
 
+def store_lines(folder, lines):
+    """Puts the lines into the stored run, before those that ask something else."""
+    stored = zip(*((folder / name).read_text().splitlines(keepends=True) for name in ("stdin", "stdout")))
+    lines = lines + [line for line in stored if not line[0].startswith("answers ")]
+    for column, name in enumerate(("stdin", "stdout")):
+        (folder / name).write_text("".join(line[column] for line in lines))
+
+
 def store(arguments):
     programs = Crate(arguments.crate, arguments.brackets)
     lines, departing = [], 0
@@ -262,9 +272,8 @@ def store(arguments):
         line = writing_line(programs.program(option), option, text, way)
         lines += [line] if line else []
         departing += not line
-    for column, name in enumerate(("stdin", "stdout")):
-        with open(f"{arguments.folder}/{name}", "w", newline="") as file:
-            file.writelines(line[column] for line in lines)
+    by_hand = [(f"{question}\n", f"{answer}\n") for question, answer in cases.BY_HAND]
+    store_lines(pathlib.Path(arguments.folder), [(f"answers {question}", answer) for question, answer in lines + by_hand])
     print(f"{len(lines)} lines stored, {len(lines) - loading} of them on writing; {departing} left out for a departure")
     counts = collections.Counter(question.split()[0] for question, _ in lines[:loading])
     print("on loading, by option set:", ", ".join(f"{option.flags()} {counts[option.flags()]}" for option in OPTIONS))

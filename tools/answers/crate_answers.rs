@@ -1,4 +1,4 @@
-//! The Rust crate's answers to the questions of `ini_answers`, in the same form: see the head of its `main.rt`.
+//! The Rust crate's answers to the questions of `ini_replay answers`, in the same form: see the head of its `answers.rt`.
 //!
 //! The crate reads brackets in names, or doesn't, as it was built; the feature `brackets` says so. A line that asks for the
 //! other, or is no question, ends the program, with its number and status 2.

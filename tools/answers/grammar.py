@@ -1,6 +1,6 @@
 """The line grammar as a reader in Python, which can also go the Rust crate's way at each declared departure.
 
-`Reader(text, option).answer()` is the line that the grammar derives for a text, in the form that `ini_answers` prints.
+`Reader(text, option).answer()` is the line that the grammar derives for a text, in the form that `ini_replay answers` prints.
 `Reader(text, option, departures).answer()` is that line where, at the departures named, the text is read as rust-ini
 0.21.3 reads it. So a difference between the two programs is declared exactly where the first line is the one's and, for
 some departures, the second line is the other's.

@@ -255,3 +255,7 @@ def questions():
         for call, key in (("set_existing", "k"), ("set_existing", "\tk"), ("delete", "k"), ("set", "j"), ("add", "k")):
             yield Question(call, option, next(ways), name, key, "new", text)
     yield from carried((DEFAULT,))
+
+
+# Lines that ask no edit: nothing, a word too few, a call that there isn't.
+NO_QUESTIONS = ("", "set 11000 Basics LF 3d G 6b 76", "put 11000 Basics LF 3d G 6b 76 ")

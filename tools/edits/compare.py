@@ -1,17 +1,17 @@
 #!/usr/bin/env python3
-"""Compares the bytes of edits: `ini_edits`, over the library's calls, and the model in model.py.
+"""Compares the bytes of edits: `ini_replay edits`, over the library's calls, and the model in model.py.
 
     compare.py random PROGRAM N [SEED]
     compare.py carried PROGRAM
     compare.py stored FOLDER
 
 `random` asks N random edits of both, and prints every difference with the smallest text that was found to show it; the
-status is 1 if there is one. PROGRAM may be a command of several words.
+status is 1 if there is one. PROGRAM is the command `ini_replay edits`, of several words as any.
 
 `carried` asks the same of the texts of the case files, each call under every set of options.
 
-`stored` writes the stored run of `ini_edits`, the files `stdin` and `stdout`, into FOLDER: the edits of cases.py. What
-stands in `stdout` is what the model answers, never the program.
+`stored` makes the lines of `edits` in the stored run of `ini_replay`, the files `stdin` and `stdout` in FOLDER, anew: the
+edits of cases.py. What stands in `stdout` is what the model answers, never the program.
 """
 import collections
 import itertools
@@ -41,7 +41,7 @@ UNPLAIN_SEPARATORS = ["", " =="]
 
 
 def line_of(question):
-    """The question as `ini_edits` reads it."""
+    """The question as `ini_replay edits` reads it."""
 
     def digits(text):
         return text.encode().hex()
@@ -176,10 +176,14 @@ def carried(program):
 
 
 def stored(folder):
-    """Writes the stored run."""
+    """Puts the edits into the stored run, behind the lines that ask something else."""
     questions = list(cases.questions())
-    (folder / "stdin").write_text("".join(line_of(question) + "\n" for question in questions))
-    (folder / "stdout").write_text("".join(answer(question) + "\n" for question in questions))
+    lines = [(f"edits {line_of(question)}\n", f"{answer(question)}\n") for question in questions]
+    lines += [(f"edits {line}\n", "no question\n") for line in cases.NO_QUESTIONS]
+    stored = zip(*((folder / name).read_text().splitlines(keepends=True) for name in ("stdin", "stdout")))
+    lines = [line for line in stored if not line[0].startswith("edits ")] + lines
+    for column, name in enumerate(("stdin", "stdout")):
+        (folder / name).write_text("".join(line[column] for line in lines))
     print(f"{len(questions)} edits")
 
 

@@ -1,6 +1,6 @@
 """The bytes of an edit, as docs/EDITING.md, crates/ini_edit/README.md and docs/GRAMMAR.md have them.
 
-`answer(question)` is what an edit of `ini_edit` gives, in the form in which `ini_edits` answers. Nothing here is taken from
+`answer(question)` is what an edit of `ini_edit` gives, in the form in which `ini_replay edits` answers. Nothing here is taken from
 the library's code. Positions are those of characters, from 0.
 """
 from dataclasses import dataclass

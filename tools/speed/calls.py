@@ -5,7 +5,7 @@
     calls.py compare OURS THEIRS [N ..]
     calls.py count OURS THEIRS [N ..]
 
-`build` builds two programs over the crate, and prints their paths: crate_calls.rs, which does what `ini_calls` does, and
+`build` builds two programs over the crate, and prints their paths: crate_calls.rs, which does what `ini_replay calls` does, and
 crate_fmt.rs, which does what `ini_tool fmt` does (speed.py compares these two). SOURCE is the folder of the crate's source,
 with its Cargo.toml, rust-ini 0.21.3 with its default features. FOLDER is made where it isn't there. The further words go to
 `cargo build`.
@@ -20,6 +20,7 @@ run, so that its times can be told. It stops where the two programs answer diffe
 import os
 import pathlib
 import re
+import shlex
 import subprocess
 import sys
 
@@ -68,7 +69,7 @@ def build(source, folder, words):
 
 def run(program, line, rounds):
     """The answers to a line that is given so many times, and the seconds of user time."""
-    process = subprocess.Popen([program], stdin=subprocess.PIPE, stdout=subprocess.PIPE, text=True)
+    process = subprocess.Popen(shlex.split(program), stdin=subprocess.PIPE, stdout=subprocess.PIPE, text=True)
     process.stdin.write(f"{line}\n" * rounds)
     process.stdin.close()
     answer = process.stdout.read()
@@ -96,7 +97,7 @@ def instructions(programs, line, _):
     """The instructions of each program."""
     found = []
     for program in programs:
-        command = ["valgrind", "--tool=callgrind", "--callgrind-out-file=/dev/null", program]
+        command = ["valgrind", "--tool=callgrind", "--callgrind-out-file=/dev/null", *shlex.split(program)]
         ran = subprocess.run(command, input=f"{line}\n", capture_output=True, text=True, check=True)
         found.append(int(re.search(r"Collected : (\d+)", ran.stderr)[1]))
     return found

@@ -1,4 +1,4 @@
-//! The program `ini_calls` over the Rust crate: the same lines in, the same lines out. See the head of its `main.rt`.
+//! `ini_replay calls` over the Rust crate: the same lines in, the same lines out. See the head of its `calls.rt`.
 use ini::Ini;
 use std::io::{self, BufRead};
 

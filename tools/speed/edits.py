@@ -5,7 +5,7 @@
     edits.py peers PROGRAM SECTIONS
     edits.py files FILE_PROGRAM
 
-PROGRAM is `ini_edits`. `own` makes a text of that size, whose last section has the key, and prints for loading it and for each
+PROGRAM is `ini_replay`. `own` makes a text of that size, whose last section has the key, and prints for loading it and for each
 edit the milliseconds of user and system time, and the ratio to loading. Reading the text, a run that does nothing else, is
 taken off. The aim is at most 1.2; the status is 1 if an edit misses it.
 
@@ -80,7 +80,7 @@ def peers(program, count):
         path.write_text("".join(sections(count)))
         copy = path.with_name("copy.ini")  # git's indented line is refused by crudini
         copy.write_text(path.read_text())
-        runs = {"ini_edits set_existing": [program, "set_existing"]}
+        runs = {"ini_replay set_existing": [program, "set_existing"]}
         if shutil.which("crudini"):
             runs["crudini --set"] = ["crudini", "--set", str(path), "last", "key", "new value"]
         if shutil.which("git"):

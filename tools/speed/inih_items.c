@@ -1,4 +1,4 @@
-/* Parses standard input with inih and writes the number of its pairs. As `ini_calls items` it reads the text whole first.
+/* Parses standard input with inih and writes the number of its pairs. As `ini_replay items` it reads the text whole first.
  *
  *     cc -O3 -DINI_USE_STACK=0 -DINI_MAX_LINE=4096 -o inih_items inih_items.c INIH/ini.c -I INIH
  *

@@ -1,4 +1,7 @@
 //! Calls on a multimap, one after another, so that what each asks of the memory can be counted.
+//!
+//! A question is steps, each with how often it is made, as `append 17 remove 3`. The answer is the question,
+//! the number of the multimap's pairs, and of those that are found.
 
 use ini::Error;
 use ini_multimap::Multimap;
@@ -104,20 +107,26 @@ impl Pairs {
     }
 }
 
-/// Makes the steps of a line: names, each with how often it is made. How many pairs there are then, and how
-/// many of them are found.
-pub(crate) fn steps(alloc: Global, line: &str) -> Result<(usize, usize), Error> {
+// Makes the steps.
+fn steps(alloc: Global, steps: &str) -> Result<Pairs, AllocError> {
     let mut pairs = Pairs {
         alloc,
         map: Multimap::new(alloc),
         made: 0,
     };
-    let mut words = line.split(' ');
+    let mut words = steps.split(' ');
     while let Some(step) = words.next() {
         let times: usize = words.next().unwrap_or("").parse().unwrap_or(1);
         for _ in 0..times {
             pairs.make(step)?;
         }
     }
-    Ok((pairs.map.len_pairs(), pairs.found()))
+    Ok(pairs)
+}
+
+/// The answer to a question, without a line end.
+pub(crate) fn answer(alloc: Global, question: &str) -> Result<String, Error> {
+    let pairs = steps(alloc, question)?;
+    let (len, found) = (pairs.map.len_pairs(), pairs.found());
+    Ok(format!(in alloc; "{question}: {len} {found}")?)
 }

@@ -1,6 +1,17 @@
-//! Answers: what loading a text gives, or what is written of it then, as a line.
+//! What loading a text gives, or what is written of it then, for a comparison with another program for INI
+//! files.
+//!
+//! A question is five flags (`options.rt`), a space, and the UTF-8 of a text in hexadecimal. The answer has
+//! names, keys and values in hexadecimal too: `ok`, and then ` G` for the general section or ` S` and the
+//! name for any other, each followed by ` KEY=VALUE` for every pair; or `err`, and the refusal as it prints.
+//!
+//! Where an escape policy by its name, a space, a line end (`LF` or `CRLF`) and a space stand in front of
+//! that, the answer is `written`, a space, and in hexadecimal what the loaded document is written as under
+//! the two; or the same refusal.
+mod question;
+
+use crate::answers::question::Question;
 use crate::hex::push_hex;
-use crate::question::Question;
 use ini::{Error, Ini, Properties, WriteOption};
 use std::alloc::Global;
 
@@ -41,8 +52,9 @@ fn written_line(alloc: Global, document: &Ini, option: WriteOption) -> Result<St
     Ok(line)
 }
 
-/// The answer to a question, without a line end. Refused for want of memory alone.
-pub fn answer(alloc: Global, question: Question) -> Result<String, Error> {
+/// The answer to a question, without a line end.
+pub(crate) fn answer(alloc: Global, question: &str) -> Result<String, Error> {
+    let question = Question::parse(alloc, question)?;
     let document = match Ini::load_from_str_opt(alloc, question.text.as_str(), question.reading) {
         Ok(document) => document,
         Err(Error::Parse(fault)) => return Ok(format!(in alloc; "err {fault}")?),
@@ -51,43 +63,5 @@ pub fn answer(alloc: Global, question: Question) -> Result<String, Error> {
     match question.writing {
         None => document_line(alloc, &document),
         Some(option) => written_line(alloc, &document, option),
-    }
-}
-
-#[cfg(test)]
-mod tests {
-    use super::answer;
-    use crate::question::Question;
-    use std::panic::Expect;
-    use std::process::Abort;
-
-    // Asks that the question is answered so.
-    fn expect_answer(rt: &(impl Abort + AllocGlobal), line: &str, want: &str) {
-        let question = Question::parse(rt.alloc(), line).expect(rt, line);
-        let answer = answer(rt.alloc(), question).expect(rt, line);
-        assert!(rt; answer.as_str() == want, "{line}: {answer}, and not {want}");
-    }
-
-    #[test]
-    fn answers(rt: HostRuntime) {
-        let rows = [
-            ("11000 ", "ok G"),
-            ("11000 6b3d760a5b735d", "ok G 6b=76 S73"),
-            (
-                "11000 6b",
-                "err 1:2 expecting \"[Some('='), Some(':')]\" but found EOF.",
-            ),
-            ("Basics LF 11000 ", "written "),
-            ("Basics LF 11000 6b3d230a5b735d", "written 6b3d230a5b735d0a"),
-            (
-                "Reserved CRLF 11000 6b3d230a5b735d",
-                "written 6b3d5c230d0a5b735d0d0a",
-            ),
-            ("Nothing LF 11000 6b20233d", "written 6b20233d0a"),
-            ("Nothing CRLF 11000 3d", "err 1:2 missing key"),
-        ];
-        for (line, want) in rows {
-            expect_answer(&rt, line, want);
-        }
     }
 }

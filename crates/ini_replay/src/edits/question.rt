@@ -1,8 +1,9 @@
 //! Questions: an edit of a text, and the options by which it is read and written.
 use crate::hex::text_of_hex;
-use ini_text::{EscapePolicy, LineSeparator, ParseOption, WriteOption};
+use crate::options::{invalid, policy_of_name, reading_of_flags, separator_of_line_end};
+use ini_text::{ParseOption, WriteOption};
 use std::alloc::Global;
-use std::io::{self, ErrorKind};
+use std::io;
 
 /// The calls of `ini_edit`.
 #[derive(Clone, Copy, Debug)]
@@ -16,7 +17,7 @@ pub(crate) enum Call {
     RenameSection,
 }
 
-/// What one line of the input asks.
+/// What a line asks.
 #[derive(Drop)]
 pub(crate) struct Question {
     pub(crate) call: Call,
@@ -29,10 +30,6 @@ pub(crate) struct Question {
     pub(crate) text: String,
 }
 
-fn invalid() -> io::Error {
-    ErrorKind::InvalidInput.into()
-}
-
 fn call_of_name(name: &str) -> io::Result<Call> {
     match name {
         "set_existing" => Ok(Call::SetExisting),
@@ -42,49 +39,6 @@ fn call_of_name(name: &str) -> io::Result<Call> {
         "rename_key" => Ok(Call::RenameKey),
         "delete_section" => Ok(Call::DeleteSection),
         "rename_section" => Ok(Call::RenameSection),
-        _ => Err(invalid()),
-    }
-}
-
-fn flag(digit: u8) -> io::Result<bool> {
-    match digit {
-        b'0' => Ok(false),
-        b'1' => Ok(true),
-        _ => Err(invalid()),
-    }
-}
-
-fn read_of_flags(flags: &str) -> io::Result<ParseOption> {
-    let [escape, quote, multiline, indent, brackets] = flags.as_bytes() else {
-        return Err(invalid());
-    };
-    Ok(ParseOption {
-        enabled_escape: flag(*escape)?,
-        enabled_quote: flag(*quote)?,
-        enabled_indented_mutiline_value: flag(*multiline)?,
-        enabled_preserve_key_leading_whitespace: flag(*indent)?,
-        enabled_brackets_in_section_names: flag(*brackets)?,
-    })
-}
-
-fn policy_of_name(name: &str) -> io::Result<EscapePolicy> {
-    match name {
-        "Nothing" => Ok(EscapePolicy::Nothing),
-        "Basics" => Ok(EscapePolicy::Basics),
-        "BasicsUnicode" => Ok(EscapePolicy::BasicsUnicode),
-        "BasicsUnicodeExtended" => Ok(EscapePolicy::BasicsUnicodeExtended),
-        "Reserved" => Ok(EscapePolicy::Reserved),
-        "ReservedUnicode" => Ok(EscapePolicy::ReservedUnicode),
-        "ReservedUnicodeExtended" => Ok(EscapePolicy::ReservedUnicodeExtended),
-        "Everything" => Ok(EscapePolicy::Everything),
-        _ => Err(invalid()),
-    }
-}
-
-fn line_end_of_name(name: &str) -> io::Result<LineSeparator> {
-    match name {
-        "LF" => Ok(LineSeparator::SystemDefault),
-        "CRLF" => Ok(LineSeparator::CRLF),
         _ => Err(invalid()),
     }
 }
@@ -118,9 +72,9 @@ impl Question {
         let mut words = line.split(' ');
         let mut word = || words.next().ok_or(invalid());
         let call = call_of_name(word()?)?;
-        let read = read_of_flags(word()?)?;
+        let read = reading_of_flags(word()?)?;
         let escape_policy = policy_of_name(word()?)?;
-        let line_separator = line_end_of_name(word()?)?;
+        let line_separator = separator_of_line_end(word()?)?;
         let separator = text_of_hex(alloc, word()?)?;
         let write = WriteOption {
             escape_policy,

@@ -16,7 +16,7 @@ fn digit(value: u8) -> char
 }
 
 /// Appends bytes in hexadecimal.
-pub fn push_hex(line: &mut String, bytes: &[u8]) -> Result<(), AllocError> {
+pub(crate) fn push_hex(line: &mut String, bytes: &[u8]) -> Result<(), AllocError> {
     for &byte in bytes {
         line.push(digit(byte / 16))?;
         line.push(digit(byte % 16))?;
@@ -24,9 +24,12 @@ pub fn push_hex(line: &mut String, bytes: &[u8]) -> Result<(), AllocError> {
     Ok(())
 }
 
-fn byte(high: u8, low: u8) -> Option<u8> {
-    let high = char::from(high).to_digit(16)?;
-    let low = char::from(low).to_digit(16)?;
+fn byte(pair: &[u8]) -> Option<u8> {
+    let [high, low] = pair else {
+        return None;
+    };
+    let high = char::from(*high).to_digit(16)?;
+    let low = char::from(*low).to_digit(16)?;
     u8::try_from(high * 16 + low).ok()
 }
 
@@ -35,16 +38,13 @@ fn byte(high: u8, low: u8) -> Option<u8> {
 /// # Errors
 ///
 /// `InvalidInput` where the digits are no bytes or the bytes no UTF-8, and refused memory.
-pub fn text_of_hex(alloc: Global, digits: &str) -> io::Result<String> {
+pub(crate) fn text_of_hex(alloc: Global, digits: &str) -> io::Result<String> {
     let mut bytes = Vec::with_capacity(alloc, digits.len() / 2)?;
     for pair in digits.as_bytes().chunks(2) {
-        match pair {
-            [high, low] => match byte(*high, *low) {
-                Some(byte) => bytes.push(byte)?,
-                None => return Err(ErrorKind::InvalidInput.into()),
-            },
-            _ => return Err(ErrorKind::InvalidInput.into()),
-        }
+        let Some(byte) = byte(pair) else {
+            return Err(ErrorKind::InvalidInput.into());
+        };
+        bytes.push(byte)?;
     }
     match String::from_utf8(bytes) {
         Ok(text) => Ok(text),

@@ -1,6 +1,19 @@
-//! Answers: the text that an edit gives, or why there is none, as a line.
+//! The new text that an edit of a text gives, or why there is none, for a comparison with another program.
+//!
+//! A question has nine words with a space between them: the call, as `set_existing`; five flags
+//! (`options.rt`); the escape policy by its name; the line end, `LF` or `CRLF`; the separator; the section,
+//! `G` for the general one or `S` and its name; the key; the value, or the new key or name; and the text.
+//! Separator, name, key, value and text stand as the hexadecimal of their UTF-8, which may be nothing. A
+//! call takes of these what it has a use for. The general section has no header, so there is none to take
+//! out or to name.
+//!
+//! The answer is `new` and the new text in hexadecimal; `none`, where there is nothing to edit; or `refused`
+//! and why, a refused text with line, column and kind.
+mod question;
+pub(crate) mod timed;
+
+use crate::edits::question::{Call, Question};
 use crate::hex::push_hex;
-use crate::question::{Call, Question};
 use ini_edit::{
     EditError, add, delete, delete_section, rename_key, rename_section, set, set_existing,
 };
@@ -49,13 +62,14 @@ fn section_edited(
 
 fn new_line(alloc: Global, text: &str) -> Result<String, Error> {
     let mut line = String::from_str(alloc, "new ")?;
-    push_hex(&mut line, text)?;
+    push_hex(&mut line, text.as_bytes())?;
     Ok(line)
 }
 
-/// The answer to a question, without a line end. Refused for want of memory alone.
-pub(crate) fn answer(alloc: Global, asked: &Question) -> Result<String, Error> {
-    match edited(alloc, asked) {
+/// The answer to a question, without a line end.
+pub(crate) fn answer(alloc: Global, question: &str) -> Result<String, Error> {
+    let asked = Question::parse(alloc, question)?;
+    match edited(alloc, &asked) {
         Ok(Some(new)) => new_line(alloc, new.as_str()),
         Ok(None) => Ok(String::from_str(alloc, "none")?),
         Err(EditError::Text(Error::Parse(fault))) => {

@@ -4,7 +4,7 @@ use ini_layers::{Layers, NoLayer};
 use std::alloc::{AllocError, Global};
 
 /// The document as the only layer.
-pub fn layers_of(alloc: Global, document: Ini) -> Result<Layers, Error> {
+pub(crate) fn layers_of(alloc: Global, document: Ini) -> Result<Layers, Error> {
     let mut layers = Layers::new(alloc);
     match layers.push(document) {
         Ok(()) => Ok(layers),
@@ -14,7 +14,7 @@ pub fn layers_of(alloc: Global, document: Ini) -> Result<Layers, Error> {
 
 /// The texts of a document, and behind them those that it doesn't have.
 #[derive(Drop)]
-pub struct Names {
+pub(crate) struct Names {
     alloc: Global,
     // Whether each text names a section, and not a key of one section.
     has_sections: bool,
@@ -23,7 +23,7 @@ pub struct Names {
 
 impl Names {
     /// So many texts.
-    pub fn new(alloc: Global, has_sections: bool, len: usize) -> Result<Names, AllocError> {
+    pub(crate) fn new(alloc: Global, has_sections: bool, len: usize) -> Result<Names, AllocError> {
         let mut texts = Vec::new(alloc);
         for number in 0..len {
             texts.push(format!(in alloc; "the name {number}")?)?;
@@ -53,7 +53,7 @@ impl Names {
     }
 
     /// Sets a value at the number.
-    pub fn set(&self, document: &mut Ini, number: usize) -> Result<usize, Error> {
+    pub(crate) fn set(&self, document: &mut Ini, number: usize) -> Result<usize, Error> {
         let (section, key) = self.place(number);
         let (key, value) = (self.own(key)?, self.own("its value")?);
         document.set_to(Some(section), key, value)?;
@@ -78,7 +78,7 @@ impl Names {
     }
 
     /// What the layers have at the number: the length of the value.
-    pub fn layered(&self, layers: &Layers, number: usize) -> usize {
+    pub(crate) fn layered(&self, layers: &Layers, number: usize) -> usize {
         let (section, key) = self.place(number);
         layers
             .get_from(Some(section), key)
@@ -87,7 +87,7 @@ impl Names {
 
     /// Makes one call at a number that is there, or at one that is new, and answers the length of what it
     /// gives.
-    pub fn call(
+    pub(crate) fn call(
         &self,
         document: &mut Ini,
         call: &str,

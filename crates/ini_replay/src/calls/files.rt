@@ -1,4 +1,8 @@
 //! Loading from files and saving into files, by each form, again and again, and what a loaded document finds.
+//!
+//! A question is `FORM TIMES PATH`: the file is loaded, or a small document saved into it, by the form. The
+//! answer is the question, and the number of sections or the refusal. The form `found` tells how many
+//! numbers below TIMES are keys of the file, and how many are sections.
 
 use ini::{Error, EscapePolicy, Ini, ParseOption, WriteOption};
 use std::alloc::Global;
@@ -42,8 +46,8 @@ fn found(alloc: Global, document: &Ini, numbers: usize) -> Result<(usize, usize)
     Ok((keys, sections))
 }
 
-/// Loads the file, and looks for so many numbers.
-pub(crate) fn numbers_found<R: Files>(
+// Loads the file, and looks for so many numbers.
+fn numbers_found<R: Files>(
     rt: &R,
     alloc: Global,
     numbers: usize,
@@ -54,8 +58,8 @@ pub(crate) fn numbers_found<R: Files>(
     Ok(format!(in alloc; "{keys} keys, {sections} sections")?)
 }
 
-/// Makes the call of the form so many times. The number of sections, or the last refusal's text.
-pub(crate) fn file_calls<R: Files>(
+// Makes the call of the form so many times. The number of sections, or the last refusal's text.
+fn file_calls<R: Files>(
     rt: &R,
     alloc: Global,
     form: &str,
@@ -76,4 +80,18 @@ pub(crate) fn file_calls<R: Files>(
         };
     }
     Ok(told)
+}
+
+/// The answer to a question, without a line end.
+pub(crate) fn answer(rt: &HostRuntime, question: &str) -> Result<String, Error> {
+    let alloc = rt.alloc();
+    let mut words = question.split(' ');
+    let form = words.next().unwrap_or("");
+    let times = words.next().unwrap_or("").parse().unwrap_or(0);
+    let path = words.next().unwrap_or("");
+    let told = match form {
+        "found" => numbers_found(rt, alloc, times, path)?,
+        _ => file_calls(rt, alloc, form, times, path)?,
+    };
+    Ok(format!(in alloc; "{question}: {told}")?)
 }

@@ -1,0 +1,55 @@
+//! Options by the words of a question: `InvalidInput` where a word is none.
+use ini_text::{EscapePolicy, LineSeparator, ParseOption};
+use std::io::{self, ErrorKind};
+
+/// That a line is no question.
+pub(crate) fn invalid() -> io::Error {
+    ErrorKind::InvalidInput.into()
+}
+
+fn flag(digit: u8) -> io::Result<bool> {
+    match digit {
+        b'0' => Ok(false),
+        b'1' => Ok(true),
+        _ => Err(invalid()),
+    }
+}
+
+/// How a text is read, by five flags, each `0` or `1`: escapes, quotes, multiline values, kept indentation,
+/// brackets in names.
+pub(crate) fn reading_of_flags(flags: &str) -> io::Result<ParseOption> {
+    let [escape, quote, multiline, indent, brackets] = flags.as_bytes() else {
+        return Err(invalid());
+    };
+    Ok(ParseOption {
+        enabled_escape: flag(*escape)?,
+        enabled_quote: flag(*quote)?,
+        enabled_indented_mutiline_value: flag(*multiline)?,
+        enabled_preserve_key_leading_whitespace: flag(*indent)?,
+        enabled_brackets_in_section_names: flag(*brackets)?,
+    })
+}
+
+/// The policy of a name.
+pub(crate) fn policy_of_name(name: &str) -> io::Result<EscapePolicy> {
+    match name {
+        "Nothing" => Ok(EscapePolicy::Nothing),
+        "Basics" => Ok(EscapePolicy::Basics),
+        "BasicsUnicode" => Ok(EscapePolicy::BasicsUnicode),
+        "BasicsUnicodeExtended" => Ok(EscapePolicy::BasicsUnicodeExtended),
+        "Reserved" => Ok(EscapePolicy::Reserved),
+        "ReservedUnicode" => Ok(EscapePolicy::ReservedUnicode),
+        "ReservedUnicodeExtended" => Ok(EscapePolicy::ReservedUnicodeExtended),
+        "Everything" => Ok(EscapePolicy::Everything),
+        _ => Err(invalid()),
+    }
+}
+
+/// The line separator that writes a line end. `CR` is the one that writes LF, on every platform.
+pub(crate) fn separator_of_line_end(name: &str) -> io::Result<LineSeparator> {
+    match name {
+        "LF" => Ok(LineSeparator::CR),
+        "CRLF" => Ok(LineSeparator::CRLF),
+        _ => Err(invalid()),
+    }
+}
