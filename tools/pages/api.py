@@ -3,8 +3,8 @@
 
     tools/pages/api.py > docs/API.md
 
-Each public function and method has a line: its signature, and the first sentence of its doc comment. A type is public where
-its crate's lib.rt hands it out by `pub use`, a function also where it stands in a module that is `pub mod`. It reads the
+Each public function and method has a line: its signature, and the first sentence of its doc comment. A type or a function is
+public where its crate's lib.rt hands it out by `pub use`, or where it stands in a module that is `pub mod`. It reads the
 layout that `rt fmt` writes, and ends with status 1 and a line on standard error where it meets something that it does not
 know, such as a public function without a doc comment, or a name that is handed out and found nowhere.
 """
@@ -144,13 +144,14 @@ def calls(crate):
             item = ITEM.match(line)
             if line.startswith("pub ") and not item and not re.match(r"pub (use|mod|const|static|ghost)\b", line):
                 raise Unknown(f"{where}: {line}")
-            if item and item[1] in ("struct", "enum", "trait", "type") and item[2] in own:
+            if item and item[1] in ("struct", "enum", "trait", "type") and (item[2] in own or module in modules):
                 seen.add(item[2])
-                heads[item[2]] = f"{item[1]}: {sentence(lines, at, where)}"
-                given.setdefault(item[2], [])
-                traits.setdefault(item[2], []).extend(derived(lines, at))
+                name = item[2] if item[2] in own else f"{file.removesuffix('.rt').replace('/', '::')}::{item[2]}"
+                heads[name] = f"{item[1]}: {sentence(lines, at, where)}"
+                given.setdefault(name, [])
+                traits.setdefault(name, []).extend(derived(lines, at))
                 if item[1] == "trait" and line.endswith("{"):
-                    inside, in_trait = item[2], True
+                    inside, in_trait = name, True
             elif item and "fn" in item[1] and (item[2] in own or module in modules):
                 seen.add(item[2])
                 name = file.removesuffix(".rt").replace("/", "::") if module in modules else ""

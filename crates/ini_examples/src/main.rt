@@ -3,6 +3,7 @@
 #![tactic(auto)]
 
 mod callers;
+mod edited_text;
 mod faults;
 mod fleet;
 mod migration;
@@ -11,6 +12,7 @@ mod report;
 mod save;
 mod service;
 mod settings;
+mod traps;
 
 use ini::Error;
 
@@ -52,6 +54,12 @@ fn main(rt: HostRuntime) -> Result<(), Error> {
 
     let told = faults::told(alloc, "[paths]\nlog = /tmp/log\n= /tmp/cache\n")?;
     println!(rt; "{told}")?;
+    match edited_text::with_port(alloc, "[server]\n  port\t= 80 \n# of the proxy\n", "443") {
+        Ok(text) => println!(rt; "{text}")?,
+        Err(refused) => println!(rt; "{refused}")?,
+    }
+    let warnings = traps::warnings(alloc, "[log]\nfile = C:\\temp # old\nfile = /tmp\n")?;
+    println!(rt; "{warnings}")?;
     let walked = peers::walked(alloc)?;
     println!(rt; "{walked}")?;
     Ok(())

@@ -142,7 +142,7 @@ pub(crate) struct LimitedWriter {
     limits: Limits,
     room: usize,
     taken: Vec<u8>,
-    calls: usize,
+    pub(crate) calls: usize,
     flushes: usize,
 }
 

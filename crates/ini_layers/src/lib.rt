@@ -8,8 +8,6 @@
 mod iter;
 mod layers;
 mod merge;
-#[cfg(test)]
-mod tests;
 
 pub use iter::DocumentIter;
 pub use layers::{Layers, NoLayer};

@@ -1,5 +1,5 @@
 //! Lists of edits: the bytes of the new text, which edits found something, and which was refused.
-use crate::show::{options_of, told};
+use super::show::{options_of, told};
 use ini::{Error, WriteOption};
 use ini_edit::{Edit, make_edits};
 use std::alloc::Global;

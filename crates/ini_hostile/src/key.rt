@@ -6,7 +6,7 @@ ghost use Rattle.std.specs.Cmp.Lexicographic.{nat_list_eq_equiv, pointwise};
 ghost use Rattle.std.specs.Ordering.{on};
 ghost use Rattle.ini_multimap.specs.Keys.{text_code};
 ghost use Rattle.ini_multimap.specs.KeyLaws.{text_code-eq};
-ghost use Rattle.ini_compare.specs.Keys.{lower};
+ghost use Rattle.ini_hostile.specs.Keys.{lower};
 
 use ini_multimap::{MapKey, Probe};
 

@@ -1,6 +1,6 @@
 //! Sections of random texts by random options: the new text loads as the edited document.
-use crate::random::Random;
-use crate::show::{loaded, options_of, shown, told};
+use super::random::Random;
+use super::show::{loaded, options_of, shown, told};
 use ini::{Error, Ini};
 use ini_edit::{EditError, delete_section};
 use std::alloc::Global;

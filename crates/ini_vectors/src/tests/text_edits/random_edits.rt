@@ -1,6 +1,6 @@
 //! Edits of random texts by random options: the new text loads as the edited document.
-use crate::random::Random;
-use crate::show::{options_of, shown};
+use super::random::Random;
+use super::show::{options_of, shown};
 use ini::{Error, EscapePolicy, Ini, LineSeparator, ParseOption, WriteOption};
 use ini_edit::{EditError, add, delete, set, set_existing};
 use std::alloc::Global;

@@ -1,4 +1,5 @@
-//! Each call once, and the comparisons, which share keys that are made of texts.
+//! The multimap: each call once, and the same calls on it and on a plain list, every reply and every walk
+//! compared. The keys are made of texts.
 use ini_multimap::MapKey;
 
 mod both;

@@ -1,7 +1,7 @@
 //! Keys of random texts renamed, by random options: the new text loads as the document in which the pair is
 //! renamed.
-use crate::random::Random;
-use crate::show::{options_of, shown};
+use super::random::Random;
+use super::show::{options_of, shown};
 use ini::{Error, EscapePolicy, Ini, ParseOption};
 use ini_edit::{EditError, rename_key};
 use std::alloc::Global;

@@ -1,6 +1,6 @@
 //! What layers answer, and what is written of them once they are merged.
-use super::*;
 use ini::Ini;
+use ini_layers::Layers;
 use std::panic::Expect;
 use std::process::Abort;
 
