@@ -1,10 +1,10 @@
 #!/bin/sh
 # What the calls of the library ask of the memory and of the system, which no clause says: how many requests an edit makes
-# where slots, links and codes run out of room, that what was taken is given back, that files are read once, left whole and
-# closed, and that no size of some millions is refused. The calls are those of the program ini_replay, whose requests a small
-# library counts that is loaded before it (tests/memory/heap.c). Without a C compiler, or a heap that can be counted so, these
-# cases are skipped, and that is told. Each case that fails is told. The last line is 'N passed, M failed', and the status is 1
-# if a case failed.
+# where slots, links and codes run out of room, that what was taken is given back, what a program does where each request is
+# refused in turn, that files are read once, left whole and closed, and that no size of some millions is refused. The calls are
+# those of the program ini_replay, whose requests a small library counts that is loaded before it (tests/memory/heap.c). Without
+# a C compiler, or a heap that can be counted so, these cases are skipped, and that is told. Each case that fails is told. The
+# last line is 'N passed, M failed', and the status is 1 if a case failed.
 #
 #     tests/memory.sh [INI_REPLAY [INI_TOOL [INI_MERGE [INI_FILE]]]]
 #
@@ -258,11 +258,44 @@ count_requests() {
     at_most 'bytes of 1,030 sections' "$((${less:-0} * 11 / 10))" "$more"
 }
 
+# refused NAME WANTED PROGRAM WORD ..: over the file `in`, where the request of a number and all behind it are refused, a program
+# tells that it is out of memory and writes nothing; so for each number up to the one with which it is done, and writes this
+refused() {
+    name=$1
+    printf '%b' "$2" >"$room/wanted"
+    shift 2
+    number=0
+    ended=4
+    while [ "$ended" -ne 0 ] && [ "$number" -lt 500 ]; do
+        number=$((number + 1))
+        timeout 60 env HEAP_REFUSE=$number LD_PRELOAD="$room/heap.so" "$@" <"$room/in" >"$room/out" 2>"$room/err"
+        ended=$?
+        if [ "$ended" -ne 0 ]; then
+            is "$name, refused from request $number on" '4, out of memory, 0 bytes' \
+                "$ended, $(sed 's/.*: //' "$room/err"), $(wc -c <"$room/out") bytes"
+        fi
+    done
+    is "$name, with memory at hand" "$(od -c "$room/wanted")" "$(od -c "$room/out")"
+    is "$name asks for memory" yes "$([ "$number" -gt 1 ] && echo yes)"
+}
+
+# Each request of a run is refused in turn.
+refuse_each() {
+    printf 'k=v\n[a]\nx=y;\n' >"$room/in"
+    refused 'ini_tool fmt' 'k=v\n\n[a]\nx=y;\n' "$tool" fmt
+    refused 'ini_tool set' 'k=v\r\n\r\n[a]\r\nx=1\r\n' "$tool" --crlf set x 1 a
+    refused 'ini_tool del' '[a]\nx=y\\;\n' "$tool" --policy Reserved del k
+    refused 'ini_tool list' '\tk\tv\n[a]\tx\ty;\n' "$tool" list
+    refused 'ini_tool get' 'y;\n' "$tool" get x a
+    refused 'ini_merge' 'k=v\n\n[a]\nx=y;\n' "$merge" "$room/in" "$room/in"
+}
+
 if cc -shared -fPIC -O1 -o "$room/heap.so" "$top/tests/memory/heap.c" 2>/dev/null &&
     [ "$(echo 'none keys 1 1' | counted "$calls" calls | wc -l)" -eq 1 ]; then
     count_growths
     count_kept
     count_requests
+    refuse_each
 else
     echo 'skipped: how many requests are made, and what is given back, since there is no C compiler or no such heap'
 fi

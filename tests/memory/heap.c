@@ -1,7 +1,7 @@
 /*
  * Counts what a program asks of the C library's heap, and what it gives back: to be loaded before the program. At its end it
  * adds a line to the file that HEAP_COUNT names: the number of requests (malloc, calloc, and realloc that isn't to no bytes),
- * of blocks that weren't given back, and of their bytes.
+ * of blocks that weren't given back, and of their bytes. From the request on that HEAP_REFUSE counts, from 1, each is refused.
  */
 #include <fcntl.h>
 #include <malloc.h>
@@ -15,6 +15,7 @@ extern void *__libc_realloc(void *block, size_t size);
 extern void __libc_free(void *block);
 
 static unsigned long requests;
+static unsigned long refused_from;
 static long blocks;
 static long bytes;
 
@@ -35,16 +36,29 @@ static void given_back(void *block)
     }
 }
 
-void *malloc(size_t size)
+/* Counts a request. Whether it is refused. */
+static int is_refused(void)
 {
     requests++;
-    return taken(__libc_malloc(size));
+    return refused_from != 0 && requests >= refused_from;
+}
+
+__attribute__((constructor)) static void begin(void)
+{
+    const char *from = getenv("HEAP_REFUSE");
+
+    requests = 0;
+    refused_from = from ? strtoul(from, NULL, 10) : 0;
+}
+
+void *malloc(size_t size)
+{
+    return is_refused() ? NULL : taken(__libc_malloc(size));
 }
 
 void *calloc(size_t count, size_t size)
 {
-    requests++;
-    return taken(__libc_calloc(count, size));
+    return is_refused() ? NULL : taken(__libc_calloc(count, size));
 }
 
 void *realloc(void *block, size_t size)
@@ -52,8 +66,8 @@ void *realloc(void *block, size_t size)
     void *other;
     long before = block ? (long)malloc_usable_size(block) : 0;
 
-    if (size > 0)
-        requests++;
+    if (size > 0 && is_refused())
+        return NULL;
     other = __libc_realloc(block, size);
     if (other || size == 0) {
         blocks -= block != NULL;

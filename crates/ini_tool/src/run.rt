@@ -111,6 +111,3 @@ pub fn tell<W: Write>(outcome: &Outcome, err: &mut W)
         }
     }
 }
-
-#[cfg(test)]
-mod tests;
