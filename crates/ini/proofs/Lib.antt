@@ -20,6 +20,7 @@ pub mod RefusalLemmas
 pub mod RenameLawLemmas
 pub mod RenameLemmas
 pub mod SectionLemmas
+pub mod SplitLemmas
 pub mod StreamLemmas
 pub mod TextLemmas
 pub mod WritingLemmas

@@ -3,6 +3,7 @@ pub mod Properties
 pub mod Documents
 pub mod Edits
 pub mod EditLaws
+pub mod EditLists
 pub mod Equality
 pub mod Walks
 pub mod Lends

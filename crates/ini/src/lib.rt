@@ -7,6 +7,7 @@
 #![tactic(auto)]
 
 mod document;
+pub mod edits;
 mod entry;
 mod file;
 mod index;

@@ -1,2 +1,1 @@
-pub mod SplitLemmas
 pub mod ReloadLemmas

@@ -1,2 +1,1 @@
-pub mod EditLists
 pub mod Reloads

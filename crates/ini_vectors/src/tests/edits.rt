@@ -1,5 +1,5 @@
 //! Lists of edits, made on documents and on texts.
-use crate::{Edit, apply, edit_text};
+use ini::edits::{Edit, apply, edit_text};
 use ini::{Error, EscapePolicy, Ini, LineSeparator, ParseOption, Watched, WriteOption};
 use std::alloc::{AllocError, Global};
 

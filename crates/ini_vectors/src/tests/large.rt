@@ -1,6 +1,6 @@
 //! Large documents, names and texts, past the sizes at which a call might stop: none is told to be out of
 //! memory.
-use crate::{Edit, apply};
+use ini::edits::{Edit, apply};
 use ini::{Error, Ini, Properties};
 use std::alloc::Global;
 use std::process::Abort;

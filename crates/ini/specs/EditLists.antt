@@ -9,9 +9,9 @@ use Rattle.ini.specs.Documents.{Document, section_removed}
 use Rattle.ini.specs.Edits.{add_in, delete_in, delete_in_all, set_in}
 use Rattle.ini.specs.Loading.{IsDocumentOf}
 use Rattle.ini.specs.Written.{written}
-use Rattle.ini_vectors.specs.declared.edit.Edit.{Edit}
-use Rattle.ini_vectors.specs.declared.edit.Edit.TheVariants.{Set, Add, Delete, DeleteFrom, DeleteSection}
-use Rattle.ini_vectors.specs.declared.edit.Edit.TheVariants.{Clear}
+use Rattle.ini.specs.declared.edits.Edit.{Edit}
+use Rattle.ini.specs.declared.edits.Edit.TheVariants.{Set, Add, Delete, DeleteFrom, DeleteSection}
+use Rattle.ini.specs.declared.edits.Edit.TheVariants.{Clear}
 
 -- the document after one edit
 abbrev pub edited_once : Document → Edit → Document

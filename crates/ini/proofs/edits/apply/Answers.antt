@@ -1,7 +1,7 @@
 use Rattle.std.proofs.Common.{◌∙◌, suc, take, drop}
 use Rattle.std.proofs.lemmas.Result.{err_from_is_err_and}
-use Rattle.ini_vectors.proofs.SplitLemmas.{split_at}
-use Rattle.ini_vectors.proofs.edit.apply.Goals as goal
+use Rattle.ini.proofs.SplitLemmas.{split_at}
+use Rattle.ini.proofs.edits.apply.Goals as goal
 
 pub returns-in_err-make-clause-cut_short : goal.returns-in_err-make-clause-cut_short
 returns-in_err-make-clause-cut_short c =

@@ -1,15 +1,16 @@
 //! Edits of a document as values, and whole runs over them: from a text to a document, edited, to a text.
-//! This file knows documents by the public calls of `ini` alone.
+//! This file knows documents by their public calls alone.
 ghost use Rattle.std.specs.Prelude.{◌≡◌, ◌<◌, ◌↔◌, ℕ, List, IfErr, IsOkUnless, OnErr, OnOk, alloc_error};
 ghost use Rattle.std.specs.Prelude.{chars};
 ghost use Rattle.ini_text.specs.Device.DeviceRefusals.{IsIo, IsNoProgress, failures_in, stalls_in};
 ghost use Rattle.ini_text.specs.Device.Watched.{IsClear, SameDevice, WritesAll, WritesFront, device_now};
 ghost use Rattle.ini_text.specs.Device.Watched.{failure_count, stall_count};
 ghost use Rattle.ini.specs.Loading.{IfParse, IsStopOf};
-ghost use Rattle.ini_vectors.specs.EditLists.{Grows, IsCutShort, IsEditRefusal, IsEditedText};
-ghost use Rattle.ini_vectors.specs.EditLists.{OnDeviceRefusal, OnParseOrMemory, edited, edited_once};
+ghost use Rattle.ini.specs.EditLists.{Grows, IsCutShort, IsEditRefusal, IsEditedText};
+ghost use Rattle.ini.specs.EditLists.{OnDeviceRefusal, OnParseOrMemory, edited, edited_once};
 
-use ini::{Error, Ini, ParseOption, Watched, WriteOption};
+use crate::document::Ini;
+use ini_text::{Error, ParseOption, Watched, WriteOption};
 use std::alloc::Global;
 use std::io::Write;
 
