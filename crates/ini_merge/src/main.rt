@@ -206,6 +206,3 @@ fn main(rt: HostRuntime) -> ExitCode {
     tell(words.as_slice(), &outcome, &mut rt.stderr());
     ExitCode::from(status(&outcome))
 }
-
-#[cfg(test)]
-mod tests;
