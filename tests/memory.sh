@@ -249,6 +249,14 @@ count_requests() {
     changed=$(counted "$tool" set key7 v <"$room/in" | cut -d ' ' -f 1)
     is 'ini_tool fmt makes requests for each pair' yes "$([ "${written:-0}" -ge 1000 ] && echo yes)"
     at_most 'ini_tool set, requests more than those of fmt' 20 "${changed:+$((changed - ${written:-0}))}"
+    # what is only read borrows the text
+    at_most 'ini_tool get, requests over 1,000 pairs' 100 "$(counted "$tool" get key7 <"$room/in" | cut -d ' ' -f 1)"
+    at_most 'ini_tool list, requests over 1,000 pairs' 100 "$(counted "$tool" list <"$room/in" | cut -d ' ' -f 1)"
+    for words in 'get %s key7' 'get --all %s key7' 'keys %s' 'sections %s'; do
+        # shellcheck disable=SC2046,SC2059
+        at_most "ini_file $words, requests over 1,000 pairs" 100 \
+            "$(counted "$file" $(printf "$words" "$room/in") | cut -d ' ' -f 1)"
+    done
     # What ini_tool holds at its end is the document: no more room than its sections take.
     awk 'BEGIN { for (i = 0; i < 1020; i++) print "[" i "]" }' >"$room/in"
     less=$(counted "$tool" get k 7 <"$room/in" | cut -d ' ' -f 3)

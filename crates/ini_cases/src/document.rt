@@ -5,6 +5,7 @@ use crate::option::Options;
 use crate::plain::count_plain;
 use crate::show::{flag, load, pairs, sections, value, written};
 use crate::token::{Token, text_of, unreadable};
+use crate::view::is_same;
 use crate::walk;
 use ini::{
     Error, Ini, NoRoom, Properties, SectionEntry, is_plain_name, is_plain_pair, is_plain_separator,
@@ -144,7 +145,11 @@ impl Desk {
         let (alloc, text) = (self.alloc, name.unwrap_or(""));
         match call {
             "load" => {
-                self.document = Ini::load_from_str_opt(alloc, text, self.options.reading)?;
+                let answer = Ini::load_from_str_opt(alloc, text, self.options.reading);
+                if !is_same(alloc, text, self.options.reading, &answer)? {
+                    return Err(unreadable("the view answers something else"));
+                }
+                self.document = answer?;
             }
             "reload" => return self.reloaded(text),
             "load_bom" => {

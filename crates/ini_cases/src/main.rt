@@ -22,6 +22,7 @@ mod replay;
 mod show;
 mod text;
 mod token;
+mod view;
 mod walk;
 
 use crate::replay::Replay;

@@ -2,6 +2,7 @@
 //!
 //! A section is shown as its name in brackets, or `general`, and a colon; each of its pairs follows as `
 //! <key|value>`.
+use crate::view::is_same;
 use ini::{Error, Ini, ParseOption, Properties, WriteOption};
 use std::alloc::Global;
 
@@ -47,9 +48,14 @@ pub fn loaded(alloc: Global, answer: Result<Ini, Error>) -> Result<String, Error
     }
 }
 
-/// What loading the text by the options shows.
+/// What loading the text by the options shows, where a view of the text answers the same.
 pub fn load(alloc: Global, text: &str, read: ParseOption) -> Result<String, Error> {
-    loaded(alloc, Ini::load_from_str_opt(alloc, text, read))
+    let answer = Ini::load_from_str_opt(alloc, text, read);
+    if is_same(alloc, text, read, &answer)? {
+        loaded(alloc, answer)
+    } else {
+        Ok(String::from_str(alloc, "the view answers something else")?)
+    }
 }
 
 /// The text that is written of a document.

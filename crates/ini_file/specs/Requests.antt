@@ -27,7 +27,6 @@ pub data Request : Type 0 where
   Change : Editing → Request
 
 abbrev pub asking_of : Question → Asking
-asking_of question.Format = Format
 asking_of (question.List null) = Listing null
 asking_of (question.Sections null) = Sections null
 asking_of (question.Keys section null) = Keys null (str_name section)
@@ -35,6 +34,7 @@ asking_of (question.Get l) = Get l.null l.all (str_text l.key) (str_name l.secti
 
 -- the request that a command stands for
 abbrev pub request_of : Command → Request
+request_of command.Format = Ask Format
 request_of (command.Ask q) = Ask (asking_of q)
 request_of (command.Change e) = Change (editing_of e)
 

@@ -1,7 +1,7 @@
 //! What each question is answered of a document. This file knows no word and no reader.
+ghost use Rattle.std.specs.Prelude.{◌≡◌};
 ghost use Rattle.ini_text.specs.Device.Watched.{IsClear};
-ghost use Rattle.std.specs.Prelude.{◌≡◌, Some};
-ghost use Rattle.ini.specs.Written.{written};
+ghost use Rattle.ini_text.specs.declared.write.option.WriteOption.{WriteOption};
 ghost use Rattle.ini_file.specs.Requests.{asking_of};
 ghost use Rattle.ini_file.specs.Forms.{listing_form};
 ghost use Rattle.ini_file.specs.Outputs.{output};
@@ -9,23 +9,22 @@ ghost use Rattle.ini_lines.specs.Prints.{Prints};
 
 use crate::lookup::get;
 use crate::words::Question;
-use ini::{Error, Ini, Watched, WriteOption};
+use ini::{Error, Watched};
 use ini_lines::{Form, keys, list, sections};
+use ini_view::View;
 use std::io::Write;
 
 /// Writes what the question asks of the document, and answers whether what it asks for was there.
 pub fn answer<W: Write>(
     question: Question<'_>,
-    document: &Ini,
-    option: WriteOption,
+    document: &View<'_>,
     out: &mut Watched<'_, W>,
 ) -> Result<bool, Error>
     requires { IsClear out.old }
-    ensures { Prints W.contents out.old out.new result
-        (output option (asking_of question.entry) document.now) }
+    ensures { (w : WriteOption) → Prints W.contents out.old out.new result
+        (output w (asking_of question.entry) document.now) }
 {
     match question {
-        Question::Format => format_document(document, option, out),
         Question::List { null } => list(document, listing_form(null), out),
         Question::Sections { null } => sections(document, listing_form(null), out),
         Question::Keys { section, null } => keys(document, section, listing_form(null), out),
@@ -38,17 +37,4 @@ fn listing_form(null: bool) -> Form
     ensures { result ≡ listing_form null }
 {
     if null { Form::Null } else { Form::Escaped }
-}
-
-// The document, written anew.
-fn format_document<W: Write>(
-    document: &Ini,
-    option: WriteOption,
-    out: &mut Watched<'_, W>,
-) -> Result<bool, Error>
-    requires { IsClear out.old }
-    ensures { Prints W.contents out.old out.new result (Some (written document.now option)) }
-{
-    document.write_watched(out, option)?;
-    Ok(true)
 }

@@ -6,8 +6,9 @@ ghost use Rattle.ini_file.specs.Forms.{got};
 ghost use Rattle.ini_lines.specs.Prints.{Prints};
 
 use crate::words::Lookup;
-use ini::{Error, Ini, Watched};
+use ini::{Error, Watched};
 use ini_lines::{Form, value, values};
+use ini_view::View;
 use std::io::Write;
 
 /// Writes what is looked up, as it stands: the first value of the key in the first section of the name, or
@@ -18,7 +19,7 @@ use std::io::Write;
 ///
 /// `Io` where the writer answers a fault, `NoProgress` where it takes no bytes: a front was written then.
 pub fn get<W: Write>(
-    document: &Ini,
+    document: &View<'_>,
     lookup: Lookup<'_>,
     out: &mut Watched<'_, W>,
 ) -> Result<bool, Error>

@@ -3,9 +3,10 @@
 ghost use Rattle.std.specs.Prelude.{◌≡◌, ◌++◌, ◌↔◌, ◌⊎◌, IfErr, IfOk, None, OnOk};
 ghost use Rattle.std.specs.Prelude.{[], chars, is_some, unwrap_or};
 ghost use Rattle.ini_text.specs.Device.Watched.{AppendsFront};
+ghost use Rattle.ini_text.specs.declared.write.option.WriteOption.{WriteOption};
 ghost use Rattle.ini.specs.WrittenTo.{IsWrittenTo};
 ghost use Rattle.ini_file.specs.Outputs.{output};
-ghost use Rattle.ini_file.specs.Requests.{asking_of};
+ghost use Rattle.ini_file.specs.Requests.{Format, asking_of};
 ghost use Rattle.ini_file.specs.Runs.{HasOutcome, IsAnsweredAs, IsDone, IsNotFound, IsUsage};
 ghost use Rattle.ini_file.specs.Runs.{RefusesQuestion, asked_by, status_of, usage_line};
 ghost use Rattle.ini_file.specs.Writing.{word_of};
@@ -16,9 +17,10 @@ use crate::edit::change;
 use crate::shown::Shown;
 use crate::words::{Command, Question, USAGE, parse};
 use crate::writing::{separates, writing};
-use ini::{Error, Ini, Watched, WriteOption, write_raw};
+use ini::{Error, Ini, Watched, write_raw};
 use ini_edit::EditError;
 use ini_options::Options;
+use ini_view::View;
 use std::alloc::{AllocError, Global};
 use std::io::Write;
 
@@ -83,6 +85,7 @@ pub fn run(alloc: Global, words: &[String], input: &[u8]) -> Outcome
     };
     let (options, separator) = (asked.options, asked.choices.separator);
     let made = match asked.command {
+        Command::Format => format(alloc, options, separator, text),
         Command::Ask(question) => ask(alloc, options, separator, question, text),
         Command::Change(edit) => change(alloc, options, separator, edit, byte_order_mark, text),
     };
@@ -93,8 +96,32 @@ pub fn run(alloc: Global, words: &[String], input: &[u8]) -> Outcome
     }
 }
 
-// What a question is answered of a text's document; `None` where what it asks for isn't there. A separator
-// that wouldn't be read back is refused, whatever the text is.
+// A text's document, written anew. A separator that wouldn't be read back is refused, whatever the text is.
+fn format(
+    alloc: Global,
+    options: Options,
+    separator: Option<&str>,
+    text: &str,
+) -> Result<Option<Vec<u8>>, EditError>
+    ensures answered { IfOk result
+        (IsAnsweredAs options (word_of separator.entry) Format (chars text.now)) }
+    ensures refused { IfErr result (RefusesQuestion options (word_of separator.entry) (chars text.now)) }
+{
+    if !separates(separator) {
+        return Err(EditError::Separator);
+    }
+    let option = writing(alloc, options, separator)?;
+    let document = Ini::load_from_str_opt(alloc, text, options.reading)?;
+    let mut bytes = Vec::new(alloc);
+    // Bytes in memory are refused for want of it alone.
+    if document.write_to_opt(&mut bytes, option).is_err() {
+        return Err(EditError::Text(Error::Memory(AllocError)));
+    }
+    Ok(Some(bytes))
+}
+
+// What a question is answered of a text's document, which borrows the text; `None` where what it asks for
+// isn't there. The rest is as `format` has it.
 fn ask(
     alloc: Global,
     options: Options,
@@ -109,13 +136,11 @@ fn ask(
     if !separates(separator) {
         return Err(EditError::Separator);
     }
-    let option = writing(alloc, options, separator)?;
-    let document = Ini::load_from_str_opt(alloc, text, options.reading)?;
+    let document = View::load_from_str_opt(alloc, text, options.reading)?;
     let mut bytes = Vec::new(alloc);
-    match answer_to(question, &document, option, &mut bytes) {
+    match answer_to(question, &document, &mut bytes) {
         Ok(true) => Ok(Some(bytes)),
         Ok(false) => Ok(None),
-        // Bytes in memory are refused for want of it alone.
         Err(_) => Err(EditError::Text(Error::Memory(AllocError))),
     }
 }
@@ -123,16 +148,15 @@ fn ask(
 // The answer to a writer that is not watched yet.
 fn answer_to<W: Write>(
     question: Question<'_>,
-    document: &Ini,
-    option: WriteOption,
+    document: &View<'_>,
     writer: &mut W,
 ) -> Result<bool, Error>
-    ensures found { IfOk result
-        (λ found. found ≡ is_some (output option (asking_of question.entry) document.now)) }
-    ensures written { OnOk result (IsWrittenTo W.contents writer.old writer.new
-        (unwrap_or (output option (asking_of question.entry) document.now) [])) }
+    ensures found { (w : WriteOption) → IfOk result
+        (λ found. found ≡ is_some (output w (asking_of question.entry) document.now)) }
+    ensures written { (w : WriteOption) → OnOk result (IsWrittenTo W.contents writer.old writer.new
+        (unwrap_or (output w (asking_of question.entry) document.now) [])) }
 {
-    answer(question, document, option, &mut Watched::new(writer))
+    answer(question, document, &mut Watched::new(writer))
 }
 
 /// Prints how a run over a file ended, where there is something to say: the usage; or the file, the place and

@@ -9,7 +9,7 @@ ghost use Rattle.ini_file.specs.Requests.{asks_of, request_of};
 use crate::choices::{Choices, Switches};
 use crate::merge_words::Merging;
 use crate::run::Outcome;
-use crate::words::{Asked, Command, Question};
+use crate::words::{Asked, Command};
 use ini_edit::Edit;
 
 /// The file that a command reads, and where what it makes goes.
@@ -114,7 +114,7 @@ fn is_filter(asked: Asked<'_>) -> bool
 fn is_of_file(command: Command<'_>) -> bool
     ensures { result ≡ is_of_file (request_of command.entry) }
 {
-    matches!(command, Command::Ask(Question::Format) | Command::Change(_))
+    matches!(command, Command::Format | Command::Change(_))
 }
 
 // Whether the command makes a file that isn't there.

@@ -19,8 +19,6 @@ pub const USAGE: &str = usage_line!("ini_file", "COMMAND [CHOICE].. [--] FILE [A
 /// name, key and value is written as it stands, with NUL behind it, and no line.
 #[derive(Clone, Copy)]
 pub enum Question<'a> {
-    /// The document, written anew in the file's place.
-    Format,
     /// A line for each pair.
     List {
         null: bool,
@@ -56,6 +54,8 @@ pub struct Lookup<'a> {
 /// What is asked of a file.
 #[derive(Clone, Copy)]
 pub enum Command<'a> {
+    /// Its document, written anew in the file's place.
+    Format,
     /// Something of its document.
     Ask(Question<'a>),
     /// A change in its text, which keeps every byte that it isn't about.
@@ -103,7 +103,7 @@ fn with_none<'a>(word: &str, choices: Choices<'a>) -> Option<Command<'a>>
 {
     let null = choices.switches.null;
     match word {
-        "format" => Some(Command::Ask(Question::Format)),
+        "format" => Some(Command::Format),
         "list" => Some(Command::Ask(Question::List { null })),
         "sections" => Some(Command::Ask(Question::Sections { null })),
         "keys" => Some(Command::Ask(Question::Keys {

@@ -8,12 +8,12 @@ use ini_text::Parser;
 use std::process::Abort;
 
 /// A text with each production of the grammar in it, where every option is on.
-const EACH: &'static str =
+pub(crate) const EACH: &'static str =
     "; comment\n# other\r\nx=0\r[a]]\n  key = \"q\" rest\n  more\n\n  \"w\"\n\
     k\\x0041=v\\n\n\n[]\n\tz : 1\n \n[b]\n  tail";
 
 /// What it loads as.
-const EACH_SHOWN: &'static str =
+pub(crate) const EACH_SHOWN: &'static str =
     "general: <x|0> [a]]: <  key|q rest\nmore\n\nw> <kA|v> []: <\tz|1> [b]: ";
 
 /// Every option.
@@ -57,12 +57,12 @@ fn each_request_of_loading_continued_lines_is_refused(rt: HostRuntime) {
 }
 
 /// A section of so many pairs has an index.
-const MANY_PAIRS: &'static str =
+pub(crate) const MANY_PAIRS: &'static str =
     "a=1\nb=2\nc=3\nd=4\ne=5\nf=6\ng=7\nh=8\ni=9\na=10\nb=11\nc=12\nd=13\ne=14\nf=15\ng=16\n\
     h=17\ni=18\nj=19\n[s]\nk=20";
 
 /// What they load as.
-const MANY_PAIRS_SHOWN: &'static str =
+pub(crate) const MANY_PAIRS_SHOWN: &'static str =
     "general: <a|1> <b|2> <c|3> <d|4> <e|5> <f|6> <g|7> <h|8> <i|9> \
     <a|10> <b|11> <c|12> <d|13> <e|14> <f|15> <g|16> <h|17> <i|18> <j|19> [s]: <k|20> ";
 
@@ -77,11 +77,12 @@ fn each_request_of_loading_many_pairs_is_refused(rt: HostRuntime) {
 }
 
 /// A document of so many sections has an index.
-const MANY_SECTIONS: &'static str =
+pub(crate) const MANY_SECTIONS: &'static str =
     "[a]\n[b]\n[c]\n[d]\n[e]\n[f]\n[g]\n[h]\n[i]\n[a]\n[b]\n[c]\n[d]\n[e]\n[f]\n[g]\n[h]\nk=v";
 
 /// What they load as.
-const MANY_SECTIONS_SHOWN: &'static str = "general: [a]: [b]: [c]: [d]: [e]: [f]: [g]: [h]: [i]: \
+pub(crate) const MANY_SECTIONS_SHOWN: &'static str =
+    "general: [a]: [b]: [c]: [d]: [e]: [f]: [g]: [h]: [i]: \
     [a]: [b]: [c]: [d]: [e]: [f]: [g]: [h]: <k|v> ";
 
 #[test]
@@ -128,7 +129,7 @@ fn each_request_of_reading_is_refused(rt: HostRuntime) {
 }
 
 /// A text that is refused behind a pair.
-const REFUSED: &'static str = "key=value\n=v";
+pub(crate) const REFUSED: &'static str = "key=value\n=v";
 
 // Loads the refused text with so much memory. Whether the place of its fault is told; else memory was
 // refused.

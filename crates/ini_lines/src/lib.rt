@@ -18,12 +18,17 @@ mod form;
 mod parts;
 
 pub use form::Form;
-use ini::{Error, Gatherer, Ini, Properties, Watched};
+use ini::{Error, Gatherer, Watched};
+use ini_view::{View, ViewSection};
 use parts::{put_entry, put_parts};
 use std::io::Write;
 
 /// Writes each pair: its section's name in brackets, the key and the value. The answer is `true`.
-pub fn list<W: Write>(document: &Ini, form: Form, out: &mut Watched<'_, W>) -> Result<bool, Error>
+pub fn list<W: Write>(
+    document: &View<'_>,
+    form: Form,
+    out: &mut Watched<'_, W>,
+) -> Result<bool, Error>
     requires { IsClear out.old }
     ensures { Prints W.contents out.old out.new result (Some (listed_pairs form document.now)) }
 {
@@ -32,7 +37,11 @@ pub fn list<W: Write>(document: &Ini, form: Form, out: &mut Watched<'_, W>) -> R
 }
 
 // Each pair of each section, written as the sections are gone over.
-fn write_listed<W: Write>(document: &Ini, form: Form, out: &mut Watched<'_, W>) -> Result<(), Error>
+fn write_listed<W: Write>(
+    document: &View<'_>,
+    form: Form,
+    out: &mut Watched<'_, W>,
+) -> Result<(), Error>
     requires { IsClear out.old }
     ensures { WritesBytes W.contents out.old out.new result
         (encode_utf8_all (listed_pairs form document.now)) }
@@ -46,7 +55,7 @@ fn write_listed<W: Write>(document: &Ini, form: Form, out: &mut Watched<'_, W>) 
 fn list_sections<W: Write>(
     lines: &mut Gatherer,
     form: Form,
-    document: &Ini,
+    document: &View<'_>,
     out: &mut Watched<'_, W>,
 ) -> Result<(), Error>
     requires { IsClear out.old }
@@ -64,7 +73,7 @@ fn list_pairs<W: Write>(
     lines: &mut Gatherer,
     form: Form,
     name: Option<&str>,
-    pairs: &Properties,
+    pairs: &ViewSection<'_>,
     out: &mut Watched<'_, W>,
 ) -> Result<(), Error>
     requires { IsClear out.old }
@@ -114,7 +123,7 @@ fn list_pair<'a, W: Write>(
 /// Writes each distinct name of a section, in the order of first occurrence. The general section has no name.
 /// The answer is `true`.
 pub fn sections<W: Write>(
-    document: &Ini,
+    document: &View<'_>,
     form: Form,
     out: &mut Watched<'_, W>,
 ) -> Result<bool, Error>
@@ -126,7 +135,11 @@ pub fn sections<W: Write>(
 }
 
 // Each name.
-fn write_names<W: Write>(document: &Ini, form: Form, out: &mut Watched<'_, W>) -> Result<(), Error>
+fn write_names<W: Write>(
+    document: &View<'_>,
+    form: Form,
+    out: &mut Watched<'_, W>,
+) -> Result<(), Error>
     requires { IsClear out.old }
     ensures { WritesBytes W.contents out.old out.new result
         (encode_utf8_all (name_entries form document.now)) }
@@ -140,7 +153,7 @@ fn write_names<W: Write>(document: &Ini, form: Form, out: &mut Watched<'_, W>) -
 fn put_names<W: Write>(
     lines: &mut Gatherer,
     form: Form,
-    document: &Ini,
+    document: &View<'_>,
     out: &mut Watched<'_, W>,
 ) -> Result<(), Error>
     requires { IsClear out.old }
@@ -173,7 +186,7 @@ fn put_name<W: Write>(
 /// Writes the key of each pair in the first section of the name. Where there is no such section, the answer
 /// is `false`, and nothing is written.
 pub fn keys<W: Write>(
-    document: &Ini,
+    document: &View<'_>,
     section: Option<&str>,
     form: Form,
     out: &mut Watched<'_, W>,
@@ -191,7 +204,7 @@ pub fn keys<W: Write>(
 
 // Each key.
 fn write_keys<W: Write>(
-    pairs: &Properties,
+    pairs: &ViewSection<'_>,
     form: Form,
     out: &mut Watched<'_, W>,
 ) -> Result<(), Error>
@@ -208,7 +221,7 @@ fn write_keys<W: Write>(
 fn put_keys<W: Write>(
     lines: &mut Gatherer,
     form: Form,
-    pairs: &Properties,
+    pairs: &ViewSection<'_>,
     out: &mut Watched<'_, W>,
 ) -> Result<(), Error>
     requires { IsClear out.old }
@@ -251,7 +264,7 @@ fn write_entry<W: Write>(text: &str, form: Form, out: &mut Watched<'_, W>) -> Re
 
 /// Writes each value of the key, in order. The answer is `true`.
 pub fn values<W: Write>(
-    pairs: &Properties,
+    pairs: &ViewSection<'_>,
     key: &str,
     form: Form,
     out: &mut Watched<'_, W>,
@@ -266,7 +279,7 @@ pub fn values<W: Write>(
 
 // Each value of the key.
 fn write_values<W: Write>(
-    pairs: &Properties,
+    pairs: &ViewSection<'_>,
     key: &str,
     form: Form,
     out: &mut Watched<'_, W>,
@@ -284,7 +297,7 @@ fn write_values<W: Write>(
 fn put_values<W: Write>(
     lines: &mut Gatherer,
     form: Form,
-    pairs: &Properties,
+    pairs: &ViewSection<'_>,
     key: &str,
     out: &mut Watched<'_, W>,
 ) -> Result<(), Error>

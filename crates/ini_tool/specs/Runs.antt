@@ -1,10 +1,11 @@
 -- What a run of the program is, as a function of its words and of the bytes that it reads.
-use Rattle.std.specs.Prelude.{◌≡◌, ℕ, List, Option, Some, true, ⊤, IfSome, encode_utf8_all}
-use Rattle.std.specs.Prelude.{◌++◌, codes, map, string_bytes, String}
+use Rattle.std.specs.Prelude.{◌≡◌, ℕ, Bool, true, false, List, Option, Some, Result, Ok, Err, ⊤, IfSome}
+use Rattle.std.specs.Prelude.{◌++◌, codes, encode_utf8_all, map, string_bytes, String}
 use Rattle.std.specs.Str.{IsUtf8}
 use Rattle.std.specs.declared.alloc.Global.{Global}
 use Rattle.ini_text.specs.Device.Watched.{WritesAll, WritesFront}
 use Rattle.ini_text.specs.declared.device.Watched.{Watched}
+use Rattle.ini_text.specs.declared.error.Error.{Error}
 use Rattle.ini_text.specs.declared.error.Error.TheVariants.{Io, Parse, Memory, NotUtf8, NoProgress}
 use Rattle.ini_text.specs.declared.error.ParseError.{ParseError}
 use Rattle.ini_text.specs.declared.write.option.WriteOption.{WriteOption}
@@ -94,6 +95,12 @@ failures_of _ = 0
 abbrev pub stalls_of : Outcome → ℕ
 stalls_of (Refused NoProgress) = 1
 stalls_of _ = 0
+
+-- how a run ends whose command has answered
+abbrev pub outcome_of : Result Bool Error → Outcome
+outcome_of (Ok true) = Done
+outcome_of (Ok false) = NotFound
+outcome_of (Err refused) = Refused refused
 
 -- the exit status
 abbrev pub status_of : Outcome → ℕ

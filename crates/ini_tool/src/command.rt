@@ -1,47 +1,55 @@
 //! What each command writes of a document. This file knows no word and no reader.
 ghost use Rattle.std.specs.Prelude.{chars};
 ghost use Rattle.ini_text.specs.Device.Watched.{IsClear};
+ghost use Rattle.ini_text.specs.declared.write.option.WriteOption.{WriteOption};
 ghost use Rattle.ini.specs.Texts.{str_name};
-ghost use Rattle.ini_tool.specs.Requests.{Del, Fmt, Set, request_of};
+ghost use Rattle.ini_tool.specs.Requests.{Del, Fmt, Set, change_of, question_of};
 ghost use Rattle.ini_tool.specs.Outputs.{output};
 ghost use Rattle.ini_lines.specs.Prints.{Prints};
 
-use crate::words::Command;
+use crate::words::{Change, Question};
 use ini::{Error, Ini, Watched, WriteOption};
 use ini_lines::{Form, list, value};
+use ini_view::View;
 use std::alloc::Global;
 use std::io::Write;
 use std::mem;
 
-/// Writes what the command asks of the document, and answers whether the pair that it asks for was there.
+/// Writes what is asked of the document, and answers whether it was there.
 pub fn answer<W: Write>(
-    command: Command<'_>,
+    question: Question<'_>,
+    document: &View<'_>,
+    out: &mut Watched<'_, W>,
+) -> Result<bool, Error>
+    requires { IsClear out.old }
+    ensures { (w : WriteOption) → Prints W.contents out.old out.new result
+        (output w (question_of question.entry) document.now) }
+{
+    match question {
+        Question::List => list(document, Form::Escaped, out),
+        Question::Get { key, section } => value(document.get_from(section, key), Form::AsIs, out),
+    }
+}
+
+/// Writes the document with the change, and answers whether the pair that it names was there.
+pub fn write<W: Write>(
+    change: Change<'_>,
     alloc: Global,
     document: Ini,
     option: WriteOption,
     out: &mut Watched<'_, W>,
 ) -> Result<bool, Error>
     requires { IsClear out.old }
-    ensures { Prints W.contents out.old out.new result (output option (request_of command.entry) document) }
+    ensures { Prints W.contents out.old out.new result (output option (change_of change.entry) document) }
 {
-    match command {
-        Command::Fmt => fmt(document, option, out),
-        Command::List => {
-            let listed = list(&document, Form::Escaped, out);
-            mem::forget(document);
-            listed
-        }
-        Command::Get { key, section } => {
-            let found = value(document.get_from(section, key), Form::AsIs, out);
-            mem::forget(document);
-            found
-        }
-        Command::Set {
+    match change {
+        Change::Fmt => fmt(document, option, out),
+        Change::Set {
             key,
             value,
             section,
         } => set(alloc, document, key, value, section, option, out),
-        Command::Del { key, section } => del(document, key, section, option, out),
+        Change::Del { key, section } => del(document, key, section, option, out),
     }
 }
 

@@ -5,6 +5,7 @@
 #![tactic(auto)]
 
 mod command;
+mod reading;
 mod run;
 mod words;
 

@@ -5,13 +5,16 @@ ghost use Rattle.ini_text.specs.Device.Watched.{AppendsFront, IsClear, SameDevic
 ghost use Rattle.ini_text.specs.Device.Watched.{device_now, failure_count, stall_count};
 ghost use Rattle.ini_tool.specs.Runs.{IsDone, IsNotFound, IsUsage, OnNotUtf8, OnParse, OnSilent};
 ghost use Rattle.ini_tool.specs.Runs.{IsOutput, IsStop, IsText, WritesOutput, WritesOutputFront};
-ghost use Rattle.ini_tool.specs.Runs.{asked_by, failures_of, stalls_of, status_of, usage_line};
+ghost use Rattle.ini_tool.specs.Runs.{asked_by, failures_of, outcome_of, stalls_of, status_of, usage_line};
 
-use crate::command::answer;
-use crate::words::{USAGE, parse};
+use crate::command::{answer, write};
+use crate::reading::read_all;
+use crate::words::{Command, USAGE, parse};
 use ini::{Error, Ini, Watched, write_raw};
+use ini_view::View;
 use std::alloc::Global;
 use std::io::{Read, Write};
+use std::mem;
 
 /// How a run ended.
 #[derive(Debug, Drop)]
@@ -84,11 +87,34 @@ pub fn run<R: Read, W: Write>(
     let Some((options, command)) = parse(words) else {
         return Outcome::Usage;
     };
-    let document = match Ini::read_watched(alloc, reader, options.reading, true) {
-        Ok(document) => document,
-        Err(refusal) => return Outcome::Refused(refusal),
-    };
-    match answer(command, alloc, document, options.write_option(), writer) {
+    let option = options.write_option();
+    match command {
+        Command::Ask(question) => {
+            let bytes = match read_all(alloc, reader) {
+                Ok(bytes) => bytes,
+                Err(refusal) => return Outcome::Refused(refusal),
+            };
+            match View::load_from_bytes(alloc, bytes.as_slice(), options.reading, true) {
+                Ok(document) => {
+                    let answered = answer(question, &document, writer);
+                    mem::forget(document);
+                    outcome_of(answered)
+                }
+                Err(refusal) => Outcome::Refused(refusal),
+            }
+        }
+        Command::Write(change) => match Ini::read_watched(alloc, reader, options.reading, true) {
+            Ok(document) => outcome_of(write(change, alloc, document, option, writer)),
+            Err(refusal) => Outcome::Refused(refusal),
+        },
+    }
+}
+
+// How a run ends whose command has answered.
+fn outcome_of(answered: Result<bool, Error>) -> Outcome
+    ensures { result ≡ outcome_of answered.entry }
+{
+    match answered {
         Ok(true) => Outcome::Done,
         Ok(false) => Outcome::NotFound,
         Err(refusal) => Outcome::Refused(refusal),

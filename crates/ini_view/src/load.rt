@@ -1,9 +1,13 @@
 //! Items put into sections: the last section stands alone until the next one begins.
 ghost use Rattle.std.specs.Prelude.{◌≡◌, [], ◌∷◌, ◌++◌, None, Some, chars, alloc_error, IfErr, IfOk};
 ghost use Rattle.std.specs.Prelude.{IsOkUnless, OnOk};
+ghost use Rattle.std.specs.Str.{IsUtf8};
+ghost use Rattle.ini_text.specs.Options.ReadOptions.{default_parse_option};
 ghost use Rattle.ini_text.specs.Parsing.Items.{borrowed_item_of, cow_text};
 ghost use Rattle.ini.specs.Documents.{HasGeneral, with_item};
-ghost use Rattle.ini.specs.Loading.{IfParse, IsDocumentOf, IsParseOrMemory, IsStopOf};
+ghost use Rattle.ini.specs.Loading.{IfParse, IsDocumentOf, IsNotUtf8, IsParseOrMemory, IsStopOf};
+ghost use Rattle.ini.specs.Loading.{IsTextWith, text_bytes};
+ghost use Rattle.ini.specs.Inside.ReadBytes.{IsTextRefusal};
 
 use crate::section::ViewSection;
 use crate::text::ViewName;
@@ -43,6 +47,52 @@ impl<'a> View<'a> {
         loading.finish()
     }
 }
+
+impl<'a> View<'a> {
+    /// The document of a text, by the default options. The rest is as `load_from_str_opt` has it.
+    pub fn load_from_str(alloc: Global, text: &'a str) -> Result<View<'a>, Error>
+        ensures document { IfOk result (IsDocumentOf default_parse_option (chars text.now)) }
+        ensures general { IfOk result HasGeneral }
+        ensures fault { IfParse result (IsStopOf default_parse_option (chars text.now)) }
+        ensures only { IfErr result IsParseOrMemory }
+    {
+        View::load_from_str_opt(alloc, text, ParseOption::default())
+    }
+
+    /// The document of bytes. With `drop_mark` one mark (the bytes EF BB BF) at their front is left out, and
+    /// places count from behind it.
+    ///
+    /// # Errors
+    ///
+    /// `NotUtf8` where the bytes are not UTF-8; `Parse` and `Memory` as `load_from_str_opt` has them.
+    pub fn load_from_bytes(
+        alloc: Global,
+        bytes: &'a [u8],
+        opt: ParseOption,
+        drop_mark: bool,
+    ) -> Result<View<'a>, Error>
+        ensures document { IfOk result
+            (λ view. IsTextWith (λ T. IsDocumentOf opt T view) (text_bytes drop_mark bytes.now)) }
+        ensures general { IfOk result HasGeneral }
+        ensures fault { IfParse result
+            (λ stop. IsTextWith (λ T. IsStopOf opt T stop) (text_bytes drop_mark bytes.now)) }
+        ensures not_utf8 { IsNotUtf8 result → ¬ (IsUtf8 (text_bytes drop_mark bytes.now)) }
+        ensures only { IfErr result IsTextRefusal }
+    {
+        let (_, behind) = if drop_mark && bytes.starts_with(&BYTE_ORDER_MARK) {
+            bytes.split_at(BYTE_ORDER_MARK.len())
+        } else {
+            bytes.split_at(0)
+        };
+        match str::from_utf8(behind) {
+            Ok(text) => View::load_from_str_opt(alloc, text, opt),
+            Err(_) => Err(Error::NotUtf8),
+        }
+    }
+}
+
+// The byte order mark.
+const BYTE_ORDER_MARK: [u8; 3] = [0xEF, 0xBB, 0xBF];
 
 // A document that has some of its items.
 #[derive(Drop)]
