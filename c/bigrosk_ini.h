@@ -46,7 +46,7 @@ enum bigrosk_ini_status {
 /* What is wrong where reading a text stops. */
 enum bigrosk_ini_kind {
     BIGROSK_INI_END_OF_TEXT = 1,       /* within a name, a key, quotes or an escape */
-    BIGROSK_INI_BROKEN_ESCAPE = 2,     /* among the four units of \x stands a backslash, and no LF behind it */
+    BIGROSK_INI_BROKEN_ESCAPE = 2,     /* among the four units of \x stands a backslash, and no LF after it */
     BIGROSK_INI_UNKNOWN_CHARACTER = 3, /* the four units of \x spell no character */
     BIGROSK_INI_INLINE_COMMENT = 4,    /* ; or # where an item may begin, but not in column one */
     BIGROSK_INI_MISSING_KEY = 5,       /* a separator follows an empty key */
@@ -95,7 +95,7 @@ struct bigrosk_ini_write_option {
 struct bigrosk_ini_fault {
     uint32_t kind;    /* enum bigrosk_ini_kind */
     size_t line;      /* from 1 */
-    size_t column;    /* from 1, in characters: the place behind the character that was looked at */
+    size_t column;    /* from 1, in characters: the place after the character that was looked at */
     char message[64]; /* ends in 0 */
 };
 
@@ -106,7 +106,7 @@ struct bigrosk_ini_sizes {
 };
 #define BIGROSK_INI_NO_SIZES { 0, 0 }
 
-/* Bytes that are lent, with no 0 behind them. */
+/* Bytes that are lent, with no 0 after them. */
 struct bigrosk_ini_borrowed {
     const uint8_t *bytes;
     size_t count;
@@ -132,7 +132,7 @@ void bigrosk_ini_free(struct bigrosk_ini_document *document);
 /* In the calls below, `named` false means the general section, which stands before the first header; its name is then passed
  * over, but must be a text. The first section of a name counts, and in it the first pair of a key. */
 
-/* Copies the value of the key out, and a 0 behind it; count says how many bytes it has.
+/* Copies the value of the key out, and a 0 after it; count says how many bytes it has.
  * OK; ABSENT; NO_ROOM where the buffer has room for no more than count bytes: it is then as it was; NOT_UTF8; NO_DOCUMENT. */
 uint32_t bigrosk_ini_get(struct bigrosk_ini_document *document, bool named, const uint8_t *section, size_t section_count,
                          const uint8_t *key, size_t key_count, uint8_t *value, size_t room, size_t *count);
@@ -143,7 +143,7 @@ uint32_t bigrosk_ini_get(struct bigrosk_ini_document *document, bool named, cons
 uint32_t bigrosk_ini_borrow(struct bigrosk_ini_document *document, bool named, const uint8_t *section, size_t section_count,
                             const uint8_t *key, size_t key_count, struct bigrosk_ini_borrowed *value);
 
-/* The next three list texts in order: in `bytes` one text behind another, each with a 0 behind it, and in `counts` how many bytes
+/* The next three list texts in order: in `bytes` one text after another, each with a 0 after it, and in `counts` how many bytes
  * each has, its 0 not counted. `sizes` says how much of both buffers that takes, with OK and with NO_ROOM; with anything but OK
  * the buffers are as they were. bigrosk_ini_text goes over a listing. */
 
@@ -191,7 +191,7 @@ uint32_t bigrosk_ini_delete(struct bigrosk_ini_document *document, bool named, c
 uint32_t bigrosk_ini_delete_section(struct bigrosk_ini_document *document, bool named, const uint8_t *section,
                                     size_t section_count);
 
-/* Copies the document's text out, and a 0 behind it; count says how many bytes it has.
+/* Copies the document's text out, and a 0 after it; count says how many bytes it has.
  * OK; NO_ROOM, and the buffer is as it was; NO_MEMORY; NO_DOCUMENT. */
 uint32_t bigrosk_ini_write(struct bigrosk_ini_document *document, const struct bigrosk_ini_write_option *option,
                            uint8_t *text, size_t room, size_t *count);
@@ -202,17 +202,17 @@ bool bigrosk_ini_is_plain(struct bigrosk_ini_document *document, const struct bi
                           const struct bigrosk_ini_read_option *read);
 
 /* The next six edit a text itself, and keep every byte that the edit is not about: comments, blank lines, alignment, line ends.
- * No document is used: the text comes in as bytes, and the new one is copied into `out`, and a 0 behind it; count says how many
+ * No document is used: the text comes in as bytes, and the new one is copied into `out`, and a 0 after it; count says how many
  * bytes it has, with OK and with NO_ROOM. The text that comes in stays as it is. The options say how it is read, and how what is put
  * in is written. A mark at its front (the bytes EF BB BF) is a character like others: bigrosk_ini_mark says how many bytes to leave
  * out before the call, and to keep.
  * Each answers NOT_UTF8 before anything else, and BROKEN, and only then is the fault written, where reading the text stops,
- * also behind the place that the edit is about; NO_MEMORY; NO_ROOM where the buffer has room for no more than count bytes. With
+ * also after the place that the edit is about; NO_MEMORY; NO_ROOM where the buffer has room for no more than count bytes. With
  * anything but OK the buffer is as it was. */
 
 /* Sets the key's value: in the place of that of its first pair, and the key's later pairs in that section go; where the section
- * lacks the key, in a new line behind its last item, before comments there; and where no section has the name (the general one is
- * always there), in a new one at the text's end, behind an empty line. Every other byte stays. The new text loads as the document in
+ * lacks the key, in a new line after its last item, before comments there; and where no section has the name (the general one is
+ * always there), in a new one at the text's end, after an empty line. Every other byte stays. The new text loads as the document in
  * which the key is set.
  * OK; UNPLAIN_VALUE, before the text is read; where the key is not there UNPLAIN_KEY, UNPLAIN_NAME where no section has the name, and
  * NO_PLACE, with multiline values alone, before an indented key that the text's end cuts short; and those above. */
@@ -222,8 +222,8 @@ uint32_t bigrosk_ini_edit_set(const uint8_t *text, size_t text_count, const stru
                               size_t value_count, uint8_t *out, size_t room, size_t *count,
                               struct bigrosk_ini_fault *fault);
 
-/* Adds a further pair, whatever pairs of the key are there: in a new line behind the section's last item, before comments there; and
- * where no section has the name, in a new one at the text's end, behind an empty line. Every byte stays. The new text loads as the
+/* Adds a further pair, whatever pairs of the key are there: in a new line after the section's last item, before comments there; and
+ * where no section has the name, in a new one at the text's end, after an empty line. Every byte stays. The new text loads as the
  * document to which the pair is added.
  * OK; UNPLAIN_VALUE and UNPLAIN_KEY, in this order, before the text is read; UNPLAIN_NAME where no section has the name; NO_PLACE,
  * as above; and those above. */
@@ -250,7 +250,7 @@ uint32_t bigrosk_ini_edit_rename_key(const uint8_t *text, size_t text_count, con
                                      const uint8_t *new_key, size_t new_key_count, uint8_t *out, size_t room,
                                      size_t *count, struct bigrosk_ini_fault *fault);
 
-/* Takes the first section of the name out, from its header's bracket up to the next header or the text's end; comments behind its
+/* Takes the first section of the name out, from its header's bracket up to the next header or the text's end; comments after its
  * last pair stay, from the first one on. The general section has no name and does not go.
  * OK; ABSENT where no section has the name; and those above. */
 uint32_t bigrosk_ini_edit_delete_section(const uint8_t *text, size_t text_count,

@@ -370,7 +370,7 @@ def edit_rename_key(text, section, key, new, read=None, write=None):
 
 
 def edit_delete_section(text, section, read=None):
-    """The text without the first section of the name, but for comments behind its last pair. KeyError where it isn't there, as the
+    """The text without the first section of the name, but for comments after its last pair. KeyError where it isn't there, as the
     general section, which doesn't go."""
     if section is None:
         raise KeyError(section)

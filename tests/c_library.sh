@@ -3,7 +3,7 @@
 # UBSan, and under valgrind), one that sets each choice alone, one over long texts, one that refuses each request for memory in
 # turn (its own, and malloc's), a unit of C++, the program of docs/C.md and the Python module use it. Header, module and sources
 # are compared, what look-ups cost is counted, and a library that is older than its sources must be built anew. What is
-# skipped, since a tool isn't there, is told. The last line is 'N passed, M failed', and the status is 1 if something failed.
+# skipped, since a tool isn't there, is reported. The last line is 'N passed, M failed', and the status is 1 if something failed.
 set -u
 top=$(cd "$(dirname "$0")/.." && pwd)
 room=$(mktemp -d)
@@ -26,7 +26,7 @@ run() {
     fi
 }
 
-# has TOOL WHAT: whether the tool is there; if not, what is skipped is told
+# has TOOL WHAT: whether the tool is there; if not, what is skipped is reported
 has() {
     command -v "$1" >/dev/null 2>&1 && return 0
     echo "skipped: $2, since $1 isn't there"

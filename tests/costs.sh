@@ -2,7 +2,7 @@
 # Counts the instructions of the built programs, by valgrind, since neither a clause nor an output shows what something costs:
 # a text, a section or a document of twice the size costs twice as much, a call on a document eight times as large hardly more
 # (or eight times as much, where it goes over all of it), and long lines and escapes cost few instructions a byte. Where there
-# is no valgrind it says that it skipped all. Each case that fails is told. The last line is 'N passed, M failed', and the
+# is no valgrind it says that it skipped all. Each case that fails is reported. The last line is 'N passed, M failed', and the
 # status is 1 if a case failed.
 #
 #     tests/costs.sh [INI_TOOL [INI_REPLAY]]

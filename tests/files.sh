@@ -1,7 +1,7 @@
 #!/bin/sh
-# Runs the built program ini_file over real files: what its commands write, and which files stand behind them
+# Runs the built program ini_file over real files: what its commands write, and which files stand after them
 # (tests/saving.sh looks at the calls of a save). What needs a tool that isn't here is skipped, and the number of these cases is
-# told before the last line. Each case that fails is told. The last line is 'N passed, M failed', and the status is 1 if a case
+# reported before the last line. Each case that fails is reported. The last line is 'N passed, M failed', and the status is 1 if a case
 # failed.
 #
 #     tests/files.sh [INI_FILE]

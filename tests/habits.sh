@@ -1,8 +1,8 @@
 #!/bin/sh
 # What a program's surroundings are used to: the pages of the manual, the completions of bash, and the script
 # that installs them. Pages are read by man and mandoc, completions are asked of bash, and options, commands
-# and statuses are compared wherever they are documented; what has no such tool here is skipped and told. Each
-# case that fails is told. The last line is 'N passed, M failed', and the status is 1 if a case failed.
+# and statuses are compared wherever they are documented; what has no such tool here is skipped and reported. Each
+# case that fails is reported. The last line is 'N passed, M failed', and the status is 1 if a case failed.
 set -u
 LC_ALL=C
 export LC_ALL

@@ -2,7 +2,7 @@
 # Runs the built program ini_file over long texts, long words and many files, and compares each byte with what a few lines of
 # Python make of the same lines; each run under a bound of time, of memory and of stack. Then, by valgrind, that four times the
 # text takes at most six times the instructions. Where there is no python3, or no valgrind, it says what it skipped. Each case
-# that fails is told. The last line is 'N passed, M failed', and the status is 1 if a case failed.
+# that fails is reported. The last line is 'N passed, M failed', and the status is 1 if a case failed.
 #
 #     tests/long.sh [INI_FILE [PART]]
 #
@@ -96,7 +96,7 @@ pipes() {
 }
 
 # The texts, and what is to come of them. In `many` there are sections of eight pairs, and a comment in front of each and at the
-# end; in `wide` one section of many pairs. New lines stand directly behind a section's last pair.
+# end; in `wide` one section of many pairs. New lines stand directly after a section's last pair.
 python3 - "$part" <<'END' || exit 1
 import sys
 part = int(sys.argv[1])
@@ -168,7 +168,7 @@ merged.insert(3 + 10 * (n - 1) + 9, "new=y")
 put("many.merge", merged)
 at = 3 + 10 * (n // 2) + 4
 put("many.diff", ["--- it.ini", "+++ it.ini", f"@@ -{at + 1},1 +{at + 1},1 @@", "-" + lines[at], "+key 3=other"])
-# the same behind a mark, with CR LF
+# the same after a mark, with CR LF
 put("crlf", lines, "\r\n", "\ufeff")
 edits("crlf", lines, 3 + 10 * (n // 2), 8, "\r\n", "\ufeff")
 put("crlf.new-section", lines + ["", "[no such section]", "new=v"], "\r\n", "\ufeff")
@@ -240,7 +240,7 @@ for i in range(n):
     put(f"f{i}", [f"k{i % 10}={i}", f"k{i % 10}=x"])
 put("files.check", [f"f{i}:2:1: warning: {there}" for i in range(n)])
 put("files.merge", [f"k{i}={n - 10 + i}" for i in range(10)])
-# a pair on its header's line, with empty lines behind it; values go on over indented lines
+# a pair on its header's line, with empty lines after it; values go on over indented lines
 put("tail", ["; a"] * 1000 + ["[a]key=v"] + [""] * 100 + ["; b", "[b]", "k=v"], "\r\n")
 put("tail.delete", ["; a"] * 1000 + ["[a]", "; b", "[b]", "k=v"], "\r\n")
 END
@@ -334,7 +334,7 @@ grep -v "^$(printf '\r')*\$" it.ini >stripped
 count "$label: delete" 0 "$status" tail.delete stripped
 read_all 'many pairs' wide s "key $wide"
 edited 'many pairs' wide wide s 'key 3' 'key '"$wide"
-# the fourth pair stands behind the header, the second line
+# the fourth pair stands after the header, the second line
 leaves wide.set-last wide set it.ini "key $wide" other s
 for size in 300 70000; do
     section=$(printf "%${size}s" '' | tr ' ' n)

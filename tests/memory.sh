@@ -3,7 +3,7 @@
 # where slots, links and codes run out of room, that what was taken is given back, what a program does where each request is
 # refused in turn, that files are read once, left whole and closed, and that no size of some millions is refused. The calls are
 # those of the program ini_replay, whose requests a small library counts that is loaded before it (tests/memory/heap.c). Without
-# a C compiler, or a heap that can be counted so, these cases are skipped, and that is told. Each case that fails is told. The
+# a C compiler, or a heap that can be counted so, these cases are skipped, and that is reported. Each case that fails is reported. The
 # last line is 'N passed, M failed', and the status is 1 if a case failed.
 #
 #     tests/memory.sh [INI_REPLAY [INI_TOOL [INI_MERGE [INI_FILE]]]]
@@ -12,7 +12,7 @@
 #
 # The size at which each call that takes or makes a text, a list or a document is asked once, here or by the script named:
 #
-#     ini_tool fmt, load_from_file             2,200,000 pairs, behind a byte order mark too
+#     ini_tool fmt, load_from_file             2,200,000 pairs, after a byte order mark too
 #     ini_tool fmt                             a key, a name, a value of 3,000,000 bytes; a value of 1,500,000 escapes
 #     ini_tool get, list, set, del             1,000,000 pairs
 #     ini_file keys, get --all                 1,000,000 keys; 2,200,000 values of a key
@@ -99,7 +99,7 @@ steps() {
     counted "$calls" pairs <"$room/in" | cut -d ' ' -f 1
 }
 
-# grows MOST BEFORE CALL KEY: how many requests a call makes behind these steps, but for its key
+# grows MOST BEFORE CALL KEY: how many requests a call makes after these steps, but for its key
 grows() {
     made=$(steps "$2 $3 1")
     own=$(steps "$2 $4 1")
@@ -266,7 +266,7 @@ count_requests() {
     at_most 'bytes of 1,030 sections' "$((${less:-0} * 11 / 10))" "$more"
 }
 
-# refused NAME WANTED PROGRAM WORD ..: over the file `in`, where the request of a number and all behind it are refused, a program
+# refused NAME WANTED PROGRAM WORD ..: over the file `in`, where the request of a number and all after it are refused, a program
 # tells that it is out of memory and writes nothing; so for each number up to the one with which it is done, and writes this
 refused() {
     name=$1

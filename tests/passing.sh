@@ -1,6 +1,6 @@
 #!/bin/sh
 # Runs the built program over long texts that go by: comments, empty lines and white space between few items, under a bound on
-# its memory, and tells whether what it writes and where it stops are as they are for short ones. Each case that fails is told.
+# its memory, and tells whether what it writes and where it stops are as they are for short ones. Each case that fails is reported.
 # The last line is 'N passed, M failed', and the status is 1 if a case failed.
 #
 #     tests/passing.sh [INI_TOOL]
@@ -94,7 +94,7 @@ done | short 'comments of a megabyte' 0 '' ''
     lines 4000000 '   '
 } | short 'items far apart' 0 'k=v\n\n[a]\nx=y\nz=w\\n\n' ''
 
-# 4,000,000 lines, and the line behind them is refused
+# 4,000,000 lines, and the line after them is refused
 {
     lines 4000000 '; no'
     printf '=v\n'

@@ -1,7 +1,7 @@
 #!/bin/sh
 # Runs ini_file beside crudini and `git config` on the same files: what each of them reads, and what stands in the file after an
-# edit, by its values, and by its bytes where both keep the layout. A peer that isn't here is skipped and told, and so is a
-# command that the program hasn't. Each case that fails is told. The last line is 'N passed, M failed', and the status is 1 if a
+# edit, by its values, and by its bytes where both keep the layout. A peer that isn't here is skipped and reported, and so is a
+# command that the program hasn't. Each case that fails is reported. The last line is 'N passed, M failed', and the status is 1 if a
 # case failed.
 #
 #     tests/peers.sh [INI_FILE]
@@ -66,7 +66,7 @@ if peer crudini; then
         is "crudini: $pair" "$(crudini_value $pair)" "$(value $pair)"
     done
 fi
-# The texts behind one another by NUL, which a shell can't hold.
+# The texts after one another by NUL, which a shell can't hold.
 shown() { tr '\0' '|'; }
 
 if peer git; then

@@ -298,7 +298,7 @@ del k|k=\0303|3||ini_tool: the input is not UTF-8
 --crlf --policy Nothing fmt|k=\0303|3||ini_tool: the input is not UTF-8
 ROWS
 
-# How a fault of a stream is told.
+# How a fault of a stream is reported.
 in_fault='ini_tool: standard input: '
 out_fault='ini_tool: standard output: '
 merge_fault='ini_merge: standard output: '

@@ -2,7 +2,7 @@
 # Runs the built program ini_file where it saves: which file a run writes, with which rights and by which calls of the system,
 # and that the old file stands whole, and no other is left, where one of these calls fails; then what it says of words and
 # texts that it refuses. Strace makes the faults and shows the calls; where it isn't there, the cases that need it are skipped,
-# and their number is told before the last line. Each case that fails is told. The last line is 'N passed, M failed', and the
+# and their number is reported before the last line. Each case that fails is reported. The last line is 'N passed, M failed', and the
 # status is 1 if a case failed.
 #
 #     tests/saving.sh [INI_FILE [PART ..]]
@@ -387,7 +387,7 @@ broken() {
     there "$words, $1 ($2) fails: each file stands, and no other is left" settings.ini "$source" other.ini "$other"
 }
 
-# The calls of a save that fail. Where a file is replaced: words, the file that is told, the calls; and where one is made.
+# The calls of a save that fail. Where a file is replaced: words, the file that is reported, the calls; and where one is made.
 faults() {
     told=settings.ini
     for words in 'merge settings.ini other.ini' 'set settings.ini name two' 'format settings.ini' \
@@ -433,7 +433,7 @@ behind() {
         open:*)
             # shellcheck disable=SC2086
             at=$(nth openat 'case", O_RDONLY\|"\.", O_RDONLY' $words)
-            # the lock of a new file is the folder's too: the last such call is the one behind the name
+            # the lock of a new file is the folder's too: the last such call is the one after the name
             at=$(grep '^openat(' "$room/plain" | grep -n -e 'case", O_RDONLY\|"\.", O_RDONLY' | tail -n 1 | cut -d : -f 1)
             call=openat with="inject=openat:when=$at:"
             ;;
@@ -479,7 +479,7 @@ END
 }
 
 # The calls of a run over these words from the first lock or reading on, with the files that they are about; of several calls
-# of a name in a row one is told. A file of a run's own is BESIDE.
+# of a name in a row one is reported. A file of a run's own is BESIDE.
 calls_of() {
     strace -y -o "$room/trace" -e trace=flock,openat,fchown,fchmod,read,write,fsync,rename,link,unlink,ftruncate,lseek,close \
         "$program" "$@" >/dev/null 2>&1
@@ -497,8 +497,8 @@ calls_of() {
         grep -e settings.ini -e new.ini -e BESIDE -e CASE -e 'open \. ' | uniq
 }
 
-# Which calls are made, in order, with which flags and modes: the lock before the first byte is read, and let go behind the
-# last call; owner and group, then the mode, before any byte; the bytes on the disk before the name, and the folder behind it.
+# Which calls are made, in order, with which flags and modes: the lock before the first byte is read, and let go after the
+# last call; owner and group, then the mode, before any byte; the bytes on the disk before the name, and the folder after it.
 calls() {
     for words in 'format settings.ini' 'merge settings.ini other.ini' 'set settings.ini name two'; do
         for mode in 640 600; do
@@ -629,7 +629,7 @@ in_place() {
         broken fsync '/settings.ini>' EIO 'Input/output error (os error 5)'
         broken write '.ini_file.' ENOSPC 'No space left on device (os error 28)'
     done
-    # nor can the old text be written: the copy stays, and is told
+    # nor can the old text be written: the copy stays, and is reported
     fresh
     at=$(nth write '/settings.ini>' set --in-place settings.ini name two)
     fresh
@@ -736,7 +736,7 @@ changes() {
     done
 }
 
-# what is told where no file can take a file's place
+# what is reported where no file can take a file's place
 advice='--in-place writes the file itself'
 
 # what the options of a save are asked with
@@ -802,7 +802,7 @@ names() {
     ends 'a name of 256 bytes is refused with a reason' 4 '' "ini_file: $long: File name too long (os error 36)" set "$long" k v
 }
 
-# The lock: runs at once wait for each other, so that each edit lands; one that waits long enough is told what to do.
+# The lock: runs at once wait for each other, so that each edit lands; one that waits long enough is reported what to do.
 locks() {
     for file in settings.ini new.ini; do
         fresh
@@ -815,7 +815,7 @@ locks() {
         { echo ' 12 0'; printf 'key%s\n' 1 2 3 4 5 6 7 8 9 10 11 12 | sort; } >"$room/want"
         count "twelve edits of $file at once: all twelve land, and no other file is left"
     done
-    # the file is one of the texts that the fifty make one behind the other: each adds its line at the end
+    # the file is one of the texts that the fifty make one after the other: each adds its line at the end
     fresh
     cp settings.ini "$room/front"
     : >"$room/statuses"
@@ -896,7 +896,7 @@ owners() {
             count "$words, by root over another user's file of mode $mode: its owner, group and mode stay"
         done
     done
-    # A user who may not give files away, in a folder that all may write. Groups, owner, mode; what is told, and the new mode.
+    # A user who may not give files away, in a folder that all may write. Groups, owner, mode; what is reported, and the new mode.
     while IFS='|' read -r groups owner mode told new; do
         fresh
         chmod 777 .

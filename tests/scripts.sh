@@ -1,6 +1,6 @@
 #!/bin/sh
 # Runs ini_tool.sh, ini_merge.sh and tools/run.sh over crates of a few lines and an `rt` of the test's own: one that makes a
-# program which shows its words, one that fails, one that stops the script. Each case that fails is told. The last line is
+# program which shows its words, one that fails, one that stops the script. Each case that fails is reported. The last line is
 # 'N passed, M failed', and the status is 1 if a case failed.
 #
 #     tests/scripts.sh [TOP]
@@ -382,7 +382,7 @@ else
     built "a built program in a checkout that can't be written to" 1
 fi
 
-# An interrupted build: it ends, and leaves nothing behind but what `rt` keeps in out/.
+# An interrupted build: it ends, and leaves nothing after but what `rt` keeps in out/.
 for signal in HUP INT TERM ctrl_c; do
     checkout
     find "$top" "$TMPDIR" | sort >"$room/want"

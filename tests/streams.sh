@@ -1,8 +1,8 @@
 #!/bin/sh
 # Runs the built programs over streams that fail, and looks at each call of their output: none follows one that went wrong,
-# none is made where a run is refused before it writes, and what is told names the stream. Where strace is there it makes the
-# faults and shows the calls; where it isn't, the cases that need it are skipped, and their number is told before the last
-# line. Each case that fails is told. The last line is 'N passed, M failed', and the status is 1 if a case failed.
+# none is made where a run is refused before it writes, and what is reported names the stream. Where strace is there it makes the
+# faults and shows the calls; where it isn't, the cases that need it are skipped, and their number is reported before the last
+# line. Each case that fails is reported. The last line is 'N passed, M failed', and the status is 1 if a case failed.
 #
 #     tests/streams.sh [INI_TOOL [INI_MERGE]]
 #
@@ -117,7 +117,7 @@ traced() {
     count "$name"
 }
 
-# One call of the output, and none behind the one that went wrong.
+# One call of the output, and none after the one that went wrong.
 cp nothing wrote
 for words in fmt list 'get k' 'set k w'; do
     for fault in 'write:error=EINTR:when=1|ini_tool: standard output: Interrupted system call (os error 4)' \
@@ -176,7 +176,7 @@ long() {
 long ini_tool pairs "$tool" fmt
 long ini_merge nothing "$merge" pairs
 
-# A reader that fails at a call, the first or the one behind the last byte, isn't asked again.
+# A reader that fails at a call, the first or the one after the last byte, isn't asked again.
 reads() {
     if [ "$traced" = no ]; then
         skipped=$((skipped + 1))
@@ -218,7 +218,7 @@ cp block wrote
 told 'ini_tool, just enough room' $ended 0 ''
 cp nothing wrote
 
-# What can't be told is dropped, and the status stays.
+# What can't be reported is dropped, and the status stays.
 cp nothing out
 cp nothing err
 "$tool" frob <pair >out 2>&-

@@ -70,7 +70,7 @@ for n in 255 256 300 65535 65536 70000; do
     gives "a name, a key and a value of $n bytes, set" 0 "$room/lined" "$room/nothing" "$program" set "$key" "$(cat "$room/value")" "$name"
 done
 
-# What is held in memory: 100,000 short values out of 40 MB, once with blanks behind them and once with comments between them.
+# What is kept in memory: 100,000 short values out of 40 MB, once with blanks after them and once with comments between them.
 # The bound, in KB, is twice what that takes, and less than it takes where the text is kept too.
 blanks=$(printf '%380s' '')
 lines 100000 'key%d=value %d\n' >"$room/lined"

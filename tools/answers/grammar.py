@@ -108,7 +108,7 @@ class Reader:
         self.departures = departures
         self.seen = set()
         self.at = 0
-        # The departures that wait right here for white and for blanks behind a line end, if any.
+        # The departures that wait right here for white and for blanks after a line end, if any.
         self.waiting = (WHITE_AT_START, BLANKS_AT_START)
         self.words = ["ok G"]
 

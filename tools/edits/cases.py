@@ -196,7 +196,7 @@ def plain_and_unplain():
         yield Question(call, DEFAULT, BASICS, name, "k", "v", "k=1\n[]\nk=2\n[b]\nj=3")
 
 
-# The texts of the case files that are loaded, refused, written, or told element by element.
+# The texts of the case files that are loaded, refused, written, or reported element by element.
 DATA = pathlib.Path(__file__).resolve().parent.parent.parent / "crates" / "ini_cases" / "data"
 ASKING = re.compile(r"load|refuse|write|read|places")
 ROW = re.compile(r'    "((?:[^"\\]|\\.)*)"')

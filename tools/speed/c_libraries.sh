@@ -1,7 +1,7 @@
 #!/bin/sh
 # The C library beside others, in one run: loading a text of 40,000 sections of ten pairs (10 MB), or of so many, 1,000,000
 # look-ups and writing, the best of five; of iniparser loading a tenth of it alone, once, since its time grows with the square.
-# The others are Debian's libglib2.0-dev (GKeyFile), libinih-dev and libiniparser-dev; what isn't there is told.
+# The others are Debian's libglib2.0-dev (GKeyFile), libinih-dev and libiniparser-dev; what isn't there is reported.
 #
 #     tools/speed/c_libraries.sh [SECTIONS]
 set -eu
