@@ -12,8 +12,8 @@ use Rattle.ini_file.specs.declared.choices.Choices.{Choices}
 use Rattle.ini_file.specs.declared.choices.Switches.{Switches}
 
 -- what is chosen by a word alone; the name of the file that is written, where it isn't the one that is read;
--- the value that is got where there is none; what stands between key and value of new lines; how many seconds
--- a run waits for others that write the file
+-- the value that is got where there is none; what stands between key and value of new lines; how many
+-- seconds a run waits for others that write the file
 pub record Chosen : Type 0 where
   pub switches : Switches
   pub output : Option Word

@@ -35,7 +35,8 @@ place_of c file into_file = unwrap_or c.output (if into_file then file else code
 abbrev pub place_asked : Asks → Word
 place_asked a = place_of a.choices a.file (is_of_file a.request)
 
--- the file that a fault of writing is told of: the one that is written; of standard output the one that is read
+-- the file that a fault of writing is told of: the one that is written; of standard output the one that is
+-- read
 abbrev pub told : Word → Word → Word
 told file place = if bytes_eq place (codes "-") then file else place
 
@@ -43,8 +44,8 @@ told file place = if bytes_eq place (codes "-") then file else place
 abbrev pub is_filter : Asks → Bool
 is_filter a = is_edit a.request && bytes_eq (place_asked a) (codes "-")
 
--- The bytes that are handed on once a run has ended: those that it made; or the file's own, where such an edit
--- finds nothing.
+-- The bytes that are handed on once a run has ended: those that it made; or the file's own, where such an
+-- edit finds nothing.
 abbrev pub handed_on : Asks → Outcome → List ℕ → Option (List ℕ)
 handed_on a (Done bytes) input = Some bytes.items
 handed_on a NotFound input = if is_filter a then Some input else None

@@ -1,6 +1,6 @@
-//! Files that a save makes beside the one that it writes, and their folder. Their names begin with `.ini_file.`
-//! and the number of the process, so that they are short, nobody else uses them, and a list of files passes
-//! over them. This file knows no text.
+//! Files that a save makes beside the one that it writes, and their folder. Their names begin with
+//! `.ini_file.` and the number of the process, so that they are short, nobody else uses them, and a list of
+//! files passes over them. This file knows no text.
 //!
 //! No contract says what a disk holds; `tests/saving.sh` tests it.
 

@@ -1,6 +1,6 @@
 //! The bytes of files and streams: those that are read, and where those go that a command makes: into the
-//! file's place, into another file or a stream, or nowhere, where what would change is shown. This file knows
-//! no word of the program and no document.
+//! file's place, into another file or a stream, or nowhere, where what would change is shown. This file
+//! knows no word of the program and no document.
 //!
 //! No contract says what a disk gets; `tests/files.sh` tests it.
 use crate::diff::diff;
@@ -26,8 +26,8 @@ pub(crate) fn read_input(rt: &HostRuntime, file: &str) -> Result<Vec<u8>, Error>
     }
 }
 
-/// Locks the file that a command writes, before anything of it is read. A stream isn't locked, nor is a file of
-/// which the change is shown alone.
+/// Locks the file that a command writes, before anything of it is read. A stream isn't locked, nor is a file
+/// of which the change is shown alone.
 pub(crate) fn lock_place(rt: &HostRuntime, target: Target<'_>) -> Result<Lock, Error> {
     let place = target.place;
     if place == "-" || target.shows_change {

@@ -1,6 +1,6 @@
-//! A lock over the file that a run writes, from before it is read until its new bytes stand. It is an advisory
-//! lock of the system (`flock`), which frees it with the process, however that ends; no file is made for it.
-//! This file knows no text and no word of the program.
+//! A lock over the file that a run writes, from before it is read until its new bytes stand. It is an
+//! advisory lock of the system (`flock`), which frees it with the process, however that ends; no file is
+//! made for it. This file knows no text and no word of the program.
 //!
 //! No contract says what a system locks; `tests/saving.sh` tests it.
 
@@ -44,13 +44,14 @@ enum Attempt {
     Again,
 }
 
-/// Locks the file of a name; where there is none, the folder in which it is to be made. While another process
-/// has the lock it is waited for, `wait` seconds or ten. Where the file system has no locks a note says so, and
-/// what is no regular file isn't locked.
+/// Locks the file of a name; where there is none, the folder in which it is to be made. While another
+/// process has the lock it is waited for, `wait` seconds or ten. Where the file system has no locks a note
+/// says so, and what is no regular file isn't locked.
 ///
 /// # Errors
 ///
-/// `Io` of the kind `WouldBlock` where the lock isn't free in that time; `Io` where a call of the system fails.
+/// `Io` of the kind `WouldBlock` where the lock isn't free in that time; `Io` where a call of the system
+/// fails.
 pub fn lock_file(rt: &HostRuntime, path: &str, wait: Option<&str>) -> Result<Lock, Error> {
     let seconds = wait.and_then(|text| text.parse().ok()).unwrap_or(WAIT);
     let limit = Duration::from_secs(seconds);

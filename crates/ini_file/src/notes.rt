@@ -5,7 +5,8 @@
 use crate::shown::Shown;
 use std::io::{self, Write};
 
-/// Prints what is to be known of a file, with the fault that it comes from. A fault of the stream is dropped.
+/// Prints what is to be known of a file, with the fault that it comes from. A fault of the stream is
+/// dropped.
 pub fn note(rt: &HostRuntime, file: &str, words: &str, fault: Option<&io::Error>) {
     let file = Shown(file);
     let mut err = rt.stderr();

@@ -1,5 +1,6 @@
-//! A file that is written itself, in place of a new one that takes its name: owner, rights, further names and
-//! attributes stay, and a fault may leave it in halves, so a copy of its text stands beside it meanwhile.
+//! A file that is written itself, in place of a new one that takes its name: owner, rights, further names
+//! and attributes stay, and a fault may leave it in halves, so a copy of its text stands beside it
+//! meanwhile.
 //!
 //! No contract says what a disk holds; `tests/saving.sh` tests it.
 
@@ -21,8 +22,8 @@ const CHUNK: usize = 65536;
 /// # Errors
 ///
 /// `Io` of the kind `Other` where the file no longer has the bytes that were read; `Io` where a call of the
-/// system fails; `Memory`. Where that happens within the writing, the old bytes are written back; where these
-/// can't be written either, a note names the copy, which stays.
+/// system fails; `Memory`. Where that happens within the writing, the old bytes are written back; where
+/// these can't be written either, a note names the copy, which stays.
 pub fn write_over(rt: &HostRuntime, target: &str, old: &[u8], bytes: &[u8]) -> Result<(), Error> {
     let copy = copy_beside(rt, target, old)?;
     let written = match open_unchanged(rt, target, old) {

@@ -25,8 +25,8 @@ impl Kept {
     }
 }
 
-/// Gives a new file, which none but its owner may open yet, the old one's owner and group, as far as the system
-/// lets this user do so, and then its mode.
+/// Gives a new file, which none but its owner may open yet, the old one's owner and group, as far as the
+/// system lets this user do so, and then its mode.
 ///
 /// No contract says what a disk holds; `tests/saving.sh` tests it.
 pub fn give_rights(file: &File, old: &Metadata) -> io::Result<Kept> {
@@ -55,8 +55,9 @@ fn is_not_allowed(fault: &io::Error) -> bool {
     )
 }
 
-// The mode of the new file. Where owner or group isn't kept no bit lets it run as another user. Where the group
-// isn't kept, its members are others now, and others may be of the new group: both may do what both could do.
+// The mode of the new file. Where owner or group isn't kept no bit lets it run as another user. Where the
+// group isn't kept, its members are others now, and others may be of the new group: both may do what both
+// could do.
 fn mode_kept(mode: u32, kept: Kept) -> u32 {
     if kept.owner && kept.group {
         mode & 0o7777

@@ -36,20 +36,20 @@ const NO_SUCH_CALL: i32 = 38;
 
 const NOT_SUPPORTED: i32 = 95;
 
-/// Puts bytes in the place of those that were read of a file, or into a new file where none was read. They are
-/// written to a new file beside it, which none but its owner may read until it has the old one's owner, group
-/// and mode, is brought to the disk, and then takes its name; the folder is brought to the disk behind that.
-/// Where the name is a symbolic link, the file that it stands for is replaced, and the link stays. With
-/// `in_place` the file itself is written, after a copy beside it.
+/// Puts bytes in the place of those that were read of a file, or into a new file where none was read. They
+/// are written to a new file beside it, which none but its owner may read until it has the old one's owner,
+/// group and mode, is brought to the disk, and then takes its name; the folder is brought to the disk behind
+/// that. Where the name is a symbolic link, the file that it stands for is replaced, and the link stays.
+/// With `in_place` the file itself is written, after a copy beside it.
 ///
 /// # Errors
 ///
-/// `Io` of the kind `AlreadyExists` where a new file's name is taken by then, or is a link to no file; of the
-/// kind `InvalidInput` where the name is a pipe's or a device's; of the kind `PermissionDenied` where the file
-/// is write-protected, but with `force`; of the kind `Other` where the file no longer has the bytes that were
-/// read, once the new one is there; `Io` where a call of the system fails; `Memory`. Until the call that
-/// renames the old file stands whole; where a call fails before, the new one is taken away. Where the last one
-/// fails, which brings the folder to the disk, the words say that the file is written.
+/// `Io` of the kind `AlreadyExists` where a new file's name is taken by then, or is a link to no file; of
+/// the kind `InvalidInput` where the name is a pipe's or a device's; of the kind `PermissionDenied` where
+/// the file is write-protected, but with `force`; of the kind `Other` where the file no longer has the bytes
+/// that were read, once the new one is there; `Io` where a call of the system fails; `Memory`. Until the
+/// call that renames the old file stands whole; where a call fails before, the new one is taken away. Where
+/// the last one fails, which brings the folder to the disk, the words say that the file is written.
 pub fn save(
     rt: &HostRuntime,
     how: Switches,
