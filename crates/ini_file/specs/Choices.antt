@@ -3,7 +3,7 @@ use Rattle.std.specs.Prelude.{Bool, true, false, not, ◌&&◌, ◌||◌, ◌==�
 use Rattle.std.specs.Prelude.{List, [], ◌∷◌, codes, length, map, Option, None, Some, is_some, String, string_bytes}
 use Rattle.std.specs.Borrow.{Bor}
 use Rattle.std.specs.Char.{is_ascii_digit}
-use Rattle.std.specs.List.{list_all, starts_with}
+use Rattle.std.specs.List.{starts_with}
 use Rattle.std.specs.Option.{option_map, option_map_or}
 use Rattle.std.specs.Str.{bytes_eq}
 use Rattle.std.specs.declared.alloc.Global.{Global}
@@ -55,11 +55,24 @@ writes_pairs command = bytes_eq command (codes "set") || bytes_eq command (codes
 abbrev pub are_of_saving : Switches → Bool
 are_of_saving s = s.in_place || s.force || s.verbose
 
--- the word, if there is one, is a number of seconds: one to nine decimal digits
+-- each byte is a decimal digit
+abbrev pub has_digits_alone : Word → Bool
+has_digits_alone word = count_by (λ byte. not (is_ascii_digit byte)) word == 0
+
+-- the word is one to nine decimal digits
+abbrev pub is_short_number : Word → Bool
+is_short_number word = nat_lt 0 (length word) && nat_lt (length word) 10 && has_digits_alone word
+
+-- the word, if there is one, is a number of seconds
 abbrev pub are_seconds : Option Word → Bool
 are_seconds None = true
-are_seconds (Some word) =
-    nat_lt 0 (length word) && nat_lt (length word) 10 && list_all is_ascii_digit word
+are_seconds (Some word) = is_short_number word
+
+-- whether the command takes the choices that are about a file that is written
+abbrev pub takes_saving : Word → Chosen → Bool
+takes_saving command c =
+    (not (are_of_saving c.switches || is_some c.wait) || (not (writes_texts command) || is_some c.output))
+    && are_seconds c.wait
 
 -- whether the command takes the choices
 abbrev pub takes : Word → Chosen → Bool
@@ -70,8 +83,7 @@ takes command c =
     && (not c.switches.null || writes_texts command)
     && (not (is_some c.separator) || (writes_pairs command && not c.switches.existing))
     && (not c.switches.dry_run || not (writes_texts command))
-    && (not (are_of_saving c.switches || is_some c.wait) || (not (writes_texts command) || is_some c.output))
-    && are_seconds c.wait
+    && takes_saving command c
 
 -- what a word chooses by itself
 abbrev pub with_switch : Word → Switches → Option Switches

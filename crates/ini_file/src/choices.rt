@@ -3,7 +3,8 @@
 ghost use Rattle.std.specs.Prelude.{◌≡◌, ◌&&◌, ◌||◌, map, not, string_bytes};
 ghost use Rattle.std.specs.Option.{option_map};
 ghost use Rattle.ini_file.specs.Choices.{chosen, chosen_by, chosen_of, no_choice, no_switch, with_switch};
-ghost use Rattle.ini_file.specs.Choices.{are_of_saving, are_seconds, have_no_option, takes};
+ghost use Rattle.ini_file.specs.Choices.{are_of_saving, are_seconds, has_digits_alone, have_no_option};
+ghost use Rattle.ini_file.specs.Choices.{is_short_number, takes, takes_saving};
 ghost use Rattle.ini_file.specs.Choices.{writes_pairs, writes_texts};
 
 /// What words behind the command choose by themselves.
@@ -162,11 +163,17 @@ impl<'a> Choices<'a> {
                 may_separate(command, self.switches.existing),
             )
             && only_where(self.switches.dry_run, !writes_texts(command))
-            && only_where(
-                self.switches.are_of_saving() || self.wait.is_some(),
-                !writes_texts(command) || self.output.is_some(),
-            )
-            && are_seconds(self.wait)
+            && self.suit_saving(command)
+    }
+
+    // Whether the command takes the choices that are about a file that is written.
+    fn suit_saving(self, command: &str) -> bool
+        ensures { result ≡ takes_saving command.now (chosen_of self.entry) }
+    {
+        only_where(
+            self.switches.are_of_saving() || self.wait.is_some(),
+            !writes_texts(command) || self.output.is_some(),
+        ) && are_seconds(self.wait)
     }
 }
 
@@ -175,9 +182,24 @@ fn are_seconds(wait: Option<&str>) -> bool
     ensures { result ≡ are_seconds (option_map (λ text. text.now) wait.entry) }
 {
     match wait {
-        Some(text) => 0 < text.len() && text.len() < 10 && text.bytes().all(|b| b.is_ascii_digit()),
+        Some(text) => is_short_number(text),
         None => true,
     }
+}
+
+// Whether the word is one to nine decimal digits.
+fn is_short_number(word: &str) -> bool
+    ensures { result ≡ is_short_number word.now }
+{
+    0 < word.len() && word.len() < 10 && has_digits_alone(word.as_bytes())
+}
+
+// Whether each byte is a decimal digit.
+fn has_digits_alone(bytes: &[u8]) -> bool
+    ensures { result ≡ has_digits_alone bytes.now }
+{
+    let others = bytes.iter().filter(|byte| !byte.is_ascii_digit());
+    others.count() == 0
 }
 
 /// Whether no word begins with `--`.
