@@ -1,7 +1,6 @@
 //! What each command writes of a document. This file knows no word and no reader.
 ghost use Rattle.std.specs.Prelude.{chars};
 ghost use Rattle.ini_text.specs.Device.Watched.{IsClear};
-ghost use Rattle.ini_text.specs.declared.write.option.WriteOption.{WriteOption};
 ghost use Rattle.ini.specs.Texts.{str_name};
 ghost use Rattle.ini_tool.specs.Requests.{Del, Fmt, Set, change_of, question_of};
 ghost use Rattle.ini_tool.specs.Outputs.{output};
@@ -15,15 +14,17 @@ use std::alloc::Global;
 use std::io::Write;
 use std::mem;
 
-/// Writes what is asked of the document, and answers whether it was there.
+/// Writes what is asked of the document, and answers whether it was there. `option` is how documents are
+/// written, which changes no answer.
 pub fn answer<W: Write>(
     question: Question<'_>,
     document: &View<'_>,
+    option: WriteOption,
     out: &mut Watched<'_, W>,
 ) -> Result<bool, Error>
     requires { IsClear out.old }
-    ensures { (w : WriteOption) → Prints W.contents out.old out.new result
-        (output w (question_of question.entry) document.now) }
+    ensures { Prints W.contents out.old out.new result
+        (output option (question_of question.entry) document.now) }
 {
     match question {
         Question::List => list(document, Form::Escaped, out),

@@ -96,7 +96,7 @@ pub fn run<R: Read, W: Write>(
             };
             match View::load_from_bytes(alloc, bytes.as_slice(), options.reading, true) {
                 Ok(document) => {
-                    let answered = answer(question, &document, writer);
+                    let answered = answer(question, &document, option, writer);
                     mem::forget(document);
                     outcome_of(answered)
                 }
@@ -112,7 +112,7 @@ pub fn run<R: Read, W: Write>(
 
 // How a run ends whose command has answered.
 fn outcome_of(answered: Result<bool, Error>) -> Outcome
-    ensures { result ≡ outcome_of answered.entry }
+    ensures { result ≡ outcome_of answered }
 {
     match answered {
         Ok(true) => Outcome::Done,
