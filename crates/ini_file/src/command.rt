@@ -1,7 +1,6 @@
 //! What each question is answered of a document. This file knows no word and no reader.
 ghost use Rattle.std.specs.Prelude.{◌≡◌};
 ghost use Rattle.ini_text.specs.Device.Watched.{IsClear};
-ghost use Rattle.ini_text.specs.declared.write.option.WriteOption.{WriteOption};
 ghost use Rattle.ini_file.specs.Requests.{asking_of};
 ghost use Rattle.ini_file.specs.Forms.{listing_form};
 ghost use Rattle.ini_file.specs.Outputs.{output};
@@ -9,20 +8,22 @@ ghost use Rattle.ini_lines.specs.Prints.{Prints};
 
 use crate::lookup::get;
 use crate::words::Question;
-use ini::{Error, Watched};
+use ini::{Error, Watched, WriteOption};
 use ini_lines::{Form, keys, list, sections};
 use ini_view::View;
 use std::io::Write;
 
-/// Writes what the question asks of the document, and answers whether what it asks for was there.
+/// Writes what the question asks of the document, and answers whether what it asks for was there. `option`
+/// is how documents are written, which changes no answer.
 pub fn answer<W: Write>(
     question: Question<'_>,
     document: &View<'_>,
+    option: WriteOption,
     out: &mut Watched<'_, W>,
 ) -> Result<bool, Error>
     requires { IsClear out.old }
-    ensures { (w : WriteOption) → Prints W.contents out.old out.new result
-        (output w (asking_of question.entry) document.now) }
+    ensures { Prints W.contents out.old out.new result
+        (output option (asking_of question.entry) document.now) }
 {
     match question {
         Question::List { null } => list(document, listing_form(null), out),

@@ -3,7 +3,6 @@
 ghost use Rattle.std.specs.Prelude.{◌≡◌, ◌++◌, ◌↔◌, ◌⊎◌, IfErr, IfOk, None, OnOk};
 ghost use Rattle.std.specs.Prelude.{[], chars, is_some, unwrap_or};
 ghost use Rattle.ini_text.specs.Device.Watched.{AppendsFront};
-ghost use Rattle.ini_text.specs.declared.write.option.WriteOption.{WriteOption};
 ghost use Rattle.ini.specs.WrittenTo.{IsWrittenTo};
 ghost use Rattle.ini_file.specs.Outputs.{output};
 ghost use Rattle.ini_file.specs.Requests.{Format, asking_of};
@@ -17,7 +16,7 @@ use crate::edit::change;
 use crate::shown::Shown;
 use crate::words::{Command, Question, USAGE, parse};
 use crate::writing::{separates, writing};
-use ini::{Error, Ini, Watched, write_raw};
+use ini::{Error, Ini, Watched, WriteOption, write_raw};
 use ini_edit::EditError;
 use ini_options::Options;
 use ini_view::View;
@@ -136,9 +135,10 @@ fn ask(
     if !separates(separator) {
         return Err(EditError::Separator);
     }
+    let option = writing(alloc, options, separator)?;
     let document = View::load_from_str_opt(alloc, text, options.reading)?;
     let mut bytes = Vec::new(alloc);
-    match answer_to(question, &document, &mut bytes) {
+    match answer_to(question, &document, option, &mut bytes) {
         Ok(true) => Ok(Some(bytes)),
         Ok(false) => Ok(None),
         Err(_) => Err(EditError::Text(Error::Memory(AllocError))),
@@ -149,14 +149,15 @@ fn ask(
 fn answer_to<W: Write>(
     question: Question<'_>,
     document: &View<'_>,
+    option: WriteOption,
     writer: &mut W,
 ) -> Result<bool, Error>
-    ensures found { (w : WriteOption) → IfOk result
-        (λ found. found ≡ is_some (output w (asking_of question.entry) document.now)) }
-    ensures written { (w : WriteOption) → OnOk result (IsWrittenTo W.contents writer.old writer.new
-        (unwrap_or (output w (asking_of question.entry) document.now) [])) }
+    ensures found { IfOk result
+        (λ found. found ≡ is_some (output option (asking_of question.entry) document.now)) }
+    ensures written { OnOk result (IsWrittenTo W.contents writer.old writer.new
+        (unwrap_or (output option (asking_of question.entry) document.now) [])) }
 {
-    answer(question, document, &mut Watched::new(writer))
+    answer(question, document, option, &mut Watched::new(writer))
 }
 
 /// Prints how a run over a file ended, where there is something to say: the usage; or the file, the place and
