@@ -6,9 +6,10 @@ use Rattle.ini.specs.Texts.{Text}
 use Rattle.ini_edit.specs.Added.{IsWritable, RefusesToAdd}
 use Rattle.ini_edit.specs.Edited.{IfEditParse}
 use Rattle.ini_edit.specs.Settings.{RefusesToSet}
-use Rattle.ini_edit.specs.Writable.{IsWritablePair, IsWritableValue}
+use Rattle.ini_edit.specs.Writable.{IsWritableValue}
 use Rattle.ini_edit.specs.declared.error.EditError.{EditError}
 use Rattle.ini_edit.specs.declared.error.EditError.TheVariants as refusals
+use Rattle.ini_c.specs.TextEdits.{HasUnwritableKey}
 use Rattle.ini_text.specs.Laws.Plain.{IsPlainSeparator}
 use Rattle.ini_text.specs.declared.error.Error.TheVariants.{Io, Memory, NoProgress, NotUtf8, Parse}
 use Rattle.ini_text.specs.declared.option.ParseOption.{ParseOption}
@@ -57,14 +58,13 @@ module _ {X : Type 0} (o : ParseOption) (w : WriteOption) (T : Text) (name : Opt
   -- to add a pair is refused for its value, or for its key, exactly where that cannot be written
   pub record RefusesPairFirst (answer : Result X EditError) : Type 0 where
     pub of_value : (answer ≡ Err refusals.Value) ↔ ¬ IsWritableValue o w.escape_policy value
-    pub of_key : (answer ≡ Err refusals.Key)
-        ↔ (IsWritableValue o w.escape_policy value × (¬ IsWritablePair o w.escape_policy key value))
+    pub of_key : (answer ≡ Err refusals.Key) ↔ HasUnwritableKey o w.escape_policy key value
 
   writable_first : (answer : Result X EditError) → (answer ≡ Err refusals.Value → ⊥)
       → (answer ≡ Err refusals.Key → ⊥) → IsWritable o w key value → RefusesPairFirst answer
   writable_first answer no_value no_key writable = record {
     of_value = neither no_value (λ against. against writable.pair.writable_value);
-    of_key = neither no_key (λ against. against.1 writable.pair);
+    of_key = neither no_key (λ against. against.no_pair writable.pair);
   }
 
   pub pair_of_adding : (answer : Result X EditError) → IsPlainSeparator (chars w.kv_separator.now)
@@ -75,14 +75,14 @@ module _ {X : Type 0} (o : ParseOption) (w : WriteOption) (T : Text) (name : Opt
       record {
         of_value =
             (λ e. parts.1, λ _. refl);
-        of_key = neither (λ e. cc) (λ against. parts.1 against.0);
+        of_key = neither (λ e. cc) (λ against. parts.1 against.writable_value);
       }
   pair_of_adding (Err refusals.Value) separates plain (RefusesToAdd.line writable none) = absurd none
   pair_of_adding (Err refusals.Key) separates plain (RefusesToAdd.pair parts) =
       record {
         of_value =
             neither (λ e. cc) (λ against. against parts.1.0);
-        of_key = (λ e. parts.1, λ _. refl);
+        of_key = (λ e. record { writable_value = parts.1.0; no_pair = parts.1.1 }, λ _. refl);
       }
   pair_of_adding (Err refusals.Key) separates plain (RefusesToAdd.line writable none) = absurd none
   pair_of_adding (Err refusals.Separator) separates plain (RefusesToAdd.pair against) =

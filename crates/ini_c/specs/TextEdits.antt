@@ -7,9 +7,11 @@ use Rattle.ini_text.specs.declared.error.Error.TheVariants.{Parse}
 use Rattle.ini_text.specs.declared.error.ParseError.{ParseError}
 use Rattle.ini_text.specs.declared.option.ParseOption.{ParseOption}
 use Rattle.ini_text.specs.declared.write.option.WriteOption.{WriteOption}
+use Rattle.ini_text.specs.declared.write.policy.EscapePolicy.{EscapePolicy}
 use Rattle.ini_edit.specs.Added.{IsAdded, LoadsEdited, RefusesToAdd}
 use Rattle.ini_edit.specs.NewLines.{like_lines_of}
 use Rattle.ini_edit.specs.Settings.{IsSet, RefusesToSet}
+use Rattle.ini_edit.specs.Writable.{IsWritablePair, IsWritableValue}
 use Rattle.ini_edit.specs.declared.error.EditError.{EditError}
 use Rattle.ini_edit.specs.declared.error.EditError.TheVariants.{Text as TextError}
 use Rattle.ini_c.specs.Choices.{IsWriteOption}
@@ -21,6 +23,11 @@ use Rattle.ini_c.specs.declared.options.WriteChoice.{WriteChoice}
 -- a text, a section's name and a key are UTF-8
 abbrev pub AreEdit : List ℕ → List ℕ → List ℕ → Type 0
 AreEdit text section key = IsUtf8 text × AreTexts section key
+
+-- a line of the key and the value can't be written, and not for the value
+pub record HasUnwritableKey (o : ParseOption) (policy : EscapePolicy) (key value : Text) : Type 0 where
+  pub writable_value : IsWritableValue o policy value
+  pub no_pair : ¬ IsWritablePair o policy key value
 
 -- a text of which P holds has so many bytes
 pub record IsCountOfText (P : Text → Type 0) (count : ℕ) : Type 0 where

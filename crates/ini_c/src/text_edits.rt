@@ -12,15 +12,15 @@ ghost use Rattle.ini_edit.specs.Edited.{IfEditParse, IsDeleted};
 ghost use Rattle.ini_edit.specs.FirstPairs.{LacksPair};
 ghost use Rattle.ini_edit.specs.NewLines.{like_lines_of};
 ghost use Rattle.ini_edit.specs.Settings.{IsSet, RefusesToSet};
-ghost use Rattle.ini_edit.specs.Writable.{IsWritablePair, IsWritableValue};
+ghost use Rattle.ini_edit.specs.Writable.{IsWritableValue};
 ghost use Rattle.ini_edit.specs.declared.error.EditError.TheVariants.{Key, Name, NoPlace, Value};
 ghost use Rattle.ini_c.specs.Choices.{parse_option, policy_of};
 ghost use Rattle.ini_c.specs.Faults.{IsStopAt};
 ghost use Rattle.ini_c.specs.LookUps.{name_if};
 ghost use Rattle.ini_c.specs.Statuses.{absent, broken, is_among, no_memory, no_place, no_room};
 ghost use Rattle.ini_c.specs.Statuses.{not_utf8, ok, unplain_key, unplain_name, unplain_value};
-ghost use Rattle.ini_c.specs.TextEdits.{AreEdit, IsAddedBy, IsCountOfText, IsSetBy, RefusesToAddBy};
-ghost use Rattle.ini_c.specs.TextEdits.{RefusesToSetBy};
+ghost use Rattle.ini_c.specs.TextEdits.{AreEdit, HasUnwritableKey, IsAddedBy, IsCountOfText, IsSetBy};
+ghost use Rattle.ini_c.specs.TextEdits.{RefusesToAddBy, RefusesToSetBy};
 
 use crate::copies::{give, pair_of, place_of};
 use crate::fault::Fault;
@@ -129,8 +129,8 @@ fn added(
     ensures refused { IfErr result (RefusesToAdd read write.now (chars text.now) (str_name name.entry)
         (chars key.now) (chars value.now)) }
     ensures value { (result ≡ Err Value) ↔ ¬ IsWritableValue read write.now.escape_policy (chars value.now) }
-    ensures key { (result ≡ Err Key) ↔ (IsWritableValue read write.now.escape_policy (chars value.now)
-        × ¬ IsWritablePair read write.now.escape_policy (chars key.now) (chars value.now)) }
+    ensures key { (result ≡ Err Key)
+        ↔ HasUnwritableKey read write.now.escape_policy (chars key.now) (chars value.now) }
     ensures fault { IfEditParse result (IsStopOf read (chars text.now)) }
 {
     add(alloc, text, read, write, name, key, value)
@@ -170,9 +170,8 @@ pub extern "C" fn bigrosk_ini_edit_add(
         ↔ ((AreEdit text.now section.now key.now × IsUtf8 value.now)
         × ¬ IsWritableValue (parse_option read.now) (policy_of write.now.policy) (chars value.now)) }
     ensures unplain_key { result ≡ unplain_key ↔ ((AreEdit text.now section.now key.now × IsUtf8 value.now)
-        × (IsWritableValue (parse_option read.now) (policy_of write.now.policy) (chars value.now)
-        × ¬ IsWritablePair (parse_option read.now) (policy_of write.now.policy) (chars key.now)
-        (chars value.now))) }
+        × HasUnwritableKey (parse_option read.now) (policy_of write.now.policy) (chars key.now)
+        (chars value.now)) }
     ensures unplain_name { result ≡ unplain_name → RefusesToAddBy (parse_option read.now) write.now
         (chars text.now) (name_if named section.now) (chars key.now) (chars value.now) Name }
     ensures no_place { result ≡ no_place → RefusesToAddBy (parse_option read.now) write.now
