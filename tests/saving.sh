@@ -7,7 +7,8 @@
 #
 #     tests/saving.sh [INI_FILE [PART ..]]
 #
-# The program is by default the one that its script builds; a PART is the name of one of the functions below, by default all.
+# The program is by default the one that its script builds; a PART is the name of one of the functions below, or of those in
+# tests/saving/meanwhile.sh, by default all.
 set -u
 LC_ALL=C
 export LC_ALL
@@ -281,6 +282,24 @@ neighbours() {
         { cat Cargo.lock; ls -A; } >"$room/have" 2>&1
         count "$words: Cargo.lock stands, and no other file is left"
     done
+    # names of files beside it that are taken already, as by a run that had this process's number
+    for words in 'set settings.ini name two' 'set new.ini k v' 'set --in-place settings.ini name two'; do
+        fresh
+        # shellcheck disable=SC2016,SC2086
+        sh -c 'echo mine >.ini_file.$$.0 && exec "$@"' sh "$program" $words >"$room/have" 2>&1
+        { echo "status $?"; cat .ini_file.*; grep -c -e 'name=two' -e 'k=v' "$(echo "$words" | grep -o '[a-z]*\.ini')"
+            ls -A | grep -c ini_file; } >>"$room/have"
+        printf 'status 0\nmine\n1\n1\n' >"$room/want"
+        count "$words, a name beside it is taken: that file stands, and the text is written"
+    done
+    fresh
+    # shellcheck disable=SC2016
+    sh -c 'n=0; while [ "$n" -lt 1000 ]; do : >".ini_file.$$.$n"; n=$((n + 1)); done; exec "$@"' sh "$program" \
+        set settings.ini name two >"$room/have" 2>&1
+    { echo "status $?"; ls -A | grep -c ini_file; cat settings.ini; } >>"$room/have"
+    { echo 'ini_file: settings.ini: no name is free for a file beside it (.ini_file.*)'; echo 'status 4'; echo 1000
+        printf "$source"; } >"$room/want"
+    count 'a thousand names beside it are taken: the words, and the file stands'
     # by way of a link the file's own folder is written, and what stands beside the link isn't touched
     for words in 'merge link.ini other.ini' 'format link.ini' 'set link.ini k v'; do
         fresh
@@ -308,12 +327,17 @@ neighbours() {
     fi
     [ -n "$apart" ] && rm -rf "$apart"
     # a name that is taken by a link to no file: nothing is left
-    for words in 'set link.ini k v' 'merge link.ini other.ini' 'set --output link.ini settings.ini k v'; do
+    for words in 'set link.ini k v' 'merge link.ini other.ini' 'set --output link.ini settings.ini k v' 'set --dry-run link.ini k v'; do
         fresh
         ln -s none.ini link.ini
         # shellcheck disable=SC2086
-        ended "$words, a link to no file" 4 $words
+        ends "$words, a link to no file" 4 '' 'ini_file: link.ini: a symbolic link to no file' $words
         there "$words, a link to no file: no lock is left" settings.ini "$source" other.ini "$other"
+    done
+    for words in 'set none/new.ini k v' 'set --dry-run none/new.ini k v'; do
+        fresh
+        # shellcheck disable=SC2086
+        ends "$words, a folder that isn't there" 4 '' 'ini_file: none/new.ini: No such file or directory (os error 2)' $words
     done
 }
 
@@ -401,6 +425,7 @@ faults() {
         broken write '.ini_file.' ENOSPC 'No space left on device (os error 28)'
         broken fsync . EIO 'Input/output error (os error 5)'
         broken rename . EXDEV "Invalid cross-device link (os error 18); $advice"
+        broken rename . EPERM "Operation not permitted (os error 1); $advice"
         broken rename . EBUSY "Device or resource busy (os error 16); $advice"
         broken rename . EIO 'Input/output error (os error 5)'
     done
@@ -454,6 +479,9 @@ behind() {
 set settings.ini k v|folder:EIO|4|settings.ini: $lost|
 set new.ini k v|folder:EIO|4|new.ini: $lost|new.ini
 set settings.ini k v|folder:EINVAL|0|settings.ini: note: $kept: Invalid argument (os error 22)|
+set settings.ini k v|folder:EOPNOTSUPP|0|settings.ini: note: $kept: Operation not supported (os error 95)|
+set settings.ini k v|fchown:EINVAL|0|settings.ini: note: its group can't be kept|
+set settings.ini k v|fchown:EOPNOTSUPP|0|settings.ini: note: its group can't be kept|
 set settings.ini k v|open:EACCES|0|settings.ini: note: $kept: Permission denied (os error 13)|
 set new.ini k v|open:EACCES|0|new.ini: note: $kept: Permission denied (os error 13)|new.ini
 set settings.ini k v|flock:ENOLCK|0|settings.ini: note: it can't be locked against other runs: No locks available (os error 37)|
@@ -629,6 +657,25 @@ in_place() {
         broken fsync '/settings.ini>' EIO 'Input/output error (os error 5)'
         broken write '.ini_file.' ENOSPC 'No space left on device (os error 28)'
     done
+    # no copy can be made, or its folder not be brought to the disk: the file is written all the same
+    while IFS='|' read -r call pattern error; do
+        fresh
+        at=$(nth "$call" "$pattern" set --in-place settings.ini name two)
+        fresh
+        strace -o "$room/trace" -e "trace=$call" -e "inject=$call:error=$error:when=$at" "$program" \
+            set --in-place settings.ini name two >"$room/have" 2>&1
+        echo "status $?" >>"$room/have"
+        echo 'status 0' >"$room/want"
+        count "set --in-place, $call ($pattern) fails by $error: the status"
+        there "set --in-place, $call ($pattern) fails by $error: the new text stands, and no copy is left" \
+            settings.ini "$(printf '%s' "$source" | sed s/one/two/)" other.ini "$other"
+    done <<'END'
+openat|O_EXCL|EPERM
+openat|O_EXCL|EACCES
+openat|O_EXCL|EROFS
+fsync|case>|EINVAL
+fsync|case>|EOPNOTSUPP
+END
     # nor can the old text be written: the copy stays, and is reported
     fresh
     at=$(nth write '/settings.ini>' set --in-place settings.ini name two)
@@ -639,6 +686,16 @@ in_place() {
     { echo 'status 4'; echo "ini_file: settings.ini: note: it isn't whole; its old text is in BESIDE"
         echo 'ini_file: settings.ini: Input/output error (os error 5)'; printf "$source"; } >"$room/want"
     count 'set --in-place, neither text can be written: the copy stays, and is told'
+    # the same without a copy
+    fresh
+    made=$(nth openat O_EXCL set --in-place settings.ini name two)
+    fresh
+    strace -o "$room/trace" -e trace=write,openat -e "inject=openat:error=EACCES:when=$made" \
+        -e "inject=write:error=EIO:when=$((at - 1))..$at" "$program" set --in-place settings.ini name two >"$room/out" 2>"$room/err"
+    { echo "status $?"; sed "s|$room/case/||" "$room/err"; ls -A; } >"$room/have"
+    printf '%s\n' 'status 4' "ini_file: settings.ini: note: it isn't whole" \
+        'ini_file: settings.ini: Input/output error (os error 5)' other.ini settings.ini >"$room/want"
+    count "set --in-place, neither text can be written, and there is no copy: it is told that the file isn't whole"
 }
 
 # A call of write that takes three bytes alone, and no byte. Strace answers so in place of the system, so the three bytes are
@@ -665,6 +722,22 @@ short() {
         count "$words, a write that takes no byte: the status"
         there "$words, a write that takes no byte: each file stands" settings.ini "$source" other.ini "$other"
     done
+    # in place: the others go in from the front on, so the old text's last three bytes stay last
+    fresh
+    at=$(nth write '/settings.ini>' set --in-place settings.ini name two)
+    { echo 'status 0'; tail -c +4 settings.ini; printf "$source" | tail -c 3; } >"$room/want"
+    fresh
+    strace -o "$room/trace" -e trace=write -e "inject=write:retval=3:when=$at" "$program" set --in-place settings.ini name two \
+        >"$room/out" 2>"$room/err"
+    { echo "status $?"; cat settings.ini; } >"$room/have"
+    count 'set --in-place, a write that takes three bytes: the others follow'
+    fresh
+    strace -o "$room/trace" -e trace=write -e "inject=write:retval=0:when=$at" "$program" set --in-place settings.ini name two \
+        >"$room/out" 2>"$room/err"
+    echo "status $?" >"$room/have"
+    echo 'status 4' >"$room/want"
+    count 'set --in-place, a write that takes no byte: the status'
+    there 'set --in-place, a write that takes no byte: the file stands' settings.ini "$source" other.ini "$other"
     for words in 'list settings.ini' 'set --output - settings.ini k v' 'merge --output - settings.ini other.ini' --help; do
         fresh
         # shellcheck disable=SC2086
@@ -675,64 +748,6 @@ short() {
             >"$room/out" 2>"$room/err"
         { echo "status $?"; cat "$room/out"; } >"$room/have"
         count "$words, a write to standard output that takes three bytes: the others follow"
-    done
-}
-
-# while_saving COMMAND WORD..: a run of the words, and the command once the new file is there; a call of the run waits meanwhile
-while_saving() {
-    meanwhile=$1
-    shift
-    strace -o "$room/trace" -e trace=fchmod -e inject=fchmod:delay_enter=1500000 "$program" "$@" >"$room/out" 2>"$room/err" &
-    run=$!
-    tries=0
-    while ! ls -A | grep -q ini_file && [ "$tries" -lt 200 ]; do
-        sleep 0.05
-        tries=$((tries + 1))
-    done
-    eval "$meanwhile"
-    wait "$run"
-    { echo "status $?"; grep -v resolved "$room/err"; } >"$room/have"
-}
-
-# what another program does while a file is saved
-changes() {
-    for words in 'set settings.ini k v' 'merge settings.ini other.ini' 'format settings.ini'; do
-        fresh
-        # shellcheck disable=SC2086
-        while_saving 'sed s/one/two/ "$room/case/settings.ini" >"$room/new"; cp "$room/new" settings.ini' $words
-        printf 'status 4\nini_file: settings.ini: changed since it was read\n' >"$room/want"
-        count "$words, and a change that keeps the length meanwhile: the status and the words"
-        there "$words, and a change that keeps the length meanwhile: it stands" \
-            settings.ini "$(printf '%s' "$source" | sed s/one/two/)" other.ini "$other"
-    done
-    for change in 'echo more >>settings.ini' 'printf "; a server\n" >settings.ini'; do
-        fresh
-        while_saving "$change; cp settings.ini $room/changed" set settings.ini k v
-        printf 'status 4\nini_file: settings.ini: changed since it was read\n' >"$room/want"
-        count "a change meanwhile, $change: the status and the words"
-        cp "$room/changed" "$room/want"
-        cp settings.ini "$room/have"
-        count "a change meanwhile, $change: it stands"
-    done
-    fresh
-    while_saving 'mv settings.ini away.ini' set settings.ini k v
-    printf 'status 4\nini_file: settings.ini: No such file or directory (os error 2)\n' >"$room/want"
-    count 'a file that is moved away meanwhile: the status and the words'
-    there 'a file that is moved away meanwhile: no other is made' away.ini "$source" other.ini "$other"
-    # the second reading of the text: the first opening locks, the second reads
-    for words in 'set|k v' 'merge|other.ini' 'format|'; do
-        for when in 1 2 3; do
-            fresh
-            file=$(pwd)/settings.ini
-            # shellcheck disable=SC2086
-            strace -o "$room/trace" -P "$file" -e trace=openat -e "inject=openat:error=EACCES:when=$when+" \
-                "$program" "${words%|*}" "$file" ${words#*|} >"$room/out" 2>"$room/err"
-            { echo "status $?"; grep -c -e 'Permission denied (os error 13)' -e 'write-protected' "$room/err"; } >"$room/have"
-            printf 'status 4\n1\n' >"$room/want"
-            count "${words%|*}, opening number $when fails: the status and the words"
-            there "${words%|*}, opening number $when fails: the file stands, and no other is left" settings.ini "$source" \
-                other.ini "$other"
-        done
     done
 }
 
@@ -823,9 +838,9 @@ locks() {
     while [ "$n" -lt 50 ]; do
         n=$((n + 1))
         case $((n % 3)) in
-        0) ("$program" add --wait 100 settings.ini "key$n" "$n" client; echo "$?" >>"$room/statuses") & ;;
-        1) ("$program" set --wait 100 settings.ini "key$n" "$n" client; echo "$?" >>"$room/statuses") & ;;
-        2) ("$program" set --in-place --wait 100 settings.ini "key$n" "$n" client; echo "$?" >>"$room/statuses") & ;;
+        0) ("$program" add --wait 600 settings.ini "key$n" "$n" client; echo "$?" >>"$room/statuses") & ;;
+        1) ("$program" set --wait 600 settings.ini "key$n" "$n" client; echo "$?" >>"$room/statuses") & ;;
+        2) ("$program" set --in-place --wait 600 settings.ini "key$n" "$n" client; echo "$?" >>"$room/statuses") & ;;
         esac
     done
     wait
@@ -836,18 +851,21 @@ locks() {
         printf '%s\n' other.ini settings.ini; } >"$room/want"
     count 'fifty edits at once: all land, one behind the other, and no other file is left'
     if ! command -v flock >/dev/null; then
-        skipped=$((skipped + 6))
+        skipped=$((skipped + 8))
         return
     fi
-    # another process holds the lock
-    for words in 'set settings.ini k v' 'merge settings.ini other.ini' 'set --output settings.ini other.ini k v'; do
+    # another process holds the lock, also of the file that a link stands for
+    for words in 'set settings.ini k v' 'merge settings.ini other.ini' 'set --output settings.ini other.ini k v' 'set link.ini k v'; do
         fresh
+        mkdir links
+        ln -s ../settings.ini links/link.ini
+        case $words in *link*) told=links/link.ini ;; *) told=settings.ini ;; esac
         flock settings.ini sleep 30 &
         holder=$!
         sleep 0.3
-        # shellcheck disable=SC2086
-        ends "$words, another process has the lock" 4 '' "ini_file: settings.ini: another run is writing it (waited 1 s); --wait SECONDS waits longer" \
-            ${words%% *} --wait 1 ${words#* }
+        # shellcheck disable=SC2046,SC2086
+        ends "$words, another process has the lock" 4 '' "ini_file: $told: another run is writing it (waited 1 s); --wait SECONDS waits longer" \
+            ${words%% *} --wait 1 $(echo "${words#* }" | sed s,link.ini,links/link.ini,)
         there "$words, another process has the lock" settings.ini "$source" other.ini "$other"
         pkill -P "$holder" sleep
         wait "$holder"
@@ -988,6 +1006,11 @@ END
     printf "ini_file: settings.ini: note: its folder can't be brought to the disk: Permission denied (os error 13)\nstatus 0\n" \
         >"$room/want"
     count 'a folder that may not be read: the file is written, and a note says so'
+    as_nobody --clear-groups set new.ini k v >"$room/have" 2>&1
+    { echo "status $?"; cat new.ini; } >>"$room/have"
+    printf "ini_file: new.ini: note: its folder can't be brought to the disk: Permission denied (os error 13)\nstatus 0\nk=v\n" \
+        >"$room/want"
+    count 'a folder that may not be read: a new file is written, and a note says so'
     chmod 755 .
 }
 
@@ -1000,6 +1023,13 @@ placed() {
         set settings.ini name two
     there 'a file with two names: the other one keeps its text' name.ini "$source" other.ini "$other" \
         settings.ini "$(printf '%s' "$source" | sed s/one/two/)"
+    fresh
+    name=$(printf 'a\033b.ini')
+    ln settings.ini "$name"
+    "$program" set "$name" name two >"$room/have" 2>&1
+    printf '%s\n' 'ini_file: a\x001bb.ini: note: it has other names (hard links), which keep the old text; --in-place writes all' \
+        >"$room/want"
+    count 'a note shows the control characters of a name by their codes'
     fresh
     if ! unshare -m sh -c 'mount --bind other.ini settings.ini' 2>/dev/null; then
         skipped=$((skipped + 4))
@@ -1023,13 +1053,16 @@ placed() {
     done
 }
 
+# shellcheck source=tests/saving/meanwhile.sh
+. "$top/tests/saving/meanwhile.sh"
+
 traces=true
 can_trace || traces=false
 parts=${parts:-places many refusals modes wanted verbose names neighbours full locks owners placed in_place faults behind \
-    calls turns short changes}
+    calls turns short changes overtaken readings}
 for part in $parts; do
     case $part in
-    faults | behind | calls | turns | short | changes)
+    faults | behind | calls | turns | short | changes | overtaken | readings)
         if ! $traces; then
             skipped=$((skipped + 40))
             continue
