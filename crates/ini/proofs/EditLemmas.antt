@@ -77,7 +77,7 @@ pub rename_key_in-there : (name : Option Text) (key other : Text) (d : Document)
 rename_key_in-there name key other d pairs there = sym (edit_section-there name
     (key_renamed key other) [] d pairs there)
 
--- a section stays where others are put behind it
+-- a section stays where others are put after it
 pub first_section-append : (name : Option Text) (d e : Document) → IsSome (first_section name d)
     → IsSome (first_section name (d ++ e))
 first_section-append name [] e there = absurd (false≢true there)

@@ -1,4 +1,4 @@
--- The laws of documents: what is written for a plain one, with a text behind it, and one text for two plain
+-- The laws of documents: what is written for a plain one, with a text after it, and one text for two plain
 -- ones.
 use Rattle.std.proofs.Common.{◌≡◌, ◌∙◌, zero, suc, ◌+◌, true, [], ◌∷◌, ◌++◌, drop, All, ap, sym, subst, refl, Option, None, Some, append-nil, count_by, inl, inr, arith}
 use Rattle.std.specs.Str.{all_scalars}
@@ -54,7 +54,7 @@ module _ (o : ParseOption) (w : WriteOption) {d : Document} (plain : IsPlain d w
       (λ twice only. general_gives o w plain.separator twice plain.general only
       (each_of _ plain.general (pairs zero (None, plain.general) (omega arith)))) named_good
 
-  -- behind the document's text
+  -- after the document's text
   module _ (Y : Text) (begins : IsEmptyOrHeader Y) where
     own : Reads o (written whole w ++ Y) [] (items_of whole) (written whole w)
         × (is_column_one (written whole w) ≡ true)
@@ -98,10 +98,10 @@ module _ (o : ParseOption) (w : WriteOption) {d : Document} (plain : IsPlain d w
 
   pub of_characters : all_scalars (written d w) ≡ true
   of_characters =
-      let behind = written_sections w (has_pairs plain.general) plain.named in
+      let following = written_sections w (has_pairs plain.general) plain.named in
       let general = each_of _ plain.general (pairs zero (None, plain.general) (omega arith)) in
       subst (λ e. all_scalars (written e w) ≡ true) (sym plain.sections)
-      (text_laws.scalars-append (written_pairs w plain.general) behind
+      (text_laws.scalars-append (written_pairs w plain.general) following
       (pairs-scalars o w plain.separator plain.general general)
       (sections-scalars o w plain.separator (has_pairs plain.general) plain.named named_good))
 

@@ -74,7 +74,7 @@ module _ {K V : Type 0} where
         sym got ∙ ap (λ l. slice_get (values_of l) (length l - 1)) pushed ∙ got_pushed k v ps in
         cc
 
--- a pair put behind those of the last section
+-- a pair put after those of the last section
 pub with_pair-last : (key value : Text) (ps : Pairs) (d : Document)
     → slice_get (values_of d) (length d - 1) ≡ Some ps
     → with_value_at d (length d - 1) (ps ++ (key, value) ∷ []) ≡ with_pair key value d

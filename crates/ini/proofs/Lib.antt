@@ -10,7 +10,7 @@ pub mod KeepingLemmas
 pub mod LastSectionLemmas
 pub mod ListLemmas
 pub mod ByteOrderMarkLemmas
-pub mod PassingLemmas
+pub mod StreamLoaderLemmas
 pub mod PlainPartLemmas
 pub mod PlainSamples
 pub mod PlainTextLemmas

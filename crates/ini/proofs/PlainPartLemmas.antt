@@ -1,4 +1,4 @@
--- A plain document by its parts: the separator, the general section, and the sections behind it.
+-- A plain document by its parts: the separator, the general section, and the sections after it.
 use Rattle.std.proofs.Common.{◌≡◌, zero, suc, ◌∷◌, None, All, sym, subst, ◌∙◌, arith}
 use Rattle.std.specs.Str.{chars}
 use Rattle.ini_text.specs.Laws.Plain.{IsPlainSeparator}

@@ -23,24 +23,24 @@ use Rattle.ini.specs.Written.{has_pairs, written_name, written_pair, written_pai
 use Rattle.ini.proofs.EachLemmas.{Each}
 use Rattle.ini.proofs.ReadingLemmas.{Reads-append, with_item-some}
 
--- behind a document that has a section, items leave the sections before that one as they are
-with_pair-behind : (key value : Text) (d : Document) (s : Option Text × Pairs) (e : Document)
+-- after a document that has a section, items leave the sections before that one as they are
+with_pair-after : (key value : Text) (d : Document) (s : Option Text × Pairs) (e : Document)
     → with_pair key value (d ++ s ∷ e) ≡ d ++ with_pair key value (s ∷ e)
-with_pair-behind key value [] s e = refl
-with_pair-behind key value (a ∷ []) s e = refl
-with_pair-behind key value (a ∷ b ∷ d) s e = ap (λ x. a ∷ x) (with_pair-behind key value (b ∷ d) s e)
+with_pair-after key value [] s e = refl
+with_pair-after key value (a ∷ []) s e = refl
+with_pair-after key value (a ∷ b ∷ d) s e = ap (λ x. a ∷ x) (with_pair-after key value (b ∷ d) s e)
 
-with_item-behind : (d : Document) (x : Document) (item : Given) → 0 < length x
+with_item-after : (d : Document) (x : Document) (item : Given) → 0 < length x
     → with_item (d ++ x) item ≡ d ++ with_item x item
-with_item-behind d [] item h = absurd (omega arith)
-with_item-behind d (s ∷ e) (Header name) h = append_assoc d (s ∷ e) ((Some name, []) ∷ [])
-with_item-behind d (s ∷ e) (Pair key value) h = with_pair-behind key value d s e
+with_item-after d [] item h = absurd (omega arith)
+with_item-after d (s ∷ e) (Header name) h = append_assoc d (s ∷ e) ((Some name, []) ∷ [])
+with_item-after d (s ∷ e) (Pair key value) h = with_pair-after key value d s e
 
-pub items-behind : (d x : Document) (items : List Given) → 0 < length x
+pub items-after : (d x : Document) (items : List Given) → 0 < length x
     → fold with_item (d ++ x) items ≡ d ++ fold with_item x items
-items-behind d x [] h = refl
-items-behind d x (item ∷ items) h =
-    ap (λ y. fold with_item y items) (with_item-behind d x item h) ∙ items-behind d (with_item x item) items
+items-after d x [] h = refl
+items-after d x (item ∷ items) h =
+    ap (λ y. fold with_item y items) (with_item-after d x item h) ∙ items-after d (with_item x item) items
     (with_item-some x item h)
 
 -- the items of pairs go to the last section
@@ -50,7 +50,7 @@ pairs_make name before [] = ap (λ x. (name, x) ∷ []) (sym (append-nil before)
 pairs_make name before (p ∷ ps) =
     pairs_make name (before ++ p ∷ []) ps ∙ ap (λ x. (name, x) ∷ []) (append_assoc before (p ∷ []) ps)
 
--- each section behind the first has a name
+-- each section after the first has a name
 abbrev pub HasNames : Document → Type 0
 HasNames [] = ⊤
 HasNames ((None, ps) ∷ d) = ⊥
@@ -61,7 +61,7 @@ sections_make acc [] h = sym (append-nil acc)
 sections_make acc ((None, ps) ∷ d) h = absurd h
 sections_make acc ((Some name, ps) ∷ d) h =
     let one : fold with_item acc (Header name ∷ pair_items ps) ≡ acc ++ (Some name, ps) ∷ [] =
-    items-behind acc ((Some name, []) ∷ []) (pair_items ps) (omega arith) ∙ ap (λ x. acc ++ x)
+    items-after acc ((Some name, []) ∷ []) (pair_items ps) (omega arith) ∙ ap (λ x. acc ++ x)
     (pairs_make (Some name) [] ps) in
     fold-append with_item acc (Header name ∷ pair_items ps) (items_of d) ∙ ap
     (λ x. fold with_item x (items_of d)) one
@@ -75,7 +75,7 @@ items_make general d h =
     ∙ ap (λ x. fold with_item x (items_of d)) (pairs_make None [] general)
     ∙ sections_make ((None, general) ∷ []) d h
 
--- behind them the items of a text that begins with a header make its sections but the first
+-- after them the items of a text that begins with a header make its sections but the first
 pub more_make : (general : Pairs) (d : Document) → HasNames d → (more : List Given) → BeginsWithHeader more
     → document_of (items_of ((None, general) ∷ d) ++ more)
     ≡ ((None, general) ∷ d) ++ drop 1 (document_of more)
@@ -87,14 +87,14 @@ more_make general d h (Header name ∷ more) begins =
     let whole = (None, general) ∷ d in
     let opened = (Some name, []) ∷ [] in
     let alone : document_of (Header name ∷ more) ≡ (None, []) ∷ fold with_item opened more =
-    items-behind ((None, []) ∷ []) opened more (omega arith) in
+    items-after ((None, []) ∷ []) opened more (omega arith) in
     fold-append with_item ((None, []) ∷ []) (items_of whole) (Header name ∷ more)
     ∙ ap (λ x. fold with_item x (Header name ∷ more)) (items_make general d h)
-    ∙ items-behind whole opened more (omega arith)
+    ∙ items-after whole opened more (omega arith)
     ∙ ap (λ x. whole ++ drop 1 x) (sym alone)
 
 module _ (o : ParseOption) (w : WriteOption) where
-  -- the text gives the items in column one, before what A allows; and behind it column one begins
+  -- the text gives the items in column one, before what A allows; and after it column one begins
   abbrev pub GivesBefore : (Text → Type 0) → Text → List Given → Type 0
   GivesBefore A x items =
       (b r : Text) → is_column_one b ≡ true → A r
@@ -106,7 +106,7 @@ module _ (o : ParseOption) (w : WriteOption) where
     ap is_column_one (append-nil b) ∙ one,
   )
 
-  -- one text behind the other
+  -- one text after the other
   then_gives : (A B : Text → Type 0) (x y : Text) {xs ys : List Given} → GivesBefore A x xs
       → GivesBefore B y ys → ((r : Text) → B r → A (y ++ r)) → GivesBefore B (x ++ y) (xs ++ ys)
   then_gives A B x y {xs} {ys} f g ahead b r one h =
@@ -214,12 +214,12 @@ module _ (o : ParseOption) (w : WriteOption) where
     general_gives false [] only plain = gives_none Follows
     general_gives twice (p ∷ ps) only plain = pairs_give twice p ps plain
 
-    -- a section behind the first
+    -- a section after the first
     pub record IsGood (s : Option Text × Pairs) : Type 0 where
       pub name : IsSomeAnd s.0 (λ name. IsPlainName o w.escape_policy name)
       pub pairs : AllPlain s.1
 
-    -- a section's text, to which the sections behind it may add a line end
+    -- a section's text, to which the sections after it may add a line end
     pub sections_give : (earlier : Bool) (body : Text) (xs : List Given) (d : Document)
         → ((twice : Bool) → (twice ≡ true → earlier ≡ true) → GivesBefore Follows (body ++ gap twice) xs)
         → Each IsGood d
@@ -239,20 +239,20 @@ module _ (o : ParseOption) (w : WriteOption) where
         let own = title ++ written_pairs w ps in
         let rest = sections_give (earlier || has_pairs ps) own (Header name ∷ pair_items ps) d
         (λ twice _. section_gives twice name ps g.name g.pairs) good in
-        let behind = written_sections w (earlier || has_pairs ps) d in
+        let following = written_sections w (earlier || has_pairs ps) d in
         let lines = (gap twice ++ title) ++ written_pairs w ps in
-        let same : (body ++ gap twice) ++ (own ++ behind) ≡ body ++ (lines ++ behind) = simp append_assoc in
+        let same : (body ++ gap twice) ++ (own ++ following) ≡ body ++ (lines ++ following) = simp append_assoc in
         subst (λ x. GivesBefore IsEmptyOrHeader x (xs ++ items_of ((Some name, ps) ∷ d))) same
-        (then_gives Follows IsEmptyOrHeader (body ++ gap twice) (own ++ behind)
+        (then_gives Follows IsEmptyOrHeader (body ++ gap twice) (own ++ following)
         (f twice (λ q. (and_parts earlier (has_pairs ps) q).0)) rest (λ r h. FollowsPair.header))
 
     -- the text is made of characters
     name-scalars : (name : Text) → IsPlainName o w.escape_policy name
         → all_scalars (written_name w (Some name)) ≡ true
     name-scalars name plain =
-        let behind = text_laws.line_end-scalars w.line_separator in
+        let following = text_laws.line_end-scalars w.line_separator in
         text_laws.scalars-append (escaped w.escape_policy name) (close_bracket ∷ line_end w.line_separator)
-        (text_laws.escaped-scalars w.escape_policy name plain.read_back.of_characters) behind
+        (text_laws.escaped-scalars w.escape_policy name plain.read_back.of_characters) following
 
     pair-scalars : (p : Text × Text) → IsPlainPair o w.escape_policy p.0 p.1
         → all_scalars (written_pair w p) ≡ true

@@ -9,7 +9,7 @@ use Rattle.ini_text.specs.Parsing.Fronts.{front_of, IsRest}
 use Rattle.ini_text.specs.Parsing.Items.{item_of}
 use Rattle.ini_text.specs.Parsing.Trivia.{AreTrivia, SkipsTrivia}
 use Rattle.ini_text.specs.Errors.Messages.{HasMessage}
-use Rattle.ini_text.specs.Parsing.Parser.{AnswersItem, KeepsRefusal, Place, Refuses, StopsBehind}
+use Rattle.ini_text.specs.Parsing.Parser.{AnswersItem, KeepsRefusal, Place, Refuses, StopsPast}
 use Rattle.ini_text.specs.Grammar.Texts.{Reads, Stops}
 use Rattle.ini_text.specs.declared.error.Error.{Error}
 use Rattle.ini_text.specs.declared.error.Error.TheVariants.{Parse}
@@ -20,7 +20,7 @@ use Rattle.ini_text.proofs.LawLemmas.ExportedLemmas.{Reads-before, front_is}
 use Rattle.ini.specs.Texts.{Text}
 use Rattle.ini.specs.Documents.{Document, with_item, with_pair}
 use Rattle.ini.specs.Loading.{IfParse, IsStopOf}
-use Rattle.ini.specs.Inside.Passing.{Makes, Settles, StopsLater, with_items}
+use Rattle.ini.specs.Inside.StreamLoader.{Makes, Settles, StopsLater, with_items}
 
 module _ {o : ParseOption} {T : Text} where
   -- two rows of elements joined
@@ -36,10 +36,10 @@ module _ {o : ParseOption} {T : Text} where
   Reads-within (Reads.stay {b = b} r e) = omega (arith, ap length e, length-append b r)
   Reads-within (Reads.step e x rest) = Reads-within rest
 
-  -- where reading stops behind what was read
-  pub IsStopOf-behind : {b : Text} {items : List Given} (e : ParseError) → Reads o T [] items b
-      → StopsBehind o T b e.kind e.line e.col → HasMessage e.kind (cow_str_bytes e.msg) → IsStopOf o T e
-  IsStopOf-behind e reads stop message = record {
+  -- where reading stops after what was read
+  pub IsStopOf-after : {b : Text} {items : List Given} (e : ParseError) → Reads o T [] items b
+      → StopsPast o T b e.kind e.line e.col → HasMessage e.kind (cow_str_bytes e.msg) → IsStopOf o T e
+  IsStopOf-after e reads stop message = record {
     front = stop.front ++ stop.source;
     stops = Stops.stops (Reads-append reads stop.reads) stop.whole stop.stops;
     line = stop.line_is;
@@ -51,9 +51,9 @@ module _ {o : ParseOption} {T : Text} where
 pub IsStopOf-first : (o : ParseOption) (T : Text) {b : Text} (e : Error) → b ≡ []
     → IfParse {X = Document} (Err e) (StopsLater o T b 0) → IfParse {X = Document} (Err e) (IsStopOf o T)
 IsStopOf-first o T (Parse e) first stops =
-    let stop : StopsBehind o T stops.front e.kind e.line e.col =
+    let stop : StopsPast o T stops.front e.kind e.line e.col =
     rw (stops.moved, add-zero stops.line) stops.stop in
-    IsStopOf-behind e (subst (λ x. Reads o T x stops.items stops.front) first stops.reads) stop stops.message
+    IsStopOf-after e (subst (λ x. Reads o T x stops.items stops.front) first stops.reads) stop stops.message
 IsStopOf-first o T _ first stops = tt
 
 -- a text of some bytes has characters
@@ -93,7 +93,7 @@ pub record IsReading (o : ParseOption) (T : Text) (p : Place) : Type 0 where
   pub text : p.text ≡ T
   pub refusal : p.refusal ≡ None
 
--- behind the front b the parser has read items that make the document d to e
+-- after the front b the parser has read items that make the document d to e
 pub record Loaded (o : ParseOption) (T b : Text) (p : Place) (d e : Document) : Type 0 where
   pub reading : IsReading o T p
   pub made : Makes o T b p.front d e
@@ -208,12 +208,12 @@ module _ {o : ParseOption} {T : Text} {p : Place} (reading : IsReading o T p) (q
       at _ refuses = tt
 
   -- an item that something follows is settled
-  pub Settling-item : {rest left behind : Text} {item : Item} {d e f : Document}
+  pub Settling-item : {rest left following : Text} {item : Item} {d e f : Document}
       → Settling o T rest left p d e → IsReading o T q
-      → answer ≡ Ok (Some item) → 0 < length behind → q.front ++ behind ≡ T
-      → f ≡ with_item e (item_of item) → Settling o T rest behind q d f
-  Settling-item {behind = []} settling goes_on is some whole with = absurd (omega arith)
-  Settling-item {rest} {left} {behind = c ∷ r} {item} {d} {e} settling goes_on is some whole with =
+      → answer ≡ Ok (Some item) → 0 < length following → q.front ++ following ≡ T
+      → f ≡ with_item e (item_of item) → Settling o T rest following q d f
+  Settling-item {following = []} settling goes_on is some whole with = absurd (omega arith)
+  Settling-item {rest} {left} {following = c ∷ r} {item} {d} {e} settling goes_on is some whole with =
       let front : front_of T (c ∷ r) ≡ q.front = front_is q.front (c ∷ r) T whole in
       let settles = settling.settles in
       let one : Reads o (q.front ++ c ∷ r) (front_of T left) (item_of item ∷ []) q.front =
@@ -252,14 +252,14 @@ module _ {o : ParseOption} where
       whole ∙ ap (λ y. y ++ r) (sym m.1) ∙ append_assoc (b ++ s) m.0 r ∙ append_assoc b s (m.0 ++ r) in
       Reads.step at (t (m.0 ++ r)) (AreTrivia-read r row whole)
 
-  pub Settles-trivia : {T rest left behind : Text} {d e : Document} → Settles o T rest left d e
-      → SkipsTrivia o T (front_of T left) (front_of T behind) → IsRest T behind → Settles o T rest behind d e
-  Settles-trivia {T} {rest} {left} {behind} settles skips is_rest = record {
+  pub Settles-trivia : {T rest left following : Text} {d e : Document} → Settles o T rest left d e
+      → SkipsTrivia o T (front_of T left) (front_of T following) → IsRest T following → Settles o T rest following d e
+  Settles-trivia {T} {rest} {left} {following} settles skips is_rest = record {
     items = settles.items;
     reads = λ more.
-        let whole : T ++ more ≡ front_of T behind ++ (skips.rest ++ more) =
-        ap (λ t. t ++ more) skips.whole ∙ append_assoc (front_of T behind) skips.rest more in
-        subst (λ l. Reads o (T ++ more) (front_of T rest) l (front_of T behind)) (append-nil settles.items)
+        let whole : T ++ more ≡ front_of T following ++ (skips.rest ++ more) =
+        ap (λ t. t ++ more) skips.whole ∙ append_assoc (front_of T following) skips.rest more in
+        subst (λ l. Reads o (T ++ more) (front_of T rest) l (front_of T following)) (append-nil settles.items)
         (Reads-append (settles.reads more) (AreTrivia-read (skips.rest ++ more) skips.skipped whole));
     document = settles.document;
     is_rest = is_rest;

@@ -9,7 +9,7 @@ use Rattle.ini.specs.Texts.{Text}
 use Rattle.ini.specs.Loading.{IsStopOf}
 use Rattle.ini.specs.Refusals.{IsRefusedAtCharacter}
 
--- the text goes on behind the front where reading it stops
+-- the text goes on after the front where reading it stops
 stops_within : {o : ParseOption} {T front : Text} {kind : ParseKind} → Stops o T kind front
     → (r : Text) × (T ≡ front ++ r)
 stops_within (Stops.stops {b} {s} {r} reads whole element) = (r, whole ∙ sym (append_assoc b s r))

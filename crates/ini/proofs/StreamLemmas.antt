@@ -8,14 +8,14 @@ use Rattle.ini_text.specs.declared.error.Error.TheVariants.{Io, Memory, NoProgre
 use Rattle.ini_text.specs.declared.option.ParseOption.{ParseOption}
 use Rattle.ini.specs.Documents.{Document, HasGeneral}
 use Rattle.ini.specs.Loading.{IsDocumentOf, IsNotUtf8, IsStopOf, IsTextWith, ReadsDocument, byte_order_mark, text_bytes}
-use Rattle.ini.specs.Inside.Passing.{Ends, GoesBy, IsPassing}
+use Rattle.ini.specs.Inside.StreamLoader.{Ends, GoesBy, IsStreaming}
 use Rattle.ini.specs.Inside.ReadBytes.{HasRead, IsFilled, IsTextRefusal}
-use Rattle.ini.specs.declared.passing.Passing.{Passing}
+use Rattle.ini.specs.declared.streaming.StreamLoader.{StreamLoader}
 use Rattle.ini.proofs.GeneralLemmas.{has_general}
-use Rattle.ini.proofs.PassingLemmas.{IsDocumentOf-all, IsPassing-goes_by, IsPassing-reads, IsPassing-starts, IsStopOf-all, IsUtf8-all, IsUtf8-kept, feeds_fit}
+use Rattle.ini.proofs.StreamLoaderLemmas.{IsDocumentOf-all, IsStreaming-goes_by, IsStreaming-reads, IsStreaming-starts, IsStopOf-all, IsUtf8-all, IsUtf8-kept, feeds_fit}
 use Rattle.ini.proofs.ReadingLemmas.{with_items-some}
 
--- behind three bytes no mark is sought
+-- after three bytes no mark is sought
 text_bytes-append : (drop_mark : Bool) (read left : List ℕ) → 3 ≤ length read
     → text_bytes drop_mark (read ++ left) ≡ text_bytes drop_mark read ++ left
 text_bytes-append false read left long = refl
@@ -66,10 +66,10 @@ Follows-ends P drop_mark (Some whole) (Some left) all follows end holds =
 
 -- the bytes that were read pass, and no line is greater than `last_line`
 pub record IsStreamed (o : ParseOption) (drop_mark : Bool) (before after : Option (List ℕ))
-    (bytes : List ℕ) (p : Passing) (last_line : ℕ) (is_all : Bool) : Type 0 where
+    (bytes : List ℕ) (p : StreamLoader) (last_line : ℕ) (is_all : Bool) : Type 0 where
   pub all : List ℕ
   pub follows : Follows drop_mark before after all
-  pub passing : IsPassing o all bytes p
+  pub streaming : IsStreaming o all bytes p
   pub countable : length all + 1 ≤ last_line
   pub ended : is_all ≡ true → IsAtEnd after
 
@@ -79,7 +79,7 @@ ended_if wanted bytes after true filled is = filled
 ended_if wanted bytes after false filled is = absurd (false≢true is)
 
 pub IsStreamed-starts : {o : ParseOption} {drop_mark : Bool} {before after : Option (List ℕ)}
-    {read bytes : List ℕ} {p : Passing} {last_line : ℕ} {is_all : Bool} (wanted : ℕ) → 3 ≤ wanted
+    {read bytes : List ℕ} {p : StreamLoader} {last_line : ℕ} {is_all : Bool} (wanted : ℕ) → 3 ≤ wanted
     → HasRead before after [] read → IsFilled wanted read after is_all → bytes ≡ text_bytes drop_mark read
     → last_line ≡ 1 + length bytes
     → p.document ≡ (None, []) ∷ [] → p.front ≡ 0 → p.lines ≡ 0
@@ -91,34 +91,34 @@ IsStreamed-starts {o} {drop_mark} {before} {after} {read} {bytes} {p} {is_all = 
       all = bytes;
       follows = subst (Follows drop_mark before after) (sym cut)
           (Follows-starts drop_mark before after wanted read is_all long consumed filled);
-      passing = IsPassing-starts o bytes p document front line;
+      streaming = IsStreaming-starts o bytes p document front line;
       countable = omega (arith, lines);
       ended = ended_if wanted read after is_all filled;
     }
 
-module _ {o : ParseOption} {drop_mark : Bool} {before mid : Option (List ℕ)} {bytes : List ℕ} {p : Passing}
+module _ {o : ParseOption} {drop_mark : Bool} {before mid : Option (List ℕ)} {bytes : List ℕ} {p : StreamLoader}
     {last_line : ℕ} {was_all : Bool}
     (streamed : IsStreamed o drop_mark before mid bytes p last_line was_all) where
   -- there are fewer lines than bytes
   pub IsStreamed-fits : p.lines + length bytes + 1 ≤ last_line
   IsStreamed-fits =
-      let passing = streamed.passing in
+      let streaming = streamed.streaming in
       omega (
         arith,
         streamed.countable,
-        passing.lines,
-        feeds_fit passing.gone passing.utf8,
+        streaming.lines,
+        feeds_fit streaming.gone streaming.utf8,
         ap length
-            passing.whole,
-        length-append passing.gone bytes,
+            streaming.whole,
+        length-append streaming.gone bytes,
       )
 
   pub IsStreamed-some : 0 < length p.document
-  IsStreamed-some = subst (λ d. 0 < length d) (sym streamed.passing.document)
-      (with_items-some ((None, []) ∷ []) streamed.passing.items (omega arith))
+  IsStreamed-some = subst (λ d. 0 < length d) (sym streamed.streaming.document)
+      (with_items-some ((None, []) ∷ []) streamed.streaming.items (omega arith))
 
   -- lines go by, and further bytes are read
-  pub IsStreamed-goes_on : {after : Option (List ℕ)} {c new : List ℕ} {q : Passing} {next_line : ℕ}
+  pub IsStreamed-goes_on : {after : Option (List ℕ)} {c new : List ℕ} {q : StreamLoader} {next_line : ℕ}
       {is_all : Bool} (wanted : ℕ) → GoesBy o p q bytes c
       → HasRead mid after c new → IsFilled wanted new after is_all
       → next_line ≡ last_line + (length new - length c)
@@ -128,8 +128,8 @@ module _ {o : ParseOption} {drop_mark : Bool} {before mid : Option (List ℕ)} {
       record {
         all = all ++ has.read;
         follows = Follows-reads drop_mark before mid after all has.read streamed.follows has.consumed;
-        passing = subst (λ b. IsPassing o (all ++ has.read) b q) (sym has.bytes)
-            (IsPassing-reads (IsPassing-goes_by streamed.passing by) has.read);
+        streaming = subst (λ b. IsStreaming o (all ++ has.read) b q) (sym has.bytes)
+            (IsStreaming-reads (IsStreaming-goes_by streamed.streaming by) has.read);
         countable = omega (
           arith,
           next,
@@ -148,11 +148,11 @@ module _ {o : ParseOption} {drop_mark : Bool} {before mid : Option (List ℕ)} {
       → IfErr result IsTextRefusal
       → ReadsDocument remaining old new o drop_mark result
   IsStreamed-ends {remaining = remaining} old new from to is (Ok d) ends refused only =
-      let passing = streamed.passing in
-      let whole = IsDocumentOf-all passing ends.document in
+      let streaming = streamed.streaming in
+      let whole = IsDocumentOf-all streaming ends.document in
       record {
         document = rw from (Follows-ends (λ b. IsTextWith (λ T. IsDocumentOf o T d) b) drop_mark before mid
-            streamed.all streamed.follows (streamed.ended is) (IsUtf8-all passing ends.utf8, whole));
+            streamed.all streamed.follows (streamed.ended is) (IsUtf8-all streaming ends.utf8, whole));
         general = subst HasGeneral (sym whole.document) (has_general whole.items);
         fault = tt;
         not_utf8 = λ h. absurd h;
@@ -160,13 +160,13 @@ module _ {o : ParseOption} {drop_mark : Bool} {before mid : Option (List ℕ)} {
         only = tt;
       }
   IsStreamed-ends {remaining = remaining} old new from to is (Err (Parse e)) ends refused only =
-      let passing = streamed.passing in
+      let streaming = streamed.streaming in
       record {
         document = tt;
         general = tt;
         fault = rw from (Follows-ends (λ b. IsTextWith (λ T. IsStopOf o T e) b) drop_mark before mid
             streamed.all streamed.follows (streamed.ended is)
-            (IsUtf8-all passing ends.fault.0, IsStopOf-all passing ends.fault.1));
+            (IsUtf8-all streaming ends.fault.0, IsStopOf-all streaming ends.fault.1));
         not_utf8 = λ h. absurd h;
         end = rw to (streamed.ended is);
         only = tt;
@@ -176,7 +176,7 @@ module _ {o : ParseOption} {drop_mark : Bool} {before mid : Option (List ℕ)} {
     general = tt;
     fault = tt;
     not_utf8 = λ _. rw from (Follows-ends (λ b. ¬ (IsUtf8 b)) drop_mark before mid streamed.all
-        streamed.follows (streamed.ended is) (λ u. refused tt (IsUtf8-kept streamed.passing u)));
+        streamed.follows (streamed.ended is) (λ u. refused tt (IsUtf8-kept streamed.streaming u)));
     end = rw to (streamed.ended is);
     only = tt;
   }

@@ -46,7 +46,7 @@ abbrev pub MatchEntry : SectionEntry → Type 0 → Type 0 → Type 0
 MatchEntry (Vacant e) P Q = P
 MatchEntry (Occupied e) P Q = Q
 
--- the section at that place is what was left behind r
+-- the section at that place is what was left after r
 abbrev pub entry_lends : SectionEntry → MutBor Pairs → Fml
 entry_lends e r =
     follows document.the_row properties.the_row (entry_document e).ghost_name r.ghost_name

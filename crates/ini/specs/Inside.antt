@@ -1,6 +1,6 @@
 -- What serves private functions alone: no public contract and no law rests on it.
 pub mod InnerLends
 pub mod LentNames
-pub mod Passing
+pub mod StreamLoader
 pub mod ReadBytes
 pub mod PlainSections

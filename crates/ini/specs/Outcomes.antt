@@ -1,4 +1,4 @@
--- What comes of a text, and of a text behind a document's own.
+-- What comes of a text, and of a text after a document's own.
 use Rattle.std.specs.Prelude.{◌≡◌, ℕ, ◌+◌, ◌++◌, drop, count_by}
 use Rattle.ini_text.specs.Grammar.CharacterKinds.{is_line_feed}
 use Rattle.ini_text.specs.Grammar.Positions.{line_of, column_of}
@@ -34,13 +34,13 @@ pub record HasOneOutcome (o : ParseOption) (T : Text) : Type 0 where
   pub comes : HasOutcome o T outcome
   pub alone : (x : Outcome) → HasOutcome o T x → x ≡ outcome
 
--- The outcome behind the document d, whose text has n line feeds: the sections of d and then those of the
+-- The outcome after the document d, whose text has n line feeds: the sections of d and then those of the
 -- other document but its first, which is the general one; or the refusal, n lines further down.
 abbrev pub after : Document → ℕ → Outcome → Outcome
 after d n (loaded e) = loaded (d ++ drop 1 e)
 after d n (refused kind line column) = refused kind (line + n) column
 
--- what comes of Y comes of it behind the document's text, after the document
+-- what comes of Y comes of it after the document's text, after the document
 abbrev pub Inverts : ParseOption → WriteOption → Document → Text → Type 0
 Inverts o w d Y =
     let text = written d w in

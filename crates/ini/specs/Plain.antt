@@ -12,7 +12,7 @@ pub record IsPlain (d : Document) (w : WriteOption) (o : ParseOption) : Type 0 w
   pub general : Pairs
   pub named : Document
   pub sections : d ≡ (None, general) ∷ named
-  -- each section behind it has a name, and the name is plain
+  -- each section after it has a name, and the name is plain
   pub names : All (λ s. IsSomeAnd s.0 (λ name. IsPlainName o w.escape_policy name)) named
   -- what stands between keys and values is = or : with only spaces and tabs around it
   pub separator : IsPlainSeparator (chars w.kv_separator.now)

@@ -48,7 +48,7 @@ impl Model for Ini {
 
 #[tactic(auto, using(crate::proofs::SectionLemmas::sections))]
 impl Ini {
-    /// A document with one general section, which has no pairs. Refused for want of memory alone.
+    /// A document with one general section, which has no pairs. Refused only when out of memory.
     pub fn new(alloc: Global) -> Result<Self, Error>
         ensures general { IfOk result (λ d. d ≡ (None, []) ∷ []) }
         ensures only_memory { IsOkUnless result (Error.Memory alloc_error) }
@@ -167,7 +167,7 @@ impl Ini {
     /// Sets the value of the key in the first section of the name, as `Properties::insert` does; where
     /// there is no such section a new one with that pair is opened last.
     ///
-    /// Refused, for want of memory alone, it changes nothing, and the two texts are given up. Where the
+    /// Refused, only when out of memory, it changes nothing, and the two texts are given up. Where the
     /// key is there it takes no memory.
     #[tactic(auto, using(crate::proofs::EditLemmas::edits))]
     pub fn set_to(&mut self, name: Option<&str>, key: String, value: String) -> Result<(), Error>
@@ -335,7 +335,7 @@ impl Ini {
 
     /// Puts a section last, whatever sections the name has.
     ///
-    /// Refused, for want of memory alone, it hands the properties back, and the document stays as it was.
+    /// Refused, only when out of memory, it hands the properties back, and the document stays as it was.
     pub fn append_section(&mut self, name: SectionKey, section: Properties) -> Result<(), NoRoom>
         ensures appended { OnOk result (self.new ≡ self.old ++ (name_of name, section) ∷ []) }
         ensures unchanged { OnErr result (self.new ≡ self.old) }
@@ -383,7 +383,7 @@ impl Ini {
         self.section_mut(lent(name)).unwrap()
     }
 
-    /// An equal copy. Refused for want of memory alone.
+    /// An equal copy. Refused only when out of memory.
     ///
     /// std's `Clone` is there too, for code over any `T: Clone`; it answers `AllocError`.
     pub fn clone(&self) -> Result<Self, Error>

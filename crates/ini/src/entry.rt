@@ -19,7 +19,7 @@ pub struct NoRoom {
     pub value: Properties,
 }
 
-/// What was refused is given up, for want of memory.
+/// What was refused is given up, when out of memory.
 impl From<NoRoom> for Error {
     ghost use Rattle.std.specs.Prelude.{alloc_error};
     ghost use Rattle.ini_text.specs.declared.error.Error.TheVariants.{Memory};
@@ -93,7 +93,7 @@ impl<'a> SectionEntry<'a> {
     /// The first section of the name, for writing; where there is none one with these properties is
     /// opened last.
     ///
-    /// Refused, for want of memory alone, it hands them back, and the document stays as it was. An
+    /// Refused, only when out of memory, it hands them back, and the document stays as it was. An
     /// occupied entry is never refused.
     pub fn or_insert(self, value: Properties) -> Result<&'a mut Properties, NoRoom>
         ensures* writes_back { sem 𝓛 (entry_lends_ok self.entry result) }
@@ -137,7 +137,7 @@ impl<'a> SectionVacantEntry<'a> {
 
     /// Opens the section with these properties, last.
     ///
-    /// Refused, for want of memory alone, it hands them back, and the document stays as it was.
+    /// Refused, only when out of memory, it hands them back, and the document stays as it was.
     pub fn insert(self, value: Properties) -> Result<&'a mut Properties, NoRoom>
         ensures* writes_back { sem 𝓛 (entry_lends_ok (vacant self.entry) result) }
         ensures value { IfOk result (λ section. section.now ≡ value) }
@@ -172,7 +172,7 @@ impl<'a> SectionOccupiedEntry<'a> {
 
     /// Opens another section of the name, last.
     ///
-    /// Refused, for want of memory alone, it hands the properties back, and the document stays as it was.
+    /// Refused, only when out of memory, it hands the properties back, and the document stays as it was.
     pub fn append(&mut self, value: Properties) -> Result<(), NoRoom>
         ensures same_document { InSameDocument (occupied self.old) (occupied self.new) }
         ensures name { entry_name (occupied self.new) ≡ entry_name (occupied self.old) }

@@ -7,7 +7,7 @@ ghost use Rattle.ini_text.specs.Parsing.Trivia.{SkipsTrivia};
 ghost use Rattle.ini.specs.Documents.{with_item};
 ghost use Rattle.ini.specs.Loading.{IfParse, IsParseOrMemory};
 ghost use Rattle.ini.specs.Inside.ReadBytes.{IsMemory};
-ghost use Rattle.ini.specs.Inside.Passing.{Makes, Settles, StopsLater};
+ghost use Rattle.ini.specs.Inside.StreamLoader.{Makes, Settles, StopsLater};
 
 use crate::document::Ini;
 use ini_text::{Error, Item, ParseOption, Parser};
@@ -29,7 +29,7 @@ pub(crate) fn push_items(
         (StopsLater opt (chars text.now) (front_of (chars text.now) (chars rest.now)) 0) }
     ensures only { IfErr result IsParseOrMemory }
 {
-    let mut parser = Parser::behind(alloc, text, rest, opt);
+    let mut parser = Parser::resume_at(alloc, text, rest, opt);
     'items: while let Some(item) = parser.next_item()? {
         push_item(document, item)?;
     }
@@ -39,7 +39,7 @@ pub(crate) fn push_items(
 
 // The items of what is left of a text that stand there whatever follows the text: what follows them is left,
 // without the white space and comments that stand there whatever follows.
-pub(crate) fn push_settled<'a>(
+pub(crate) fn push_complete_items<'a>(
     alloc: Global,
     document: &mut Ini,
     text: &'a str,
@@ -54,32 +54,32 @@ pub(crate) fn push_settled<'a>(
     ensures only { IfErr result IsMemory }
 {
     let mut left = rest;
-    let mut parser = Parser::behind(alloc, text, rest, opt);
+    let mut parser = Parser::resume_at(alloc, text, rest, opt);
     'items: loop {
         let item = match parser.next_item() {
             Ok(Some(item)) => item,
-            Ok(None) | Err(Error::Parse(_)) => return Ok(behind_trivia(alloc, text, left, opt)),
+            Ok(None) | Err(Error::Parse(_)) => return Ok(after_trivia(alloc, text, left, opt)),
             Err(refused) => return Err(refused),
         };
         // An item that ends the text may go on.
-        let behind = parser.rest();
-        if behind.is_empty() {
-            return Ok(behind_trivia(alloc, text, left, opt));
+        let following = parser.rest();
+        if following.is_empty() {
+            return Ok(after_trivia(alloc, text, left, opt));
         }
         push_item(document, item)?;
-        left = behind;
+        left = following;
     }
 }
 
-// What is left of a text behind its trivia.
-fn behind_trivia<'a>(alloc: Global, text: &'a str, left: &'a str, opt: ParseOption) -> &'a str
+// What is left of a text after its trivia.
+fn after_trivia<'a>(alloc: Global, text: &'a str, left: &'a str, opt: ParseOption) -> &'a str
     requires { IsRest (chars text.now) (chars left.now) }
     ensures skipped { SkipsTrivia opt (chars text.now)
         (front_of (chars text.now) (chars left.now)) (front_of (chars text.now) (chars result.now)) }
     ensures is_rest { IsRest (chars text.now) (chars result.now) }
     ensures utf8 { IsUtf8 result.now }
 {
-    let mut parser = Parser::behind(alloc, text, left, opt);
+    let mut parser = Parser::resume_at(alloc, text, left, opt);
     parser.skip_trivia();
     parser.rest()
 }

@@ -27,7 +27,7 @@ pub fn one_outcome(text: &str, read: ParseOption)
     ensures { HasOneOutcome read (chars text.now) }
 {}
 
-/// The text of a plain document loads as the document. With a text behind it that is empty or begins with an
+/// The text of a plain document loads as the document. With a text after it that is empty or begins with an
 /// opening bracket, it loads as the document's sections and then those of what follows, refusals moved down.
 pub fn inversion(document: &Ini, write: &WriteOption, read: ParseOption, follows: &str)
     requires plain { IsPlain document.now write.now read }

@@ -16,7 +16,7 @@ mod iter;
 pub mod laws;
 mod load;
 mod name;
-mod passing;
+mod streaming;
 mod plain;
 mod properties;
 mod rename;

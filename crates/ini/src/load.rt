@@ -12,7 +12,7 @@ ghost use Rattle.ini.specs.Inside.ReadBytes.{HasRead, IsFilled, IsIoOrMemory};
 
 use crate::document::Ini;
 use crate::items::push_items;
-use crate::passing::{Passing, drop_front};
+use crate::streaming::{StreamLoader, drop_front};
 use ini_text::{Error, ParseOption, Watched};
 use std::alloc::{AllocError, Global};
 use std::io::Read;
@@ -64,7 +64,7 @@ impl Ini {
         Ok(document)
     }
 
-    /// The document of a text, without one mark (U+FEFF) at its front; places count from behind it. The
+    /// The document of a text, without one mark (U+FEFF) at its front; places count from after it. The
     /// rest is as `load_from_str_opt` has it.
     pub fn load_from_str_bom(alloc: Global, text: &str, opt: ParseOption) -> Result<Ini, Error>
         ensures document { IfOk result (IsDocumentOf opt (unmarked (chars text.now))) }
@@ -117,15 +117,16 @@ impl Ini {
 
     /// The document of a watched reader's bytes, which are read to the end: to the first read that gives
     /// none. With `drop_mark` one mark (the bytes EF BB BF) at their front is left out, and places count
-    /// from behind it. The text goes by while it is read: of a long one only the last lines are kept.
+    /// from after it. The text is read in parts: of a long one only the last lines are kept.
     ///
     /// # Errors
     ///
     /// `Io` where the reader answers a fault, at once and with nothing more asked of it; `NotUtf8` where
     /// the bytes are not UTF-8; `Parse` where reading their text stops; `Memory` where memory is
-    /// refused. All bytes are read before `NotUtf8` or `Parse` is told, and `NotUtf8` goes before `Parse`,
-    /// whichever comes first in the bytes. `Io` and `Memory` are told where they are met: since the text
-    /// goes by, `Memory` may be told before bytes further on that are not UTF-8, or a fault of the reader.
+    /// refused. All bytes are read before `NotUtf8` or `Parse` is reported, and `NotUtf8` goes before
+    /// `Parse`, whichever comes first in the bytes. `Io` and `Memory` are reported where they are met: since
+    /// the text goes by, `Memory` may be reported before bytes further on that are not UTF-8, or a fault of
+    /// the reader.
     pub fn read_watched<R: Read>(
         alloc: Global,
         reader: &mut Watched<'_, R>,
@@ -144,11 +145,11 @@ impl Ini {
         let mut bytes = Vec::new(alloc);
         let mut is_all = fill(reader, &mut piece, &mut bytes, PIECE)?;
         drop_byte_order_mark(&mut bytes, drop_mark);
-        let mut passing = Passing::new(alloc)?;
+        let mut streaming = StreamLoader::new(alloc)?;
         // No line is greater.
         let mut last_line = 1 + bytes.len();
         'pieces: while !is_all {
-            passing.take_items(alloc, &mut bytes, opt)?;
+            streaming.take_items(alloc, &mut bytes, opt)?;
             let kept = bytes.len();
             is_all = fill(reader, &mut piece, &mut bytes, kept + kept.max(PIECE))?;
             let Some(next_line) = last_line.checked_add(bytes.len() - kept) else {
@@ -156,7 +157,7 @@ impl Ini {
             };
             last_line = next_line;
         }
-        passing.finish(alloc, bytes.as_slice(), opt)
+        streaming.finish(alloc, bytes.as_slice(), opt)
     }
 }
 
@@ -186,7 +187,7 @@ fn without_byte_order_mark(text: &str) -> &str
 // How many bytes are asked for at a time.
 const PIECE: usize = 0x1_0000;
 
-// Reads behind the bytes until they are as many as are wanted, or the reader is at its end, and tells which.
+// Reads after the bytes until they are as many as are wanted, or the reader is at its end, and tells which.
 fn fill<R: Read>(
     reader: &mut Watched<'_, R>,
     piece: &mut [u8; PIECE],

@@ -16,7 +16,7 @@ impl Ini {
     /// Whether the document is plain: to be asked before it is saved. A plain document, written by `write`,
     /// loads by `read` as just this document; some that aren't plain do so too.
     ///
-    /// It is plain where one general section stands at the front and each section behind it has a name, the
+    /// It is plain where one general section stands at the front and each section after it has a name, the
     /// names and pairs are plain (`is_plain_name`, `is_plain_pair`), and so is what stands between keys and
     /// values (`is_plain_separator`). Nothing is written for the answer: it takes no memory, and time
     /// linear in the document.

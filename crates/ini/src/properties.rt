@@ -112,7 +112,7 @@ impl Properties {
 
     /// Puts the pair last.
     ///
-    /// Refused, for want of memory alone, it changes nothing.
+    /// Refused, only when out of memory, it changes nothing.
     pub fn append(&mut self, key: &str, value: &str) -> Result<(), Error>
         ensures appended { OnOk result (self.new ≡ self.old ++ (chars key.now, chars value.now) ∷ []) }
         ensures unchanged { OnErr result (self.new ≡ self.old) }
@@ -126,7 +126,7 @@ impl Properties {
     /// Gives the first pair of the key the value, at its place, and takes out its later pairs. A new
     /// pair goes last.
     ///
-    /// Refused, for want of memory alone, it changes nothing.
+    /// Refused, only when out of memory, it changes nothing.
     pub fn insert(&mut self, key: &str, value: &str) -> Result<(), Error>
         ensures inserted { OnOk result (self.new ≡ inserted (chars key.now) (chars value.now) self.old) }
         ensures unchanged { OnErr result (self.new ≡ self.old) }
@@ -147,7 +147,7 @@ impl Properties {
 
     /// Takes out all pairs of the key, and hands their values out, in order.
     ///
-    /// Refused, for want of memory alone, it changes nothing. Where no pair has the key it takes no memory.
+    /// Refused, only when out of memory, it changes nothing. Where no pair has the key it takes no memory.
     pub fn remove_all(&mut self, key: &str) -> Result<RemovedValues, Error>
         ensures values { IfOk result (λ removed. removed ≡ values (chars key.now) self.old) }
         ensures countable { IfOk result (λ removed. length removed < 2 ^ 64) }
@@ -160,7 +160,7 @@ impl Properties {
         Ok(RemovedValues::new(removed))
     }
 
-    /// An equal copy. Refused for want of memory alone.
+    /// An equal copy. Refused only when out of memory.
     ///
     /// std's `Clone` is there too, for code over any `T: Clone`; it answers `AllocError`.
     pub fn clone(&self) -> Result<Self, Error>

@@ -17,7 +17,7 @@ impl Ini {
     /// Gives the first section of the name another name, at its place; other sections of either name stay
     /// where they are. Where no section has the name it changes nothing, and takes no memory.
     ///
-    /// Refused, for want of memory alone, it changes nothing. It takes memory for a copy of the document.
+    /// Refused, only when out of memory, it changes nothing. It takes memory for a copy of the document.
     pub fn rename_section(&mut self, name: Option<&str>, other: Option<&str>) -> Result<(), Error>
         ensures renamed { OnOk result
             (self.new ≡ section_renamed (str_name name.entry) (str_name other.entry) self.old) }
@@ -37,7 +37,7 @@ impl Ini {
     /// pairs of either key stay where they are. Where there is no such pair it changes nothing, and takes no
     /// memory.
     ///
-    /// Refused, for want of memory alone, it changes nothing. It takes memory for a copy of the section.
+    /// Refused, only when out of memory, it changes nothing. It takes memory for a copy of the section.
     #[tactic(auto, using(crate::proofs::EditLemmas::edits))]
     pub fn rename_key_in(&mut self, name: Option<&str>, key: &str, other: &str) -> Result<(), Error>
         ensures renamed { OnOk result (self.new

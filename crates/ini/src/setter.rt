@@ -51,7 +51,7 @@ impl<'a, N: SectionName> SectionSetter<'a, N> {
     /// Sets the value of the key in the first section of the name, as `Properties::insert` does; where
     /// there is no such section a new one with that pair is opened last. The setter is handed on.
     ///
-    /// Refused, for want of memory alone, the document stays as it was, and the setter is gone.
+    /// Refused, only when out of memory, the document stays as it was, and the setter is gone.
     pub fn set(self, key: &str, value: &str) -> Result<SectionSetter<'a, N>, Error>
         ensures same_document { IfOk result (EditsSameDocument self.entry) }
         ensures set { IfOk result (λ s. setter_now s
@@ -71,7 +71,7 @@ impl<'a, N: SectionName> SectionSetter<'a, N> {
     /// Appends the pair to the first section of the name; where there is none a new one with that pair
     /// is opened last. The setter is handed on.
     ///
-    /// Refused, for want of memory alone, the document stays as it was, and the setter is gone.
+    /// Refused, only when out of memory, the document stays as it was, and the setter is gone.
     pub fn add(self, key: &str, value: &str) -> Result<SectionSetter<'a, N>, Error>
         ensures same_document { IfOk result (EditsSameDocument self.entry) }
         ensures added { IfOk result (λ s. setter_now s

@@ -151,7 +151,7 @@ impl Ini {
 
     /// The document's text, by the given options, in memory.
     ///
-    /// Refused for want of memory alone.
+    /// Refused only when out of memory.
     pub fn to_text(&self, alloc: Global, option: WriteOption) -> Result<String, Error>
         ensures text { IfOk result (λ text. text_of text ≡ written self.now option) }
         ensures characters { OnOk result (all_scalars (written self.now option) ≡ true) }
@@ -160,7 +160,7 @@ impl Ini {
         let mut bytes: Vec<u8> = Vec::new(alloc);
         match write_text_to(self, &option, &mut bytes) {
             Ok(()) => Ok(String::from_utf8(bytes).unwrap()),
-            // Bytes in memory are refused for want of it alone.
+            // Bytes in memory are refused only when out of memory.
             Err(_) => Err(Error::Memory(AllocError)),
         }
     }

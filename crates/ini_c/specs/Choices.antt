@@ -61,7 +61,7 @@ IsCountOf choice (Some d) count =
     → count ≡ length (encode_utf8_all (written d option))
 IsCountOf choice None count = ⊥
 
--- whether the document is plain is told; of no document it is not so
+-- whether the document is plain is reported; of no document it is not so
 abbrev pub TellsPlain : WriteChoice → ParseOption → Bool → Option Document → Type 0
 TellsPlain choice read told (Some d) =
     (write : WriteOption) → IsWriteOption choice write → IsTrue told ↔ IsPlain d write read

@@ -1,4 +1,4 @@
--- Where and why reading a text stops, as C is told.
+-- Where and why reading a text stops, as C gets it.
 use Rattle.std.specs.Prelude.{◌≡◌, ℕ, List, Some, take, length, min, slice_get}
 use Rattle.std.specs.Cow.{cow_str_bytes}
 use Rattle.ini.specs.Texts.{Text}
@@ -23,11 +23,11 @@ kind_number MissingKey = 5
 kind_number CrAlone = 6
 kind_number HeaderEnd = 7
 
--- how many bytes of the words are shown: there is room for 63, and a 0 behind them
+-- how many bytes of the words are shown: there is room for 63, and a 0 after them
 abbrev pub shown_count : List ℕ → ℕ
 shown_count words = min (length words) 63
 
--- the words, as far as there is room, and a 0 behind them
+-- the words, as far as there is room, and a 0 after them
 pub record ShowsWords (words bytes : List ℕ) : Type 0 where
   pub front : take (shown_count words) bytes ≡ take (shown_count words) words
   pub zero : slice_get bytes (shown_count words) ≡ Some 0

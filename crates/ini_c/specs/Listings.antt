@@ -7,7 +7,7 @@ use Rattle.ini.specs.Properties.{Pairs, values}
 use Rattle.ini.specs.Documents.{Document, first_section}
 use Rattle.ini_c.specs.declared.copies.Sizes.{Sizes}
 
--- the bytes of texts, a 0 behind each, and numbers, of which most say how many bytes a text has
+-- the bytes of texts, a 0 after each, and numbers, of which most say how many bytes a text has
 pub record Listed : Type 0 where
   pub bytes : List ℕ
   pub counts : List ℕ

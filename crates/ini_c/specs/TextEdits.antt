@@ -1,4 +1,4 @@
--- What an edit of a text gives, as C is told.
+-- What an edit of a text gives, as C gets it.
 use Rattle.std.specs.Prelude.{◌≡◌, ℕ, List, Option, length, chars, ⊤}
 use Rattle.std.specs.Str.{IsUtf8}
 use Rattle.ini.specs.Edits.{add_in, set_in}

@@ -42,7 +42,7 @@ fn value_or<'a>(
 }
 
 /// Lends the first value of the key in the first section of the name (of the general one without `named`):
-/// `value` is then the document's own bytes, without a 0 behind them, until the next call with the document.
+/// `value` is then the document's own bytes, without a 0 after them, until the next call with the document.
 ///
 /// Refused, `value` stays. Once the loan is over the document is as it was.
 #[unsafe(no_mangle)]

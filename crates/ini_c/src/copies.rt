@@ -19,7 +19,7 @@ pub struct Sizes {
     pub counts: usize,
 }
 
-// Copies bytes out, and a 0 behind them, where they fit, and tells whether they did; their count in any
+// Copies bytes out, and a 0 after them, where they fit, and tells whether they did; their count in any
 // case.
 #[inline(always)]
 pub(crate) fn copy_out(bytes: &[u8], out: &mut [u8], count: &mut usize) -> bool
@@ -39,7 +39,7 @@ pub(crate) fn copy_out(bytes: &[u8], out: &mut [u8], count: &mut usize) -> bool
     true
 }
 
-// Copies a text out, and a 0 behind it; the status of that, and the text's number of bytes in any case.
+// Copies a text out, and a 0 after it; the status of that, and the text's number of bytes in any case.
 #[inline(always)]
 pub(crate) fn give(text: &str, out: &mut [u8], count: &mut usize) -> u32
     ensures text { result ≡ ok → take count.new out.new ≡ text.now }

@@ -13,9 +13,9 @@ pub struct Fault {
     pub kind: u32,
     /// From 1 on.
     pub line: usize,
-    /// From 1 on, in characters: the place behind the character that was looked at.
+    /// From 1 on, in characters: the place after the character that was looked at.
     pub column: usize,
-    /// In words, with a 0 behind.
+    /// In words, with a 0 after.
     pub message: [u8; 64],
 }
 
@@ -33,7 +33,7 @@ fn number_of(kind: ParseKind) -> u32
     }
 }
 
-// As much of the words as there is room for, and a 0 behind that.
+// As much of the words as there is room for, and a 0 after that.
 fn show(words: &[u8], out: &mut [u8; 64])
     ensures { ShowsWords words.now out.new }
 {

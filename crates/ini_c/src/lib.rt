@@ -84,7 +84,7 @@ pub extern "C" fn bigrosk_ini_version() -> u32
 /// bytes EF BB BF) at the text's front.
 ///
 /// `NOT_UTF8` if the bytes are no text, and else `BROKEN` where reading it stops: the fault tells kind,
-/// line, column and message. Refused, for that or for want of memory, the document stays.
+/// line, column and message. Refused, for that or when out of memory, the document stays.
 #[unsafe(no_mangle)]
 pub extern "C" fn bigrosk_ini_load(
     alloc: Global,
@@ -116,7 +116,7 @@ pub extern "C" fn bigrosk_ini_free(alloc: Global, document: &mut Document)
 }
 
 /// Copies the first value of the key in the first section of the name (of the general one without `named`)
-/// out, and a 0 behind it. `count` is the value's number of bytes, where it fits and where it doesn't.
+/// out, and a 0 after it. `count` is the value's number of bytes, where it fits and where it doesn't.
 #[unsafe(no_mangle)]
 pub extern "C" fn bigrosk_ini_get(
     document: &mut Document,
@@ -193,8 +193,8 @@ pub extern "C" fn bigrosk_ini_has_section(
     look_up::has_section(document, named, section)
 }
 
-/// Copies all values of the key in the first section of the name out, in order: in `bytes` one behind
-/// another, each with a 0 behind it, and in `counts` how many bytes each has. `sizes` has how much of both
+/// Copies all values of the key in the first section of the name out, in order: in `bytes` one after
+/// another, each with a 0 after it, and in `counts` how many bytes each has. `sizes` has how much of both
 /// that takes, where it fits and where it doesn't.
 #[unsafe(no_mangle)]
 pub extern "C" fn bigrosk_ini_get_all(
@@ -391,7 +391,7 @@ pub extern "C" fn bigrosk_ini_delete_section(
     edits::delete_section(document, named, section)
 }
 
-/// Copies the document's text out, and a 0 behind it. `count` is the text's number of bytes, where it fits
+/// Copies the document's text out, and a 0 after it. `count` is the text's number of bytes, where it fits
 /// and where it doesn't.
 #[unsafe(no_mangle)]
 pub extern "C" fn bigrosk_ini_write(

@@ -14,7 +14,7 @@ use std::alloc::{AllocError, Global};
 // Stands for the number of bytes of a name where there is no name.
 const UNNAMED: usize = usize::MAX;
 
-// The bytes of texts, a 0 behind each, and the numbers.
+// The bytes of texts, a 0 after each, and the numbers.
 #[derive(Drop)]
 pub(crate) struct Listing {
     pub(crate) bytes: Vec<u8>,

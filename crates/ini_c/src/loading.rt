@@ -1,4 +1,4 @@
-//! Loading: bytes in, a document kept, or a fault told. Of characters this file knows the mark alone that
+//! Loading: bytes in, a document kept, or a fault reported. Of characters this file knows the mark alone that
 //! may stand before a text.
 ghost use Rattle.std.specs.Prelude.{◌≡◌, ◌∷◌, [], ◌↔◌, IsTrue, IsSomeAnd, IfOk};
 ghost use Rattle.std.specs.Str.{IsUtf8, chars};

@@ -57,7 +57,7 @@ pub(crate) fn value_at<'a>(
     }
 }
 
-// Copies the first value of the key in the first section of the name out, and a 0 behind it.
+// Copies the first value of the key in the first section of the name out, and a 0 after it.
 #[inline(always)]
 pub(crate) fn find(
     document: &Ini,

@@ -136,7 +136,7 @@ fn added(
     add(alloc, text, read, write, name, key, value)
 }
 
-/// Copies the text out with a further pair, whatever pairs of the key are there: in a new line behind the
+/// Copies the text out with a further pair, whatever pairs of the key are there: in a new line after the
 /// last item of the first section of the name, or, where the text lacks the section, in a new one at its
 /// end. Every byte stays.
 ///

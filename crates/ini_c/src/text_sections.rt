@@ -19,7 +19,7 @@ use ini_edit::delete_section;
 use std::alloc::Global;
 
 /// Copies the text out without the first section of the name, from its header's bracket up to the next
-/// header or the text's end, but for comments behind its last pair, which stay. Every other byte stays.
+/// header or the text's end, but for comments after its last pair, which stay. Every other byte stays.
 /// `ABSENT` where the text has no such section; the general one, which has no name, doesn't go.
 ///
 /// `NOT_UTF8`, and then `BROKEN` where reading the text stops. `count` is as with `bigrosk_ini_edit_set`.

@@ -9,7 +9,7 @@ use crate::{NO_MEMORY, NO_ROOM, OK};
 use ini::{Ini, ParseOption};
 use std::alloc::Global;
 
-// Copies the document's text out, and a 0 behind it.
+// Copies the document's text out, and a 0 after it.
 pub(crate) fn write(
     alloc: Global,
     document: &Ini,

@@ -76,9 +76,9 @@ impl Desk {
     }
 
     // The document, written and loaded again.
-    fn reloaded(&self, behind: &str) -> Result<String, Error> {
+    fn reloaded(&self, following: &str) -> Result<String, Error> {
         let mut text = written(self.alloc, &self.document, self.options.writing())?;
-        text.push_str(behind)?;
+        text.push_str(following)?;
         load(self.alloc, text.as_str(), self.options.reading)
     }
 

@@ -1,7 +1,7 @@
 //! Questions about edits of a text, by the calls of `ini_edit`.
 //!
 //! A row is a text, a call and its operands: a name (`general`, or a text), a key, a value or what takes its
-//! place. Behind them may stand `like` and another text, which was edited by hand.
+//! place. After them may stand `like` and another text, which was edited by hand.
 use crate::document::name_of;
 use crate::option::Options;
 use crate::show::{load, sections};
@@ -144,7 +144,7 @@ fn by_hand(
 }
 
 // The new text, which has to load as the edited document; or why there is none.
-fn told(
+fn reported(
     alloc: Global,
     text: &str,
     edit: Edit<'_>,
@@ -170,8 +170,8 @@ fn told(
 // What the edit's own call answers, if a list of the edit alone answers the same; or what each does.
 fn new_text(alloc: Global, text: &str, edit: Edit<'_>, options: &Options) -> Result<String, Error> {
     let read = options.reading;
-    let call = told(alloc, text, edit, read, by_call(alloc, text, edit, options))?;
-    let list = told(alloc, text, edit, read, by_list(alloc, text, edit, options))?;
+    let call = reported(alloc, text, edit, read, by_call(alloc, text, edit, options))?;
+    let list = reported(alloc, text, edit, read, by_list(alloc, text, edit, options))?;
     if list == call {
         Ok(call)
     } else {

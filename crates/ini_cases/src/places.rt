@@ -41,8 +41,8 @@ fn show(out: &mut String, together: &mut String, element: &PlacedElement) -> Res
     Ok(())
 }
 
-/// The elements in order, and behind them whether put together they are the text; or, where the text is
-/// refused, where that is told, and where the refused element begins.
+/// The elements in order, and after them whether put together they are the text; or, where the text is
+/// refused, where that is reported, and where the refused element begins.
 pub fn places(alloc: Global, text: &str, read: ParseOption) -> Result<String, Error> {
     let mut out = String::new(alloc);
     let mut together = String::new(alloc);
@@ -53,11 +53,11 @@ pub fn places(alloc: Global, text: &str, read: ParseOption) -> Result<String, Er
             Ok(None) => break,
             Err(Error::Parse(fault)) => {
                 let (line, column) = parser.position();
-                let told = format!(in alloc;
+                let reported = format!(in alloc;
                     "refused at {}:{}, begun at {line}:{column}",
                     fault.line, fault.col
                 )?;
-                out.push_str(told.as_str())?;
+                out.push_str(reported.as_str())?;
                 return Ok(out);
             }
             Err(other) => return Err(other),

@@ -75,7 +75,7 @@ fn count_all(alloc: Global, document: &Ini) -> Result<usize, Error> {
     Ok(plain)
 }
 
-// A pair in the general section, and another in a section behind it.
+// A pair in the general section, and another in a section after it.
 fn of_pair(alloc: Global, key: &str, value: &str) -> Result<Ini, Error> {
     let mut document = Ini::new(alloc)?;
     document.with_section(None::<&str>).add(key, value)?;
@@ -83,7 +83,7 @@ fn of_pair(alloc: Global, key: &str, value: &str) -> Result<Ini, Error> {
     Ok(document)
 }
 
-// A section of the first name with a pair, and behind it one of the second with none.
+// A section of the first name with a pair, and after it one of the second with none.
 fn of_names(alloc: Global, first: &str, second: &str) -> Result<Ini, Error> {
     let mut document = Ini::new(alloc)?;
     document.with_section(Some(first)).add("k", "v")?;

@@ -24,7 +24,7 @@ struct Question {
     options: Options,
 }
 
-/// How many rows were asked, how many differed, and what is told of those.
+/// How many rows were asked, how many differed, and what is reported of those.
 #[derive(Drop)]
 pub struct Replay {
     alloc: Global,
@@ -175,12 +175,12 @@ impl Replay {
         match self.difference(rt, row.as_str()) {
             Ok(None) => Ok(()),
             Ok(Some(answer)) => {
-                let told = format!(in self.alloc; "{row}\n    gave {answer:?}")?;
-                self.tell(told.as_str())
+                let reported = format!(in self.alloc; "{row}\n    gave {answer:?}")?;
+                self.tell(reported.as_str())
             }
             Err(fault) => {
-                let told = format!(in self.alloc; "{row}\n    was refused: {fault}")?;
-                self.tell(told.as_str())
+                let reported = format!(in self.alloc; "{row}\n    was refused: {fault}")?;
+                self.tell(reported.as_str())
             }
         }
     }
@@ -202,8 +202,8 @@ impl Replay {
 
     fn tell(&mut self, fault: &str) -> Result<(), Error> {
         self.differing = self.differing.saturating_add(1);
-        let told = format!(in self.alloc; "{}:\n{fault}\n", self.heading)?;
-        self.report.push_str(told.as_str())?;
+        let reported = format!(in self.alloc; "{}:\n{fault}\n", self.heading)?;
+        self.report.push_str(reported.as_str())?;
         Ok(())
     }
 
@@ -212,7 +212,7 @@ impl Replay {
         self.differing == 0
     }
 
-    /// What is told of the rows that differ, and the numbers of both.
+    /// What is reported of the rows that differ, and the numbers of both.
     pub fn report(&self) -> Result<String, Error> {
         Ok(format!(in self.alloc;
             "{}{} rows, {} differ",

@@ -73,7 +73,7 @@ impl Reader {
         Ok(State::Between)
     }
 
-    // One character behind a backslash.
+    // One character after a backslash.
     fn escape(&mut self, c: char) -> Result<State, Error> {
         let stands_for = match c {
             'n' => '\n',
@@ -102,7 +102,7 @@ impl Reader {
         Ok(State::Text)
     }
 
-    // A digit of a scalar, or the brace behind it.
+    // A digit of a scalar, or the brace after it.
     fn scalar(&mut self, code: u32, c: char) -> Result<State, Error> {
         if c != '}' {
             let digit = c.to_digit(16).ok_or(unreadable("no digit"))?;

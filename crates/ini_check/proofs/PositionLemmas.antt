@@ -1,4 +1,4 @@
--- Lines and columns behind two texts in a row.
+-- Lines and columns after two texts in a row.
 use Rattle.std.proofs.Common.{◌≡◌, ◌∙◌, ℕ, ◌+◌, ◌<◌, ◌≤◌, ◌^◌, Bool, true, false, cond, List, [], ◌∷◌}
 use Rattle.std.proofs.Common.{◌++◌, length, refl, sym, ap, arith}
 use Rattle.std.proofs.Common.{count_by, rules, length-append}
@@ -46,7 +46,7 @@ column-line n c cs is = at (list_any is_line_feed cs) refl
         ∙ ap (λ l. 1 + length l) (cond-true (list_any is_line_feed (c ∷ cs)) _ _ (any b h))
         ∙ sym (column-front cs)
 
--- the column behind two texts
+-- the column after two texts
 pub column-append : (n : ℕ) (b p : List ℕ) → column_from n (b ++ p) ≡ column_from (column_from n b) p
 column-append n [] p = ap (λ m. column_from m p) (omega arith)
 column-append n (c ∷ b) p = at (is_line_feed c) refl (λ m. column-append m b p)
@@ -90,7 +90,7 @@ column-bound n (c ∷ b) = at (is_line_feed c) refl (λ m. column-bound m b)
     at true is more = omega (arith, column-line n c b is, more 1)
     at false is more = omega (arith, column-other n c b is, more (n + 1))
 
--- what was counted over the text p, behind which nothing is left
+-- what was counted over the text p, after which nothing is left
 module _ (p rest : List ℕ) (m n : Position) (none : rest ≡ [])
     (line : n.line + count_by is_line_feed rest ≡ m.line + count_by is_line_feed p)
     (column : column_from n.column rest ≡ column_from m.column p) where
@@ -116,7 +116,7 @@ module _ (p rest : List ℕ) (m n : Position) (none : rest ≡ [])
 separator-other : (c : ℕ) → is_separator c ≡ true → is_line_feed c ≡ false
 separator-other c is = grind (arith, is)
 
--- the place behind a separator
+-- the place after a separator
 pub separator_at : (b : List ℕ) (c : ℕ) (m n : Position) → is_separator c ≡ true → n.line ≡ m.line
     → n.column ≡ m.column + 1 → IsAt b m → IsAt (b ++ c ∷ []) n
 separator_at b c m n is line column at =
@@ -142,10 +142,10 @@ value_room p = omega (
   length-append p.lead (p.own ++ (p.pad ++ p.tail)),
 )
 
--- in a text that is short enough there is room behind a front for what follows it
-pub room_behind : (T b s r : List ℕ) (m : Position) → length T + 1 < 2 ^ 64 → T ≡ b ++ (s ++ r) → IsAt b m
+-- in a text that is short enough there is room after a front for what follows it
+pub room_after : (T b s r : List ℕ) (m : Position) → length T + 1 < 2 ^ 64 → T ≡ b ++ (s ++ r) → IsAt b m
     → HasRoom (length s) m
-room_behind T b s r m fits whole at =
+room_after T b s r m fits whole at =
     let parts : length T ≡ length b + (length s + length r) =
     ap length whole ∙ length-append b (s ++ r) ∙ ap (λ n. length b + n) (length-append s r) in
     record {

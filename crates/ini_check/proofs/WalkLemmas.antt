@@ -19,14 +19,14 @@ use Rattle.ini.specs.Properties.{Pairs}
 use Rattle.ini.specs.Loading.{IfParse, IsStopOf}
 use Rattle.ini_check.specs.Inside.Positions.{IsAt}
 use Rattle.ini_check.specs.Inside.Walks.{IsPastLast, IsReading, StandsWithin, Steps}
-use Rattle.ini_check.specs.Warnings.{Adds, AreWarningsOf, ElementWarns, Warns, keys_behind, names_behind}
+use Rattle.ini_check.specs.Warnings.{Adds, AreWarningsOf, ElementWarns, Warns, keys_after, names_after}
 use Rattle.ini_check.specs.declared.position.Position.{Position}
 use Rattle.ini_check.specs.declared.warning.Warning.{Warning}
 
--- where reading stops behind what was read
-stops_behind : {o : ParseOption} {T b : Text} {items : List Given} (e : ParseError) → Reads o T [] items b
+-- where reading stops after what was read
+stops_after : {o : ParseOption} {T b : Text} {items : List Given} (e : ParseError) → Reads o T [] items b
     → StopsAfter o T b e.kind e.line e.col → HasMessage e.kind (cow_str_bytes e.msg) → IsStopOf o T e
-stops_behind {b = b} e reads stop message = record {
+stops_after {b = b} e reads stop message = record {
   front = b ++ stop.source;
   stops = Stops.stops reads stop.whole stop.stops;
   line = stop.line_is;
@@ -38,7 +38,7 @@ pub step_stops : {o : ParseOption} {T b : Text} {items : List Given} (c : Text)
     (answer : Result (Option PlacedElement) Error) → Reads o T [] items b → AnswersElement o T b c answer
     → IfParse answer (IsStopOf o T)
 step_stops c (Ok found) reads h = tt
-step_stops c (Err (Parse e)) reads h = stops_behind e reads h.0 h.1
+step_stops c (Err (Parse e)) reads h = stops_after e reads h.0 h.1
 step_stops c (Err _) reads h = tt
 
 -- what was checked: elements reach where the parser stands, and these are their warnings
@@ -112,7 +112,7 @@ module _ {o : ParseOption} {T : Text} where
     pub checks_step : {q : Place} {e : PlacedElement} {n : Position} {new : List Warning}
         {names' keys' : Pairs}
         → Steps o T p.front q e → Adds (ElementWarns o p.front names keys e.content) ws new
-        → names' ≡ names_behind names e.content → keys' ≡ keys_behind keys e.content
+        → names' ≡ names_after names e.content → keys' ≡ keys_after keys e.content
         → IsAt (p.front ++ chars e.source.now) n → Checks o T q n names' keys' new
     checks_step {q} {e} {n} {new} {names'} {keys'} t adds names_are keys_are at = record {
       is_reading = t.is_reading;
@@ -122,8 +122,8 @@ module _ {o : ParseOption} {T : Text} where
       warns =
           subst (Warns o T q.front names' keys') (sym adds.added)
           (subst (λ x. Warns o T q.front names' x (ws ++ adds.more)) (sym keys_are)
-          (subst (λ x. Warns o T q.front x (keys_behind keys e.content) (ws ++ adds.more)) (sym names_are)
-          (Warns.behind e adds.more s.warns t.stands adds.holds)));
+          (subst (λ x. Warns o T q.front x (keys_after keys e.content) (ws ++ adds.more)) (sym names_are)
+          (Warns.following e adds.more s.warns t.stands adds.holds)));
     }
 
 -- before the first element

@@ -11,20 +11,20 @@ use Rattle.ini.specs.Properties.{Pairs, first_value}
 abbrev pub runs_on : Text → Bool
 runs_on source = list_any is_line_end source
 
--- behind blanks a comment's mark begins the key's source
+-- after blanks a comment's mark begins the key's source
 abbrev pub begins_like_comment : Text → Bool
 begins_like_comment [] = false
 begins_like_comment (c ∷ cs) = if is_blank c then begins_like_comment cs else is_comment_mark c
 
--- a comment's mark stands behind white space; whether the text stands behind white space, `white` says
-abbrev pub has_comment_mark_behind_white : Bool → Text → Bool
-has_comment_mark_behind_white white [] = false
-has_comment_mark_behind_white white (c ∷ cs) =
-    (white && is_comment_mark c) || has_comment_mark_behind_white (is_whitespace c) cs
+-- a comment's mark stands after white space; whether the text stands after white space, `white` says
+abbrev pub has_comment_mark_after_white : Bool → Text → Bool
+has_comment_mark_after_white white [] = false
+has_comment_mark_after_white white (c ∷ cs) =
+    (white && is_comment_mark c) || has_comment_mark_after_white (is_whitespace c) cs
 
--- a comment's mark stands in the value's own source, behind white space
+-- a comment's mark stands in the value's own source, after white space
 abbrev pub has_comment_mark : Text → Bool
-has_comment_mark own = has_comment_mark_behind_white false own
+has_comment_mark own = has_comment_mark_after_white false own
 
 abbrev pub is_empty_or_white_first : Text → Bool
 is_empty_or_white_first [] = true

@@ -24,24 +24,24 @@ abbrev pub warned : Bool → Text → Trap → List Warning
 warned there b trap =
     if there then record { line = line_of b; column = column_of b; trap = trap } ∷ [] else []
 
--- the front behind which a pair's value begins
+-- the front after which a pair's value begins
 abbrev pub value_front : Text → grammar.Stretches → Text
 value_front b p = (b ++ p.key) ++ p.separator ∷ p.lead
 
--- of a pair's key behind the front b, and behind pairs of its section
+-- of a pair's key after the front b, and after pairs of its section
 abbrev pub key_warnings : Text → Pairs → Text → Text → List Warning
 key_warnings b before source key =
     warned (runs_on source) b traps.RunsOn
     ++ (warned (begins_like_comment source) b traps.MarkBeginsKey
     ++ warned (is_repeated key before) b traps.RepeatedKey)
 
--- of a pair's value behind the front b
+-- of a pair's value after the front b
 abbrev pub value_warnings : ParseOption → Text → Text → Text → List Warning
 value_warnings o b own value =
     warned (has_escape o own value) b traps.Escape
     ++ warned (begins_like_note own || has_comment_mark own) b traps.MarkInValue
 
--- of a header behind the front b, and behind headers of these names
+-- of a header after the front b, and after headers of these names
 pub record HeaderWarns (o : ParseOption) (b : Text) (before : Pairs) (name : Text) (ws : List Warning)
     : Type 0 where
   pub plain : Bool
@@ -65,24 +65,24 @@ ElementWarns o b names pairs contents.Nothing ws = ws ≡ []
 ElementWarns o b names pairs (contents.Header name) ws = HeaderWarns o b names (cow_text name) ws
 ElementWarns o b names pairs (contents.Pair pair) ws = PairWarns o b pairs pair ws
 
--- the names behind an element
-abbrev pub names_behind : Pairs → Content → Pairs
-names_behind names (contents.Header name) = names ++ (cow_text name, []) ∷ []
-names_behind names _ = names
+-- the names after an element
+abbrev pub names_after : Pairs → Content → Pairs
+names_after names (contents.Header name) = names ++ (cow_text name, []) ∷ []
+names_after names _ = names
 
--- the keys of the section behind an element
-abbrev pub keys_behind : Pairs → Content → Pairs
-keys_behind keys contents.Nothing = keys
-keys_behind keys (contents.Header name) = []
-keys_behind keys (contents.Pair pair) = keys ++ (cow_text pair.key, []) ∷ []
+-- the keys of the section after an element
+abbrev pub keys_after : Pairs → Content → Pairs
+keys_after keys contents.Nothing = keys
+keys_after keys (contents.Header name) = []
+keys_after keys (contents.Pair pair) = keys ++ (cow_text pair.key, []) ∷ []
 
 -- elements reach the front b of the text T, with headers of these names, the last section's keys, and these
 -- warnings
 pub data Warns (o : ParseOption) (T : Text) : Text → Pairs → Pairs → List Warning → Type 0 where
   front : Warns o T [] [] [] []
-  behind : {b c : Text} {names keys : Pairs} {ws : List Warning} (e : PlacedElement) (more : List Warning)
+  following : {b c : Text} {names keys : Pairs} {ws : List Warning} (e : PlacedElement) (more : List Warning)
       → Warns o T b names keys ws → StandsBetween o T b c e → ElementWarns o b names keys e.content more
-      → Warns o T c (names_behind names e.content) (keys_behind keys e.content) (ws ++ more)
+      → Warns o T c (names_after names e.content) (keys_after keys e.content) (ws ++ more)
 
 -- the warnings are those of the whole text
 pub record AreWarningsOf (o : ParseOption) (T : Text) (ws : List Warning) : Type 0 where
@@ -90,7 +90,7 @@ pub record AreWarningsOf (o : ParseOption) (T : Text) (ws : List Warning) : Type
   pub keys : Pairs
   pub warns : Warns o T T names keys ws
 
--- behind a list stand more warnings
+-- after a list stand more warnings
 pub record Adds (P : List Warning → Type 0) (old new : List Warning) : Type 0 where
   pub more : List Warning
   pub holds : P more

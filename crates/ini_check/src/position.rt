@@ -20,7 +20,7 @@ impl Position {
         Position { line: 1, column: 1 }
     }
 
-    /// The place behind a stretch that begins here.
+    /// The place after a stretch that begins here.
     pub(crate) fn over(self, passed: &str) -> Position
         requires { HasRoom (length (chars passed.now)) self }
         ensures room { (n : ℕ) → HasRoom (length (chars passed.now) + n) self → HasRoom n result }
@@ -41,8 +41,8 @@ impl Position {
         Position { line, column }
     }
 
-    /// The place behind a separator that stands here.
-    pub(crate) fn behind_separator(self) -> Position
+    /// The place after a separator that stands here.
+    pub(crate) fn after_separator(self) -> Position
         requires { HasRoom 1 self }
         ensures line { result.line ≡ self.line }
         ensures column { result.column ≡ self.column + 1 }

@@ -15,7 +15,7 @@ pub(crate) fn runs_on(source: &str) -> bool
     source.chars().any(|c| is_line_end(c))
 }
 
-/// Whether a comment mark begins a key behind blanks.
+/// Whether a comment mark begins a key after blanks.
 pub(crate) fn begins_like_comment(source: &str) -> bool
     ensures { result ≡ begins_like_comment (chars source.now) }
 {
@@ -29,7 +29,7 @@ pub(crate) fn begins_like_comment(source: &str) -> bool
     false
 }
 
-/// Whether a comment mark stands in a value's own source behind white space.
+/// Whether a comment mark stands in a value's own source after white space.
 pub(crate) fn has_comment_mark(own: &str) -> bool
     ensures { result ≡ has_comment_mark (chars own.now) }
 {

@@ -1,7 +1,7 @@
 //! The warnings of a text. This file knows elements and places, and of characters nothing.
 ghost use Rattle.std.specs.Prelude.{◌≡◌, chars, IfOk, IfErr, OnOk, MatchOption, IsOkUnless, alloc_error};
 ghost use Rattle.ini.specs.Loading.{IfParse, IsParseOrMemory, IsStopOf};
-ghost use Rattle.ini_check.specs.Warnings.{AreWarningsOf, keys_behind, names_behind};
+ghost use Rattle.ini_check.specs.Warnings.{AreWarningsOf, keys_after, names_after};
 ghost use Rattle.ini_check.specs.Inside.Walks.{IsPastLast, StandsWithin, Steps};
 
 use crate::position::Position;
@@ -49,15 +49,15 @@ fn step<'a>(parser: &mut Parser<'a>) -> Result<Option<PlacedElement<'a>>, Error>
     parser.next_element()
 }
 
-// Takes note of a header's name, behind which the section has no keys yet, or of a pair's key.
+// Takes note of a header's name, after which the section has no keys yet, or of a pair's key.
 fn note_element(
     alloc: Global,
     names: &mut Properties,
     keys: &mut Properties,
     content: &Content,
 ) -> Result<(), Error>
-    ensures names { OnOk result (names.new ≡ names_behind names.old content.now) }
-    ensures keys { OnOk result (keys.new ≡ keys_behind keys.old content.now) }
+    ensures names { OnOk result (names.new ≡ names_after names.old content.now) }
+    ensures keys { OnOk result (keys.new ≡ keys_after keys.old content.now) }
     ensures only { IsOkUnless result (Error.Memory alloc_error) }
 {
     match content {

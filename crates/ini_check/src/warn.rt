@@ -18,7 +18,7 @@ use ini_text::{
     is_plain_pair,
 };
 
-/// Puts an element's warnings last, behind headers of these names and pairs of these keys in its section.
+/// Puts an element's warnings last, after headers of these names and pairs of these keys in its section.
 pub(crate) fn warn_element(
     warnings: &mut Vec<Warning>,
     position: Position,
@@ -89,7 +89,7 @@ fn warn_pair(
     )
 }
 
-// Where a pair's value begins, behind the white space before it.
+// Where a pair's value begins, after the white space before it.
 fn value_position(position: Position, pair: &PlacedPair) -> Position
     requires room { HasRoom (length (pair_source (stretches_of pair.now.places))) position }
     requires separates { is_separator pair.now.places.separator ≡ true }
@@ -97,7 +97,7 @@ fn value_position(position: Position, pair: &PlacedPair) -> Position
 {
     position
         .over(pair.places.key)
-        .behind_separator()
+        .after_separator()
         .over(pair.places.lead)
 }
 

@@ -20,7 +20,7 @@ pub enum Trap {
     NotPlain,
     /// A backslash begins an escape in a value.
     Escape,
-    /// A comment mark stands in a value, behind white space, or begins it as a note does (`#fff` is none): it
+    /// A comment mark stands in a value, after white space, or begins it as a note does (`#fff` is none): it
     /// is part of the value.
     MarkInValue,
 }

@@ -18,7 +18,7 @@ use Rattle.ini_edit.specs.declared.place.TextPlace.{TextPlace}
 use Rattle.ini_edit.proofs.GlueTextLemmas.{boundary_place}
 use Rattle.ini_edit.proofs.PlacedLemmas.{adds_at_place, inserts_at_place, place_items}
 
--- the parts of the text, one put behind another
+-- the parts of the text, one put after another
 pub with_line_parts : {o : ParseOption} {e : Ending} (w : WriteOption) (W r key value n0 n1 n2 n3 n4 : Text)
     → n0 ≡ []
     → n1 ≡ n0 ++ W → PushesGlue o w.line_separator e n1 n2 → n3 ≡ n2 ++ written_pair w (key, value)
@@ -38,7 +38,7 @@ with_line_parts w W r key value n0 n1 n2 n3 n4 none first glue pair rest =
 pub added_at : {o : ParseOption} {w : WriteOption} {T : Text} {name : Option Text} {key value U : Text}
     {place : TextPlace}
     → IsFirstSectionEnd o T name place
-    → IsWithLine o w (front_ending place.is_behind_comment (chars place.front.now)) (chars place.front.now)
+    → IsWithLine o w (front_ending place.is_after_comment (chars place.front.now)) (chars place.front.now)
     (chars place.rest.now) key value U → IsWritable o w key value
     → IsAddedAt o w T name key value U
 added_at {o} {w} {T} {name} {key} {value} {U} {place} end line writable =

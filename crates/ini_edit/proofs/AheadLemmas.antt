@@ -19,12 +19,12 @@ use Rattle.ini_text.specs.Grammar.Texts.{Reads}
 use Rattle.ini_text.proofs.GrammarLemmas.KindLemmas.{line_end_no_blank}
 use Rattle.ini_text.proofs.LawLemmas.OneAheadLemmas.{Alike, Element-alike, EndedLine-before, KeyFront-alike}
 use Rattle.ini_text.proofs.LawLemmas.OneAheadLemmas.{Reads-front, Str-alike}
-use Rattle.ini_text.proofs.PlainLemmas.PlainLineLemmas.{column_one_behind}
+use Rattle.ini_text.proofs.PlainLemmas.PlainLineLemmas.{column_one_after}
 use Rattle.ini_text.proofs.PlainLemmas.PlainTrimLemmas.{line_end_is_white}
 use Rattle.ini_edit.specs.Places.{Follows}
 use Rattle.ini_edit.proofs.ValueLemmas.{closes_line_end, line_closes}
 
--- What stands behind the front c: no line end; and a bracket in column one alone, since blanks before one
+-- What stands after the front c: no line end; and a bracket in column one alone, since blanks before one
 -- are an element of their own.
 pub record FollowsFront (c y : List ℕ) : Type 0 where
   pub some : BeginsWith (λ c. not (is_line_end c)) y
@@ -42,7 +42,7 @@ pub blank_no_column : (b w : List ℕ) → BeginsWith is_blank w → list_all is
     → is_column_one (b ++ w) ≡ true → ⊥
 blank_no_column b [] some all one = false≢true (sym some)
 blank_no_column b (c ∷ w) some all one =
-    both_ways (is_line_feed (last_or c w)) (last_blank c w all) (sym (column_one_behind b c w) ∙ one)
+    both_ways (is_line_feed (last_or c w)) (last_blank c w all) (sym (column_one_after b c w) ∙ one)
 
 no_line_feed : (x : List ℕ) → BeginsWithNo is_line_end x → BeginsWithNo is_line_feed x
 no_line_feed [] h = tt
@@ -137,12 +137,12 @@ module _ {o : ParseOption} {x : List ℕ} (follows : Follows o x) where
       (Reads.step {s = s} {r = z} {gives = gives} {items} q e reads) rest =
       let front = Reads-front reads in
       let m = front.0 in
-      let behind : z ≡ m ++ y = append_cancel_left (b ++ s) z (m ++ y)
+      let following : z ≡ m ++ y = append_cancel_left (b ++ s) z (m ++ y)
       (append_assoc b s z ∙ sym q ∙ h ∙ ap (λ w. w ++ y) (sym front.1) ∙ append_assoc (b ++ s) m y) in
       let whole : c ++ x ≡ b ++ (s ++ (m ++ x)) =
       ap (λ w. w ++ x) (sym front.1) ∙ append_assoc (b ++ s) m x ∙ append_assoc b s (m ++ x) in
       subst (λ w. Reads o (c ++ x) b w d) (sym (append_assoc gives items others))
-      (Reads.step whole (at m front.1 (subst (λ w. Element o b s w gives) behind e))
+      (Reads.step whole (at m front.1 (subst (λ w. Element o b s w gives) following e))
       (Reads-before_line y f h reads rest))
     where
       at : {s : List ℕ} {gives : List Given} (m : List ℕ) → (b ++ s) ++ m ≡ c → Element o b s (m ++ y) gives

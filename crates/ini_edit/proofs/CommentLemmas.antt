@@ -46,7 +46,7 @@ begins_front : (test : ℕ → Bool) (s r : Text) → BeginsWith test s → Begi
 begins_front test [] r h = absurd (false≢true (sym h))
 begins_front test (c ∷ s) r h = h
 
--- a comment's source behind the front b, before r, and what it gives
+-- a comment's source after the front b, before r, and what it gives
 pub data IsComment (b : Text) : Text → Text → List Given → Type 0 where
   whole : {m : ℕ} {r : Text} (s : Text) → is_column_one b ≡ true → is_comment_mark m ≡ true
       → list_all (λ c. not (is_line_feed c)) s ≡ true → IsComment b (m ∷ (s ++ line_feed ∷ [])) r []

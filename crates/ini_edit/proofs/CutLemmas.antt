@@ -7,7 +7,7 @@ use Rattle.ini_text.specs.Grammar.CharacterKinds.{line_feed, carriage_return, is
 use Rattle.ini_text.specs.Grammar.Positions.{is_column_one, starts_line}
 use Rattle.ini_text.specs.Grammar.Values.{LineEnd, Value}
 use Rattle.ini_text.proofs.GrammarLemmas.ItemLemmas.{reads-append}
-use Rattle.ini_text.proofs.LawLemmas.MovedLemmas.{last_or-behind}
+use Rattle.ini_text.proofs.LawLemmas.MovedLemmas.{last_or-after}
 use Rattle.ini_text.specs.declared.option.ParseOption.{ParseOption}
 use Rattle.ini_text.specs.Grammar.Elements.{Given}
 use Rattle.ini_text.specs.Grammar.Texts.{Reads, Derives}
@@ -16,12 +16,12 @@ use Rattle.ini_edit.specs.Inside.Later.{ReadAlike}
 use Rattle.ini_edit.specs.Places.{Cut, EndsLike, Follows, Stretches, StandsAt, pair_of, up_to_end}
 use Rattle.ini_edit.proofs.AheadLemmas.{FollowsFront, any_follows, key_follows, Reads-before_line, y_some}
 use Rattle.ini_edit.proofs.AheadLemmas.{value_closes, value_follows}
-use Rattle.ini_edit.proofs.BehindLemmas.{EndsLike-one, Reads-like, past_line_ends}
-use Rattle.ini_edit.proofs.KeptLemmas.{EndsLine-behind, ends_line-starts, reads_kept, value_ends_line}
+use Rattle.ini_edit.proofs.AfterLemmas.{EndsLike-one, Reads-like, past_line_ends}
+use Rattle.ini_edit.proofs.KeptLemmas.{EndsLine-after, ends_line-starts, reads_kept, value_ends_line}
 use Rattle.ini_edit.proofs.KeptLemmas.{value_takes}
 use Rattle.ini_edit.proofs.ReplacedLemmas.{Reads-closes}
 
--- what is read behind both fronts
+-- what is read after both fronts
 pub alike_reads : {o : ParseOption} {b c rest : List ℕ} {items : List Given} → ReadAlike b c rest
     → Reads o (b ++ rest) b items (b ++ rest) → Reads o (c ++ rest) c items (c ++ rest)
 alike_reads {o} {rest = rest} (ReadAlike.like like) reads = Reads-like o like rest reads
@@ -37,7 +37,7 @@ line_end_like b c LineEnd.lf = EndsLike-one b c line_feed []
 line_end_like b c LineEnd.cr_lf = EndsLike-one b c carriage_return (line_feed ∷ [])
 line_end_like b c (LineEnd.cr n) = EndsLike-one b c carriage_return []
 
--- what stays behind a pair that is taken out, perhaps without its line end, is read behind what is kept as
+-- what stays a pair that is taken out, perhaps without its line end, is read after what is kept as
 -- it was
 pub record CutLeft (p : Stretches) (k r : Text) : Type 0 where
   pub line_end : Text
@@ -73,8 +73,8 @@ cut_left {p = p} given (Cut.before_last_line_end V e on ends is_end inside) =
 cut_left {p = p} given (Cut.before_last_line_feed on one line other) =
     left_whole (ReadAlike.like (record {
       line = or_left (is_column_one (up_to_end p)) _ one
-          ∙ ap is_line_end (sym (last_or-behind line_feed line_feed p.front []));
-      column = λ _. ap is_line_feed (last_or-behind line_feed line_feed p.front []);
+          ∙ ap is_line_end (sym (last_or-after line_feed line_feed p.front []));
+      column = λ _. ap is_line_feed (last_or-after line_feed line_feed p.front []);
     }))
 
 -- a pair that is taken out
@@ -83,7 +83,7 @@ module _ {o : ParseOption} {T : Text} {p : Stretches} {key value : Text} {before
   abbrev W : Text
   W = up_to_end p
 
-  -- what stands behind the front
+  -- what stands after the front
   abbrev y : Text
   y = pair_of p ++ p.rest
 
@@ -93,11 +93,11 @@ module _ {o : ParseOption} {T : Text} {p : Stretches} {key value : Text} {before
       subst (FollowsFront p.front) (sym (append_assoc p.key (p.separator ∷ v) p.rest))
       (key_follows (p.separator ∷ (v ++ p.rest)) s.key_front)
 
-  text_behind : T ≡ W ++ p.rest
-  text_behind = s.text ∙ sym (append_assoc p.front (pair_of p) p.rest)
+  text_after : T ≡ W ++ p.rest
+  text_after = s.text ∙ sym (append_assoc p.front (pair_of p) p.rest)
 
   then : Reads o (W ++ p.rest) W after (W ++ p.rest)
-  then = subst (λ z. Reads o z W after z) text_behind s.then
+  then = subst (λ z. Reads o z W after z) text_after s.then
 
   -- what stands before the pair, where a line end of it is kept
   kept_reads : (k : Text) → Follows o p.rest → list_all is_line_end k ≡ true
@@ -123,22 +123,22 @@ module _ {o : ParseOption} {T : Text} {p : Stretches} {key value : Text} {before
       let some = y_some follows begins in
       kept_reads e follows (line_end_all is_end) (λ X z v is given.
       absurd (both_ways (starts_line p.front) inside
-      (ap starts_line (sym is) ∙ ends_line-starts (EndsLine-behind X (value_ends_line on some given)))))
+      (ap starts_line (sym is) ∙ ends_line-starts (EndsLine-after X (value_ends_line on some given)))))
   cut_reads (Cut.before_last_line_feed on one line other) =
       let follows = value_follows on s.gives in
       kept_reads (line_feed ∷ []) follows refl
       (λ X z v is given. value_takes follows on (y_some follows begins) given)
 
-  -- and so does what stood behind it
+  -- and so does what stood after it
   pub cut_then : {k r : Text} → Cut o p k r
       → Reads o ((p.front ++ k) ++ r) (p.front ++ k) after ((p.front ++ k) ++ r)
   cut_then {k} {r} cut =
       let left = cut_left s.gives cut in
       let whole : T ≡ (W ++ left.line_end) ++ r =
-      text_behind ∙ ap (λ z. W ++ z) left.followed ∙ sym (append_assoc W left.line_end r) in
+      text_after ∙ ap (λ z. W ++ z) left.followed ∙ sym (append_assoc W left.line_end r) in
       alike_reads left.alike
       (subst (λ z. Reads o z (W ++ left.line_end) after z) whole
-      (past_line_ends left.line_end r left.ends (text_behind ∙ ap (λ z. W ++ z) left.followed) s.then))
+      (past_line_ends left.line_end r left.ends (text_after ∙ ap (λ z. W ++ z) left.followed) s.then))
 
   -- without the pair the text gives the other items
   pub cut_derives : {k r : Text} → Cut o p k r → Derives o (p.front ++ (k ++ r)) (before ++ after)

@@ -7,54 +7,54 @@ use Rattle.ini_text.specs.Grammar.CharacterKinds.{line_feed, carriage_return, is
 use Rattle.ini_text.specs.Grammar.Positions.{is_column_one, starts_line}
 use Rattle.ini_text.specs.Grammar.Places.{Tail}
 use Rattle.ini_text.specs.Grammar.Values.{LineEnd}
-use Rattle.ini_text.proofs.LawLemmas.MovedLemmas.{last_or-behind}
+use Rattle.ini_text.proofs.LawLemmas.MovedLemmas.{last_or-after}
 use Rattle.ini_edit.specs.Places.{Cut, Follows, Stretches, up_to_end}
-use Rattle.ini_edit.specs.Inside.Cuts.{EndsLine, HasLastLineEnd, StaysBehind}
+use Rattle.ini_edit.specs.Inside.Cuts.{EndsLine, HasLastLineEnd, StaysAfter}
 use Rattle.ini_edit.proofs.AheadLemmas.{LineEnd-before, more_follows}
-use Rattle.ini_edit.proofs.KeptLemmas.{EndsLine-behind, ends_line-starts, tail_ends_line}
+use Rattle.ini_edit.proofs.KeptLemmas.{EndsLine-after, ends_line-starts, tail_ends_line}
 
 pub goes_lf : {front rest : List ℕ} (c : ℕ) (after : List ℕ) → rest ≡ c ∷ after → c ≡ 10
     → is_column_one front ≡ true
-    → StaysBehind front rest after
+    → StaysAfter front rest after
 goes_lf {front} c after h is one =
-    StaysBehind.without_line_end (line_feed ∷ []) after (h ∙ ap (λ z. z ∷ after) is) refl
+    StaysAfter.without_line_end (line_feed ∷ []) after (h ∙ ap (λ z. z ∷ after) is) refl
     (λ W. record {
       line =
-          ap is_line_end (last_or-behind line_feed line_feed W [])
+          ap is_line_end (last_or-after line_feed line_feed W [])
           ∙ sym (or_left (is_column_one front) _ one);
       column = λ _. one;
     })
 
 pub goes_cr_lf : {front rest : List ℕ} (c d : ℕ) (middle after : List ℕ) → rest ≡ c ∷ middle → c ≡ 13
     → middle ≡ d ∷ after
-    → d ≡ 10 → is_column_one front ≡ true → StaysBehind front rest after
+    → d ≡ 10 → is_column_one front ≡ true → StaysAfter front rest after
 goes_cr_lf {front} c d middle after h is k js one =
-    StaysBehind.without_line_end (carriage_return ∷ (line_feed ∷ [])) after
+    StaysAfter.without_line_end (carriage_return ∷ (line_feed ∷ [])) after
     (h ∙ ap (λ z. z ∷ middle) is ∙ ap (λ z. carriage_return ∷ z) (k ∙ ap (λ z. z ∷ after) js)) refl
     (λ W. record {
       line =
-          ap is_line_end (last_or-behind line_feed carriage_return W (line_feed ∷ []))
+          ap is_line_end (last_or-after line_feed carriage_return W (line_feed ∷ []))
           ∙ sym (or_left (is_column_one front) _ one);
       column = λ _. one;
     })
 
 pub goes_cr : {front rest : List ℕ} (c : ℕ) (after : List ℕ) → rest ≡ c ∷ after → c ≡ 13
     → starts_line front ≡ true
-    → StaysBehind front rest after
+    → StaysAfter front rest after
 goes_cr {front} c after h is starts =
-    StaysBehind.without_line_end (carriage_return ∷ []) after (h ∙ ap (λ z. z ∷ after) is) refl
+    StaysAfter.without_line_end (carriage_return ∷ []) after (h ∙ ap (λ z. z ∷ after) is) refl
     (λ W. record {
-      line = ap is_line_end (last_or-behind line_feed carriage_return W []) ∙ sym starts;
+      line = ap is_line_end (last_or-after line_feed carriage_return W []) ∙ sym starts;
       column = λ q.
           absurd (both_ways (is_column_one (W ++ carriage_return ∷ []))
-          (ap is_line_feed (last_or-behind line_feed carriage_return W [])) q);
+          (ap is_line_feed (last_or-after line_feed carriage_return W [])) q);
     })
 
 -- the last character of a text that ends a line
 pub last_ends : {text : List ℕ} (V : List ℕ) (c : ℕ) → EndsLine text → text ≡ V ++ c ∷ []
     → is_line_end c ≡ true
 last_ends V c n h =
-    ap is_line_end (sym (last_or-behind line_feed c V [])) ∙ ap starts_line (sym h) ∙ ends_line-starts n
+    ap is_line_end (sym (last_or-after line_feed c V [])) ∙ ap starts_line (sym h) ∙ ends_line-starts n
 
 tail_follows : {o : ParseOption} {t r : List ℕ} → o.enabled_indented_mutiline_value ≡ true → Tail o t r
     → Follows o r
@@ -66,10 +66,10 @@ module _ {o : ParseOption} (p : Stretches) where
   pub cut_end : p.rest ≡ [] → Cut o p [] p.rest
   cut_end none = subst (Cut o p []) (sym none) (Cut.at_text_end none)
 
-  pub cut_one_line : {r : List ℕ} → o.enabled_indented_mutiline_value ≡ false → StaysBehind p.front p.rest r
+  pub cut_one_line : {r : List ℕ} → o.enabled_indented_mutiline_value ≡ false → StaysAfter p.front p.rest r
       → Cut o p [] r
-  cut_one_line off StaysBehind.whole = Cut.before_line_end off
-  cut_one_line off (StaysBehind.without_line_end e r whole all like) =
+  cut_one_line off StaysAfter.whole = Cut.before_line_end off
+  cut_one_line off (StaysAfter.without_line_end e r whole all like) =
       Cut.with_line_end e r off whole all (like (up_to_end p))
 
   module _ (on : o.enabled_indented_mutiline_value ≡ true) (some : p.rest ≢ [])
@@ -83,16 +83,16 @@ module _ {o : ParseOption} (p : Stretches) where
     ends : EndsLine p.tail
     ends = tail_ends_line on some tail
 
-    column_behind : {t : List ℕ} (X : List ℕ) → EndsLine t → is_column_one (X ++ t) ≡ is_column_one t
-    column_behind X n =
+    column_after : {t : List ℕ} (X : List ℕ) → EndsLine t → is_column_one (X ++ t) ≡ is_column_one t
+    column_after X n =
         ap (λ z. is_column_one (X ++ z)) n.whole
         ∙ ap is_column_one (sym (append_assoc X n.before (n.last ∷ [])))
-        ∙ ap is_line_feed (last_or-behind line_feed n.last (X ++ n.before) [])
-        ∙ ap is_line_feed (sym (last_or-behind line_feed n.last n.before []))
+        ∙ ap is_line_feed (last_or-after line_feed n.last (X ++ n.before) [])
+        ∙ ap is_line_feed (sym (last_or-after line_feed n.last n.before []))
         ∙ ap is_column_one (sym n.whole)
 
     column : is_column_one (up_to_end p) ≡ is_column_one p.tail
-    column = ap is_column_one at_tail ∙ column_behind B ends
+    column = ap is_column_one at_tail ∙ column_after B ends
 
     pub cut_inside : {e : List ℕ} → HasLastLineEnd p.tail e → starts_line p.front ≡ false → Cut o p e p.rest
     cut_inside {e} n inside =
@@ -107,7 +107,7 @@ module _ {o : ParseOption} (p : Stretches) where
     pub cut_whole : starts_line p.front ≡ true → (is_column_one p.tail ≡ true → is_column_one p.front ≡ true)
         → Cut o p [] p.rest
     cut_whole starts like = Cut.whole_lines on (record {
-      line = ap starts_line at_tail ∙ ends_line-starts (EndsLine-behind B ends) ∙ sym starts;
+      line = ap starts_line at_tail ∙ ends_line-starts (EndsLine-after B ends) ∙ sym starts;
       column = λ one. like (sym column ∙ one);
     })
 

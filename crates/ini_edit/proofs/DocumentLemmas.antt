@@ -11,33 +11,33 @@ use Rattle.ini.specs.Documents.{Document, document_of, first_section, with_item}
 use Rattle.ini.specs.SectionItems.{pair_items}
 use Rattle.ini.specs.Edits.{edit_section}
 use Rattle.ini_edit.specs.Targets.{OpensSection}
-use Rattle.ini.proofs.PlainTextLemmas.{items-behind, pairs_make}
+use Rattle.ini.proofs.PlainTextLemmas.{items-after, pairs_make}
 
 pub pair_items-append : (ps qs : Pairs) → pair_items (ps ++ qs) ≡ pair_items ps ++ pair_items qs
 pair_items-append [] qs = refl
 pair_items-append (p ∷ ps) qs = ap (λ l. Pair p.0 p.1 ∷ l) (pair_items-append ps qs)
 
--- the sections that items make which begin with a header, behind another section
-abbrev pub sections_behind : List Given → Document
-sections_behind [] = []
-sections_behind (Header name ∷ items) = fold with_item ((Some name, []) ∷ []) items
-sections_behind (Pair key value ∷ items) = []
+-- the sections that items make which begin with a header, after another section
+abbrev pub sections_after : List Given → Document
+sections_after [] = []
+sections_after (Header name ∷ items) = fold with_item ((Some name, []) ∷ []) items
+sections_after (Pair key value ∷ items) = []
 
 pub rest_make : (name : Option Text) (ps : Pairs) (rest : List Given) → BeginsWithHeader rest
-    → fold with_item ((name, ps) ∷ []) rest ≡ (name, ps) ∷ sections_behind rest
+    → fold with_item ((name, ps) ∷ []) rest ≡ (name, ps) ∷ sections_after rest
 rest_make name ps [] h = refl
 rest_make name ps (Header other ∷ rest) h =
-    items-behind ((name, ps) ∷ []) ((Some other, []) ∷ []) rest (omega arith)
+    items-after ((name, ps) ∷ []) ((Some other, []) ∷ []) rest (omega arith)
 rest_make name ps (Pair key value ∷ rest) h = absurd h
 
 -- the document of those items, the section's pairs, and those that follow
 pub section_made : {name : Option Text} {before : List Given} {d : Document} (ps : Pairs) (rest : List Given)
     → OpensSection name before d → BeginsWithHeader rest
-    → document_of (before ++ (pair_items ps ++ rest)) ≡ d ++ (name, ps) ∷ sections_behind rest
+    → document_of (before ++ (pair_items ps ++ rest)) ≡ d ++ (name, ps) ∷ sections_after rest
 section_made {name} {before} {d} ps rest opens h =
     fold-append with_item ((None, []) ∷ []) before (pair_items ps ++ rest)
     ∙ ap (λ x. fold with_item x (pair_items ps ++ rest)) opens.opened
-    ∙ items-behind d ((name, []) ∷ []) (pair_items ps ++ rest) (omega arith)
+    ∙ items-after d ((name, []) ∷ []) (pair_items ps ++ rest) (omega arith)
     ∙ ap (λ x. d ++ x) (fold-append with_item ((name, []) ∷ []) (pair_items ps) rest
     ∙ ap (λ x. fold with_item x rest) (pairs_make name [] ps) ∙ rest_make name ps rest h)
 
@@ -66,5 +66,5 @@ pub edited_document : {name : Option Text} {before : List Given} {d : Document} 
     ≡ document_of (before ++ (pair_items (f ps) ++ rest))
 edited_document {name} {before} {d} f last ps rest same opens h =
     ap (edit_section name f last) (section_made ps rest opens h)
-    ∙ section_edited name f last d ps (sections_behind rest) same opens.first
+    ∙ section_edited name f last d ps (sections_after rest) same opens.first
     ∙ sym (section_made (f ps) rest opens h)

@@ -39,13 +39,13 @@ blanks_all (c ∷ w) t all more =
     let parts = and_parts (is_blank c) (list_all is_blank w) all in
     and_from (blank_or_end c) _ (or_left (is_blank c) (is_line_end c) parts.0) (blanks_all w t parts.1 more)
 
-all_behind : (a b : Text) → list_all blank_or_end (a ++ b) ≡ true → list_all blank_or_end b ≡ true
-all_behind [] b all = all
-all_behind (c ∷ a) b all = all_behind a b (and_parts (blank_or_end c) _ all).1
+all_after : (a b : Text) → list_all blank_or_end (a ++ b) ≡ true → list_all blank_or_end b ≡ true
+all_after [] b all = all
+all_after (c ∷ a) b all = all_after a b (and_parts (blank_or_end c) _ all).1
 
 blank_source_no_key : (s : Text) → list_all blank_or_end s ≡ true → ¬ IsIndentedKey s
 blank_source_no_key s all key =
-    blanks_no_key key.key (all_behind key.blanks key.key (ap (list_all blank_or_end) (sym key.whole) ∙ all))
+    blanks_no_key key.key (all_after key.blanks key.key (ap (list_all blank_or_end) (sym key.whole) ∙ all))
     key.begins
 
 -- one character is no indented key
@@ -77,7 +77,7 @@ nothing_no_key (Element.pair front name sep value) some none key = cc
 nothing_no_key (Element.dropped_blanks i) some none key = some refl
 nothing_no_key (Element.dropped_key i begins stops) some none key = some refl
 
--- behind an element and those that follow it an element ends
+-- after an element and those that follow it an element ends
 element_end : {o : ParseOption} {T a s r b c x : Text} {before gives more : List Given} → x ≢ [] → T ≡ c ++ x
     → Reads o T [] before a → T ≡ a ++ (s ++ r) → Element o a s r gives → b ≡ a ++ s → Reads o T b more c
     → IsElementEnd o T c (before ++ (gives ++ more))
@@ -87,24 +87,24 @@ element_end {o} {T} {a} {s} {r} {x = x} {before} {gives} some last reads whole e
     append_cancel_left (a ++ s) r x (append_assoc a s r ∙ sym whole ∙ last ∙ ap (λ z. z ++ x) at) in
     subst (λ z. IsElementEnd o T z (before ++ (gives ++ []))) (sym at)
     (subst (λ l. IsElementEnd o T (a ++ s) (before ++ l)) (sym (append-nil gives))
-    (IsElementEnd.behind reads whole e (nothing_no_key e (λ none. some (sym rest ∙ none)))))
+    (IsElementEnd.following reads whole e (nothing_no_key e (λ none. some (sym rest ∙ none)))))
 element_end {o} {T} {a} {s} {r} {c = c} {x} {before} {gives} some last reads whole e at
-    (Reads.step {b = b} {gives = next} {items} h f behind) =
+    (Reads.step {b = b} {gives = next} {items} h f following) =
     let one : Reads o T [] (before ++ gives) (a ++ s) =
     subst (λ l. Reads o T [] (before ++ l) (a ++ s)) (append-nil gives)
     (reads-append reads (Reads.step whole e (Reads.stay r (whole ∙ sym (append_assoc a s r))))) in
     subst (IsElementEnd o T c) (append_assoc before gives (next ++ items))
-    (element_end some last (subst (Reads o T [] (before ++ gives)) (sym at) one) h f refl behind)
+    (element_end some last (subst (Reads o T [] (before ++ gives)) (sym at) one) h f refl following)
 
--- so it does behind any row of elements but none
+-- so it does after any row of elements but none
 some_element_end : {o : ParseOption} {T b c x : Text} {items : List Given} → x ≢ [] → T ≡ c ++ x → b ≡ []
     → c ≢ []
     → Reads o T b items c → IsElementEnd o T c items
 some_element_end some last first apart (Reads.stay z h) = absurd (apart first)
-some_element_end {o} {T} some last first apart (Reads.step {b = b} {s} {r} {c} {gives} {items} h e behind) =
-    element_end some last (subst (λ z. Reads o T [] [] z) (sym first) (Reads.stay T refl)) h e refl behind
+some_element_end {o} {T} some last first apart (Reads.step {b = b} {s} {r} {c} {gives} {items} h e following) =
+    element_end some last (subst (λ z. Reads o T [] [] z) (sym first) (Reads.stay T refl)) h e refl following
 
--- behind an LF no backslash is alone
+-- after an LF no backslash is alone
 no_lone : (e : Ending) (c : ℕ) (V : Text) → is_line_feed (last_or c V) ≡ true
     → ending_from e (c ∷ V) ≢ Ending.escape
 no_lone e c [] feed = no_escape e [] c (no_backslash is_line_feed c refl feed)
@@ -113,22 +113,22 @@ no_lone e c (d ∷ V) feed = no_lone (next_ending e c) d V feed
 closing_nothing : {o : ParseOption} (e : Ending) → e ≢ Ending.escape → Closing o e []
 closing_nothing Ending.inside apart = Closing.within
 closing_nothing Ending.escape apart = absurd (apart refl)
-closing_nothing Ending.line apart = Closing.behind_line
+closing_nothing Ending.line apart = Closing.after_line
 
 closing_column : {o : ParseOption} (V : Text) → is_column_one V ≡ true → Closing o (ending V) []
-closing_column [] one = Closing.behind_line
+closing_column [] one = Closing.after_line
 closing_column (c ∷ V) one = closing_nothing (ending (c ∷ V)) (no_lone Ending.line c V one)
 
--- elements reach what stands behind an empty line that is put in behind the glue
-pub behind_empty_line : {o : ParseOption} {end : LineSeparator} {W r glue : Text} {items : List Given}
+-- elements reach what stands after an empty line that is put in after the glue
+pub after_empty_line : {o : ParseOption} {end : LineSeparator} {W r glue : Text} {items : List Given}
     → IsPlace o end W r glue items → (W ++ glue) ≢ [] → (x : Text) → x ≢ [] → Follows o x
     → Reads o ((W ++ glue) ++ (line_end end ++ x)) [] items ((W ++ glue) ++ line_end end)
-behind_empty_line {o} {end} {W} {glue = glue} {items} place apart x some follows =
+after_empty_line {o} {end} {W} {glue = glue} {items} place apart x some follows =
     let V = W ++ glue in
     let one : is_column_one V ≡ true = place_column place in
     let first : Reads o (V ++ x) [] items V =
     subst (λ z. Reads o z [] items V) (sym (append_assoc W glue x)) (place_reached place x follows) in
     let second : IsPlace o end V x (line_end end) items =
-    IsPlace.behind_element (some_element_end some refl refl apart first) (closing_column V one)
+    IsPlace.after_element (some_element_end some refl refl apart first) (closing_column V one)
     (λ within. absurd (both_ways (starts_line V) within (line_starts V one))) in
     place_reached second x follows

@@ -1,4 +1,4 @@
--- Elements behind which a line may stand as it is: those that end with an LF that no backslash takes.
+-- Elements after which a line may stand as it is: those that end with an LF that no backslash takes.
 use Rattle.std.proofs.Common.{◌≡◌, ◌≢◌, ℕ, Bool, true, false, not, List, [], ◌∷◌, ◌++◌, refl, sym, ap, ◌∙◌}
 use Rattle.std.proofs.Common.{append_assoc, append-nil}
 use Rattle.std.proofs.lemmas.Bool.{false≢true, both_ways, and_parts, not-true}
@@ -10,12 +10,12 @@ use Rattle.ini_text.specs.Grammar.Positions.{last_or, is_column_one}
 use Rattle.ini_text.specs.Grammar.Strings.{Str, bracketed_name_ends}
 use Rattle.ini_text.specs.Grammar.Values.{LineEnd, MoreLines, Value}
 use Rattle.ini_text.specs.Grammar.Elements.{Given, Gap, Element}
-use Rattle.ini_text.proofs.LawLemmas.MovedLemmas.{last_or-behind}
+use Rattle.ini_text.proofs.LawLemmas.MovedLemmas.{last_or-after}
 use Rattle.ini_text.proofs.LawLemmas.OneAheadLemmas.{Alike, EndedLine-before, KeyFront-alike, Str-alike}
 use Rattle.ini_text.proofs.PlainLemmas.PlainPairLemmas.{inline_blanks}
 use Rattle.ini_edit.specs.Endings.{Ending, IsIndentedKey, ending, ending_from}
 use Rattle.ini_edit.specs.Places.{Follows}
-use Rattle.ini_edit.proofs.EndingLemmas.{IsInner, column_ending, ending-behind, ending-lead, ending-line}
+use Rattle.ini_edit.proofs.EndingLemmas.{IsInner, column_ending, ending-after, ending-lead, ending-line}
 use Rattle.ini_edit.proofs.EndingLemmas.{ending-row, ending-white, inner_by, line_no_line}
 
 -- no text of blanks ends so, and no comment without LF
@@ -24,7 +24,7 @@ pub ending-blanks : (b w : List ℕ) → BeginsWith is_blank w → list_all is_b
 ending-blanks b [] some all = absurd (false≢true (sym some))
 ending-blanks b (c ∷ w) some all =
     let parts = and_parts (is_blank c) (list_all is_blank w) all in
-    ending-behind Ending.line b c w (inner_by is_blank c refl refl some)
+    ending-after Ending.line b c w (inner_by is_blank c refl refl some)
     ∙ ap (ending_from Ending.inside) (sym (append-nil w)) ∙ ending-white w [] (inline_blanks w parts.1)
 
 last_no_feed : (c : ℕ) (s : List ℕ) → is_line_feed c ≡ false → list_all (λ c. not (is_line_feed c)) s ≡ true
@@ -39,7 +39,7 @@ pub comment_no_column : (b : List ℕ) (m : ℕ) (s : List ℕ) → is_comment_m
     → list_all (λ c. not (is_line_feed c)) s ≡ true → is_column_one (b ++ m ∷ s) ≡ false
 comment_no_column b m s mark all =
     let inner : IsInner m = inner_by is_comment_mark m refl refl mark in
-    ap is_line_feed (last_or-behind line_feed m b s) ∙ last_no_feed m s inner.no_line_feed all
+    ap is_line_feed (last_or-after line_feed m b s) ∙ last_no_feed m s inner.no_line_feed all
 
 comment_no_line : (b : List ℕ) (m : ℕ) (s : List ℕ) → is_comment_mark m ≡ true
     → list_all (λ c. not (is_line_feed c)) s ≡ true → ending (b ++ m ∷ s) ≢ Ending.line
@@ -51,25 +51,25 @@ pub ending-separator : (b k : List ℕ) (m : ℕ) (z : List ℕ) → is_separato
     → ending (b ++ (k ++ m ∷ z)) ≡ ending_from Ending.inside z
 ending-separator b k m z h =
     ap ending (sym (append_assoc b k (m ∷ z)))
-    ∙ ending-behind Ending.line (b ++ k) m z (inner_by is_separator m refl refl h)
+    ∙ ending-after Ending.line (b ++ k) m z (inner_by is_separator m refl refl h)
 
 pub row_no_line : (b : List ℕ) {e : Bool} {s r v : List ℕ} → Str e bracketed_name_ends s r v
     → ending (b ++ open_bracket ∷ s) ≡ Ending.inside
 row_no_line b {s = s} (Str.closed row h) =
-    ending-behind Ending.line b open_bracket s (record { no_backslash = refl; no_line_feed = refl })
+    ending-after Ending.line b open_bracket s (record { no_backslash = refl; no_line_feed = refl })
     ∙ ap (ending_from Ending.inside) (sym (append-nil s)) ∙ ending-row [] refl row
 row_no_line b (Str.lone row h) = absurd (false≢true h)
 
--- behind a character the text ends so, whether a line starts before it or not
+-- after a character the text ends so, whether a line starts before it or not
 pub from_line : (t : List ℕ) → ending_from Ending.inside t ≡ Ending.line
     → ending_from Ending.line t ≡ Ending.line
 from_line [] h = cc
 from_line (c ∷ t) h = h
 
-pub line_end-some-behind : {e : List ℕ} (z y : List ℕ) → LineEnd e y → (e ++ z) ≢ []
-line_end-some-behind z y LineEnd.lf h = cc
-line_end-some-behind z y LineEnd.cr_lf h = cc
-line_end-some-behind z y (LineEnd.cr n) h = cc
+pub line_end-some-after : {e : List ℕ} (z y : List ℕ) → LineEnd e y → (e ++ z) ≢ []
+line_end-some-after z y LineEnd.lf h = cc
+line_end-some-after z y LineEnd.cr_lf h = cc
+line_end-some-after z y (LineEnd.cr n) h = cc
 
 module _ {o : ParseOption} {x : List ℕ} (follows : Follows o x) where
   -- a line end, and how what follows it ends
@@ -88,7 +88,7 @@ module _ {o : ParseOption} {x : List ℕ} (follows : Follows o x) where
   MoreLines-ended on (MoreLines.empty_cr_lf m) h = MoreLines.empty_cr_lf (MoreLines-ended on m h)
   MoreLines-ended on (MoreLines.continued {w} {l} {e} {t} {r} b lead ln le m) h =
       let is : ending_from Ending.inside (e ++ t) ≡ Ending.line =
-      sym (ending-line (e ++ t) (line_end-some-behind (t ++ r) (t ++ r) le) ln)
+      sym (ending-line (e ++ t) (line_end-some-after (t ++ r) (t ++ r) le) ln)
       ∙ sym (ending-lead Ending.line w (l ++ (e ++ t)) b lead.white) ∙ h in
       let end = LineEnd-ended t r le is in
       let n = EndedLine-before end.0 (record { lead = lead; line = ln; end = le }) in
@@ -103,7 +103,7 @@ module _ {o : ParseOption} {x : List ℕ} (follows : Follows o x) where
       absurd (line_no_line ln (sym (ending-white w l lead.white) ∙ h))
   Value-ended (Value.lines {w} {l} {e} {t} {r} on lead ln le m) h =
       let is : ending_from Ending.inside (e ++ t) ≡ Ending.line =
-      sym (ending-line (e ++ t) (line_end-some-behind (t ++ r) (t ++ r) le) ln)
+      sym (ending-line (e ++ t) (line_end-some-after (t ++ r) (t ++ r) le) ln)
       ∙ sym (ending-white w (l ++ (e ++ t)) lead.white) ∙ h in
       let end = LineEnd-ended t r le is in
       let n = EndedLine-before end.0 (record { lead = lead; line = ln; end = le }) in

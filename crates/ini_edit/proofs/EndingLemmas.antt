@@ -1,4 +1,4 @@
--- How texts end: behind a row of pieces, a line of a value, and a line end.
+-- How texts end: after a row of pieces, a line of a value, and a line end.
 use Rattle.std.proofs.Common.{◌≡◌, ◌≢◌, ℕ, Bool, true, false, ◌||◌, eqb, List, [], ◌∷◌, ◌++◌, refl, sym, ap}
 use Rattle.std.proofs.Common.{◌∙◌, subst, append_assoc, append-nil, Some, eqb-true, ne_eqb, if◌then◌else◌}
 use Rattle.std.proofs.lemmas.Option.{cond_some}
@@ -24,11 +24,11 @@ next_inner Ending.escape c h = refl
 next_inner Ending.inside c h = rw (h.no_backslash, h.no_line_feed) refl
 next_inner Ending.line c h = rw (h.no_backslash, h.no_line_feed) refl
 
--- behind such a character the text ends as what follows it does
-pub ending-behind : (e : Ending) (X : List ℕ) (c : ℕ) (z : List ℕ) → IsInner c
+-- after such a character the text ends as what follows it does
+pub ending-after : (e : Ending) (X : List ℕ) (c : ℕ) (z : List ℕ) → IsInner c
     → ending_from e (X ++ c ∷ z) ≡ ending_from Ending.inside z
-ending-behind e [] c z h = ap (λ x. ending_from x z) (next_inner e c h)
-ending-behind e (x ∷ X) c z h = ending-behind (next_ending e x) X c z h
+ending-after e [] c z h = ap (λ x. ending_from x z) (next_inner e c h)
+ending-after e (x ∷ X) c z h = ending-after (next_ending e x) X c z h
 
 pub inner_by : (test : ℕ → Bool) (c : ℕ) → test backslash ≡ false → test line_feed ≡ false → test c ≡ true
     → IsInner c
@@ -64,9 +64,9 @@ spelled_inner a b c d v h =
 
 ending-inner : (c : ℕ) (z : List ℕ) → IsInner c
     → ending_from Ending.inside (c ∷ z) ≡ ending_from Ending.inside z
-ending-inner c z h = ending-behind Ending.inside [] c z h
+ending-inner c z h = ending-after Ending.inside [] c z h
 
--- behind a piece
+-- after a piece
 ending-escape : {escapes : Bool} {p w : List ℕ} (z : List ℕ) → EscapeSequence escapes p w
     → ending_from Ending.inside (p ++ z) ≡ ending_from Ending.inside z
 ending-escape z EscapeSequence.folded = refl
@@ -78,7 +78,7 @@ ending-escape z (EscapeSequence.coded {a} {b} {c} {d} {v} on is) =
 ending-escape z (EscapeSequence.itself on n m k) = refl
 ending-escape z (EscapeSequence.kept off n) = refl
 
--- behind a row that LF ends
+-- after a row that LF ends
 pub ending-row : {escapes : Bool} {ends : Ends} {s v : List ℕ} (z : List ℕ)
     → is_endpoint ends line_feed ≡ true
     → Row escapes ends s v → ending_from Ending.inside (s ++ z) ≡ ending_from Ending.inside z
@@ -105,9 +105,9 @@ pub ending-quoted : {o : ParseOption} {q w : List ℕ} {some : Bool} (z : List �
 ending-quoted z Quoted.none = refl
 ending-quoted z (Quoted.part {m = m} {s = s} {q = q} on mark str rest) =
     ap (λ x. ending_from Ending.inside (m ∷ x)) (append_assoc s (m ∷ q) z)
-    ∙ ending-behind Ending.inside (m ∷ s) m (q ++ z) (mark_inner m mark) ∙ ending-quoted z rest
+    ∙ ending-after Ending.inside (m ∷ s) m (q ++ z) (mark_inner m mark) ∙ ending-quoted z rest
 
--- behind a line that something follows
+-- after a line that something follows
 pub ending-line : {o : ParseOption} {first : Bool} {l r v : List ℕ} (z : List ℕ) → r ≢ []
     → Line o first l r v
     → ending_from Ending.inside (l ++ z) ≡ ending_from Ending.inside z
@@ -116,7 +116,7 @@ ending-line z some (Line.line {q = q} {p = p} quoted plain (Str.closed row h)) =
     ∙ ending-row z refl row
 ending-line z some (Line.line quoted plain (Str.lone row h)) = absurd (some refl)
 
--- behind the lead of a line that goes on with a value
+-- after the lead of a line that goes on with a value
 pub ending-lead : (e : Ending) (w z : List ℕ) → BeginsWith is_blank w → list_all is_inline_white w ≡ true
     → ending_from e (w ++ z) ≡ ending_from Ending.inside z
 ending-lead e [] z some h = absurd (false≢true (sym some))
@@ -135,7 +135,7 @@ line_no_line (Line.line quoted plain (Str.lone {s = s} row h)) e =
     let no : Ending.escape ≡ Ending.line =
     sym (ending-row (backslash ∷ []) refl row) ∙ sym (ending-quoted (s ++ backslash ∷ []) quoted) ∙ e in cc
 
--- column one is behind an LF
+-- column one is after an LF
 pub column_ending : (W : List ℕ) → ending W ≡ Ending.line → is_column_one W ≡ true
 column_ending W h = at Ending.line line_feed W (λ _. refl) h
   where

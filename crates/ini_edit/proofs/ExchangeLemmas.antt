@@ -16,8 +16,8 @@ use Rattle.ini_edit.specs.Exchanges.{AreApart, EditsChangePlaces, IsPairEdited}
 use Rattle.ini_edit.specs.FirstPairs.{IsFirstPair}
 use Rattle.ini_edit.specs.Places.{Stretches}
 use Rattle.ini_edit.specs.Targets.{IsTarget}
-use Rattle.ini_edit.proofs.DocumentLemmas.{pair_items-append, section_made, sections_behind}
-use Rattle.ini_edit.proofs.FindLemmas.{first_section-behind}
+use Rattle.ini_edit.proofs.DocumentLemmas.{pair_items-append, section_made, sections_after}
+use Rattle.ini_edit.proofs.FindLemmas.{first_section-after}
 use Rattle.ini_edit.proofs.StandsLemmas.{derives_one, stands_derives}
 
 -- keys that are different ones in either order
@@ -185,10 +185,10 @@ module _ (name other : Option Text) (key other_key : Text) (value other_value : 
       at_other = section_there other other_key d also
 
 -- the first pair of a key in the first section of a name is one of the document
-first_behind : (key value : Text) (earlier later : Pairs) → first_value key earlier ≡ None
+first_after : (key value : Text) (earlier later : Pairs) → first_value key earlier ≡ None
     → first_value key (earlier ++ (key, value) ∷ later) ≡ Some value
-first_behind key value [] later lacks = grind (arith, text_refl key)
-first_behind key value (p ∷ earlier) later lacks = grind (arith, first_behind key value earlier later)
+first_after key value [] later lacks = grind (arith, text_refl key)
+first_after key value (p ∷ earlier) later lacks = grind (arith, first_after key value earlier later)
 
 module _ {o : ParseOption} {T : Text} {name : Option Text} {key : Text} {p : Stretches} {value : Text}
     (first : IsFirstPair o T name key p value) where
@@ -208,15 +208,15 @@ module _ {o : ParseOption} {T : Text} {name : Option Text} {key : Text} {p : Str
   value_there : (d : Document) → IsDocumentOf o T d → value_in name key d ≡ Some value
   value_there d is =
       let pairs = target.earlier ++ (key, value) ∷ target.later in
-      let made : d ≡ target.sections ++ (name, pairs) ∷ sections_behind target.rest =
+      let made : d ≡ target.sections ++ (name, pairs) ∷ sections_after target.rest =
       is.document ∙ ap document_of (derives_one is.derives (stands_derives first.stands) ∙ items_are)
       ∙ section_made pairs target.rest target.opens target.header in
       ap (value_in name key) made
       ∙ ap (option_and_then (first_value key))
-      (first_section-behind name target.sections
-      ((name, pairs) ∷ sections_behind target.rest) target.opens.first
+      (first_section-after name target.sections
+      ((name, pairs) ∷ sections_after target.rest) target.opens.first
       ∙ cond-true (is_name name name) (Some pairs) _ (name_refl name))
-      ∙ first_behind key value target.earlier target.later target.lacks
+      ∙ first_after key value target.earlier target.later target.lacks
 
 -- a text has one document
 one_document : {o : ParseOption} {T : Text} {d e : Document} → IsDocumentOf o T d → IsDocumentOf o T e

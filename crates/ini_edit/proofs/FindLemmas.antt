@@ -34,15 +34,15 @@ use Rattle.ini_edit.specs.Inside.Walks.{Boundary, EndsSection, IsPastLast, IsRea
 use Rattle.ini_edit.specs.Inside.Walks.{PassesPairs, ReachesEnd, ReachesPair}
 use Rattle.ini_edit.specs.Inside.Walks.{ReadsOn, StandsWithin, Steps}
 use Rattle.ini_edit.specs.declared.find.FoundPair.{FoundPair}
-use Rattle.ini_edit.proofs.DocumentLemmas.{pair_items-append, section_made, sections_behind}
+use Rattle.ini_edit.proofs.DocumentLemmas.{pair_items-append, section_made, sections_after}
 use Rattle.ini_edit.proofs.WalkLemmas.{Walked, item_boundary, stands_within, step_reads, stays, told}
 use Rattle.ini_edit.proofs.WalkLemmas.{walked_start, walked_step, walked_within}
 
 -- sections without one of the name, and another that has another name
-pub first_section-behind : (name : Option Text) (d e : Document) → first_section name d ≡ None
+pub first_section-after : (name : Option Text) (d e : Document) → first_section name d ≡ None
     → first_section name (d ++ e) ≡ first_section name e
-first_section-behind name [] e none = refl
-first_section-behind name (s ∷ d) e none = at (is_name name s.0) refl none (first_section-behind name d e)
+first_section-after name [] e none = refl
+first_section-after name (s ∷ d) e none = at (is_name name s.0) refl none (first_section-after name d e)
   where
     at : (b : Bool) → is_name name s.0 ≡ b → cond b (Some s.1) (first_section name d) ≡ None
         → (first_section name d ≡ None → first_section name (d ++ e) ≡ first_section name e)
@@ -89,7 +89,7 @@ opens_none {name} items (OpensNone.pair {key} {value}) none =
     ∙ first_section-pair name key value (document_of items) none
 opens_none {name} items (OpensNone.other {t} apart) none =
     ap (first_section name) (document_of-append items (Header t ∷ []))
-    ∙ first_section-behind name (document_of items) ((Some t, []) ∷ []) none
+    ∙ first_section-after name (document_of items) ((Some t, []) ∷ []) none
     ∙ cond-false (is_name name (Some t)) _ _ apart
 
 module _ {o : ParseOption} {T : Text} {p : Place} where
@@ -242,7 +242,7 @@ module _ {o : ParseOption} {T b : Text} {p : Place} {key : Text} (s : Searches o
       subst (HasPlaces o p.front (chars e.source.now) stands.rest) is stands.places in
       let source : chars e.source.now ≡ pair_of (stretches_of found) = has.0
       ∙ ap (λ x. pair_source (parsing.stretches_of x)) (sym places) in
-      let behind : stands.rest ≡ chars found.rest.now =
+      let following : stands.rest ≡ chars found.rest.now =
       append_cancel_left q.front stands.rest (chars found.rest.now)
       (ap (λ x. x ++ stands.rest) stands.reaches ∙ append_assoc p.front (chars e.source.now) stands.rest
       ∙ sym stands.whole ∙ sym t.is_reading.text ∙ sym rest) in
@@ -251,13 +251,13 @@ module _ {o : ParseOption} {T b : Text} {p : Place} {key : Text} (s : Searches o
         passes = subst (λ c. PassesPairs o T b c key) (sym front) s.passes;
         whole = stands.whole ∙ ap (λ x. x ++ (chars e.source.now ++ stands.rest)) (sym front)
             ∙ ap (λ x. chars found.front.now ++ (x ++ stands.rest)) source
-            ∙ ap (λ x. chars found.front.now ++ (pair_of (stretches_of found) ++ x)) behind;
+            ∙ ap (λ x. chars found.front.now ++ (pair_of (stretches_of found) ++ x)) following;
         front = stands.reaches ∙ ap (λ x. x ++ chars e.source.now) (sym front)
             ∙ ap (λ x. chars found.front.now ++ x) source;
-        placed = rw (front, sym behind, places, value, sym same) has.1;
+        placed = rw (front, sym following, places, value, sym same) has.1;
       }
 
--- the items behind a pair: pairs of its section, and then a header first
+-- the items after a pair: pairs of its section, and then a header first
 pub items_split : (items : List Given)
     → (later : Pairs) × ((rest : List Given) × ((items ≡ pair_items later ++ rest) × BeginsWithHeader rest))
 items_split [] = ([], ([], (refl, tt)))
@@ -277,7 +277,7 @@ end_reads (EndsSection.header t reads) = (Header t ∷ [], reads)
 
 module _ {o : ParseOption} {T : Text} {p : Place} {name : Option Text} (key : Text)
     (opens : OpensFirst o T p name) where
-  -- the pair that was found, where the later pairs of its section stand behind it, and then a header first
+  -- the pair that was found, where the later pairs of its section stand after it, and then a header first
   unfoldable pub found_before : {q : Place} {found : FoundPair} {after : List Given} (later : Pairs)
       (rest : List Given)
       → ReachesPair o T p.front q key found → after ≡ pair_items later ++ rest → BeginsWithHeader rest
@@ -335,7 +335,7 @@ module _ {o : ParseOption} {T : Text} {p : Place} {name : Option Text} (key : Te
         none =
             ap (value_in name key) made
             ∙ ap (option_and_then (first_value key))
-            (first_section-behind name d ((name, passes.pairs) ∷ sections_behind rest) opens.opens.first
+            (first_section-after name d ((name, passes.pairs) ∷ sections_after rest) opens.opens.first
             ∙ cond-true (is_name name name) (Some passes.pairs) _ (name_refl name))
             ∙ passes.lacks;
       }

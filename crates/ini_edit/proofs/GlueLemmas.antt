@@ -1,4 +1,4 @@
--- A line end, with what goes before it, put in behind an element: the element gives what it gave.
+-- A line end, with what goes before it, put in after an element: the element gives what it gave.
 use Rattle.std.proofs.Common.{◌≡◌, ◌≢◌, ℕ, Bool, true, false, not, eqb, List, [], ◌∷◌, ◌++◌, refl, sym, ap}
 use Rattle.std.proofs.Common.{◌∙◌, subst, append_assoc, append-nil, inl, inr, eqb-true, if◌then◌else◌}
 use Rattle.std.proofs.lemmas.Bool.{both_ways, cases_Bool, false≢true, false_from_ne_true, and_parts, and_from}
@@ -49,7 +49,7 @@ no_backslash test c apart h =
 
 pub closing_none : {o : ParseOption} {e : Ending} {c : List ℕ} → e ≢ Ending.escape → Closing o e c → c ≡ []
 closing_none h Closing.within = refl
-closing_none h Closing.behind_line = refl
+closing_none h Closing.after_line = refl
 closing_none h (Closing.by_backslash on) = absurd (h refl)
 closing_none h (Closing.by_space off) = absurd (h refl)
 
@@ -60,15 +60,15 @@ no_feed c = not (is_line_feed c)
 glue_feed : {o : ParseOption} {e : Ending} {c : List ℕ} (sep : LineSeparator) → Closing o e c
     → (p : List ℕ) × (c ++ line_end sep ≡ p ++ line_feed ∷ []) × (list_all no_feed p ≡ true)
 glue_feed SystemDefault Closing.within = ([], refl, refl)
-glue_feed SystemDefault Closing.behind_line = ([], refl, refl)
+glue_feed SystemDefault Closing.after_line = ([], refl, refl)
 glue_feed SystemDefault (Closing.by_backslash on) = (0x5C ∷ [], refl, refl)
 glue_feed SystemDefault (Closing.by_space off) = (0x20 ∷ [], refl, refl)
 glue_feed CR Closing.within = ([], refl, refl)
-glue_feed CR Closing.behind_line = ([], refl, refl)
+glue_feed CR Closing.after_line = ([], refl, refl)
 glue_feed CR (Closing.by_backslash on) = (0x5C ∷ [], refl, refl)
 glue_feed CR (Closing.by_space off) = (0x20 ∷ [], refl, refl)
 glue_feed CRLF Closing.within = (0x0D ∷ [], refl, refl)
-glue_feed CRLF Closing.behind_line = (0x0D ∷ [], refl, refl)
+glue_feed CRLF Closing.after_line = (0x0D ∷ [], refl, refl)
 glue_feed CRLF (Closing.by_backslash on) = (0x5C ∷ (0x0D ∷ []), refl, refl)
 glue_feed CRLF (Closing.by_space off) = (0x20 ∷ (0x0D ∷ []), refl, refl)
 
@@ -85,7 +85,7 @@ name_closes CR x = refl
 name_closes CRLF x = refl
 
 module _ {o : ParseOption} (sep : LineSeparator) {x : List ℕ} (follows : Follows o x) (b : List ℕ) where
-  -- behind the front b stands s, then the glue, then x
+  -- after the front b stands s, then the glue, then x
   abbrev pub ReadsGlued : List ℕ → List ℕ → List Given → Type 0
   ReadsGlued s g gives = Reads o (b ++ (s ++ (g ++ x))) b gives (b ++ (s ++ g))
 
@@ -125,10 +125,10 @@ module _ {o : ParseOption} (sep : LineSeparator) {x : List ℕ} (follows : Follo
           by_parts w (carriage_return ∷ []) (line_feed ∷ []) refl
           (Element.gap (Gap.blank_line carriage_return i refl))
 
-  -- nothing goes before the line end behind such a character
-  none_behind : {c : List ℕ} (s X : List ℕ) (d : ℕ) → eqb d backslash ≡ false → b ++ s ≡ X ++ d ∷ []
+  -- nothing goes before the line end after such a character
+  none_after : {c : List ℕ} (s X : List ℕ) (d : ℕ) → eqb d backslash ≡ false → b ++ s ≡ X ++ d ∷ []
       → Closing o (ending (b ++ s)) c → c ≡ []
-  none_behind s X d h is k =
+  none_after s X d h is k =
       closing_none (λ q. no_escape Ending.line X d h (ap ending (sym is) ∙ q)) k
 
   -- a comment that has no LF goes on through that of the line end
@@ -149,7 +149,7 @@ module _ {o : ParseOption} (sep : LineSeparator) {x : List ℕ} (follows : Follo
   comment_glued (IsComment.last {m = m} {s = s} one mark all) =
       last_comment_glued m s one mark all Closing.within
 
-  -- behind its LF nothing goes
+  -- after its LF nothing goes
   pub comment_ended : {s r : List ℕ} {given : List Given} → IsComment b s r given
       → is_column_one (b ++ s) ≡ true
       → ReadsGlued s [] given
@@ -164,21 +164,21 @@ module _ {o : ParseOption} (sep : LineSeparator) {x : List ℕ} (follows : Follo
       → (given ≡ [] → ¬ IsIndentedKey s)
       → Closing o (ending (b ++ s)) c → ReadsGlued s (c ++ line_end sep) given
   element_glued (Element.gap (Gap.blank_line {w = w} d i h)) whole k =
-      by_gaps (none_behind (w ++ d ∷ []) (b ++ w) d (no_backslash is_line_end d refl h)
+      by_gaps (none_after (w ++ d ∷ []) (b ++ w) d (no_backslash is_line_end d refl h)
       (sym (append_assoc b w (d ∷ []))) k)
       (Element.gap (Gap.blank_line d i h))
   element_glued (Element.gap (Gap.before_header i)) whole k = blanks_glued i k
   element_glued (Element.gap (Gap.white {c = d} h n)) whole k =
-      by_gaps (none_behind (d ∷ []) b d (no_backslash is_whitespace d refl h) refl k)
+      by_gaps (none_after (d ∷ []) b d (no_backslash is_whitespace d refl h) refl k)
       (Element.gap (Gap.white h n))
   element_glued (Element.comment {m = m} s one mark all) whole k =
-      by_gaps (none_behind (m ∷ (s ++ line_feed ∷ [])) (b ++ m ∷ s) line_feed refl
+      by_gaps (none_after (m ∷ (s ++ line_feed ∷ [])) (b ++ m ∷ s) line_feed refl
       (sym (append_assoc b (m ∷ s) (line_feed ∷ []))) k)
       (Element.comment s one mark all)
   element_glued (Element.last_comment {m = m} {s = s} one mark all) whole k =
       last_comment_glued m s one mark all k
   element_glued (Element.header {s = s} off str) whole k =
-      by_gaps (none_behind (open_bracket ∷ (s ++ close_bracket ∷ []))
+      by_gaps (none_after (open_bracket ∷ (s ++ close_bracket ∷ []))
       (b ++ open_bracket ∷ s) close_bracket refl
       (sym (append_assoc b (open_bracket ∷ s) (close_bracket ∷ []))) k)
       (Element.header off (Str-alike Alike.same str))
@@ -193,7 +193,7 @@ module _ {o : ParseOption} (sep : LineSeparator) {x : List ℕ} (follows : Follo
   element_glued {c = c} (Element.pair {k = key} {s = s} {key = name} {v = value}
       {m = m} front some separates given) whole k =
       let g = c ++ line_end sep in
-      let behind : Closing o (ending_from Ending.inside s) c =
+      let following : Closing o (ending_from Ending.inside s) c =
       subst (λ z. Closing o z c) (ending-separator b key m s separates) k in
       let seam : (z : List ℕ) → key ++ m ∷ (s ++ z) ≡ (key ++ m ∷ s) ++ z =
       λ z. sym (append_assoc key (m ∷ s) z) in
@@ -203,12 +203,12 @@ module _ {o : ParseOption} (sep : LineSeparator) {x : List ℕ} (follows : Follo
             (by_parts (key ++ m ∷ s) g [] refl
             (subst (λ z. Element o b z x (Pair name value ∷ [])) (seam g)
             (Element.pair (KeyFront-alike Alike.same front) some separates
-            (lines_glued sep follows on c given behind))))
+            (lines_glued sep follows on c given following))))
         | inr off ↦
             by_parts (key ++ m ∷ s) c (line_end sep) (line_end-all sep)
             (subst (λ z. Element o b z (line_end sep ++ x) (Pair name value ∷ [])) (seam c)
             (Element.pair (KeyFront-alike Alike.same front) some separates
-            (line_value_glued (line_end sep ++ x) (line_end-closes sep x) off given behind)))
+            (line_value_glued (line_end sep ++ x) (line_end-closes sep x) off given following)))
       ]
   element_glued (Element.dropped_blanks i) whole k = blanks_glued i k
   element_glued (Element.dropped_key {w = w} {s = s} i begins stops) whole k =

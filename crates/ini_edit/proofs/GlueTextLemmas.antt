@@ -34,7 +34,7 @@ pub chars-space : chars (32 ∷ []) ≡ space ∷ []
 unfolding chars
 chars-space = refl
 
--- behind an LF nothing goes, and within a line a line end
+-- after an LF nothing goes, and within a line a line end
 glue_of_line : {o : ParseOption} {end : LineSeparator} {e : Ending} {glue : Text} → e ≡ Ending.line
     → Glue o end e glue
     → glue ≡ []
@@ -51,12 +51,12 @@ glue_of_inside {o} {end} at (Glue.line {c = c} not closing) =
 abbrev comment_ending : Bool → Ending
 comment_ending one = if one then Ending.line else Ending.inside
 
--- a place behind an element, or behind a comment
+-- a place after an element, or after a comment
 element_place : {o : ParseOption} {end : LineSeparator} {W r glue : Text} {items : List Given}
     → IsElementEnd o (W ++ r) W items → IsFree o W r → Glue o end (ending W) glue
     → IsPlace o end W r glue items
-element_place ends free (Glue.none line) = IsPlace.line_start (IsLineStart.behind_line line ends)
-element_place ends free (Glue.line not closing) = IsPlace.behind_element ends closing free.unblank
+element_place ends free (Glue.none line) = IsPlace.line_start (IsLineStart.after_line line ends)
+element_place ends free (Glue.line not closing) = IsPlace.after_element ends closing free.unblank
 
 comment_place : {o : ParseOption} {end : LineSeparator} {W r glue : Text} {items : List Given}
     → IsCommentEnd o (W ++ r) W items → IsFree o W r → Glue o end (front_ending true W) glue
@@ -65,13 +65,13 @@ comment_place {o} {end} {W} {r} {glue} {items} ends free g =
     elim (cases_Bool (is_column_one W)) [
       | inl one ↦
           subst (λ x. IsPlace o end W r x items) (sym (glue_of_line (ap comment_ending one) g))
-          (IsPlace.behind_comment_line ends one)
+          (IsPlace.after_comment_line ends one)
       | inr within ↦
           subst (λ x. IsPlace o end W r x items) (sym (glue_of_inside (ap comment_ending within) g))
-          (IsPlace.behind_comment ends free.unblank)
+          (IsPlace.after_comment ends free.unblank)
     ]
 
--- at a boundary that is free a line may be put in behind the glue
+-- at a boundary that is free a line may be put in after the glue
 pub boundary_place : {o : ParseOption} {end : LineSeparator} {T W r glue : Text} {items : List Given}
     {comment : Bool}
     → Boundary o T [] comment W items → T ≡ W ++ r → IsFree o W r → Glue o end (front_ending comment W) glue
@@ -79,17 +79,17 @@ pub boundary_place : {o : ParseOption} {end : LineSeparator} {T W r glue : Text}
 boundary_place Boundary.start whole free (Glue.none is) = IsPlace.line_start IsLineStart.at_front
 boundary_place Boundary.start whole free (Glue.line not closing) = absurd (not refl)
 boundary_place {o} {end} {T} {r = r} {glue}
-    (Boundary.behind {a} {s} {items = items} {gives = gives} reads is element key) whole free g =
+    (Boundary.following {a} {s} {items = items} {gives = gives} reads is element key) whole free g =
     elim (cases_Bool (begins is_comment_mark s)) [
       | inl mark ↦
           comment_place
           (subst (λ x. IsCommentEnd o x (a ++ s) (items ++ gives)) whole
-          (IsCommentEnd.behind reads is element (begins_with is_comment_mark s mark))) free
+          (IsCommentEnd.following reads is element (begins_with is_comment_mark s mark))) free
           (subst (λ x. Glue o end (front_ending x (a ++ s)) glue) mark g)
       | inr other ↦
           element_place
           (subst (λ x. IsElementEnd o x (a ++ s) (items ++ gives)) whole
-          (IsElementEnd.behind reads is element key)) free
+          (IsElementEnd.following reads is element key)) free
           (subst (λ x. Glue o end (front_ending x (a ++ s)) glue) other g)
     ]
 
@@ -98,7 +98,7 @@ not_line ends.Inside apart is = absurd (let no : Ending.inside ≡ Ending.line =
 not_line ends.Escape apart is = absurd (let no : Ending.escape ≡ Ending.line = is in cc)
 not_line ends.Line apart is = apart refl
 
--- nothing was put behind a text; or a line end, with what goes before it
+-- nothing was put after a text; or a line end, with what goes before it
 pub glue_none : {o : ParseOption} (end : LineSeparator) {f : Ending} (old : Text) (e : TextEnd)
     → ending_of e ≡ f
     → e ≡ ends.Line → PushesGlue o end f old old

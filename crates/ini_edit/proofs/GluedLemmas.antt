@@ -1,4 +1,4 @@
--- Values with a line end put in behind them: the text's end, or what followed them, is a line further down.
+-- Values with a line end put in after them: the text's end, or what followed them, is a line further down.
 use Rattle.std.proofs.Common.{◌≡◌, ◌≢◌, ℕ, Bool, true, false, ◌&&◌, eqb, cond, List, [], ◌∷◌, ◌++◌, length}
 use Rattle.std.proofs.Common.{refl, sym, ap, ◌∙◌, subst, append_assoc, append-nil, inl, inr}
 use Rattle.std.specs.Prelude.{◌⊎◌}
@@ -20,12 +20,12 @@ use Rattle.ini_text.specs.Grammar.Strings.{Closes, Ends, Row, Str, plain_ends}
 use Rattle.ini_text.specs.Grammar.Lines.{Line, plain_value}
 use Rattle.ini_text.specs.Grammar.Values.{LineEnd, MoreLines, Value}
 use Rattle.ini_text.specs.Options.WriteOptions.{line_end}
-use Rattle.ini_text.proofs.LawLemmas.OneAheadLemmas.{Alike, Lead-alike, Line-alike, Alike-behind}
+use Rattle.ini_text.proofs.LawLemmas.OneAheadLemmas.{Alike, Lead-alike, Line-alike, Alike-after}
 use Rattle.ini_text.proofs.PlainLemmas.PlainPairLemmas.{line_end-is}
 use Rattle.ini_edit.specs.Endings.{Ending, Closing, ending_from}
 use Rattle.ini_edit.specs.Places.{Follows}
 use Rattle.ini_edit.proofs.EndingLemmas.{ending-lead, ending-line, ending-quoted, ending-row, ending-white}
-use Rattle.ini_edit.proofs.EndedLemmas.{line_end-some-behind}
+use Rattle.ini_edit.proofs.EndedLemmas.{line_end-some-after}
 use Rattle.ini_edit.proofs.InsertedLemmas.{line_end-closes}
 use Rattle.ini_edit.proofs.PadLemmas.{end_trimmed-white}
 use Rattle.ini_edit.proofs.ValueLemmas.{closes_no_inline, closes_no_mark}
@@ -44,20 +44,20 @@ module _ {o : ParseOption} where
   closing_inside Closing.within = refl
 
   closing_line : {c : List ℕ} → Closing o Ending.line c → c ≡ []
-  closing_line Closing.behind_line = refl
+  closing_line Closing.after_line = refl
 
   closing_escape : {c : List ℕ} → Closing o Ending.escape c
       → ((o.enabled_escape ≡ true) × (c ≡ backslash ∷ [])) ⊎ ((o.enabled_escape ≡ false) × (c ≡ space ∷ []))
   closing_escape (Closing.by_backslash on) = inl (on, refl)
   closing_escape (Closing.by_space off) = inr (off, refl)
 
-  -- behind a line end, and behind its CR
-  closing_behind : {c : List ℕ} (t : List ℕ) → Closing o (ending_from Ending.inside t) c
+  -- after a line end, and after its CR
+  closing_after : {c : List ℕ} (t : List ℕ) → Closing o (ending_from Ending.inside t) c
       → Closing o (ending_from Ending.line t) c
-  closing_behind [] k = subst (Closing o Ending.line) (sym (closing_inside k)) Closing.behind_line
-  closing_behind (x ∷ t) k = k
+  closing_after [] k = subst (Closing o Ending.line) (sym (closing_inside k)) Closing.after_line
+  closing_after (x ∷ t) k = k
 
--- a space behind a backslash is taken off with the white space at a line's end
+-- a space after a backslash is taken off with the white space at a line's end
 end_with_space : (v : List ℕ)
     → end_trimmed (v ++ backslash ∷ (space ∷ [])) ≡ end_trimmed (v ++ backslash ∷ [])
 end_with_space v =
@@ -82,7 +82,7 @@ value_with_space true true v = end_with_space v
 value_with_space true false v = both_with_space v
 value_with_space false quoted v = end_with_space v
 
--- line feeds behind a value's lines go
+-- line feeds after a value's lines go
 drop_feeds : (w : List ℕ) → list_all is_line_feed w ≡ true → drop_line_feeds w ≡ []
 drop_feeds [] h = refl
 drop_feeds (c ∷ w) h =
@@ -90,24 +90,24 @@ drop_feeds (c ∷ w) h =
     cond-true (is_line_feed c && eqb (length (drop_line_feeds w)) 0) _ _
     (and_from (is_line_feed c) _ parts.0 (ap (λ l. eqb (length l) 0) (drop_feeds w parts.1)))
 
-drop_feeds-behind : (cs w : List ℕ) → list_all is_line_feed w ≡ true
+drop_feeds-after : (cs w : List ℕ) → list_all is_line_feed w ≡ true
     → drop_line_feeds (cs ++ w) ≡ drop_line_feeds cs
-drop_feeds-behind [] w h = drop_feeds w h
-drop_feeds-behind (c ∷ cs) w h =
-    ap (λ l. cond (is_line_feed c && eqb (length l) 0) [] (c ∷ l)) (drop_feeds-behind cs w h)
+drop_feeds-after [] w h = drop_feeds w h
+drop_feeds-after (c ∷ cs) w h =
+    ap (λ l. cond (is_line_feed c && eqb (length l) 0) [] (c ∷ l)) (drop_feeds-after cs w h)
 
-feeds_behind : (cs w : List ℕ) → list_all is_line_feed w ≡ true
+feeds_after : (cs w : List ℕ) → list_all is_line_feed w ≡ true
     → without_outer_line_feeds (cs ++ w) ≡ without_outer_line_feeds cs
-feeds_behind [] [] h = refl
-feeds_behind [] (c ∷ w) h =
+feeds_after [] [] h = refl
+feeds_after [] (c ∷ w) h =
     let parts = and_parts (is_line_feed c) (list_all is_line_feed w) h in
-    ap drop_line_feeds (cond-true (is_line_feed c) _ _ parts.0) ∙ feeds_behind [] w parts.1
-feeds_behind (c ∷ cs) w h = elim (cases_Bool (is_line_feed c)) [
+    ap drop_line_feeds (cond-true (is_line_feed c) _ _ parts.0) ∙ feeds_after [] w parts.1
+feeds_after (c ∷ cs) w h = elim (cases_Bool (is_line_feed c)) [
   | inl feed ↦
-      ap drop_line_feeds (cond-true (is_line_feed c) _ _ feed) ∙ feeds_behind cs w h
+      ap drop_line_feeds (cond-true (is_line_feed c) _ _ feed) ∙ feeds_after cs w h
       ∙ ap drop_line_feeds (sym (cond-true (is_line_feed c) _ _ feed))
   | inr other ↦
-      ap drop_line_feeds (cond-false (is_line_feed c) _ _ other) ∙ drop_feeds-behind (c ∷ cs) w h
+      ap drop_line_feeds (cond-false (is_line_feed c) _ _ other) ∙ drop_feeds-after (c ∷ cs) w h
       ∙ ap drop_line_feeds (sym (cond-false (is_line_feed c) _ _ other))
 ]
 
@@ -117,10 +117,10 @@ no_mark_before : (p r y : List ℕ) → BeginsWithNo is_quote_mark (p ++ r) → 
 no_mark_before [] r y h closes = closes_no_mark y closes
 no_mark_before (c ∷ p) r y h closes = h
 
-no_mark_behind : (s y z : List ℕ) → BeginsWithNo is_quote_mark ((s ++ backslash ∷ []) ++ [])
+no_mark_after : (s y z : List ℕ) → BeginsWithNo is_quote_mark ((s ++ backslash ∷ []) ++ [])
     → BeginsWithNo is_quote_mark ((s ++ backslash ∷ y) ++ z)
-no_mark_behind [] y z h = refl
-no_mark_behind (c ∷ s) y z h = h
+no_mark_after [] y z h = refl
+no_mark_after (c ∷ s) y z h = h
 
 module _ {o : ParseOption} {c : List ℕ} (y : List ℕ) (closes : Closes plain_ends y) where
   line_glued : {first : Bool} {l r v : List ℕ} → Line o first l r v
@@ -149,7 +149,7 @@ module _ {o : ParseOption} {c : List ℕ} (y : List ℕ) (closes : Closes plain_
             (sym same)
             (subst (λ z. Line o first z y (w ++ plain_value first some (v ++ backslash ∷ [])))
             (source backslash)
-            (Line.line quoted (λ q. no_mark_behind s (backslash ∷ []) y (plain q))
+            (Line.line quoted (λ q. no_mark_after s (backslash ∷ []) y (plain q))
             (Str.closed (row-append row (Row.escape slash Row.none)) closes)))
         | inr (off, same) ↦
             let kept : EscapeSequence o.enabled_escape (backslash ∷ (space ∷ []))
@@ -160,7 +160,7 @@ module _ {o : ParseOption} {c : List ℕ} (y : List ℕ) (closes : Closes plain_
             (subst (λ z. Line o first z y (w ++ plain_value first some (v ++ backslash ∷ []))) (source space)
             (subst (λ z. Line o first (q ++ (s ++ backslash ∷ (space ∷ []))) y (w ++ z))
             (value_with_space first some v)
-            (Line.line quoted (λ q. no_mark_behind s (space ∷ []) y (plain q))
+            (Line.line quoted (λ q. no_mark_after s (space ∷ []) y (plain q))
             (Str.closed (row-append row (Row.escape kept Row.none)) closes))))
       ]
 
@@ -189,8 +189,8 @@ no_lines (MoreLines.last {w} {l} b lead ln) h = absurd (some w _ b h)
     some [] z b h = false≢true (sym b)
     some (c ∷ w) z b h = cc
 
--- With g, a line end and what goes before it, behind them, lines are read before x: their value has only
--- line feeds behind it.
+-- With g, a line end and what goes before it, after them, lines are read before x: their value has only
+-- line feeds after it.
 record MoreGlued (o : ParseOption) (t g x v : List ℕ) : Type 0 where
   pub value : List ℕ
   pub feeds : List ℕ
@@ -250,8 +250,8 @@ module _ {o : ParseOption} (sep : LineSeparator) {x : List ℕ} (follows : Follo
     nothing_before : c ≡ [] → line_end sep ≡ g
     nothing_before none = ap (λ z. z ++ line_end sep) (sym none)
 
-    behind_cr : {v r : List ℕ} → c ≡ [] → v ≡ [] → EndedGlued o (0x0D ∷ []) [] r g x v
-    behind_cr {v} {r} alone none =
+    past_cr : {v r : List ℕ} → c ≡ [] → v ≡ [] → EndedGlued o (0x0D ∷ []) [] r g x v
+    past_cr {v} {r} alone none =
         subst (λ z. EndedGlued o (0x0D ∷ []) [] r z x v) (nothing_before alone)
         (subst (EndedGlued o (0x0D ∷ []) [] r (line_end sep) x) (sym none) (at sep))
       where
@@ -319,7 +319,7 @@ module _ {o : ParseOption} (sep : LineSeparator) {x : List ℕ} (follows : Follo
       is = n.is;
       all = n.all;
     }
-    ended_glued [] r v (LineEnd.cr h) m k n = behind_cr (closing_inside k) (no_lines m refl)
+    ended_glued [] r v (LineEnd.cr h) m k n = past_cr (closing_inside k) (no_lines m refl)
     ended_glued (a ∷ t) r v (LineEnd.cr h) m k n = record {
       end = 0x0D ∷ [];
       lines = (a ∷ t) ++ g;
@@ -333,13 +333,13 @@ module _ {o : ParseOption} (sep : LineSeparator) {x : List ℕ} (follows : Follo
       all = n.all;
     }
 
-    -- how the lines behind a line end end
+    -- how the lines after a line end end
     closing_lines : {e : List ℕ} (t y : List ℕ) → LineEnd e y
         → Closing o (ending_from Ending.inside (e ++ t)) c
         → Closing o (ending_from Ending.line t) c
     closing_lines t y LineEnd.lf k = k
     closing_lines t y LineEnd.cr_lf k = k
-    closing_lines t y (LineEnd.cr n) k = closing_behind t k
+    closing_lines t y (LineEnd.cr n) k = closing_after t k
 
     -- the glue closes a line
     closes : Closes plain_ends (line_end sep ++ ([] ++ x))
@@ -379,34 +379,34 @@ module _ {o : ParseOption} (sep : LineSeparator) {x : List ℕ} (follows : Follo
           all = n.all;
         }
     more_glued (MoreLines.continued {w} {l} {e} {t} {r} {u} {v} b lead ln le m) k =
-        let behind : Closing o (ending_from Ending.inside (e ++ t)) c =
+        let following : Closing o (ending_from Ending.inside (e ++ t)) c =
         subst (λ z. Closing o z c)
         (ending-lead Ending.line w (l ++ (e ++ t)) b lead.white
-        ∙ ending-line (e ++ t) (line_end-some-behind (t ++ r) (t ++ r) le) ln) k in
-        let n = ended_glued t r v le m behind (more_glued m (closing_lines t (t ++ r) le behind)) in
+        ∙ ending-line (e ++ t) (line_end-some-after (t ++ r) (t ++ r) le) ln) k in
+        let n = ended_glued t r v le m following (more_glued m (closing_lines t (t ++ r) le following)) in
         record {
           value = line_feed ∷ (u ++ n.value);
           feeds = n.feeds;
           more =
               subst (λ z. MoreLines o z x (line_feed ∷ (u ++ n.value)))
               (seam_lines w l (n.end ++ n.lines) (e ++ t) n.whole)
-              (MoreLines.continued b (Lead-alike (Alike-behind l n.alike) lead)
+              (MoreLines.continued b (Lead-alike (Alike-after l n.alike) lead)
               (Line-alike n.alike ln) n.is_end n.more);
           is =
               ap (λ z. line_feed ∷ (u ++ z)) n.is ∙ ap (λ z. line_feed ∷ z) (sym (append_assoc u v n.feeds));
           all = n.all;
         }
     more_glued (MoreLines.last {w} {l} {u} b lead ln) k =
-        let behind : Closing o (ending_from Ending.inside l) c =
+        let following : Closing o (ending_from Ending.inside l) c =
         subst (λ z. Closing o z c) (ending-lead Ending.line w l b lead.white) k in
         let new_lead = lead_glued (line_end sep ++ ([] ++ x)) closes l []
-        (subst (Lead w) (sym (append-nil l)) lead) behind in
+        (subst (Lead w) (sym (append-nil l)) lead) following in
         record {
           value = line_feed ∷ (u ++ []);
           feeds = [];
           more =
               subst (λ z. MoreLines o z x (line_feed ∷ (u ++ []))) (seam w l)
-              (MoreLines.continued b new_lead (line_glued (line_end sep ++ ([] ++ x)) closes ln behind)
+              (MoreLines.continued b new_lead (line_glued (line_end sep ++ ([] ++ x)) closes ln following)
               (line_end-is sep x) done);
           is = refl;
           all = refl;
@@ -417,39 +417,39 @@ module _ {o : ParseOption} (sep : LineSeparator) {x : List ℕ} (follows : Follo
         → Value o (s ++ g) x v
     lines_glued (Value.one_line off lead ln) k = absurd (both_ways o.enabled_indented_mutiline_value off on)
     lines_glued (Value.to_end {w} {l} {v} _ lead ln) k =
-        let behind : Closing o (ending_from Ending.inside l) c =
+        let following : Closing o (ending_from Ending.inside l) c =
         subst (λ z. Closing o z c) (ending-white w l lead.white) k in
         let new_lead = lead_glued (line_end sep ++ ([] ++ x)) closes l []
-        (subst (Lead w) (sym (append-nil l)) lead) behind in
+        (subst (Lead w) (sym (append-nil l)) lead) following in
         subst (λ z. Value o z x (without_outer_line_feeds v)) (seam w l)
         (subst (λ z. Value o (w ++ ((l ++ c) ++ (line_end sep ++ []))) x (without_outer_line_feeds z))
         (append-nil v)
-        (Value.lines on new_lead (line_glued (line_end sep ++ ([] ++ x)) closes ln behind)
+        (Value.lines on new_lead (line_glued (line_end sep ++ ([] ++ x)) closes ln following)
         (line_end-is sep x) done))
     lines_glued (Value.lines {w} {l} {e} {t} {r} {u} {v} _ lead ln le m) k =
-        let behind : Closing o (ending_from Ending.inside (e ++ t)) c =
+        let following : Closing o (ending_from Ending.inside (e ++ t)) c =
         subst (λ z. Closing o z c)
         (ending-white w (l ++ (e ++ t)) lead.white
-        ∙ ending-line (e ++ t) (line_end-some-behind (t ++ r) (t ++ r) le) ln) k in
-        let n = ended_glued t r v le m behind (more_glued m (closing_lines t (t ++ r) le behind)) in
+        ∙ ending-line (e ++ t) (line_end-some-after (t ++ r) (t ++ r) le) ln) k in
+        let n = ended_glued t r v le m following (more_glued m (closing_lines t (t ++ r) le following)) in
         let same : without_outer_line_feeds (u ++ n.value) ≡ without_outer_line_feeds (u ++ v) =
         ap (λ z. without_outer_line_feeds (u ++ z)) n.is
         ∙ ap without_outer_line_feeds (sym (append_assoc u v n.feeds))
-        ∙ feeds_behind (u ++ v) n.feeds n.all in
+        ∙ feeds_after (u ++ v) n.feeds n.all in
         subst (λ z. Value o z x (without_outer_line_feeds (u ++ v)))
         (seam_lines w l (n.end ++ n.lines) (e ++ t) n.whole)
         (subst (Value o (w ++ (l ++ (n.end ++ n.lines))) x) same
-        (Value.lines on (Lead-alike (Alike-behind l n.alike) lead) (Line-alike n.alike ln) n.is_end n.more))
+        (Value.lines on (Lead-alike (Alike-after l n.alike) lead) (Line-alike n.alike ln) n.is_end n.more))
 
 -- a value in one line
 pub line_value_glued : {o : ParseOption} {s r v c : List ℕ} (y : List ℕ) → Closes plain_ends y
     → o.enabled_indented_mutiline_value ≡ false → Value o s r v → Closing o (ending_from Ending.inside s) c
     → Value o (s ++ c) y v
 line_value_glued {o} {c = c} y h off (Value.one_line {w} {l} {r} {v} _ lead ln) k =
-    let behind : Closing o (ending_from Ending.inside l) c =
+    let following : Closing o (ending_from Ending.inside l) c =
     subst (λ z. Closing o z c) (ending-white w l lead.white) k in
     subst (λ z. Value o z y v) (sym (append_assoc w l c))
-    (Value.one_line off (lead_glued y h l r lead behind) (line_glued y h ln behind))
+    (Value.one_line off (lead_glued y h l r lead following) (line_glued y h ln following))
 line_value_glued {o} y h off (Value.to_end on lead ln) k =
     absurd (both_ways o.enabled_indented_mutiline_value off on)
 line_value_glued {o} y h off (Value.lines on lead ln le m) k =

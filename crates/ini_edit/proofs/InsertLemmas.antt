@@ -1,4 +1,4 @@
--- The document of a text in which a line was put, or behind which a section was.
+-- The document of a text in which a line was put, or after which a section was.
 use Rattle.std.proofs.Common.{◌≡◌, ◌∙◌, List, [], ◌∷◌, ◌++◌, ap, sym, subst, refl, append_assoc, append-nil}
 use Rattle.std.proofs.Common.{chars, Option}
 use Rattle.std.proofs.Common.{Some, None, fold, false}

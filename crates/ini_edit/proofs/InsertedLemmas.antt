@@ -19,7 +19,7 @@ use Rattle.ini_text.specs.Laws.Plain.{IsPlainKey, IsPlainSeparator}
 use Rattle.ini_text.specs.Options.WriteOptions.{line_end}
 use Rattle.ini_text.proofs.GrammarLemmas.ItemLemmas.{reads-append}
 use Rattle.ini_text.proofs.GrammarLemmas.KindLemmas.{no_white_no_blank}
-use Rattle.ini_text.proofs.LawLemmas.MovedLemmas.{last_or-behind}
+use Rattle.ini_text.proofs.LawLemmas.MovedLemmas.{last_or-after}
 use Rattle.ini_text.proofs.PlainLemmas.EscapedTextLemmas.{all_read}
 use Rattle.ini_text.proofs.PlainLemmas.PlainLineLemmas.{gaps_of, gaps_read}
 use Rattle.ini_text.proofs.PlainLemmas.PlainPairLemmas.{bare_begins, no_white_no_line_end, inline_blanks}
@@ -28,7 +28,7 @@ use Rattle.ini_text.proofs.PlainLemmas.PlainPairLemmas.{source-parts}
 use Rattle.ini_text.specs.Grammar.Places.{Tail}
 use Rattle.ini_edit.specs.Places.{EndsLike, Follows, IsLineStart}
 use Rattle.ini_edit.specs.Writable.{IsWritablePair}
-use Rattle.ini_edit.proofs.BehindLemmas.{Reads-like}
+use Rattle.ini_edit.proofs.AfterLemmas.{Reads-like}
 use Rattle.ini_edit.proofs.StartLemmas.{column_at, reached}
 use Rattle.ini_edit.proofs.AheadLemmas.{any_follows}
 use Rattle.ini_edit.proofs.ValueLemmas.{bare_source, value_written}
@@ -44,9 +44,9 @@ line_end-closes CR r = refl
 line_end-closes CRLF r = refl
 
 pub line_end-column : (s : LineSeparator) (x : List ℕ) → is_column_one (x ++ line_end s) ≡ true
-line_end-column SystemDefault x = ap is_line_feed (last_or-behind line_feed line_feed x [])
-line_end-column CR x = ap is_line_feed (last_or-behind line_feed line_feed x [])
-line_end-column CRLF x = ap is_line_feed (last_or-behind line_feed carriage_return x (line_feed ∷ []))
+line_end-column SystemDefault x = ap is_line_feed (last_or-after line_feed line_feed x [])
+line_end-column CR x = ap is_line_feed (last_or-after line_feed line_feed x [])
+line_end-column CRLF x = ap is_line_feed (last_or-after line_feed carriage_return x (line_feed ∷ []))
 
 -- both are in column one
 pub EndsLike-column : (b c : List ℕ) → is_column_one b ≡ true → is_column_one c ≡ true → EndsLike b c
@@ -112,9 +112,9 @@ module _ {o : ParseOption} {policy : EscapePolicy} {key value separator : List �
   -- the line begins so that no multiline value takes it
   pub line_follows : (s : LineSeparator) (r : List ℕ) → Follows o (line_of_pair s ++ r)
   line_follows s r =
-      let behind = separator ++ (escaped policy value ++ line_end s) in
-      let at : Follows o (escaped policy key ++ (behind ++ r)) = by (behind ++ r) writable.plain_key in
-      subst (Follows o) (sym (append_assoc (escaped policy key) behind r)) at
+      let following = separator ++ (escaped policy value ++ line_end s) in
+      let at : Follows o (escaped policy key ++ (following ++ r)) = by (following ++ r) writable.plain_key in
+      subst (Follows o) (sym (append_assoc (escaped policy key) following r)) at
     where
       by : {k : List ℕ} (x : List ℕ) → IsPlainKey o policy k → Follows o (escaped policy k ++ x)
       by x (IsPlainKey.bare bare) = record {
@@ -123,7 +123,7 @@ module _ {o : ParseOption} {policy : EscapePolicy} {key value separator : List �
         no_line_end = λ on. bare_begins (BeginsWithNo is_line_end) (λ y. refl) policy x bare
             (λ c y white mark bracket. no_white_no_line_end c white);
       }
-      by x (IsPlainKey.behind_spaces {key = k} spaces kept off all bare) =
+      by x (IsPlainKey.after_spaces {key = k} spaces kept off all bare) =
           any_follows (escaped policy (spaces ++ k) ++ x) off
 
   -- the line put in

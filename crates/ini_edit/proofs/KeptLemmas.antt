@@ -1,4 +1,4 @@
--- A line end that stays of a pair which was taken out, behind the elements that stood before the pair.
+-- A line end that stays of a pair which was taken out, after the elements that stood before the pair.
 use Rattle.std.proofs.Common.{◌≡◌, ◌≢◌, ℕ, true, List, [], ◌∷◌, ◌++◌, length, length-append}
 use Rattle.std.proofs.Common.{refl, sym, ap, ◌∙◌, subst, append_assoc, append-nil, arith, inl, inr}
 use Rattle.std.proofs.lemmas.Bool.{both_ways, false≢true}
@@ -13,7 +13,7 @@ use Rattle.ini_text.specs.Grammar.Places.{Tail}
 use Rattle.ini_text.specs.Grammar.Elements.{Given, Pair, Gap, Element}
 use Rattle.ini_text.specs.Grammar.Texts.{Reads}
 use Rattle.ini_text.proofs.GrammarLemmas.ItemLemmas.{element-some}
-use Rattle.ini_text.proofs.LawLemmas.MovedLemmas.{last_or-behind}
+use Rattle.ini_text.proofs.LawLemmas.MovedLemmas.{last_or-after}
 use Rattle.ini_text.proofs.LawLemmas.OneAheadLemmas.{Alike, Element-alike, KeyFront-alike, Reads-front}
 use Rattle.ini_text.proofs.LawLemmas.OneAheadLemmas.{Str-alike}
 use Rattle.ini_text.proofs.PlainLemmas.PlainLineLemmas.{gaps_of, gaps_read}
@@ -24,8 +24,8 @@ use Rattle.ini_edit.proofs.AheadLemmas.{FollowsFront, blank_no_column, no_bracke
 use Rattle.ini_edit.proofs.GluedLemmas.{lines_glued}
 use Rattle.ini_edit.proofs.GlueLemmas.{by_parts, no_backslash, no_escape}
 
-pub EndsLine-behind : (X : List ℕ) {z : List ℕ} → EndsLine z → EndsLine (X ++ z)
-EndsLine-behind X n = record {
+pub EndsLine-after : (X : List ℕ) {z : List ℕ} → EndsLine z → EndsLine (X ++ z)
+EndsLine-after X n = record {
   before = X ++ n.before;
   last = n.last;
   whole = ap (λ z. X ++ z) n.whole ∙ sym (append_assoc X n.before (n.last ∷ []));
@@ -34,7 +34,7 @@ EndsLine-behind X n = record {
 
 pub ends_line-starts : {z : List ℕ} → EndsLine z → starts_line z ≡ true
 ends_line-starts n =
-    ap starts_line n.whole ∙ ap is_line_end (last_or-behind line_feed n.last n.before []) ∙ n.ends
+    ap starts_line n.whole ∙ ap is_line_end (last_or-after line_feed n.last n.before []) ∙ n.ends
 
 -- a multiline value that something follows ends with a line end
 pub lines_end_line : {o : ParseOption} {e t y v : List ℕ} → y ≢ [] → LineEnd e (t ++ y) → MoreLines o t y v
@@ -45,11 +45,11 @@ lines_end_line some LineEnd.cr_lf (MoreLines.done n m) =
     record { before = carriage_return ∷ []; last = line_feed; whole = refl; ends = refl }
 lines_end_line some (LineEnd.cr h) (MoreLines.done n m) =
     record { before = []; last = carriage_return; whole = refl; ends = refl }
-lines_end_line {e = e} some le (MoreLines.empty_lf m) = EndsLine-behind e (lines_end_line some LineEnd.lf m)
+lines_end_line {e = e} some le (MoreLines.empty_lf m) = EndsLine-after e (lines_end_line some LineEnd.lf m)
 lines_end_line {e = e} some le (MoreLines.empty_cr_lf m) =
-    EndsLine-behind e (lines_end_line some LineEnd.cr_lf m)
+    EndsLine-after e (lines_end_line some LineEnd.cr_lf m)
 lines_end_line {e = e} some le (MoreLines.continued {w = w} {l = l} b lead ln end m) =
-    EndsLine-behind e (EndsLine-behind w (EndsLine-behind l (lines_end_line some end m)))
+    EndsLine-after e (EndsLine-after w (EndsLine-after l (lines_end_line some end m)))
 lines_end_line some le (MoreLines.last b lead ln) = absurd (some refl)
 
 pub value_ends_line : {o : ParseOption} {s y v : List ℕ} → o.enabled_indented_mutiline_value ≡ true → y ≢ []
@@ -58,7 +58,7 @@ value_ends_line {o} on some (Value.one_line off lead ln) =
     absurd (both_ways o.enabled_indented_mutiline_value off on)
 value_ends_line on some (Value.to_end _ lead ln) = absurd (some refl)
 value_ends_line on some (Value.lines {w = w} {l = l} _ lead ln le m) =
-    EndsLine-behind w (EndsLine-behind l (lines_end_line some le m))
+    EndsLine-after w (EndsLine-after l (lines_end_line some le m))
 
 pub tail_ends_line : {o : ParseOption} {t y : List ℕ} → o.enabled_indented_mutiline_value ≡ true → y ≢ []
     → Tail o t y → EndsLine t
@@ -68,10 +68,10 @@ tail_ends_line on some (Tail.lines _ le more all) = lines_end_line some le more
 
 closes_none : {o : ParseOption} (e : Ending) → e ≢ Ending.escape → Closing o e []
 closes_none Ending.inside h = Closing.within
-closes_none Ending.line h = Closing.behind_line
+closes_none Ending.line h = Closing.after_line
 closes_none Ending.escape h = absurd (h refl)
 
--- behind its line end a multiline value takes an LF
+-- after its line end a multiline value takes an LF
 pub value_takes : {o : ParseOption} {s y r v : List ℕ} → Follows o r
     → o.enabled_indented_mutiline_value ≡ true → y ≢ []
     → Value o s y v → Value o (s ++ line_feed ∷ []) r v
@@ -90,7 +90,7 @@ stays {b = b} (Reads.step {s = s} h e reads) same =
     let none : length ((b ++ s) ++ front.0) ≡ length b = ap length (front.1 ∙ sym same) in
     absurd (omega (arith, element-some e, length-append (b ++ s) front.0, length-append b s, none))
 
--- Up to the front c, behind which y stood, elements stand before the line end k and then r. A pair that
+-- Up to the front c, after which y stood, elements stand before the line end k and then r. A pair that
 -- ended there takes the line end.
 module _ {o : ParseOption} {y c k r : List ℕ} (follows : Follows o r) (all : list_all is_line_end k ≡ true)
     (f : FollowsFront c y)
@@ -151,9 +151,9 @@ module _ {o : ParseOption} {y c k r : List ℕ} (follows : Follows o r) (all : l
   reads_kept {T} h (Reads.step {b = b} {s = s} {r = z} {gives = gives} {items = items} q e reads) =
       let front = Reads-front reads in
       let m = front.0 in
-      let behind : z ≡ m ++ y = append_cancel_left (b ++ s) z (m ++ y)
+      let following : z ≡ m ++ y = append_cancel_left (b ++ s) z (m ++ y)
       (append_assoc b s z ∙ sym q ∙ h ∙ ap (λ w. w ++ y) (sym front.1) ∙ append_assoc (b ++ s) m y) in
-      at m front.1 (subst (λ w. Element o b s w gives) behind e) (reads_kept h reads)
+      at m front.1 (subst (λ w. Element o b s w gives) following e) (reads_kept h reads)
     where
       at : (m : List ℕ) → (b ++ s) ++ m ≡ c → Element o b s (m ++ y) gives
           → Reads o (c ++ (k ++ r)) (b ++ s) items (c ++ k)

@@ -7,7 +7,7 @@ use Rattle.std.specs.Char.{is_whitespace}
 use Rattle.std.specs.List.{list_all}
 use Rattle.std.specs.Str.{drop_trailing_whitespace, skip_leading_whitespace}
 use Rattle.ini_text.specs.Grammar.WhiteSpace.{end_trimmed}
-use Rattle.ini_text.proofs.PlainLemmas.PlainTrimLemmas.{end_trimmed-behind}
+use Rattle.ini_text.proofs.PlainLemmas.PlainTrimLemmas.{end_trimmed-after}
 use Rattle.ini_edit.specs.Inside.KeyEdges.{BeginsWhite}
 
 pub all_more : (w : List ℕ) (c : ℕ) → list_all is_whitespace w ≡ true → is_whitespace c ≡ true
@@ -58,7 +58,7 @@ module _ {text white rest after : List ℕ} (c : ℕ) (s : WhiteSoFar text white
         whole = s.whole ∙ ap (λ x. s.front ++ x) (s.begins.whole ∙ ap (λ x. s.begins.white ++ x) is)
             ∙ sym (append_assoc s.front s.begins.white (c ∷ after)) ∙ sym (append_assoc to (c ∷ []) after);
         begins = white_none after;
-        ends = end_trimmed-behind to (c ∷ []) (λ e. cc)
+        ends = end_trimmed-after to (c ∷ []) (λ e. cc)
             (cond-false (is_whitespace c && true) [] (c ∷ []) (rw h refl));
       }
 

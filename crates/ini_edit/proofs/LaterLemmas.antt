@@ -36,14 +36,14 @@ use Rattle.ini_edit.specs.Quotes.{IsPut}
 use Rattle.ini_edit.specs.Targets.{Lacks}
 use Rattle.ini_edit.specs.Inside.Later.{ReadAlike, TakesLaterOut, TakesOut, placed_between}
 use Rattle.ini_edit.specs.Writable.{IsWritableValue}
-use Rattle.ini_edit.proofs.BehindLemmas.{Element-like, EndsLike-behind, EndsLike-one, KeyFront-like}
-use Rattle.ini_edit.proofs.BehindLemmas.{Reads-like, line_end_element}
+use Rattle.ini_edit.proofs.AfterLemmas.{Element-like, EndsLike-after, EndsLike-one, KeyFront-like}
+use Rattle.ini_edit.proofs.AfterLemmas.{Reads-like, line_end_element}
 use Rattle.ini_edit.proofs.CutLemmas.{CutLeft, cut_left, cut_reads}
 use Rattle.ini_edit.proofs.DocumentLemmas.{pair_items-append}
 use Rattle.ini_edit.proofs.FindLemmas.{found_before, lacks_more, white_pad}
 use Rattle.ini_edit.proofs.ValueLemmas.{closes_line_end}
 
--- a character ends alike behind any front
+-- a character ends alike after any front
 source_like : (b c s : List ℕ) → s ≢ [] → EndsLike (b ++ s) (c ++ s)
 source_like b c [] some = absurd (some refl)
 source_like b c (x ∷ s) some = EndsLike-one b c x s
@@ -53,7 +53,7 @@ alike_from like (ReadAlike.closes closes) = ReadAlike.closes closes
 alike_from like (ReadAlike.like more) =
     ReadAlike.like (record { line = like.line ∙ more.line; column = λ h. more.column (like.column h) })
 
--- what is read behind both fronts
+-- what is read after both fronts
 module _ {o : ParseOption} {b c : List ℕ} where
   -- an element that begins with a line end gives nothing
   closed_element : {s r : List ℕ} {gives : List Given} → Closes plain_ends (s ++ r) → Element o b s r gives
@@ -70,7 +70,7 @@ module _ {o : ParseOption} {b c : List ℕ} where
                 (subst (λ g. Element o c (x ∷ []) r g) (sym one.0) (Element.gap (line_end_gap x ends))),
           )
 
-  -- an element that stands behind one stands behind the other
+  -- an element that stands after one stands after the other
   pub alike_element : {s r : List ℕ} {gives : List Given} → ReadAlike b c (s ++ r) → Element o b s r gives
       → Element o c s r gives
   alike_element (ReadAlike.like like) e = Element-like like e
@@ -84,22 +84,22 @@ module _ {o : ParseOption} {b c : List ℕ} where
       absurd (let none : Pair key value ∷ [] ≡ [] = (closed_element closes e).0 in cc)
 
 -- nothing was taken out yet
-pub takes_start : {o : ParseOption} {T key b f behind : Text} → T ≡ b ++ behind → ReadAlike b f behind
-    → TakesOut o T key b f behind b f behind
-takes_start {o} {f = f} {behind} whole alike = record {
+pub takes_start : {o : ParseOption} {T key b f following : Text} → T ≡ b ++ following → ReadAlike b f following
+    → TakesOut o T key b f following b f following
+takes_start {o} {f = f} {following} whole alike = record {
   later = [];
   kept = [];
   whole = whole;
-  passes = Reads.stay behind whole;
+  passes = Reads.stay following whole;
   lacks = refl;
   alike = alike;
-  reads = λ upto reads after then. subst (λ l. Reads o (f ++ behind) [] l f) (sym (append-nil upto)) reads;
+  reads = λ upto reads after then. subst (λ l. Reads o (f ++ following) [] l f) (sym (append-nil upto)) reads;
   goes = λ upto reads more items then U out. out;
 }
 
 -- items of which none is a pair of the key, nor a header
-module _ {o : ParseOption} {T key b f behind c g rest : Text}
-    (takes : TakesOut o T key b f behind c g rest) where
+module _ {o : ParseOption} {T key b f following c g rest : Text}
+    (takes : TakesOut o T key b f following c g rest) where
   -- an element that stays
   module _ {s r : List ℕ} {gives : List Given} (is : rest ≡ s ++ r) (e : Element o c s r gives) where
     some : s ≢ []
@@ -115,7 +115,7 @@ module _ {o : ParseOption} {T key b f behind c g rest : Text}
     here : Element o g s r gives
     here = alike_element (subst (ReadAlike c g) is takes.alike) e
 
-    written_reads : (upto : List Given) → Reads o (f ++ behind) [] upto f → (after : List Given)
+    written_reads : (upto : List Given) → Reads o (f ++ following) [] upto f → (after : List Given)
         → Reads o T (c ++ s) after T
         → Reads o ((g ++ s) ++ r) [] ((upto ++ pair_items takes.kept) ++ gives) (g ++ s)
     written_reads upto reads after then =
@@ -125,7 +125,7 @@ module _ {o : ParseOption} {T key b f behind c g rest : Text}
         (Reads.step (ap (λ z. g ++ z) is) here (Reads.stay r (longer g)))))
 
     -- one that gives nothing
-    pub takes_nothing : gives ≡ [] → TakesOut o T key b f behind (c ++ s) (g ++ s) r
+    pub takes_nothing : gives ≡ [] → TakesOut o T key b f following (c ++ s) (g ++ s) r
     takes_nothing none = record {
       later = takes.later;
       kept = takes.kept;
@@ -152,7 +152,7 @@ module _ {o : ParseOption} {T key b f behind c g rest : Text}
 
     -- a pair of another key
     pub takes_pair : (k value : Text) → is_text key k ≡ false → gives ≡ Pair k value ∷ []
-        → TakesOut o T key b f behind (c ++ s) (g ++ s) r
+        → TakesOut o T key b f following (c ++ s) (g ++ s) r
     takes_pair k value apart one = record {
       later = takes.later ++ (k, value) ∷ [];
       kept = takes.kept ++ (k, value) ∷ [];
@@ -166,7 +166,7 @@ module _ {o : ParseOption} {T key b f behind c g rest : Text}
           (append_assoc upto (pair_items takes.kept) gives ∙ ap (λ l. upto ++ l) (items_more takes.kept))
           (written_reads upto reads after then);
       goes = λ upto reads more items then U out.
-          subst (λ l. LaterOut o key upto items (f ++ behind) l U)
+          subst (λ l. LaterOut o key upto items (f ++ following) l U)
           (sym (append_assoc takes.later ((k, value) ∷ []) more))
           (takes.goes upto reads ((k, value) ∷ more) items
           (subst (λ l. Reads o T c (l ++ (pair_items more ++ items)) T) one (element_reads then)) U
@@ -199,7 +199,7 @@ pub gaps : {o : ParseOption} {T : Text} (b e r : Text) → list_all is_line_end 
 gaps b e r ends whole = line_ends_first e r ends whole (Reads.stay r (whole ∙ sym (append_assoc b e r)))
 
 -- a pair of the key that goes
-module _ {o : ParseOption} {T key b f behind c g rest : Text} (takes : TakesOut o T key b f behind c g rest)
+module _ {o : ParseOption} {T key b f following c g rest : Text} (takes : TakesOut o T key b f following c g rest)
     (x : grammar.Stretches) {r old : Text} (is : rest ≡ grammar.pair_source x ++ r)
     (placed : grammar.ArePlaced o c x r key old) {stays left : Text}
     (cut : Cut o (placed_between g x r) stays left) where
@@ -221,13 +221,13 @@ module _ {o : ParseOption} {T key b f behind c g rest : Text} (takes : TakesOut 
   old_text : T ≡ (c ++ source) ++ r
   old_text = takes.whole ∙ longer takes is e c
 
-  -- what follows the pair, behind the line end that goes with it
+  -- what follows the pair, after the line end that goes with it
   past : {items : List Given} → Reads o T ((c ++ source) ++ left_is.line_end) items T
       → Reads o T (c ++ source) items T
   past = line_ends_first left_is.line_end left left_is.ends (old_text
       ∙ ap (λ z. (c ++ source) ++ z) left_is.followed)
 
-  stands : (upto : List Given) → Reads o (f ++ behind) [] upto f → (after : List Given)
+  stands : (upto : List Given) → Reads o (f ++ following) [] upto f → (after : List Given)
       → Reads o T (c ++ source) after T
       → StandsAt o (g ++ rest) p key old (upto ++ pair_items takes.kept) after
   stands upto reads after then = record {
@@ -246,7 +246,7 @@ module _ {o : ParseOption} {T key b f behind c g rest : Text} (takes : TakesOut 
         (subst (λ z. Reads o z (c ++ source) after z) old_text then));
   }
 
-  pub takes_cut : TakesOut o T key b f behind ((c ++ source) ++ left_is.line_end) (g ++ stays) left
+  pub takes_cut : TakesOut o T key b f following ((c ++ source) ++ left_is.line_end) (g ++ stays) left
   takes_cut = record {
     later = takes.later ++ (key, old) ∷ [];
     kept = takes.kept;
@@ -259,14 +259,14 @@ module _ {o : ParseOption} {T key b f behind c g rest : Text} (takes : TakesOut 
         (element_reads takes is e (gaps (c ++ source) left_is.line_end left left_is.ends
         (old_text ∙ ap (λ z. (c ++ source) ++ z) left_is.followed))));
     lacks = takes.lacks;
-    alike = alike_from (EndsLike-behind left_is.line_end (source_like c g source (some takes is e)))
+    alike = alike_from (EndsLike-after left_is.line_end (source_like c g source (some takes is e)))
         left_is.alike;
     reads = λ upto reads after then.
         subst (λ z. Reads o z [] (upto ++ pair_items takes.kept) (g ++ stays))
         (sym (append_assoc g stays left))
         (cut_reads (stands upto reads after (past then)) cut);
     goes = λ upto reads more items then U out.
-        subst (λ l. LaterOut o key upto items (f ++ behind) l U)
+        subst (λ l. LaterOut o key upto items (f ++ following) l U)
         (sym (append_assoc takes.later ((key, old) ∷ []) more))
         (takes.goes upto reads ((key, old) ∷ more) items (element_reads takes is e (past then)) U
         (subst (λ z. LaterOut o key upto items z (takes.kept ++ (key, old) ∷ more) U) (sym text)
@@ -300,7 +300,7 @@ module _ (x : Stretches) where
       (subst (λ z. ReadAlike (up_to_tail x.own ++ x.tail) z x.rest) (sym (to_tail value))
       (tail_alike (up_to_tail x.own) (up_to_tail value) tail))
 
--- what stands behind a section's pairs
+-- what stands after a section's pairs
 section_ends : {o : ParseOption} {T c d : Text} {items : List Given} → EndsSection o T c d
     → Reads o T d items T
     → (rest : List Given) × (BeginsWithHeader rest × Reads o T c rest T)
@@ -329,14 +329,14 @@ set_there {o} {T} {p} {q} {r} {name} {key} {found} {policy} {value} {source}
     let first = found_before key opens takes.later end.0 reaches refl end.1.0 then in
     let upto = first.before ++ Pair key value ∷ [] in
     let new = text_with x source in
-    let behind : (x.front ++ pair_with x source) ++ x.rest ≡ new =
+    let following : (x.front ++ pair_with x source) ++ x.rest ≡ new =
     append_assoc x.front (pair_with x source) x.rest in
     let start : Reads o ((x.front ++ pair_with x source) ++ x.rest) [] upto
     (x.front ++ pair_with x source) =
-    subst (λ z. Reads o z [] upto (x.front ++ pair_with x source)) (sym behind)
+    subst (λ z. Reads o z [] upto (x.front ++ pair_with x source)) (sym following)
     (put_front writable first.stands put) in
     let out : LaterOut o key upto end.0 new takes.later (g ++ left) =
-    subst (λ z. LaterOut o key upto end.0 z takes.later (g ++ left)) behind
+    subst (λ z. LaterOut o key upto end.0 z takes.later (g ++ left)) following
     (subst (λ l. LaterOut o key upto end.0 ((x.front ++ pair_with x source) ++ x.rest) l (g ++ left))
     (append-nil takes.later)
     (takes.goes upto start [] end.0 end.1.1 (g ++ left)

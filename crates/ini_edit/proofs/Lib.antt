@@ -1,6 +1,6 @@
 pub mod AddedLemmas
 pub mod AheadLemmas
-pub mod BehindLemmas
+pub mod AfterLemmas
 pub mod CommentLemmas
 pub mod CutLemmas
 pub mod CuttingLemmas

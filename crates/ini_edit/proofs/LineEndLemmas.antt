@@ -6,14 +6,14 @@ use Rattle.std.proofs.lemmas.Bool.{false≢true}
 use Rattle.std.proofs.lemmas.List.{append_cancel_right}
 use Rattle.ini_text.specs.Grammar.CharacterKinds.{carriage_return, line_feed, is_line_feed}
 use Rattle.ini_text.specs.Grammar.Positions.{is_column_one, last_or}
-use Rattle.ini_text.proofs.LawLemmas.MovedLemmas.{last_or-behind}
+use Rattle.ini_text.proofs.LawLemmas.MovedLemmas.{last_or-after}
 use Rattle.ini.specs.Texts.{Text}
 use Rattle.ini_edit.specs.NewSections.{EndsEmpty}
 
 -- a text has one last character
 pub last_one : (V W : Text) (c d : ℕ) → V ++ c ∷ [] ≡ W ++ d ∷ [] → (V ≡ W) × (c ≡ d)
 last_one V W c d is =
-    let same : c ≡ d = sym (last_or-behind c c V []) ∙ ap (last_or c) is ∙ last_or-behind c d W [] in
+    let same : c ≡ d = sym (last_or-after c c V []) ∙ ap (last_or c) is ∙ last_or-after c d W [] in
     (append_cancel_right V W (c ∷ []) (is ∙ ap (λ z. W ++ z ∷ []) (sym same)), same)
 
 pub some_last : (V : Text) (c : ℕ) → V ++ c ∷ [] ≢ []
@@ -32,7 +32,7 @@ before_feed (EndsEmpty.by_cr_lf V one) line is =
     inr (V, (sym (last_one (V ++ carriage_return ∷ []) line line_feed line_feed whole).0, one))
 
 no_column : (l : Text) → is_column_one (l ++ carriage_return ∷ []) ≡ false
-no_column l = ap is_line_feed (last_or-behind line_feed carriage_return l [])
+no_column l = ap is_line_feed (last_or-after line_feed carriage_return l [])
 
 module _ {T line : Text} (is : T ≡ line ++ line_feed ∷ []) where
   -- whether an empty line stands last, which ends with CR LF

@@ -105,7 +105,7 @@ module _ (o : ParseOption) (w : WriteOption) where
       → RefusesOneOf o w (map editing_of edits) T (record { index = i; refusal = e })
   one_refused {T} {U} {found} edits i d e within made refused = record {
     before = map editing_of (take i edits);
-    behind = map editing_of (drop i edits);
+    following = map editing_of (drop i edits);
     found = found;
     text = U;
     whole = ap (map editing_of) (sym (take-append-drop i edits))
@@ -120,7 +120,7 @@ module _ (o : ParseOption) (w : WriteOption) where
       → RefusesOneOf o w edits T (record { index = 0; refusal = TextError (Memory alloc_error) })
   none_made edits T = record {
     before = [];
-    behind = edits;
+    following = edits;
     found = [];
     text = T;
     whole = refl;

@@ -62,10 +62,10 @@ key_no_end policy (c ∷ cs) h =
     at false true z h = h
     at false false z h = h
 
-begins_behind : (test : ℕ → Bool) (cs w : List ℕ) → cs ≢ [] → BeginsWithNo test cs
+begins_after : (test : ℕ → Bool) (cs w : List ℕ) → cs ≢ [] → BeginsWithNo test cs
     → BeginsWithNo test (cs ++ w)
-begins_behind test [] w some h = absurd (some refl)
-begins_behind test (c ∷ cs) w some h = h
+begins_after test [] w some h = absurd (some refl)
+begins_after test (c ∷ cs) w some h = h
 
 -- white space that is blanks, and then more
 split_white : (w s i y : List ℕ) → list_all is_blank w ≡ true → BeginsWithNo is_whitespace y
@@ -82,10 +82,10 @@ split_white (c ∷ w) s (d ∷ i) y blank ink e =
     let more = split_white w s i y parts.1 ink rest in
     (more.0, ap (λ z. z ∷ i) (sym same) ∙ ap (λ z. c ∷ z) more.1, more.2)
 
-white_behind : (w x : List ℕ) → list_all is_whitespace (w ++ x) ≡ true → list_all is_whitespace x ≡ true
-white_behind [] x h = h
-white_behind (c ∷ w) x h =
-    white_behind w x (and_parts (is_whitespace c) (list_all is_whitespace (w ++ x)) h).1
+white_after : (w x : List ℕ) → list_all is_whitespace (w ++ x) ≡ true → list_all is_whitespace x ≡ true
+white_after [] x h = h
+white_after (c ∷ w) x h =
+    white_after w x (and_parts (is_whitespace c) (list_all is_whitespace (w ++ x)) h).1
 
 module _ {o : ParseOption} {policy : EscapePolicy} {key : List ℕ} (plain : IsPlainBareKey o policy key)
     (pad : List ℕ) (white_pad : list_all is_whitespace pad ≡ true) (m : ℕ)
@@ -108,12 +108,12 @@ module _ {o : ParseOption} {policy : EscapePolicy} {key : List ℕ} (plain : IsP
       row_escaped key (all_read {o = o} policy key plain.read_back) (key_no_end policy key bare.no_separator)
       (subst (λ z. Row o.enabled_escape key_ends z z) (append-nil pad) (white_row pad white_pad Row.none))
 
-  -- behind white space, where keys don't keep it
+  -- after white space, where keys don't keep it
   trimmed_key : (x : List ℕ) → o.enabled_preserve_key_leading_whitespace ≡ false
       → list_all is_whitespace x ≡ true → trimmed (x ++ (key ++ pad)) ≡ key
   trimmed_key x off white =
       ap drop_trailing_whitespace (skip_all_white x (key ++ pad) white
-      ∙ skip_none (key ++ pad) (begins_behind is_whitespace key pad bare.some (begins bare.is_trimmed)))
+      ∙ skip_none (key ++ pad) (begins_after is_whitespace key pad bare.some (begins bare.is_trimmed)))
       ∙ end_trimmed-before_white key pad white_pad ∙ bare_end
     where
       begins : (trimmed key ≡ key) ⊎ IsIndentedByEscape o policy key → BeginsWithNo is_whitespace key
@@ -188,7 +188,7 @@ module _ {o : ParseOption} {policy : EscapePolicy} {key : List ℕ} (plain : IsP
       let parts = split_white w s (c ∷ i) (own ++ tail) ind.blank ink whole in
       let x = parts.0 in
       let all : list_all is_whitespace x ≡ true =
-      white_behind w x (subst (λ z. list_all is_whitespace z ≡ true) parts.1 white) in
+      white_after w x (subst (λ z. list_all is_whitespace z ≡ true) parts.1 white) in
       let front : KeyFront o b (w ++ (x ++ source)) (m ∷ r) key =
       indented k x ind off all (own ++ tail)
       (subst (λ z. BeginsWith begins_indented_key (z ++ k)) parts.2 begins) in

@@ -1,4 +1,4 @@
--- A text to which a new section was added behind all that it gives.
+-- A text to which a new section was added after all that it gives.
 use Rattle.std.proofs.Common.{◌≡◌, ◌∙◌, [], ◌∷◌, ◌++◌, ap, sym, subst, append_assoc, chars, Some, None}
 use Rattle.ini_text.specs.Grammar.Texts.{Reads}
 use Rattle.ini_text.specs.Laws.Plain.{IsPlainName}
@@ -19,9 +19,9 @@ use Rattle.ini_edit.specs.Inside.Lines.{IsWithSection, PushesGlue}
 use Rattle.ini_edit.specs.Inside.PlaceWalks.{IsTextEnd}
 use Rattle.ini_edit.specs.declared.place.TextPlace.{TextPlace}
 use Rattle.ini_edit.proofs.GlueTextLemmas.{boundary_place}
-use Rattle.ini_edit.proofs.PlacedLemmas.{appends_behind_empty_line}
+use Rattle.ini_edit.proofs.PlacedLemmas.{appends_after_empty_line}
 
--- the parts of the text, one put behind another
+-- the parts of the text, one put after another
 pub with_section_parts : {o : ParseOption} {e : Ending} (w : WriteOption)
     (W r name key value gap n0 n1 n2 n3 n4 n5 n6 : Text)
     → n0 ≡ [] → n1 ≡ n0 ++ W → PushesGlue o w.line_separator e n1 n2 → EmptyLine w.line_separator W gap
@@ -59,7 +59,7 @@ set_is_added name key value d none =
 pub in_new_section : {o : ParseOption} {w : WriteOption} {T name key value U : Text} {place : TextPlace}
     → LacksSection o T (Some name) → IsTextEnd o T place → IsPlainName o w.escape_policy name
     → IsWritable o w key value
-    → IsWithSection o w (front_ending place.is_behind_comment (chars place.front.now))
+    → IsWithSection o w (front_ending place.is_after_comment (chars place.front.now))
     (chars place.front.now)
     (chars place.rest.now) name key value U
     → IsInNewSection o w T name key value U
@@ -71,7 +71,7 @@ in_new_section {o} {w} {T} {name} {key} {value} {U} {place} lacks end plain writ
     let at = boundary_place last.boundary last.whole last.free new.is_glue in
     let set : IsDocumentOf o U (set_in (Some name) key value d) =
     subst (λ x. IsDocumentOf o x (set_in (Some name) key value d)) (sym new.is_new)
-    (appends_behind_empty_line o w key value writable.separator writable.pair name plain W r new.glue new.gap
+    (appends_after_empty_line o w key value writable.separator writable.pair name plain W r new.glue new.gap
     end.items at new.empty_line last.free.follows (subst (λ x. Reads o x W [] x) last.whole last.nothing) d
     (subst (λ x. IsDocumentOf o x d) last.whole lacks.is_document) lacks.none) in
     record {
@@ -86,8 +86,8 @@ in_new_section {o} {w} {T} {name} {key} {value} {U} {place} lacks end plain writ
       lacks = lacks.none;
       whole = last.whole;
       place = at;
-      nothing_behind = last.nothing;
-      is_behind_comment = place.is_behind_comment;
+      nothing_after = last.nothing;
+      is_after_comment = place.is_after_comment;
       boundary = last.boundary;
       is_glue = new.is_glue;
       empty_line = new.empty_line;

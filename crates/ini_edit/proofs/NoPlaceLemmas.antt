@@ -144,7 +144,7 @@ header_white (Element.pair front some separates value) is white =
 header_white (Element.dropped_blanks i) is white = absurd (let no : [] ≡ Header _ ∷ [] = is in cc)
 header_white (Element.dropped_key i starts stops) is white = absurd (let no : [] ≡ Header _ ∷ [] = is in cc)
 
--- behind a pair a line may be put in
+-- after a pair a line may be put in
 line_end_apart : (c : ℕ) → is_endpoint plain_ends c ≡ true → is_blank c ≡ false
 line_end_apart c h = elim (or_cases (c == 10) ((c == 13) || false) h) [
   | inl q ↦ rw (eqb-true c 10 q) refl
@@ -194,9 +194,9 @@ multiline_from : {o : ParseOption} {W r : Text} → IsTaken o W r → starts_lin
 multiline_from (IsTaken.by_value on h) starts = on
 multiline_from {W = W} (IsTaken.by_blank apart h) starts = absurd (both_ways (starts_line W) apart starts)
 
-not_behind : {o : ParseOption} {T : Text} (p : Place) {q : Place} {e : PlacedElement} → Steps o T p.front q e
+not_after : {o : ParseOption} {T : Text} (p : Place) {q : Place} {e : PlacedElement} → Steps o T p.front q e
     → ¬ (p.front ≡ T)
-not_behind p {e = e} t is =
+not_after p {e = e} t is =
     let source = chars e.source.now in
     omega (
       arith,
@@ -216,7 +216,7 @@ module _ {o : ParseOption} {T b : Text} where
       let front : at.front ≡ c = append_cancel_right at.front c r (sym at.whole ∙ sym whole) in
       NoneYet.white (record {
         gap = [];
-        is_behind = is ∙ sym (append-nil b);
+        is_after = is ∙ sym (append-nil b);
         rest = r;
         whole = sym whole;
         white = refl;
@@ -242,12 +242,12 @@ module _ {o : ParseOption} {T b : Text} where
     white_step : (r : Text) → gives e.content ≡ [] → ¬ IsIndentedKey (chars e.source.now) → IsTakenAt o T r
         → q.front ++ r ≡ T
         → NoneYet o T b p.front → NoneYet o T b q.front
-    white_step r none key at whole (NoneYet.key is ends) = absurd (not_behind p t is)
+    white_step r none key at whole (NoneYet.key is ends) = absurd (not_after p t is)
     white_step r none key at whole (NoneYet.white w) =
         let front : at.front ≡ q.front = append_cancel_right at.front q.front r (sym at.whole ∙ sym whole) in
         NoneYet.white (record {
           gap = w.gap ++ (chars e.source.now);
-          is_behind = t.stands.reaches ∙ ap (λ x. x ++ (chars e.source.now)) w.is_behind
+          is_after = t.stands.reaches ∙ ap (λ x. x ++ (chars e.source.now)) w.is_after
               ∙ append_assoc b w.gap (chars e.source.now);
           rest = r;
           whole = sym whole;
@@ -259,9 +259,9 @@ module _ {o : ParseOption} {T b : Text} where
 
     key_step : gives e.content ≡ [] → LooksIndented (chars e.source.now) → NoneYet o T b p.front
         → NoneYet o T b q.front
-    key_step none looks (NoneYet.key is ends) = absurd (not_behind p t is)
+    key_step none looks (NoneYet.key is ends) = absurd (not_after p t is)
     key_step none looks (NoneYet.white w) =
-        let cut = nothing_cut w.gap w.is_behind t.stands.is_element none looks t.stands.whole w.white
+        let cut = nothing_cut w.gap w.is_after t.stands.is_element none looks t.stands.whole w.white
         w.nothing in
         let end : q.front ≡ T = t.stands.reaches ∙ sym (append-nil (p.front ++ (chars e.source.now)))
         ∙ ap (λ x. (p.front ++ (chars e.source.now)) ++ x) (sym cut.1.1)
@@ -275,14 +275,14 @@ module _ {o : ParseOption} {T b : Text} where
         → (next ≡ None → IsTakenAt o T r) → q.front ++ r ≡ T → NoneYet o T b q.front
     none_step r none (NoneChosen.neither was will key) yet taken whole =
         white_step r none key (taken will) whole (yet was)
-    none_step r none (NoneChosen.behind_key was looks) yet taken whole = key_step none looks (yet was)
+    none_step r none (NoneChosen.after_key was looks) yet taken whole = key_step none looks (yet was)
 
     -- no header stands there
     pub none_header : {name : Text} → gives e.content ≡ Header name ∷ [] → ¬ NoneYet o T b p.front
-    none_header is (NoneYet.key end ends) = not_behind p t end
+    none_header is (NoneYet.key end ends) = not_after p t end
     none_header is (NoneYet.white w) = header_white t.stands.is_element is (begins_white w)
 
--- behind a pair is a place
+-- after a pair is a place
 pub none_pair : {o : ParseOption} {T b k v : Text} {q : Place} {e : PlacedElement} (r : Text)
     → Steps o T b q e
     → gives e.content ≡ Pair k v ∷ [] → q.front ++ r ≡ T → ¬ IsTakenAt o T r

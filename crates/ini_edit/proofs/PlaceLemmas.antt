@@ -1,4 +1,4 @@
--- At a place elements reach the line that is put in, and behind it the text is read as before.
+-- At a place elements reach the line that is put in, and after it the text is read as before.
 use Rattle.std.proofs.Common.{◌≤◌, ◌≡◌, ℕ, true, false, List, [], ◌∷◌, ◌++◌, length, refl, sym, ap, ◌∙◌, subst}
 use Rattle.std.proofs.Common.{append_assoc, append-nil, inl, inr, arith}
 use Rattle.std.proofs.lemmas.Bool.{cases_Bool, both_ways}
@@ -16,12 +16,12 @@ use Rattle.ini_text.proofs.PlainLemmas.PlainPairLemmas.{line_starts}
 use Rattle.ini_edit.specs.Endings.{Closing, ending}
 use Rattle.ini_edit.specs.Places.{EndsLike, Follows}
 use Rattle.ini_edit.specs.LinePlaces.{IsPlace}
-use Rattle.ini_edit.proofs.BehindLemmas.{EndsLike-one, Reads-like}
+use Rattle.ini_edit.proofs.AfterLemmas.{EndsLike-one, Reads-like}
 use Rattle.ini_edit.proofs.GlueLemmas.{comment_ended, comment_glued, element_glued}
 use Rattle.ini_edit.proofs.InsertedLemmas.{EndsLike-column, line_end-column}
 use Rattle.ini_edit.proofs.StartLemmas.{column_at, comment_end_reached, element_end_reached, reached}
 
--- in column one an element is read as behind any front, where no blank begins it
+-- in column one an element is read as after any front, where no blank begins it
 module _ {b V : List ℕ} (one : is_column_one V ≡ true) where
   Indentation-anew : {w : List ℕ} → Indentation b w → Indentation V w
   Indentation-anew i = record { at_line_start = line_starts V one; some = i.some; blank = i.blank }
@@ -53,7 +53,7 @@ pub EndsLike-some : (W V s : List ℕ) → 1 ≤ length s → EndsLike (W ++ s) 
 EndsLike-some W V [] h = absurd (omega arith)
 EndsLike-some W V (c ∷ s) h = EndsLike-one W V c s
 
--- a rest that no blank begins is read in column one as behind any front
+-- a rest that no blank begins is read in column one as after any front
 Reads-anew : {o : ParseOption} {items : List Given} (W V Y : List ℕ) → is_column_one V ≡ true
     → BeginsWithNo is_blank Y
     → Reads o (W ++ Y) W items (W ++ Y) → Reads o (V ++ Y) V items (V ++ Y)
@@ -98,10 +98,10 @@ module _ {o : ParseOption} {end : LineSeparator} where
   pub place_column : {W r g : List ℕ} {items : List Given} → IsPlace o end W r g items
       → is_column_one (W ++ g) ≡ true
   place_column {W} (IsPlace.line_start start) = ap is_column_one (append-nil W) ∙ column_at start
-  place_column {W} (IsPlace.behind_element {c = c} ends closing unblank) =
+  place_column {W} (IsPlace.after_element {c = c} ends closing unblank) =
       ap is_column_one (sym (append_assoc W c (line_end end))) ∙ line_end-column end (W ++ c)
-  place_column {W} (IsPlace.behind_comment_line ends one) = ap is_column_one (append-nil W) ∙ one
-  place_column {W} (IsPlace.behind_comment ends unblank) = line_end-column end W
+  place_column {W} (IsPlace.after_comment_line ends one) = ap is_column_one (append-nil W) ∙ one
+  place_column {W} (IsPlace.after_comment ends unblank) = line_end-column end W
 
   -- elements reach it
   pub place_reached : {W r g : List ℕ} {items : List Given} → IsPlace o end W r g items → (x : List ℕ)
@@ -109,23 +109,23 @@ module _ {o : ParseOption} {end : LineSeparator} where
       → Reads o (W ++ (g ++ x)) [] items (W ++ g)
   place_reached {W} {items = items} (IsPlace.line_start start) x follows =
       subst (λ z. Reads o (W ++ x) [] items z) (sym (append-nil W)) (reached start x follows)
-  place_reached {W} (IsPlace.behind_element {c = c} ends closing unblank) x follows =
+  place_reached {W} (IsPlace.after_element {c = c} ends closing unblank) x follows =
       element_end_reached (c ++ line_end end) x ends (λ b s r gives is element key.
       element_glued end follows b element key (subst (λ z. Closing o (ending z) c) is closing))
-  place_reached (IsPlace.behind_comment_line ends one) x follows =
+  place_reached (IsPlace.after_comment_line ends one) x follows =
       comment_end_reached [] x ends (λ b s r gives is comment.
       comment_ended end follows b comment (ap is_column_one (sym is) ∙ one))
-  place_reached (IsPlace.behind_comment ends unblank) x follows =
+  place_reached (IsPlace.after_comment ends unblank) x follows =
       comment_end_reached (line_end end) x ends
       (λ b s r gives is comment. comment_glued end follows b comment)
 
-  -- the rest is read behind another front in column one
+  -- the rest is read after another front in column one
   pub place_rest : {W r g : List ℕ} {items after : List Given} → IsPlace o end W r g items → (V : List ℕ)
       → is_column_one V ≡ true → Reads o (W ++ r) W after (W ++ r) → Reads o (V ++ r) V after (V ++ r)
   place_rest {W} {r} (IsPlace.line_start start) V one reads =
       Reads-like o (EndsLike-column W V (column_at start) one) r reads
-  place_rest {W} {r} (IsPlace.behind_element ends closing unblank) V one reads =
+  place_rest {W} {r} (IsPlace.after_element ends closing unblank) V one reads =
       rest_anew W V r unblank one reads
-  place_rest {W} {r} (IsPlace.behind_comment_line ends at) V one reads =
+  place_rest {W} {r} (IsPlace.after_comment_line ends at) V one reads =
       Reads-like o (EndsLike-column W V at one) r reads
-  place_rest {W} {r} (IsPlace.behind_comment ends unblank) V one reads = rest_anew W V r unblank one reads
+  place_rest {W} {r} (IsPlace.after_comment ends unblank) V one reads = rest_anew W V r unblank one reads

@@ -59,7 +59,7 @@ pub items_none : {o : ParseOption} {T b c : Text} (items : List Given) → Reads
     → Reads o T b items c
 items_none {o} {T} {b} {c} items reads = subst (λ l. Reads o T b l c) (append-nil items) reads
 
--- where the parser stands on its way, behind pairs, with the last place where a line may be put in
+-- where the parser stands on its way, after pairs, with the last place where a line may be put in
 pub record Nears (o : ParseOption) (T b : Text) (p : Place) (place : Option TextPlace) : Type 0 where
   pub walked : Walked o T b p
   pub pairs : Pairs
@@ -113,7 +113,7 @@ module _ {o : ParseOption} {T b : Text} where
         subst (λ c. Boundary o T b (begins is_comment_mark (chars e.source.now)) c
         (pair_items s.pairs ++ gives e.content))
         (sym t.stands.reaches)
-        (Boundary.behind s.reads t.stands.whole t.stands.is_element key)
+        (Boundary.following s.reads t.stands.whole t.stands.is_element key)
 
     pub nears_nothing : (r : Text) (next new : Option TextPlace) → gives e.content ≡ []
         → IfSome next (IsFreeAt o T (chars e.source.now) r) → (next ≡ None → IsTakenAt o T r)
@@ -207,7 +207,7 @@ nears_start {o} {T} {source} {p} r place s option text none free taken whole =
       none = λ is. none_start r refl (taken is) whole;
     }
 
--- the items behind a section's end, from a header on
+-- the items after a section's end, from a header on
 pub rest_reads : {o : ParseOption} {T c d : Text} {items : List Given} → EndsSection o T c d
     → Reads o T d items T
     → (after : List Given) × (BeginsWithHeader after × Reads o T c after T)
@@ -216,16 +216,16 @@ rest_reads {o} {T} (EndsSection.end is) reads =
 rest_reads {items = items} (EndsSection.header t first) reads =
     (Header t ∷ items, (tt, reads-append first reads))
 
--- a boundary behind another one
-boundary_behind : {o : ParseOption} {T b W : Text} {first items : List Given} {comment : Bool}
+-- a boundary after another one
+boundary_after : {o : ParseOption} {T b W : Text} {first items : List Given} {comment : Bool}
     → Boundary o T [] false b first → Reads o T [] first b → Boundary o T b comment W items
     → Boundary o T [] comment W (first ++ items)
-boundary_behind {o} {T} {b} {first = first} from reads Boundary.start =
+boundary_after {o} {T} {b} {first = first} from reads Boundary.start =
     subst (Boundary o T [] false b) (sym (append-nil first)) from
-boundary_behind {o} {T} {first = first} from reads
-    (Boundary.behind {a} {s} {r} {items} {gives} more whole element key) =
+boundary_after {o} {T} {first = first} from reads
+    (Boundary.following {a} {s} {r} {items} {gives} more whole element key) =
     subst (Boundary o T [] (begins is_comment_mark s) (a ++ s)) (append_assoc first items gives)
-    (Boundary.behind (reads-append reads more) whole element key)
+    (Boundary.following (reads-append reads more) whole element key)
 
 module _ {o : ParseOption} {T : Text} {p : Place} {name : Option Text} (opens : OpensFirst o T p name) where
   end_within : {q : Place} {found : Option TextPlace} → ReachesSectionEnd o T p.front q found
@@ -242,7 +242,7 @@ module _ {o : ParseOption} {T : Text} {p : Place} {name : Option Text} (opens : 
         before = opens.items ++ pair_items h.pairs;
         after = rest.0;
         whole = h.place.whole;
-        boundary = boundary_behind opens.boundary opens.reads h.place.boundary;
+        boundary = boundary_after opens.boundary opens.reads h.place.boundary;
         free = h.place.free;
         then = reads-append h.place.nothing rest.1.1;
         ends = record {
@@ -256,9 +256,9 @@ module _ {o : ParseOption} {T : Text} {p : Place} {name : Option Text} (opens : 
       }
 
   -- the same as the calls tell it
-  pub goes_on_behind : {q : Place} {found : Option TextPlace} → ReachesSectionEnd o T p.front q found
+  pub goes_on_after : {q : Place} {found : Option TextPlace} → ReachesSectionEnd o T p.front q found
       → StandsWithin q
-  goes_on_behind h = end_within h
+  goes_on_after h = end_within h
 
   finds_end : {q : Place} {place : TextPlace} → ReachesSectionEnd o T p.front q (Some place)
       → ReadsOn q.option q.text q.front → IsFirstSectionEnd o T name place

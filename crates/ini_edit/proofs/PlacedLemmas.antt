@@ -26,10 +26,10 @@ use Rattle.ini.specs.Written.{written_name, written_pair}
 use Rattle.ini.proofs.EditLemmas.{edit_section-last}
 use Rattle.ini_edit.specs.Endings.{IsCommentEnd, IsElementEnd}
 use Rattle.ini_edit.specs.Places.{Follows}
-use Rattle.ini_edit.specs.NewSections.{AppendsBehindEmptyLine, EmptyLine, EndsEmpty}
+use Rattle.ini_edit.specs.NewSections.{AppendsAfterEmptyLine, EmptyLine, EndsEmpty}
 use Rattle.ini_edit.specs.LinePlaces.{AddsAtPlace, AppendsAtPlace, EndsAtPlace, InsertsAtPlace, IsPlace}
 use Rattle.ini_edit.specs.Writable.{IsWritablePair}
-use Rattle.ini_edit.proofs.EmptyLineLemmas.{behind_empty_line}
+use Rattle.ini_edit.proofs.EmptyLineLemmas.{after_empty_line}
 use Rattle.ini_edit.proofs.InsertLemmas.{new_at, pair_is, with_section_last}
 use Rattle.ini_edit.proofs.InsertedLemmas.{line-column, line_follows, line_read}
 use Rattle.ini_edit.proofs.PairListLemmas.{inserted_new}
@@ -47,13 +47,13 @@ items_to_end {o} {T} {b} {s} {r} {items} {gives} reads whole element =
 
 element_end-items : {o : ParseOption} {T W : Text} {items : List Given} → IsElementEnd o T W items
     → Reads o T [] items W
-element_end-items (IsElementEnd.behind reads whole element key) = items_to_end reads whole element
+element_end-items (IsElementEnd.following reads whole element key) = items_to_end reads whole element
 
 comment_end-items : {o : ParseOption} {T W : Text} {items : List Given} → IsCommentEnd o T W items
     → Reads o T [] items W
-comment_end-items (IsCommentEnd.behind reads whole element mark) = items_to_end reads whole element
+comment_end-items (IsCommentEnd.following reads whole element mark) = items_to_end reads whole element
 
--- an empty front has an empty line behind it
+-- an empty front has an empty line after it
 no_front : (W glue : Text) → (W ++ glue) ≡ [] → EndsEmpty W
 no_front [] glue is = EndsEmpty.nothing
 no_front (c ∷ W) glue is = cc
@@ -61,9 +61,9 @@ no_front (c ∷ W) glue is = cc
 pub place_items : {o : ParseOption} {end : LineSeparator} {W r glue : Text} {items : List Given}
     → IsPlace o end W r glue items → Follows o r → Reads o (W ++ r) [] items W
 place_items {r = r} (IsPlace.line_start start) follows = reached start r follows
-place_items (IsPlace.behind_element ends closing unblank) follows = element_end-items ends
-place_items (IsPlace.behind_comment_line ends one) follows = comment_end-items ends
-place_items (IsPlace.behind_comment ends unblank) follows = comment_end-items ends
+place_items (IsPlace.after_element ends closing unblank) follows = element_end-items ends
+place_items (IsPlace.after_comment_line ends one) follows = comment_end-items ends
+place_items (IsPlace.after_comment ends unblank) follows = comment_end-items ends
 
 module _ (o : ParseOption) (w : WriteOption) (key value : Text)
     (sep : IsPlainSeparator (chars w.kv_separator.now))
@@ -137,7 +137,7 @@ module _ (o : ParseOption) (w : WriteOption) (key value : Text)
         ∙ ap (λ z. escaped w.escape_policy name ++ close_bracket ∷ z)
         (append-nil (line_end w.line_separator)))
 
-    -- a section in column one, where elements reach it, behind which the text gives nothing
+    -- a section in column one, where elements reach it, after which the text gives nothing
     section_derives : {B r : Text} {items : List Given} → Follows o r
         → ((V : Text) → is_column_one V ≡ true → Reads o (V ++ r) V [] (V ++ r))
         → Reads o (B ++ (hs ++ (l ++ r))) [] items B
@@ -190,14 +190,14 @@ module _ (o : ParseOption) (w : WriteOption) (key value : Text)
           document = section_set place follows then d document none;
         }
 
-    pub appends_behind_empty_line : AppendsBehindEmptyLine o w name key value
-    appends_behind_empty_line W r glue gap items place (EmptyLine.there ends) follows then d document none =
+    pub appends_after_empty_line : AppendsAfterEmptyLine o w name key value
+    appends_after_empty_line W r glue gap items place (EmptyLine.there ends) follows then d document none =
         appends_at_place W r glue items place follows then d document none
-    appends_behind_empty_line W r glue gap items place (EmptyLine.new not) follows then d document none =
+    appends_after_empty_line W r glue gap items place (EmptyLine.new not) follows then d document none =
         let e = line_end w.line_separator in
         let x = hs ++ (l ++ r) in
         let apart : (W ++ glue) ≢ [] = λ is. not (no_front W glue is) in
-        let first = behind_empty_line place apart x (λ h. cc) (section_follows (l ++ r)) in
+        let first = after_empty_line place apart x (λ h. cc) (section_follows (l ++ r)) in
         let whole : ((W ++ glue) ++ e) ++ x ≡ (W ++ glue) ++ (e ++ x) = append_assoc (W ++ glue) e x in
         let text : ((W ++ glue) ++ e) ++ x
         ≡ W ++ (glue ++ (e ++ (written_name w (Some name) ++ (written_pair w (key, value) ++ r)))) =

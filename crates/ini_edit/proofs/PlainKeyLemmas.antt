@@ -22,8 +22,8 @@ module _ {o : ParseOption} {policy : EscapePolicy} where
       at : {key : List ℕ} → IsPlainKey o policy key → begins (λ c. eqb c space) key ≡ false
           → IsBareKey o policy key
       at (IsPlainKey.bare bare) other = bare
-      at (IsPlainKey.behind_spaces [] kept off all bare) other = bare
-      at (IsPlainKey.behind_spaces (c ∷ spaces) kept off all bare) other =
+      at (IsPlainKey.after_spaces [] kept off all bare) other = bare
+      at (IsPlainKey.after_spaces (c ∷ spaces) kept off all bare) other =
           absurd (both_ways (eqb c space) other
           (and_parts (eqb c space) (list_all (λ c. eqb c space) spaces) all).0)
 

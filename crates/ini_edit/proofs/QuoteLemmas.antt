@@ -18,7 +18,7 @@ use Rattle.ini_text.specs.Grammar.Places.{OwnLines}
 use Rattle.ini_text.specs.Grammar.Strings.{Closes, Row, Str, plain_ends, quote_ends}
 use Rattle.ini_text.specs.Escaping.EscapedTexts.{escaped}
 use Rattle.ini.specs.Texts.{Text}
-use Rattle.ini_edit.specs.Inside.Quotes.{IsOwnSource, IsBetweenQuoteMarks, behind_quote_mark}
+use Rattle.ini_edit.specs.Inside.Quotes.{IsOwnSource, IsBetweenQuoteMarks, after_quote_mark}
 use Rattle.ini_edit.specs.Quotes.{IsQuoteFor, KeepsQuote, StandsInQuotes, has_quote_mark, written_in}
 use Rattle.ini_edit.proofs.PadLemmas.{drop_white, white_row}
 use Rattle.ini_edit.specs.Writable.{IsWritableValue}
@@ -97,17 +97,17 @@ quote_for (KeepsQuote.none all) = IsQuoteFor.empty
 -- what follows the mark that ends a row of pieces
 module _ (m : ℕ) (mark : is_quote_mark m ≡ true) where
   past : (c : ℕ) (t : Text) → eqb c m ≡ false → eqb c backslash ≡ false
-      → behind_quote_mark m false (c ∷ t) ≡ behind_quote_mark m false t
+      → after_quote_mark m false (c ∷ t) ≡ after_quote_mark m false t
   past c t no_mark no_backslash = rw (no_mark, no_backslash) refl
 
   -- a backslash takes a character
-  past_two : (c : ℕ) (t : Text) → behind_quote_mark m false (backslash ∷ c ∷ t) ≡ behind_quote_mark m false t
+  past_two : (c : ℕ) (t : Text) → after_quote_mark m false (backslash ∷ c ∷ t) ≡ after_quote_mark m false t
   past_two c t =
       rw (mark_no_backslash m mark, and_right (eqb c m) false refl, and_right (eqb c backslash) false refl)
       refl
 
   past_digit : (c : ℕ) (t : Text) → is_digit c 16 ≡ true
-      → behind_quote_mark m false (c ∷ t) ≡ behind_quote_mark m false t
+      → after_quote_mark m false (c ∷ t) ≡ after_quote_mark m false t
   past_digit c t h = past c t
       (ne_eqb c m (λ q. no_digit (subst (λ x. is_digit x 16 ≡ true) q h)))
       (ne_eqb c backslash (λ q. let z = subst (λ x. is_digit x 16 ≡ true) q h in cc))
@@ -116,11 +116,11 @@ module _ (m : ℕ) (mark : is_quote_mark m ≡ true) where
       no_digit = of_mark (λ m. is_digit m 16 ≡ true → ⊥) (λ h. cc) (λ h. cc) m mark
 
   past_first_digit : (c : ℕ) (t : Text) → (is_digit c 16 || eqb c plus) ≡ true
-      → behind_quote_mark m false (c ∷ t) ≡ behind_quote_mark m false t
+      → after_quote_mark m false (c ∷ t) ≡ after_quote_mark m false t
   past_first_digit c t h = elim (or_cases (is_digit c 16) (eqb c plus) h) [
     | inl q ↦ past_digit c t q
     | inr q ↦
-        subst (λ x. behind_quote_mark m false (x ∷ t) ≡ behind_quote_mark m false t)
+        subst (λ x. after_quote_mark m false (x ∷ t) ≡ after_quote_mark m false t)
         (sym (eqb-true c plus q))
         (past plus t no_plus refl)
   ]
@@ -129,7 +129,7 @@ module _ (m : ℕ) (mark : is_quote_mark m ≡ true) where
       no_plus = of_mark (λ m. eqb plus m ≡ false) refl refl m mark
 
   past_escape : {escapes : Bool} {p w : Text} → EscapeSequence escapes p w → (t : Text)
-      → behind_quote_mark m false (p ++ t) ≡ behind_quote_mark m false t
+      → after_quote_mark m false (p ++ t) ≡ after_quote_mark m false t
   unfolding spelled
   past_escape EscapeSequence.folded t = past_two _ t
   past_escape (EscapeSequence.named on named) t = past_two _ t
@@ -142,29 +142,29 @@ module _ (m : ℕ) (mark : is_quote_mark m ≡ true) where
   past_escape (EscapeSequence.itself on feed x none) t = past_two _ t
   past_escape (EscapeSequence.kept off feed) t = past_two _ t
 
-  at_mark : (t : Text) → behind_quote_mark m false (m ∷ t) ≡ Some t
+  at_mark : (t : Text) → after_quote_mark m false (m ∷ t) ≡ Some t
   at_mark t = cond-true (eqb m m && true) _ _ (and_from (eqb m m) true (eq-eqb m m refl) refl)
 
-  pub behind_row : {escapes : Bool} {s v : Text} → Row escapes (quote_ends m) s v → (t : Text)
-      → behind_quote_mark m false (s ++ m ∷ t) ≡ Some t
-  behind_row Row.none t = at_mark t
-  behind_row (Row.raw {c} {s} n ends row) t =
-      past c (s ++ m ∷ t) (or_parts (eqb c m) false ends).0 (ne_eqb c backslash n) ∙ behind_row row t
-  behind_row (Row.escape {p} {s = s} piece row) t =
-      ap (behind_quote_mark m false) (append_assoc p s (m ∷ t)) ∙ past_escape piece (s ++ m ∷ t)
-      ∙ behind_row row t
+  pub after_row : {escapes : Bool} {s v : Text} → Row escapes (quote_ends m) s v → (t : Text)
+      → after_quote_mark m false (s ++ m ∷ t) ≡ Some t
+  after_row Row.none t = at_mark t
+  after_row (Row.raw {c} {s} n ends row) t =
+      past c (s ++ m ∷ t) (or_parts (eqb c m) false ends).0 (ne_eqb c backslash n) ∙ after_row row t
+  after_row (Row.escape {p} {s = s} piece row) t =
+      ap (after_quote_mark m false) (append_assoc p s (m ∷ t)) ∙ past_escape piece (s ++ m ∷ t)
+      ∙ after_row row t
 
 -- what follows goes on
-behind_more : (m : ℕ) (taken : Bool) (t x pad : Text) → behind_quote_mark m taken t ≡ Some x
-    → behind_quote_mark m taken (t ++ pad) ≡ Some (x ++ pad)
-behind_more m taken [] x pad h = absurd (let z : None ≡ Some x = h in cc)
-behind_more m taken (c ∷ t) x pad h = elim (cases_Bool (eqb c m && not taken)) [
+after_more : (m : ℕ) (taken : Bool) (t x pad : Text) → after_quote_mark m taken t ≡ Some x
+    → after_quote_mark m taken (t ++ pad) ≡ Some (x ++ pad)
+after_more m taken [] x pad h = absurd (let z : None ≡ Some x = h in cc)
+after_more m taken (c ∷ t) x pad h = elim (cases_Bool (eqb c m && not taken)) [
   | inl here ↦
       let same : Some t ≡ Some x = sym (cond-true (eqb c m && not taken) _ _ here) ∙ h in
       cond-true (eqb c m && not taken) _ _ here ∙ ap (λ z. Some (z ++ pad)) (let e : t ≡ x = cc in e)
   | inr on ↦
       cond-false (eqb c m && not taken) _ _ on
-      ∙ behind_more m (eqb c backslash && not taken) t x pad
+      ∙ after_more m (eqb c backslash && not taken) t x pad
       (sym (cond-false (eqb c m && not taken) _ _ on) ∙ h)
 ]
 
@@ -172,9 +172,9 @@ behind_more m taken (c ∷ t) x pad h = elim (cases_Bool (eqb c m && not taken))
 record BeginsPart (o : ParseOption) (m : ℕ) (x : Text) : Type 0 where
   pub content : Text
   pub given : Text
-  pub behind : Text
+  pub following : Text
   pub row : Row o.enabled_escape (quote_ends m) content given
-  pub whole : x ≡ content ++ m ∷ behind
+  pub whole : x ≡ content ++ m ∷ following
 
 line_part : {o : ParseOption} {first : Bool} {l r v : Text} → o.enabled_quote ≡ true → Line o first l r v
     → (m : ℕ) (x z after : Text) → is_quote_mark m ≡ true → l ++ z ≡ m ∷ x → r ≡ z ++ after
@@ -193,7 +193,7 @@ line_part {o} on (Line.line {p = p} (Quoted.part {m = n} {s} {v} {q} _ _ (Str.cl
     record {
       content = s;
       given = v;
-      behind = q ++ (p ++ z);
+      following = q ++ (p ++ z);
       row = subst (λ y. Row o.enabled_escape (quote_ends y) s v) same row;
       whole = sym tails ∙ append_assoc s (n ∷ q) (p ++ z) ∙ ap (λ y. s ++ y ∷ (q ++ (p ++ z))) same;
     }
@@ -209,14 +209,14 @@ own_part on (OwnLines.more {l} {e} {t} {r} one ends more) m x mark is =
 pub part_between : {o : ParseOption} {own : Text} {m : ℕ} → o.enabled_quote ≡ true → IsOwnSource o own
     → IsBetweenQuoteMarks own m → StandsInQuotes o own m
 part_between {o} {own} {m} on source between =
-    let part = own_part on source.lines m (between.behind ++ source.pad) between.mark
+    let part = own_part on source.lines m (between.following ++ source.pad) between.mark
     (ap (λ z. z ++ source.pad) between.whole) in
-    let one = behind_more m false between.behind [] source.pad between.ends in
-    let other : behind_quote_mark m false (between.behind ++ source.pad) ≡ Some part.behind =
-    ap (behind_quote_mark m false) part.whole ∙ behind_row m between.mark part.row part.behind in
-    let both : Some source.pad ≡ Some part.behind = sym one ∙ other in
-    let same : source.pad ≡ part.behind = cc in
-    let whole : between.behind ++ source.pad ≡ (part.content ++ m ∷ []) ++ source.pad =
+    let one = after_more m false between.following [] source.pad between.ends in
+    let other : after_quote_mark m false (between.following ++ source.pad) ≡ Some part.following =
+    ap (after_quote_mark m false) part.whole ∙ after_row m between.mark part.row part.following in
+    let both : Some source.pad ≡ Some part.following = sym one ∙ other in
+    let same : source.pad ≡ part.following = cc in
+    let whole : between.following ++ source.pad ≡ (part.content ++ m ∷ []) ++ source.pad =
     part.whole ∙ ap (λ z. part.content ++ m ∷ z) (sym same)
     ∙ sym (append_assoc part.content (m ∷ []) source.pad) in
     record {
@@ -227,25 +227,25 @@ part_between {o} {own} {m} on source between =
       string = Str.closed part.row (or_left (eqb m m) false (eq-eqb m m refl));
       whole =
           between.whole
-          ∙ ap (λ z. m ∷ z) (append_cancel_right between.behind (part.content ++ m ∷ []) source.pad whole);
+          ∙ ap (λ z. m ∷ z) (append_cancel_right between.following (part.content ++ m ∷ []) source.pad whole);
     }
 
 ends_string : {escapes : Bool} {m : ℕ} {s r v : Text} → is_quote_mark m ≡ true
-    → Str escapes (quote_ends m) s (m ∷ r) v → behind_quote_mark m false (s ++ m ∷ []) ≡ Some []
-ends_string {m = m} mark (Str.closed row closes) = behind_row m mark row []
+    → Str escapes (quote_ends m) s (m ∷ r) v → after_quote_mark m false (s ++ m ∷ []) ≡ Some []
+ends_string {m = m} mark (Str.closed row closes) = after_row m mark row []
 
 pub between_part : {o : ParseOption} {own : Text} {m : ℕ} → StandsInQuotes o own m
     → IsBetweenQuoteMarks own m
 between_part {m = m} part = record {
   mark = part.mark;
-  behind = part.content ++ m ∷ [];
+  following = part.content ++ m ∷ [];
   whole = part.whole;
   ends = ends_string part.mark part.string;
 }
 
 pub same_mark : {own : Text} {m n : ℕ} → IsBetweenQuoteMarks own m → IsBetweenQuoteMarks own n → m ≡ n
 same_mark {m = m} {n = n} one other =
-    let both : m ∷ one.behind ≡ n ∷ other.behind = sym one.whole ∙ other.whole in
+    let both : m ∷ one.following ≡ n ∷ other.following = sym one.whole ∙ other.whole in
     cc
 
 -- the quote in which a value is written in the place of one whose source stands in no quotes, or in its mark
@@ -268,7 +268,7 @@ module _ {o : ParseOption} {own value : Text} where
   mark_kept on source between none is =
       subst (KeepsQuote o own value) (sym is) (KeepsQuote.kept (part_between on source between) none)
 
--- a text that goes on with the stretches of a pair, one behind the other
+-- a text that goes on with the stretches of a pair, one after the other
 pub put_together : (old f k l w p t : Text) (s : ℕ) {a b c d e g new : Text} → a ≡ old ++ f
     → b ≡ a ++ k → c ≡ b ++ s ∷ [] → d ≡ c ++ l → e ≡ d ++ w → g ≡ e ++ p → new ≡ g ++ t
     → new ≡ old ++ (f ++ (k ++ s ∷ (l ++ (w ++ (p ++ t)))))

@@ -17,12 +17,12 @@ use Rattle.ini.specs.SectionItems.{pair_items}
 use Rattle.ini.proofs.KeepingLemmas.{name_refl, text_refl}
 use Rattle.ini_edit.specs.FirstPairs.{IsFirstPair}
 use Rattle.ini_edit.specs.Places.{Follows, StandsAt, Stretches}
-use Rattle.ini_edit.specs.Renamed.{HasEdges, IsPlainBareKey, IsRenamed, behind_key}
+use Rattle.ini_edit.specs.Renamed.{HasEdges, IsPlainBareKey, IsRenamed, after_key}
 use Rattle.ini_edit.specs.Targets.{IsTarget, Lacks}
 use Rattle.ini_edit.proofs.AheadLemmas.{FollowsFront, Reads-before_line, key_follows}
 use Rattle.ini_edit.proofs.DocumentLemmas.{edited_document}
 use Rattle.ini_edit.proofs.NewKeyLemmas.{in_place}
-use Rattle.ini_edit.proofs.ReplacedLemmas.{RestBehind, rest_behind}
+use Rattle.ini_edit.proofs.ReplacedLemmas.{RestAfter, rest_after}
 use Rattle.ini_edit.proofs.SetLemmas.{items_at, pair_and_after, section_items}
 use Rattle.ini_edit.proofs.StandsLemmas.{stands_derives}
 
@@ -42,8 +42,8 @@ module _ {o : ParseOption} {T : Text} {p : Stretches} {old value : Text} {before
   abbrev source : Text
   source = indent ++ (escaped policy new ++ pad)
 
-  behind : (k : Text) → element k ++ p.rest ≡ k ++ behind_key p
-  behind k = append_assoc k (p.separator ∷ (p.lead ++ (p.own ++ (p.pad ++ p.tail)))) p.rest
+  following : (k : Text) → element k ++ p.rest ≡ k ++ after_key p
+  following k = append_assoc k (p.separator ∷ (p.lead ++ (p.own ++ (p.pad ++ p.tail)))) p.rest
 
   to_tail : (k : Text) → p.front ++ element k ≡ before_tail k ++ p.tail
   to_tail k = simp append_assoc
@@ -55,10 +55,10 @@ module _ {o : ParseOption} {T : Text} {p : Stretches} {old value : Text} {before
   rest_new =
       let then : Reads o (text p.key) (p.front ++ element p.key) after (text p.key) =
       subst (λ z. Reads o z (p.front ++ element p.key) after z) s.text s.then in
-      let was : RestBehind o p.tail p.rest after (before_tail p.key) =
+      let was : RestAfter o p.tail p.rest after (before_tail p.key) =
       subst (λ z. Reads o z (before_tail p.key ++ p.tail) after z) (whole_text p.key)
       (subst (λ z. Reads o (text p.key) z after (text p.key)) (to_tail p.key) then) in
-      let is = rest_behind o (before_tail p.key) (before_tail source) s.is_tail was in
+      let is = rest_after o (before_tail p.key) (before_tail source) s.is_tail was in
       subst (λ z. Reads o (text source) z after (text source)) (sym (to_tail source))
       (subst (λ z. Reads o z (before_tail source ++ p.tail) after z) (sym (whole_text source)) is)
 
@@ -73,19 +73,19 @@ module _ {o : ParseOption} {T : Text} {p : Stretches} {old value : Text} {before
       elim place.ahead [
         | inl alike ↦
             let same : Alike (element p.key ++ p.rest) (element source ++ p.rest) =
-            subst (λ z. Alike z (element source ++ p.rest)) (sym (behind p.key))
-            (subst (Alike (p.key ++ behind_key p)) (sym (behind source)) alike) in
+            subst (λ z. Alike z (element source ++ p.rest)) (sym (following p.key))
+            (subst (Alike (p.key ++ after_key p)) (sym (following source)) alike) in
             Reads-alike same refl first rest
         | inr follows ↦
             let front : FollowsFront p.front (element p.key ++ p.rest) =
-            subst (FollowsFront p.front) (sym (behind p.key)) (key_follows (behind_key p) s.key_front) in
-            Reads-before_line (subst (Follows o) (sym (behind source)) follows) (element p.key ++ p.rest)
+            subst (FollowsFront p.front) (sym (following p.key)) (key_follows (after_key p) s.key_front) in
+            Reads-before_line (subst (Follows o) (sym (following source)) follows) (element p.key ++ p.rest)
             front refl first rest
       ]
 
-  pub renamed : Derives o (p.front ++ (source ++ behind_key p)) (before ++ (Pair new value ∷ after))
+  pub renamed : Derives o (p.front ++ (source ++ after_key p)) (before ++ (Pair new value ∷ after))
   renamed =
-      subst (λ z. Derives o (p.front ++ z) (before ++ (Pair new value ∷ after))) (behind source) renamed_text
+      subst (λ z. Derives o (p.front ++ z) (before ++ (Pair new value ∷ after))) (following source) renamed_text
 
 -- the pairs in which the first of the key is renamed
 renamed_at : (key new v : Text) (qs rs : Pairs) → is_text key key ≡ true → Lacks key qs
@@ -125,7 +125,7 @@ module _ {name : Option Text} {old : Text} {before after : List Given} (t : IsTa
 pub is_renamed : {o : ParseOption} {policy : EscapePolicy} {T : Text} {name : Option Text}
     {old new value : Text} {p : Stretches} {indent pad : Text} (U : Text) → IsFirstPair o T name old p value
     → IsPlainBareKey o policy new → HasEdges o p.key indent pad
-    → U ≡ p.front ++ ((indent ++ (escaped policy new ++ pad)) ++ behind_key p)
+    → U ≡ p.front ++ ((indent ++ (escaped policy new ++ pad)) ++ after_key p)
     → IsRenamed o policy T name old new U
 is_renamed {o} {policy} {T} {name} {old} {new} {value} {p} {indent} {pad} U first plain edges text =
     let items = first.before ++ (Pair old value ∷ first.after) in

@@ -7,17 +7,17 @@ use Rattle.ini_text.specs.Grammar.Values.{LineEnd}
 use Rattle.ini_text.specs.Grammar.Elements.{Given, Pair, Element}
 use Rattle.ini_text.specs.Grammar.Texts.{Reads, Derives}
 use Rattle.ini_text.proofs.LawLemmas.OneAheadLemmas.{Alike, KeyFront-alike, Reads-alike}
-use Rattle.ini_edit.proofs.BehindLemmas.{EndsLike-one, Reads-like, Reads-line_end, nothing_left}
+use Rattle.ini_edit.proofs.AfterLemmas.{EndsLike-one, Reads-like, Reads-line_end, nothing_left}
 use Rattle.ini_text.specs.Grammar.Places.{Tail}
 use Rattle.ini_edit.specs.Places.{StandsAt, Stretches, pair_of, pair_with, text_with}
 use Rattle.ini_edit.proofs.ValueLemmas.{IsSourceOf, closes_line_end, value_written}
 
 module _ (o : ParseOption) where
-  -- behind a tail the rest is read as before, whatever stands before the tail
-  abbrev pub RestBehind : List ℕ → List ℕ → List Given → List ℕ → Type 0
-  RestBehind t r items P = Reads o ((P ++ t) ++ r) (P ++ t) items ((P ++ t) ++ r)
+  -- after a tail the rest is read as before, whatever stands before the tail
+  abbrev pub RestAfter : List ℕ → List ℕ → List Given → List ℕ → Type 0
+  RestAfter t r items P = Reads o ((P ++ t) ++ r) (P ++ t) items ((P ++ t) ++ r)
 
-  -- a rest that is empty or begins with a line end is read behind any front as before
+  -- a rest that is empty or begins with a line end is read after any front as before
   pub Reads-closes : (r : List ℕ) {items : List Given} (W V : List ℕ) → Closes plain_ends r
       → Reads o (W ++ r) W items (W ++ r) → Reads o (V ++ r) V items (V ++ r)
   Reads-closes [] {items} W V h reads =
@@ -26,15 +26,15 @@ module _ (o : ParseOption) where
       (subst (λ z. Reads o z V [] z) (sym (append-nil V)) (Reads.stay [] (sym (append-nil V))))
   Reads-closes (c ∷ r) W V h reads = Reads-line_end W V c r (closes_line_end c h) reads
 
-  pub rest_behind : {t r : List ℕ} {items : List Given} (P Q : List ℕ) → Tail o t r → RestBehind t r items P
-      → RestBehind t r items Q
-  rest_behind {r = r} P Q (Tail.line off h) reads = Reads-closes r (P ++ []) (Q ++ []) h reads
-  rest_behind P Q (Tail.end on) reads = Reads-closes [] (P ++ []) (Q ++ []) refl reads
-  rest_behind {r = r} P Q (Tail.lines {t = t} on LineEnd.lf more all) reads =
+  pub rest_after : {t r : List ℕ} {items : List Given} (P Q : List ℕ) → Tail o t r → RestAfter t r items P
+      → RestAfter t r items Q
+  rest_after {r = r} P Q (Tail.line off h) reads = Reads-closes r (P ++ []) (Q ++ []) h reads
+  rest_after P Q (Tail.end on) reads = Reads-closes [] (P ++ []) (Q ++ []) refl reads
+  rest_after {r = r} P Q (Tail.lines {t = t} on LineEnd.lf more all) reads =
       Reads-like o (EndsLike-one P Q _ t) r reads
-  rest_behind {r = r} P Q (Tail.lines {t = t} on LineEnd.cr_lf more all) reads =
+  rest_after {r = r} P Q (Tail.lines {t = t} on LineEnd.cr_lf more all) reads =
       Reads-like o (EndsLike-one P Q _ (_ ∷ t)) r reads
-  rest_behind {r = r} P Q (Tail.lines {t = t} on (LineEnd.cr n) more all) reads =
+  rest_after {r = r} P Q (Tail.lines {t = t} on (LineEnd.cr n) more all) reads =
       Reads-like o (EndsLike-one P Q _ t) r reads
 
 -- two texts that begin with one key and its separator
@@ -63,10 +63,10 @@ module _ {o : ParseOption} {T : List ℕ} {p : Stretches} {key old : List ℕ} {
   rest_new =
       let then : Reads o (text_with p p.own) (p.front ++ pair_of p) after (text_with p p.own) =
       subst (λ z. Reads o z (p.front ++ pair_of p) after z) s.text s.then in
-      let was : RestBehind o p.tail p.rest after (before_tail p.own) =
+      let was : RestAfter o p.tail p.rest after (before_tail p.own) =
       subst (λ z. Reads o z (before_tail p.own ++ p.tail) after z) (whole_text p.own)
       (subst (λ z. Reads o (text_with p p.own) z after (text_with p p.own)) (to_tail p.own) then) in
-      let then_new = rest_behind o (before_tail p.own) (before_tail new) s.is_tail was in
+      let then_new = rest_after o (before_tail p.own) (before_tail new) s.is_tail was in
       subst (λ z. Reads o (text_with p new) z after (text_with p new)) (sym (to_tail new))
       (subst (λ z. Reads o z (before_tail new ++ p.tail) after z) (sym (whole_text new)) then_new)
 

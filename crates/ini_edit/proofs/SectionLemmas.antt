@@ -1,5 +1,5 @@
 -- A text that begins with a header, or is empty: what stands before it is read as before another such text,
--- and it is read as it is behind any front.
+-- and it is read as it is after any front.
 use Rattle.std.proofs.Common.{◌≡◌, ◌∙◌, ◌==◌, ℕ, Bool, true, false, not, List, [], ◌∷◌, ◌++◌, ap, sym, subst}
 use Rattle.std.proofs.Common.{refl, append_assoc, append-nil, eqb-true, inr}
 use Rattle.std.proofs.lemmas.Bool.{false≢true}
@@ -17,7 +17,7 @@ use Rattle.ini_text.proofs.LawLemmas.OneAheadLemmas.{Alike, Element-alike, KeyFr
 use Rattle.ini.specs.Texts.{Text}
 use Rattle.ini_edit.specs.Places.{Follows}
 use Rattle.ini_edit.proofs.AheadLemmas.{FollowsFront, no_bracketed, value_before, y_some}
-use Rattle.ini_edit.proofs.BehindLemmas.{Reads-like}
+use Rattle.ini_edit.proofs.AfterLemmas.{Reads-like}
 use Rattle.ini_edit.proofs.PlaceLemmas.{EndsLike-some}
 use Rattle.ini_edit.proofs.ReplacedLemmas.{Reads-closes}
 
@@ -77,12 +77,12 @@ module _ {o : ParseOption} {x : Text} (is : EmptyOrHeader x) where
   Reads-before_header {b = b} {c} y h (Reads.step {s = s} {r = z} {gives = gives} {items} q e reads) =
       let front = Reads-front reads in
       let m = front.0 in
-      let behind : z ≡ m ++ (open_bracket ∷ y) = append_cancel_left (b ++ s) z (m ++ (open_bracket ∷ y))
+      let following : z ≡ m ++ (open_bracket ∷ y) = append_cancel_left (b ++ s) z (m ++ (open_bracket ∷ y))
       (append_assoc b s z ∙ sym q ∙ h ∙ ap (λ w. w ++ (open_bracket ∷ y)) (sym front.1)
       ∙ append_assoc (b ++ s) m (open_bracket ∷ y)) in
       let whole : c ++ x ≡ b ++ (s ++ (m ++ x)) =
       ap (λ w. w ++ x) (sym front.1) ∙ append_assoc (b ++ s) m x ∙ append_assoc b s (m ++ x) in
-      Reads.step whole (at m (subst (λ w. Element o b s w gives) behind e)) (Reads-before_header y h reads)
+      Reads.step whole (at m (subst (λ w. Element o b s w gives) following e)) (Reads-before_header y h reads)
     where
       at : {s : Text} {gives : List Given} (m : Text) → Element o b s (m ++ (open_bracket ∷ y)) gives
           → Element o b s (m ++ x) gives
@@ -128,7 +128,7 @@ module _ {o : ParseOption} {b V Y : Text} where
   bracket_element {r = r} h (Element.dropped_key {w = w} {s = s} i begins stops) =
       no_blank (s ++ r) i (sym (append_assoc w s r) ∙ h)
 
--- a rest whose first element needs no front is read behind any front as before
+-- a rest whose first element needs no front is read after any front as before
 Reads-any : {o : ParseOption} {items : List Given} (W V Y : Text)
     → ((s r : Text) (gives : List Given) → s ++ r ≡ Y → Element o W s r gives → Element o V s r gives)
     → Reads o (W ++ Y) W items (W ++ Y) → Reads o (V ++ Y) V items (V ++ Y)

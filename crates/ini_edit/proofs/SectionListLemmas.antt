@@ -11,28 +11,28 @@ use Rattle.ini.specs.Documents.{Document, document_of, first_section, section_re
 use Rattle.ini.specs.Edits.{section_renamed}
 use Rattle.ini.specs.SectionItems.{pair_items}
 use Rattle.ini.proofs.KeepingLemmas.{name_refl}
-use Rattle.ini.proofs.PlainTextLemmas.{items-behind, pairs_make}
-use Rattle.ini_edit.proofs.DocumentLemmas.{rest_make, sections_behind}
+use Rattle.ini.proofs.PlainTextLemmas.{items-after, pairs_make}
+use Rattle.ini_edit.proofs.DocumentLemmas.{rest_make, sections_after}
 use Rattle.ini_edit.proofs.FindLemmas.{document_of-append}
 
 -- items from a header on make further sections
 headers_make : (d : Document) (items : List Given) → BeginsWithHeader items
-    → fold with_item d items ≡ d ++ sections_behind items
+    → fold with_item d items ≡ d ++ sections_after items
 headers_make d [] h = sym (append-nil d)
-headers_make d (Header name ∷ items) h = items-behind d ((Some name, []) ∷ []) items (omega arith)
+headers_make d (Header name ∷ items) h = items-after d ((Some name, []) ∷ []) items (omega arith)
 headers_make d (Pair key value ∷ items) h = absurd h
 
-pub made_behind : (before items : List Given) → BeginsWithHeader items
-    → document_of (before ++ items) ≡ document_of before ++ sections_behind items
-made_behind before items h = document_of-append before items ∙ headers_make (document_of before) items h
+pub made_after : (before items : List Given) → BeginsWithHeader items
+    → document_of (before ++ items) ≡ document_of before ++ sections_after items
+made_after before items h = document_of-append before items ∙ headers_make (document_of before) items h
 
 -- a header, pairs, and items from a header on
 pub made_section : (before : List Given) (name : Text) (pairs : Pairs) (after : List Given)
     → BeginsWithHeader after
     → document_of (before ++ (Header name ∷ (pair_items pairs ++ after)))
-    ≡ document_of before ++ (Some name, pairs) ∷ sections_behind after
+    ≡ document_of before ++ (Some name, pairs) ∷ sections_after after
 made_section before name pairs after h =
-    made_behind before (Header name ∷ (pair_items pairs ++ after)) tt
+    made_after before (Header name ∷ (pair_items pairs ++ after)) tt
     ∙ ap (λ x. document_of before ++ x)
     (fold-append with_item ((Some name, []) ∷ []) (pair_items pairs) after
     ∙ ap (λ x. fold with_item x after) (pairs_make (Some name) [] pairs)
@@ -73,8 +73,8 @@ module _ (before : List Given) (name : Text) (pairs : Pairs) (after : List Given
       ≡ document_of (before ++ after)
   document_without =
       ap (section_removed (Some name)) (made_section before name pairs after h)
-      ∙ removed_first (Some name) (document_of before) pairs (sections_behind after) first
-      ∙ sym (made_behind before after h)
+      ∙ removed_first (Some name) (document_of before) pairs (sections_after after) first
+      ∙ sym (made_after before after h)
 
   pub document_renamed : (other : Text)
       → section_renamed (Some name) (Some other)
@@ -82,5 +82,5 @@ module _ (before : List Given) (name : Text) (pairs : Pairs) (after : List Given
       ≡ document_of (before ++ (Header other ∷ (pair_items pairs ++ after)))
   document_renamed other =
       ap (section_renamed (Some name) (Some other)) (made_section before name pairs after h)
-      ∙ renamed_first (Some name) (Some other) (document_of before) pairs (sections_behind after) first
+      ∙ renamed_first (Some name) (Some other) (document_of before) pairs (sections_after after) first
       ∙ sym (made_section before other pairs after h)

@@ -11,9 +11,9 @@ use Rattle.ini.specs.Texts.{Text}
 use Rattle.ini.specs.Documents.{document_of}
 use Rattle.ini.specs.SectionItems.{pair_items}
 use Rattle.ini_edit.specs.Places.{Follows}
-use Rattle.ini_edit.specs.Sections.{IsSectionAt, IsSectionOut, StaysBehindSection}
+use Rattle.ini_edit.specs.Sections.{IsSectionAt, IsSectionOut, StaysAfterSection}
 use Rattle.ini_edit.proofs.AheadLemmas.{FollowsFront, Reads-before_line}
-use Rattle.ini_edit.proofs.BehindLemmas.{Reads-like}
+use Rattle.ini_edit.proofs.AfterLemmas.{Reads-like}
 use Rattle.ini_edit.proofs.InsertedLemmas.{EndsLike-column}
 use Rattle.ini_edit.proofs.PlaceWalkLemmas.{items_none}
 use Rattle.ini_edit.proofs.SectionLemmas.{Reads-before_header, Reads-header, empty_or_header}
@@ -32,21 +32,21 @@ module _ {o : ParseOption} {T name front rest : Text} (s : IsSectionAt o T name 
   abbrev upto : Text
   upto = front ++ (s.items ++ s.gaps)
 
-  text_behind : T ≡ upto ++ rest
-  text_behind =
+  text_after : T ≡ upto ++ rest
+  text_after =
       s.whole ∙ ap (λ z. front ++ z) (sym (append_assoc s.items s.gaps rest))
       ∙ sym (append_assoc front (s.items ++ s.gaps) rest)
 
   then : Reads o (upto ++ rest) upto s.after (upto ++ rest)
-  then = subst (λ z. Reads o z upto s.after z) text_behind s.then
+  then = subst (λ z. Reads o z upto s.after z) text_after s.then
 
   -- what stands before the section, and the rest
   front_reads : (y : Text) → T ≡ front ++ (open_bracket ∷ y) → Reads o (front ++ rest) [] s.before front
   front_reads y whole = at s.stays
     where
-      at : StaysBehindSection front upto rest → Reads o (front ++ rest) [] s.before front
-      at (StaysBehindSection.next is) = Reads-before_header (empty_or_header rest is) y whole s.to_front
-      at (StaysBehindSection.comment column one mark) =
+      at : StaysAfterSection front upto rest → Reads o (front ++ rest) [] s.before front
+      at (StaysAfterSection.next is) = Reads-before_header (empty_or_header rest is) y whole s.to_front
+      at (StaysAfterSection.comment column one mark) =
           let f : FollowsFront front (open_bracket ∷ y) = record { some = refl; bracket = inr column } in
           items_none s.before
           (Reads-before_line (comment_follows rest mark) (open_bracket ∷ y) f whole s.to_front
@@ -55,9 +55,9 @@ module _ {o : ParseOption} {T name front rest : Text} (s : IsSectionAt o T name 
   rest_read : Reads o (front ++ rest) front s.after (front ++ rest)
   rest_read = at s.stays
     where
-      at : StaysBehindSection front upto rest → Reads o (front ++ rest) front s.after (front ++ rest)
-      at (StaysBehindSection.next is) = Reads-header upto front (empty_or_header rest is) then
-      at (StaysBehindSection.comment column one mark) =
+      at : StaysAfterSection front upto rest → Reads o (front ++ rest) front s.after (front ++ rest)
+      at (StaysAfterSection.next is) = Reads-header upto front (empty_or_header rest is) then
+      at (StaysAfterSection.comment column one mark) =
           Reads-like o (EndsLike-column upto front one column) rest then
 
   begins : (y : Text) × (T ≡ front ++ (open_bracket ∷ y))

@@ -23,7 +23,7 @@ use Rattle.ini_edit.specs.Sections.{IsHeaderAt, IsSectionRenamed, header_of}
 use Rattle.ini_edit.specs.Inside.SectionWalks.{OpensAt}
 use Rattle.ini_edit.specs.Inside.Walks.{ReadsOn}
 use Rattle.ini_edit.specs.declared.section.FoundHeader.{FoundHeader}
-use Rattle.ini_edit.proofs.BehindLemmas.{EndsLike-one, Reads-like}
+use Rattle.ini_edit.proofs.AfterLemmas.{EndsLike-one, Reads-like}
 use Rattle.ini_edit.proofs.FindLemmas.{items_split}
 use Rattle.ini_edit.proofs.ReplacedLemmas.{Reads-closes}
 use Rattle.ini_edit.proofs.SectionLemmas.{EmptyOrHeader, Reads-before_header, header_bracket}
@@ -65,7 +65,7 @@ module _ {o : ParseOption} (policy : EscapePolicy) (new : Text) (p : IsPlainName
   header_anew {old = old} is (Element.dropped_key i begins stops) =
       absurd (let no : [] ≡ Header old ∷ [] = is in cc)
 
--- behind another header the rest is read as behind the old one
+-- after another header the rest is read as after the old one
 rest_anew : {o : ParseOption} {b s r old : Text} {gives items : List Given} (t : Text)
     → gives ≡ Header old ∷ []
     → Element o b s r gives → Reads o ((b ++ s) ++ r) (b ++ s) items ((b ++ s) ++ r)

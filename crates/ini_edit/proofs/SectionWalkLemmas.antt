@@ -1,4 +1,4 @@
--- The walk to a section's header, and to what stays behind the section.
+-- The walk to a section's header, and to what stays the section.
 use Rattle.std.proofs.Common.{◌≡◌, ◌∙◌, ◌&&◌, ◌==◌, not, ℕ, Bool, true, false, List, [], ◌∷◌, ◌++◌, ap, sym}
 use Rattle.std.proofs.Common.{refl, subst, inl, inr, append_assoc, append-nil, chars, Some}
 use Rattle.std.proofs.lemmas.Bool.{both_ways, false≢true, and_from, and_parts}
@@ -18,7 +18,7 @@ use Rattle.ini_text.proofs.GrammarLemmas.ItemLemmas.{reads-append}
 use Rattle.ini_text.proofs.LawLemmas.OneAheadLemmas.{Reads-front}
 use Rattle.ini.specs.Texts.{Text}
 use Rattle.ini.specs.SectionItems.{pair_items}
-use Rattle.ini_edit.specs.Sections.{IsSectionAt, LastItem, StaysBehindSection, Uncommented}
+use Rattle.ini_edit.specs.Sections.{IsSectionAt, LastItem, StaysAfterSection, Uncommented}
 use Rattle.ini_edit.specs.Inside.SectionWalks.{KeepsRest, OpensAt, ReachesRest}
 use Rattle.ini_edit.specs.Inside.Walks.{EndsSection, IsPastLast, ReadsOn, StandsWithin, Steps}
 use Rattle.ini_edit.specs.declared.section.FoundHeader.{FoundHeader}
@@ -38,7 +38,7 @@ pub opened_at : {o : ParseOption} {T name : Text} {p q : Place} {e : PlacedEleme
 opened_at {o} {T} {name} {p} {q} {e} found s t is front source rest =
     let stands = t.stands in
     let word : chars found.source.now ≡ chars e.source.now = ap (λ z. chars z.now) source in
-    let behind : stands.rest ≡ chars found.rest.now =
+    let following : stands.rest ≡ chars found.rest.now =
     append_cancel_left q.front stands.rest (chars found.rest.now)
     (ap (λ x. x ++ stands.rest) stands.reaches ∙ append_assoc p.front (chars e.source.now) stands.rest
     ∙ sym stands.whole ∙ sym t.is_reading.text ∙ sym rest) in
@@ -49,8 +49,8 @@ opened_at {o} {T} {name} {p} {q} {e} found s t is front source rest =
       reads = subst (Reads o T [] s.items) (sym front) s.reads;
       whole = stands.whole ∙ ap (λ x. x ++ (chars e.source.now ++ stands.rest)) (sym front)
           ∙ ap (λ x. chars found.front.now ++ (x ++ stands.rest)) (sym word)
-          ∙ ap (λ x. chars found.front.now ++ (chars found.source.now ++ x)) behind;
-      element = rw (front, word, sym behind, sym is) stands.is_element;
+          ∙ ap (λ x. chars found.front.now ++ (chars found.source.now ++ x)) following;
+      element = rw (front, word, sym following, sym is) stands.is_element;
       reaches = stands.reaches ∙ ap (λ x. x ++ chars e.source.now) (sym front)
           ∙ ap (λ x. chars found.front.now ++ x) (sym word);
     }
@@ -76,12 +76,12 @@ last_item_reads LastItem.start r whole = Reads.stay r whole
 last_item_reads {o} {T} (LastItem.item {c = c} {s = s} {r = r} given reads is e) z whole =
     reads-append reads (Reads.step is e (Reads.stay r (is ∙ sym (append_assoc c s r))))
 
--- behind items, and behind further ones
-pub last_item_behind : {o : ParseOption} {T a b c : Text} {first items : List Given} → LastItem o T a b first
+-- after items, and after further ones
+pub last_item_after : {o : ParseOption} {T a b c : Text} {first items : List Given} → LastItem o T a b first
     → Reads o T a first b → LastItem o T b c items → LastItem o T a c (first ++ items)
-last_item_behind {o} {T} {a} {b} {first = first} from reads LastItem.start =
+last_item_after {o} {T} {a} {b} {first = first} from reads LastItem.start =
     subst (LastItem o T a b) (sym (append-nil first)) from
-last_item_behind {o} {T} {a} {first = first} from reads
+last_item_after {o} {T} {a} {first = first} from reads
     (LastItem.item {c = c} {s = s} {items = items} given more is e) =
     subst (LastItem o T a (c ++ s)) (append_assoc first items (given ∷ []))
     (LastItem.item given (reads-append reads more) is e)
@@ -216,7 +216,7 @@ module _ {o : ParseOption} {T b : Text} {column : Bool} where
               ),
             )
 
-    -- or it begins behind that
+    -- or it begins after that
     pub keeps_nothing : (x : Text) → gives e.content ≡ [] → is_kept column rest ≡ false
         → q.front ++ x ≡ q.text
         → Keeps o T b column q x
@@ -323,7 +323,7 @@ module _ {o : ParseOption} {T name : Text} {p : Place} {found : FoundHeader}
       let k = h.keeps in
       let front = chars found.front.now in
       let source = chars found.source.now in
-      let behind = rest_reads h.ends on.reads in
+      let following = rest_reads h.ends on.reads in
       let pairs = Reads-front (keeps_reads k) in
       let gaps = Reads-front k.gaps in
       let to_last : front ++ (source ++ pairs.0) ≡ k.last =
@@ -338,7 +338,7 @@ module _ {o : ParseOption} {T name : Text} {p : Place} {found : FoundHeader}
         gaps = gaps.0;
         before = opens.items;
         pairs = k.pairs;
-        after = behind.0;
+        after = following.0;
         whole = k.whole ∙ ap (λ z. z ++ rest) (sym to_upto)
             ∙ append_assoc front ((source ++ pairs.0) ++ gaps.0) rest
             ∙ ap (λ z. front ++ z) (append_assoc (source ++ pairs.0) gaps.0 rest);
@@ -346,15 +346,15 @@ module _ {o : ParseOption} {T name : Text} {p : Place} {found : FoundHeader}
         to_front = opens.reads;
         is_section =
             subst (λ z. LastItem o T front z (Header name ∷ pair_items k.pairs)) (sym to_last)
-            (last_item_behind opening (opened_within opens).0 k.items);
+            (last_item_after opening (opened_within opens).0 k.items);
         nothing = rw (to_last, to_upto) k.gaps;
         uncommented = rw (to_last, to_upto) k.uncommented;
-        then = rw (to_upto) (reads-append k.nothing behind.1.1);
-        ends = behind.1.0;
+        then = rw (to_upto) (reads-append k.nothing following.1.1);
+        ends = following.1.0;
         first = opens.none;
         stays = rw (to_upto) (elim k.kept [
-          | inl is ↦ StaysBehindSection.next (h.next is)
-          | inr kept ↦ StaysBehindSection.comment kept.0 kept.1.0 kept.1.1
+          | inl is ↦ StaysAfterSection.next (h.next is)
+          | inr kept ↦ StaysAfterSection.comment kept.0 kept.1.0 kept.1.1
         ]);
       }
 

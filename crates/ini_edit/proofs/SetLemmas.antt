@@ -56,7 +56,7 @@ module _ {name : Option Text} {key : Text} {before after : List Given}
       ∙ ap (λ l. l ++ (Pair key value ∷ (pair_items later ++ t.rest))) t.before_is
       ∙ section_items t.opening t.rest t.earlier ((key, value) ∷ later)
 
-  -- the pair, and all behind it
+  -- the pair, and all after it
   pub pair_and_after : (value : Text)
       → before ++ (Pair key value ∷ after)
       ≡ (before ++ Pair key value ∷ []) ++ (pair_items t.later ++ t.rest)

@@ -12,7 +12,7 @@ use Rattle.ini_edit.specs.Edited.{IsSetThere}
 use Rattle.ini_edit.specs.FirstPairs.{stretches_of}
 use Rattle.ini_edit.specs.Places.{Stretches, pair_of, pair_with}
 use Rattle.ini_edit.specs.Quotes.{IsPut}
-use Rattle.ini_edit.specs.Inside.Later.{IsAlikeBehind, TakesLater, TakesLaterOut}
+use Rattle.ini_edit.specs.Inside.Later.{IsAlikeAfter, TakesLater, TakesLaterOut}
 use Rattle.ini_edit.specs.Inside.Quotes.{IsOwnSource}
 use Rattle.ini_edit.specs.Inside.Walks.{OpensFirst, ReachesPair, ReadsOn, StandsWithin}
 use Rattle.ini_edit.specs.declared.find.FoundPair.{FoundPair}
@@ -27,19 +27,19 @@ module _ {o : ParseOption} {T : Text} {p : Place} {name : Option Text} (key : Te
   abbrev pair : Stretches
   pair = stretches_of x
 
-  text_behind : T ≡ q.front ++ pair.rest
-  text_behind =
+  text_after : T ≡ q.front ++ pair.rest
+  text_after =
       reaches.whole ∙ sym (append_assoc pair.front (pair_of pair) pair.rest)
       ∙ ap (λ z. z ++ pair.rest) (sym reaches.front)
 
   pub own_source : IsOwnSource o pair.own
   own_source = record { pad = pair.pad; rest = pair.tail ++ pair.rest; lines = reaches.placed.own }
 
-  -- what follows the pair is read behind another value as behind its own
-  pub pair_alike : (value f : Text) → f ≡ pair.front ++ pair_with pair value → IsAlikeBehind q f
+  -- what follows the pair is read after another value as after its own
+  pub pair_alike : (value f : Text) → f ≡ pair.front ++ pair_with pair value → IsAlikeAfter q f
   pair_alike value f written = record {
-    behind = pair.rest;
-    whole = reaches.is_reading.text ∙ text_behind;
+    following = pair.rest;
+    whole = reaches.is_reading.text ∙ text_after;
     alike = rw (reaches.front, written) (value_alike pair value reaches.placed.tail);
   }
 
@@ -62,12 +62,12 @@ module _ {o : ParseOption} {T : Text} {p : Place} {name : Option Text} (key : Te
         → ReadsOn r.option r.text r.front
         → r.front ++ left ≡ r.text → new ≡ g ++ left → IsSetThere o policy T name key value new
     is_set {policy} {value} {source} left new writable put written on rest is_new =
-        let behind : here.behind ≡ pair.rest =
-        append_cancel_left q.front here.behind pair.rest (sym here.whole ∙ text_behind) in
+        let following : here.following ≡ pair.rest =
+        append_cancel_left q.front here.following pair.rest (sym here.whole ∙ text_after) in
         let out : TakesLaterOut o T key q.front
         (pair.front ++ pair_with pair source) pair.rest r g =
         subst (λ z. TakesLaterOut o T key q.front z pair.rest r g) written
-        (subst (λ z. TakesLaterOut o T key q.front f z r g) behind here.out) in
+        (subst (λ z. TakesLaterOut o T key q.front f z r g) following here.out) in
         subst (IsSetThere o policy T name key value) (sym is_new)
         (set_there left opens reaches writable put out
         (told (λ o T. ReadsOn o T r.front) here.out.is_reading on)

@@ -21,8 +21,8 @@ use Rattle.ini_edit.specs.Targets.{Lacks}
 use Rattle.ini_edit.specs.declared.error.EditError.{EditError}
 use Rattle.ini_edit.specs.declared.error.EditError.TheVariants as refusals
 use Rattle.ini_edit.specs.Writable.{IsWritableValue}
-use Rattle.ini_edit.proofs.DocumentLemmas.{section_made, sections_behind}
-use Rattle.ini_edit.proofs.FindLemmas.{first_section-behind}
+use Rattle.ini_edit.proofs.DocumentLemmas.{section_made, sections_after}
+use Rattle.ini_edit.proofs.FindLemmas.{first_section-after}
 use Rattle.ini_edit.proofs.InsertLemmas.{items_end}
 use Rattle.ini_edit.proofs.PlacedLemmas.{place_items}
 use Rattle.ini_edit.proofs.StandsLemmas.{derives_one}
@@ -40,12 +40,12 @@ module _ {o : ParseOption} {w : WriteOption} {T key value U : Text} where
       (reads-append (place_items at.place.place at.place.follows) at.place.then) in
       let same : lacks.document ≡ document_of (before ++ after) =
       lacks.is_document.document ∙ ap document_of (derives_one lacks.is_document.derives derives) in
-      let made : document_of (before ++ after) ≡ e.sections ++ (name, e.pairs) ∷ sections_behind after =
+      let made : document_of (before ++ after) ≡ e.sections ++ (name, e.pairs) ∷ sections_after after =
       ap document_of (items_end e) ∙ section_made e.pairs after e.opens e.header in
       let value : value_in name key
-      (e.sections ++ (name, e.pairs) ∷ sections_behind after) ≡ first_value key e.pairs =
+      (e.sections ++ (name, e.pairs) ∷ sections_after after) ≡ first_value key e.pairs =
       ap (option_and_then (first_value key))
-      (first_section-behind name e.sections ((name, e.pairs) ∷ sections_behind after) e.opens.first
+      (first_section-after name e.sections ((name, e.pairs) ∷ sections_after after) e.opens.first
       ∙ cond-true (is_name name name) (Some e.pairs) _ (name_refl name)) in
       sym value ∙ ap (value_in name key) (sym made ∙ sym same) ∙ lacks.none
 

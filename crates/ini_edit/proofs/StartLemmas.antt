@@ -18,11 +18,11 @@ use Rattle.ini_edit.proofs.CommentLemmas.{IsComment, marked_comment}
 use Rattle.ini_edit.proofs.EndedLemmas.{Element-ended}
 use Rattle.ini_edit.proofs.EndingLemmas.{column_ending}
 
--- what reaches a line end reaches what stands behind it, whatever follows
-reaches_behind : {o : ParseOption} {V : List ℕ} {items : List Given} (c : ℕ) (e x r : List ℕ)
+-- what reaches a line end reaches what stands after it, whatever follows
+reaches_after : {o : ParseOption} {V : List ℕ} {items : List Given} (c : ℕ) (e x r : List ℕ)
     → list_all is_line_end (c ∷ e) ≡ true → Reads o (V ++ (c ∷ (e ++ r))) [] items V
     → Reads o (V ++ (c ∷ (e ++ x))) [] items (V ++ c ∷ e)
-reaches_behind {o} {V} {items} c e x r all first =
+reaches_after {o} {V} {items} c e x r all first =
     let T = V ++ (c ∷ (e ++ x)) in
     let gaps : Reads o T V [] (V ++ c ∷ e) = gaps_read (gaps_of (c ∷ e) all) refl in
     subst (λ g. Reads o T [] g (V ++ c ∷ e)) (append-nil items) (Reads-alike Alike.same refl first gaps)
@@ -37,14 +37,14 @@ end_reached {o} {b = b} {s} {r} {items} {gives} g x reads whole element last =
     subst (λ z. Reads o z [] (items ++ gives) ((b ++ s) ++ g)) (sym (append_assoc b s (g ++ x)))
     (subst (λ z. Reads o (b ++ (s ++ (g ++ x))) [] (items ++ gives) z) (sym (append_assoc b s g)) all)
 
--- what reaches the end of an element reaches what is put in behind it, where the element is read before that
+-- what reaches the end of an element reaches what is put in after it, where the element is read before that
 pub element_end_reached : {o : ParseOption} {T W : List ℕ} {items : List Given} (g x : List ℕ)
     → IsElementEnd o T W items
     → ((b s r : List ℕ) (gives : List Given) → W ≡ b ++ s → Element o b s r gives
     → (gives ≡ [] → ¬ IsIndentedKey s)
     → Reads o (b ++ (s ++ (g ++ x))) b gives (b ++ (s ++ g)))
     → Reads o (W ++ (g ++ x)) [] items (W ++ g)
-element_end_reached g x (IsElementEnd.behind {b} {s} {r} {gives = gives} reads whole element key) last =
+element_end_reached g x (IsElementEnd.following {b} {s} {r} {gives = gives} reads whole element key) last =
     end_reached g x reads whole element (last b s r gives refl element key)
 
 -- the same of a comment's end
@@ -53,15 +53,15 @@ pub comment_end_reached : {o : ParseOption} {T W : List ℕ} {items : List Given
     → ((b s r : List ℕ) (gives : List Given) → W ≡ b ++ s → IsComment b s r gives
     → Reads o (b ++ (s ++ (g ++ x))) b gives (b ++ (s ++ g)))
     → Reads o (W ++ (g ++ x)) [] items (W ++ g)
-comment_end_reached g x (IsCommentEnd.behind {b} {s} {r} {gives = gives} reads whole element mark) last =
+comment_end_reached g x (IsCommentEnd.following {b} {s} {r} {gives = gives} reads whole element mark) last =
     end_reached g x reads whole element (last b s r gives refl (marked_comment mark element))
 
 module _ {o : ParseOption} where
   pub column_at : {W r : List ℕ} {items : List Given} → IsLineStart o W r items → is_column_one W ≡ true
   column_at IsLineStart.at_front = refl
   column_at (IsLineStart.before_character c r one no_end reads) = one
-  column_at (IsLineStart.behind_line_end V c e all one reads) = one
-  column_at (IsLineStart.behind_line {W} line ends) = column_ending W line
+  column_at (IsLineStart.past_line_end V c e all one reads) = one
+  column_at (IsLineStart.after_line {W} line ends) = column_ending W line
 
   pub reached : {W r : List ℕ} {items : List Given} → IsLineStart o W r items → (x : List ℕ) → Follows o x
       → Reads o (W ++ x) [] items W
@@ -70,10 +70,10 @@ module _ {o : ParseOption} where
       let f : FollowsFront W (c ∷ r) = record { some = ap not no_end; bracket = inr one } in
       subst (λ l. Reads o (W ++ x) [] l W) (append-nil items)
       (Reads-before_line follows (c ∷ r) f refl reads (Reads.stay x refl))
-  reached (IsLineStart.behind_line_end {r} {items} V c e all one reads) x follows =
+  reached (IsLineStart.past_line_end {r} {items} V c e all one reads) x follows =
       subst (λ z. Reads o z [] items (V ++ c ∷ e)) (sym (append_assoc V (c ∷ e) x))
-      (reaches_behind c e x r all reads)
-  reached (IsLineStart.behind_line {W} {items = items} line ends) x follows =
+      (reaches_after c e x r all reads)
+  reached (IsLineStart.after_line {W} {items = items} line ends) x follows =
       subst (λ z. Reads o (W ++ x) [] items z) (append-nil W)
       (element_end_reached [] x ends (λ b s r gives is element key.
       let same : Element o b s x gives = Element-ended follows element key (ap ending (sym is) ∙ line) in

@@ -17,7 +17,7 @@ use Rattle.ini_text.proofs.GrammarLemmas.ItemLemmas.{reads-append}
 use Rattle.ini_text.proofs.LawLemmas.ExportedLemmas.{front_is}
 use Rattle.ini.specs.Texts.{Text, is_text}
 use Rattle.ini_edit.specs.Places.{Cut}
-use Rattle.ini_edit.specs.Inside.Later.{IsAlikeBehind, TakesLater, TakesOut, placed_between}
+use Rattle.ini_edit.specs.Inside.Later.{IsAlikeAfter, TakesLater, TakesOut, placed_between}
 use Rattle.ini_edit.specs.Inside.Walks.{EndsSection, IsPastLast, IsReading, StandsWithin, Steps}
 use Rattle.ini_edit.proofs.CutLemmas.{CutLeft, cut_left}
 use Rattle.ini_edit.proofs.LaterLemmas.{gaps, takes_cut, takes_nothing, takes_pair, takes_start}
@@ -29,20 +29,20 @@ pub record Taking (o : ParseOption) (T key b f : Text) (p : Place) (g : Text) : 
   pub is_reading : IsReading o T p
   pub items : List Given
   pub to_front : Reads o T [] items p.front
-  pub behind : Text
-  pub began : T ≡ b ++ behind
+  pub following : Text
+  pub began : T ≡ b ++ following
   pub rest : Text
-  pub takes : TakesOut o T key b f behind p.front g rest
+  pub takes : TakesOut o T key b f following p.front g rest
 
-pub taking_start : {p : Place} {f : Text} (key : Text) → StandsWithin p → IsAlikeBehind p f
+pub taking_start : {p : Place} {f : Text} (key : Text) → StandsWithin p → IsAlikeAfter p f
     → Taking p.option p.text key p.front f p f
 taking_start key within h = record {
   is_reading = record { option = refl; text = refl; refusal = within.refusal };
   items = within.items;
   to_front = within.reads;
-  behind = h.behind;
+  following = h.following;
   began = h.whole;
-  rest = h.behind;
+  rest = h.following;
   takes = takes_start h.whole h.alike;
 }
 
@@ -52,7 +52,7 @@ module _ {o : ParseOption} {T key b f g : Text} {p : Place} (t : Taking o T key 
 
   pub taking_end : {q : Place} → IsPastLast o T p.front q → TakesLater o T key b f q g
   taking_end {q} h = record {
-    behind = t.behind;
+    following = t.following;
     whole = t.began;
     out = record {
       is_reading = h.is_reading;
@@ -78,16 +78,16 @@ module _ {o : ParseOption} {T key b f g : Text} {p : Place} (t : Taking o T key 
     is : t.rest ≡ source ++ r
     is = append_cancel_left p.front t.rest (source ++ r) (sym t.takes.whole ∙ s.stands.whole)
 
-    goes_on : TakesOut o T key b f t.behind (p.front ++ source) (g ++ source) r
+    goes_on : TakesOut o T key b f t.following (p.front ++ source) (g ++ source) r
         → Taking o T key b f q (g ++ source)
     goes_on takes = record {
       is_reading = s.is_reading;
       items = t.items ++ gives e.content;
       to_front = reads-append t.to_front (step_reads s);
-      behind = t.behind;
+      following = t.following;
       began = t.began;
       rest = r;
-      takes = subst (λ c. TakesOut o T key b f t.behind c (g ++ source) r) (sym s.stands.reaches) takes;
+      takes = subst (λ c. TakesOut o T key b f t.following c (g ++ source) r) (sym s.stands.reaches) takes;
     }
 
     pub taking_nothing : gives e.content ≡ [] → Taking o T key b f q (g ++ source)
@@ -100,7 +100,7 @@ module _ {o : ParseOption} {T key b f g : Text} {p : Place} (t : Taking o T key 
     pub taking_header : (name : Text) → gives e.content ≡ Header name ∷ []
         → TakesLater o T key b f q (g ++ source)
     taking_header name one = record {
-      behind = t.behind;
+      following = t.following;
       whole = t.began;
       out = record {
         is_reading = s.is_reading;
@@ -117,11 +117,11 @@ module _ {o : ParseOption} {T key b f g : Text} {p : Place} (t : Taking o T key 
       };
     }
 
-    -- a pair of the key, behind which the parser reads on, perhaps behind its line end
+    -- a pair of the key, after which the parser reads on, perhaps after its line end
     module _ (pair : PlacedPair) (has : e.content ≡ contents.Pair pair)
         (rest : Text) (rest_is : q.front ++ rest ≡ q.text) where
-      behind_is : r ≡ rest
-      behind_is = append_cancel_left q.front r rest
+      past_is : r ≡ rest
+      past_is = append_cancel_left q.front r rest
           (ap (λ z. z ++ r) s.stands.reaches ∙ append_assoc p.front source r ∙ sym s.stands.whole
           ∙ sym s.is_reading.text ∙ sym rest_is)
 
@@ -135,12 +135,12 @@ module _ {o : ParseOption} {T key b f g : Text} {p : Place} (t : Taking o T key 
       old = cow_text pair.value
 
       pub pair_tail : grammar.Tail o x.tail rest
-      pair_tail = subst (grammar.Tail o x.tail) behind_is placed.1.tail
+      pair_tail = subst (grammar.Tail o x.tail) past_is placed.1.tail
 
       module _ (same : cow_text pair.key ≡ key) {stays left : Text}
           (cut : Cut o (placed_between g x rest) stays left) where
         here : Cut o (placed_between g x r) stays left
-        here = subst (λ z. Cut o (placed_between g x z) stays left) (sym behind_is) cut
+        here = subst (λ z. Cut o (placed_between g x z) stays left) (sym past_is) cut
 
         named : grammar.ArePlaced o p.front x r key old
         named = subst (λ k. grammar.ArePlaced o p.front x r k old) same placed.1
@@ -151,7 +151,7 @@ module _ {o : ParseOption} {T key b f g : Text} {p : Place} (t : Taking o T key 
         abbrev reached : Text
         reached = (p.front ++ grammar.pair_source x) ++ left_is.line_end
 
-        takes : TakesOut o T key b f t.behind reached (g ++ stays) left
+        takes : TakesOut o T key b f t.following reached (g ++ stays) left
         takes = takes_cut t.takes x (is ∙ ap (λ z. z ++ r) placed.0) named here
 
         front_left : front_of T left ≡ reached
@@ -177,10 +177,10 @@ module _ {o : ParseOption} {T key b f g : Text} {p : Place} (t : Taking o T key 
               (ap (λ z. z ++ left_is.line_end) (sym source_reaches) ∙ sym front_left ∙ sym front)
               (reads-append (reads-append t.to_front (step_reads s))
               (gaps q.front left_is.line_end left left_is.ends past));
-          behind = t.behind;
+          following = t.following;
           began = t.began;
           rest = left;
-          takes = subst (λ c. TakesOut o T key b f t.behind c (g ++ stays) left) (sym front_left
+          takes = subst (λ c. TakesOut o T key b f t.following c (g ++ stays) left) (sym front_left
               ∙ sym front) takes;
         }
 

@@ -67,7 +67,7 @@ module _ {o : ParseOption} {T : Text} {p : Place} {place : Option TextPlace}
         subst (λ c. Boundary o T [] (begins is_comment_mark (chars e.source.now)) c
         (s.items ++ gives e.content))
         (sym t.stands.reaches)
-        (Boundary.behind s.reads t.stands.whole t.stands.is_element key)
+        (Boundary.following s.reads t.stands.whole t.stands.is_element key)
 
     opened : {name : Text} → gives e.content ≡ Header name ∷ []
         → SectionOpens o T (Some name) (document_of s.items) q.front
@@ -78,7 +78,7 @@ module _ {o : ParseOption} {T : Text} {p : Place} {place : Option TextPlace}
 
     none_kept : (r : Text) (next : Option TextPlace) → (next ≡ None → IsTakenAt o T r) → q.front ++ r ≡ T
         → NoneKept (chars e.source.now) (gives e.content) place next → NoEndYet o T q.front
-    none_kept r next taken whole (NoneKept.behind_nothing none chosen) = at chosen
+    none_kept r next taken whole (NoneKept.after_nothing none chosen) = at chosen
       where
         on : place ≡ None → NoEndYet o T q.front
         on was =
@@ -93,8 +93,8 @@ module _ {o : ParseOption} {T : Text} {p : Place} {place : Option TextPlace}
 
         at : NoneChosen (chars e.source.now) place next → NoEndYet o T q.front
         at (NoneChosen.neither was will key) = on was
-        at (NoneChosen.behind_key was looks) = on was
-    none_kept r next taken whole (NoneKept.behind_item some will) = at e.content refl
+        at (NoneChosen.after_key was looks) = on was
+    none_kept r next taken whole (NoneKept.after_item some will) = at e.content refl
       where
         at : (x : Content) → e.content ≡ x → NoEndYet o T q.front
         at contents.Nothing is = absurd (some (ap gives is))
@@ -125,11 +125,11 @@ module _ {o : ParseOption} {T : Text} {p : Place} {place : Option TextPlace}
 
         at : {new : Option TextPlace} → Keeps (chars e.source.now) (gives e.content) place next new
             → IfSome new (IsLastPlace o T [] (s.items ++ gives e.content) q.front)
-        at (Keeps.behind_item some) =
+        at (Keeps.after_item some) =
             last_place (chars e.source.now) r next free whole (boundary (λ none. absurd (some none)))
-        at (Keeps.behind_nothing none (Chooses.moves key)) =
+        at (Keeps.after_nothing none (Chooses.moves key)) =
             last_place (chars e.source.now) r next free whole (boundary (λ _. key))
-        at (Keeps.behind_nothing none Chooses.stays) =
+        at (Keeps.after_nothing none Chooses.stays) =
             subst (λ l. IfSome place (IsLastPlace o T [] l q.front)) (sym (nothing none))
             (place_stays [] s.items place s.last
             (subst (λ l. Reads o T p.front l q.front) none (step_reads t)))

@@ -1,5 +1,5 @@
 -- A value's source in an old one's place, between the white space around that, and before what
--- is kept behind it: its last line end, and lines that add nothing.
+-- is kept after it: its last line end, and lines that add nothing.
 use Rattle.std.proofs.Common.{◌≡◌, ℕ, Bool, true, false, not, ◌||◌, eqb, List, [], ◌∷◌, ◌++◌, refl, sym, ap}
 use Rattle.std.proofs.Common.{◌∙◌, subst}
 use Rattle.std.proofs.Common.{append_assoc, append-nil}
@@ -111,7 +111,7 @@ bare_source {o} {policy} {value} writable =
 
 module _ {o : ParseOption} (w pad : List ℕ) (white : list_all is_inline_white w ≡ true)
     (white_pad : list_all is_inline_white pad ≡ true) where
-  -- a value's source, with what is kept behind it
+  -- a value's source, with what is kept after it
   pub value_written : {source value t r : List ℕ} → IsSourceOf o source value → Tail o t r
       → Value o (w ++ (source ++ (pad ++ t))) r value
   value_written {source} {value} {r = r} is (Tail.line off h) =

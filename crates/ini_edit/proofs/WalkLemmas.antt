@@ -20,10 +20,10 @@ use Rattle.ini.specs.Loading.{IfParse, IsStopOf}
 use Rattle.ini_edit.proofs.CommentLemmas.{item_no_comment}
 use Rattle.ini_edit.specs.Inside.Walks.{Boundary, IsPastLast, IsReading, ReadsOn, StandsWithin, Steps}
 
--- where reading stops behind what was read
-stops_behind : {o : ParseOption} {T b : Text} {items : List Given} (e : ParseError) → Reads o T [] items b
+-- where reading stops after what was read
+stops_after : {o : ParseOption} {T b : Text} {items : List Given} (e : ParseError) → Reads o T [] items b
     → StopsAfter o T b e.kind e.line e.col → HasMessage e.kind (cow_str_bytes e.msg) → IsStopOf o T e
-stops_behind {b = b} e reads stop message = record {
+stops_after {b = b} e reads stop message = record {
   front = b ++ stop.source;
   stops = Stops.stops reads stop.whole stop.stops;
   line = stop.line_is;
@@ -35,7 +35,7 @@ pub step_stops : {o : ParseOption} {T b : Text} {items : List Given} (c : Text)
     (answer : Result (Option PlacedElement) Error) → Reads o T [] items b → AnswersElement o T b c answer
     → IfParse answer (IsStopOf o T)
 step_stops c (Ok found) reads h = tt
-step_stops c (Err (Parse e)) reads h = stops_behind e reads h.0 h.1
+step_stops c (Err (Parse e)) reads h = stops_after e reads h.0 h.1
 step_stops c (Err _) reads h = tt
 
 pub reading : {o : ParseOption} {T : Text} {p : Place} → p.option ≡ o → p.text ≡ T → p.refusal ≡ None
@@ -119,7 +119,7 @@ module _ {o : ParseOption} {T b : Text} {p : Place} where
   pub walked_end : {q : Place} → Walked o T b p → IsPastLast o T p.front q → ReadsOn o T b
   walked_end w h = record { items = w.items; reads = subst (Reads o T b w.items) h.was_end w.reads }
 
--- what stands behind elements
+-- what stands after elements
 pub reads_rest : {o : ParseOption} {T b c : Text} {items : List Given} → Reads o T b items c
     → (r : Text) × (T ≡ c ++ r)
 reads_rest (Reads.stay r whole) = (r, whole)
@@ -158,4 +158,4 @@ item_boundary {o} {T} {b} {c} {q} {e} {items} {item} reads t is =
     let element = subst (Element o c (chars e.source.now) t.stands.rest) is t.stands.is_element in
     subst (λ d. Boundary o T b false d (items ++ item ∷ [])) (sym t.stands.reaches)
     (subst (λ x. Boundary o T b x (c ++ chars e.source.now) (items ++ item ∷ [])) (item_no_comment element)
-    (Boundary.behind reads t.stands.whole element (λ none. absurd (let no : item ∷ [] ≡ [] = none in cc))))
+    (Boundary.following reads t.stands.whole element (λ none. absurd (let no : item ∷ [] ≡ [] = none in cc))))

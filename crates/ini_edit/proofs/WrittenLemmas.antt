@@ -78,21 +78,21 @@ module _ {ends : Ends} {t v : List ℕ} (row : Row false ends t v) where
       (list_all (λ x. not (is_endpoint ends x)) ds) ends_here.1 in
       elim (cases_Bool (eqb c backslash)) [
         | inl q ↦
-            let behind : ending_from Ending.inside (c ∷ d ∷ ds) ≡ ending_from Ending.inside ds =
+            let following : ending_from Ending.inside (c ∷ d ∷ ds) ≡ ending_from Ending.inside ds =
             ap (λ e. ending_from (next_ending e d) ds) (cond-true (eqb c backslash) Ending.escape _ q) in
             subst
             (λ x. Row false ends (x ∷ (d ∷ (escaped Nothing ds ++ t))) (x ∷ (d ∷ (ds ++ v))))
             (sym (eqb-true c backslash q))
             (Row.escape (EscapeSequence.kept refl (eqb-false d line_feed (no_line_feed d next.0)))
-            (raw_row ds next.1 ends_next.1 (λ e. closed (behind ∙ e))))
+            (raw_row ds next.1 ends_next.1 (λ e. closed (following ∙ e))))
         | inr q ↦
             let inside : next_ending Ending.inside c ≡ Ending.inside =
             cond-false (eqb c backslash) Ending.escape _ q
             ∙ cond-false (eqb c line_feed) Ending.line Ending.inside (no_line_feed c here.0) in
-            let behind : ending_from Ending.inside (c ∷ d ∷ ds) ≡ ending_from Ending.inside (d ∷ ds) =
+            let following : ending_from Ending.inside (c ∷ d ∷ ds) ≡ ending_from Ending.inside (d ∷ ds) =
             ap (λ e. ending_from e (d ∷ ds)) inside in
             Row.raw (eqb-false c backslash q) (not-true _ ends_here.0)
-            (raw_row (d ∷ ds) here.1 ends_here.1 (λ e. closed (behind ∙ e)))
+            (raw_row (d ∷ ds) here.1 ends_here.1 (λ e. closed (following ∙ e)))
       ]
     where
       no_line_feed : (c : ℕ) → not (is_line_end c) ≡ true → eqb c line_feed ≡ false

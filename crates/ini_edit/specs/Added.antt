@@ -79,7 +79,7 @@ module _ (o : ParseOption) (w : WriteOption) where
       × (IsWritableValue o w.escape_policy value × (¬ IsWritablePair o w.escape_policy key value))
   RefusesPair key value _ = ⊥
 
-  -- what adding a pair is refused with: the pair's fault, and behind that the line's
+  -- what adding a pair is refused with: the pair's fault, and after that the line's
   pub data RefusesToAdd (T : Text) (name : Option Text) (key value : Text) (e : EditError) : Type 0 where
     pair : RefusesPair key value e → RefusesToAdd T name key value e
     line : IsWritable key value → RefusesLine o w.escape_policy T name e → RefusesToAdd T name key value e

@@ -23,9 +23,9 @@ pub record IsDeleted (o : ParseOption) (T : Text) (name : Option Text) (key : Te
   pub value : Text
   pub is_first : IsFirstPair o T name key pair value
   pub kept : Text
-  pub behind : Text
-  pub is_cut : Cut o pair kept behind
-  pub text : U ≡ pair.front ++ (kept ++ behind)
+  pub following : Text
+  pub is_cut : Cut o pair kept following
+  pub text : U ≡ pair.front ++ (kept ++ following)
   pub document : Document
   pub was : IsDocumentOf o T document
   pub is : IsDocumentOf o U (delete_in name key document)

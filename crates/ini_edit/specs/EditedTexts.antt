@@ -16,7 +16,7 @@ use Rattle.ini_edit.specs.Places.{Cut, Follows, IsLineStart, Stretches, StandsAt
 use Rattle.ini_edit.specs.Quotes.{IsQuoteFor, written_in}
 use Rattle.ini_edit.specs.Targets.{IsSectionEnd, IsTarget, Lacks}
 
--- Behind the items `upto` the section goes on, in the text T, with the pairs `later`, and behind those
+-- After the items `upto` the section goes on, in the text T, with the pairs `later`, and after those
 -- stands `rest`. The text U is T without those of the pairs that have the key: each was taken out, and
 -- nothing else.
 pub data LaterOut (o : ParseOption) (key : Text) (upto rest : List Given) : Text → Pairs → Text
@@ -76,7 +76,7 @@ Inserts o w key value =
     (W r : Text) (name : Option Text) (d : Document) → (at : EndsAt o W r name d) → Lacks key at.end.pairs
     → IsDocumentOf o (W ++ (written_pair w (key, value) ++ r)) (set_in name key value d)
 
--- A section's header and a pair's line put behind a text that has no section of the name.
+-- A section's header and a pair's line put after a text that has no section of the name.
 abbrev pub Appends : ParseOption → WriteOption → Text → Text → Text → Type 0
 Appends o w name key value =
     (T : Text) (items : List Given) → IsLineStart o T [] items → (d : Document) → IsDocumentOf o T d

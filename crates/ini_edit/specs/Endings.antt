@@ -1,4 +1,4 @@
--- How a text ends, and where an element of it ends behind which a line may be put in.
+-- How a text ends, and where an element of it ends after which a line may be put in.
 use Rattle.std.specs.Prelude.{◌≡◌, ℕ, Bool, true, false, ◌==◌, if◌then◌else◌, List, [], ◌∷◌, ◌++◌}
 use Rattle.std.specs.List.{list_all}
 use Rattle.ini_text.specs.Grammar.CharacterKinds.{backslash, line_feed, space, is_blank, is_comment_mark}
@@ -9,7 +9,7 @@ use Rattle.ini_text.specs.Grammar.Elements.{Given, Element}
 use Rattle.ini_text.specs.Grammar.Texts.{Reads}
 use Rattle.ini_text.specs.declared.option.ParseOption.{ParseOption}
 
--- a text's end: within a line; behind a backslash that takes what follows it; or behind an LF that no
+-- a text's end: within a line; after a backslash that takes what follows it; or after an LF that no
 -- backslash takes
 pub data Ending : Type 0 where
   inside : Ending
@@ -37,15 +37,15 @@ abbrev pub front_ending : (comment : Bool) → List ℕ → Ending
 front_ending true W = if is_column_one W then Ending.line else Ending.inside
 front_ending false W = ending W
 
--- What goes before a line end behind a text that ends so: a backslash is made one that stands for itself.
+-- What goes before a line end after a text that ends so: a backslash is made one that stands for itself.
 -- With escapes off it takes a space, which no value keeps.
 pub data Closing (o : ParseOption) : Ending → List ℕ → Type 0 where
   within : Closing o Ending.inside []
-  behind_line : Closing o Ending.line []
+  after_line : Closing o Ending.line []
   by_backslash : o.enabled_escape ≡ true → Closing o Ending.escape (backslash ∷ [])
   by_space : o.enabled_escape ≡ false → Closing o Ending.escape (space ∷ [])
 
--- an element's source begins with blanks, and an indented key behind them
+-- an element's source begins with blanks, and an indented key after them
 pub record IsIndentedKey (source : List ℕ) : Type 0 where
   pub blanks : List ℕ
   pub key : List ℕ
@@ -57,10 +57,10 @@ pub record IsIndentedKey (source : List ℕ) : Type 0 where
 -- At the front W of the text T an element ends, and the elements up to it give the items. If it gives
 -- nothing it isn't an indented key, which the text's end cuts short.
 pub data IsElementEnd (o : ParseOption) (T : List ℕ) : List ℕ → List Given → Type 0 where
-  behind : {b s r : List ℕ} {items gives : List Given} → Reads o T [] items b → T ≡ b ++ (s ++ r)
+  following : {b s r : List ℕ} {items gives : List Given} → Reads o T [] items b → T ≡ b ++ (s ++ r)
       → Element o b s r gives → (gives ≡ [] → ¬ IsIndentedKey s) → IsElementEnd o T (b ++ s) (items ++ gives)
 
 -- At the front W of the text T a comment ends, and the elements up to it give the items.
 pub data IsCommentEnd (o : ParseOption) (T : List ℕ) : List ℕ → List Given → Type 0 where
-  behind : {b s r : List ℕ} {items gives : List Given} → Reads o T [] items b → T ≡ b ++ (s ++ r)
+  following : {b s r : List ℕ} {items gives : List Given} → Reads o T [] items b → T ≡ b ++ (s ++ r)
       → Element o b s r gives → BeginsWith is_comment_mark s → IsCommentEnd o T (b ++ s) (items ++ gives)

@@ -1,4 +1,4 @@
--- Places where a line may be put in: between a front and a rest, behind a line end where that is wanted.
+-- Places where a line may be put in: between a front and a rest, after a line end where that is wanted.
 use Rattle.std.specs.Prelude.{◌≡◌, ◌≢◌, true, false, List, [], ◌++◌, Option, Some, None}
 use Rattle.ini_text.specs.Grammar.CharacterKinds.{is_blank, BeginsWithNo}
 use Rattle.ini_text.specs.Grammar.Positions.{starts_line, is_column_one}
@@ -17,26 +17,26 @@ use Rattle.ini_edit.specs.Endings.{Closing, Ending, IsCommentEnd, IsElementEnd, 
 use Rattle.ini_edit.specs.Places.{Follows, IsLineStart}
 use Rattle.ini_edit.specs.Targets.{IsSectionEnd, Lacks}
 
--- What goes before a new line behind a front that ends so: nothing behind an LF that no backslash takes, and
+-- What goes before a new line after a front that ends so: nothing after an LF that no backslash takes, and
 -- else a line end, with what keeps a lone backslash before it.
 pub data Glue (o : ParseOption) (end : LineSeparator) (e : Ending) : Text → Type 0 where
   none : e ≡ Ending.line → Glue o end e []
   line : {c : Text} → e ≢ Ending.line → Closing o e c → Glue o end e (c ++ line_end end)
 
--- Between the front W, which gives the items, and the rest r a line may be put in behind the glue: at a
--- line's start, and behind a comment's LF, there is none; behind a comment without LF it is a line end, and
--- behind an element a line end, with what goes before that. No blank may follow then, unless a line starts
+-- Between the front W, which gives the items, and the rest r a line may be put in after the glue: at a
+-- line's start, and after a comment's LF, there is none; after a comment without LF it is a line end, and
+-- after an element a line end, with what goes before that. No blank may follow then, unless a line starts
 -- there already.
 pub data IsPlace (o : ParseOption) (end : LineSeparator) (W r : Text) : Text → List Given → Type 0 where
   line_start : {items : List Given} → IsLineStart o W r items → IsPlace o end W r [] items
-  behind_element : {c : Text} {items : List Given} → IsElementEnd o (W ++ r) W items → Closing o (ending W) c
+  after_element : {c : Text} {items : List Given} → IsElementEnd o (W ++ r) W items → Closing o (ending W) c
       → (starts_line W ≡ false → BeginsWithNo is_blank r) → IsPlace o end W r (c ++ line_end end) items
-  behind_comment_line : {items : List Given} → IsCommentEnd o (W ++ r) W items → is_column_one W ≡ true
+  after_comment_line : {items : List Given} → IsCommentEnd o (W ++ r) W items → is_column_one W ≡ true
       → IsPlace o end W r [] items
-  behind_comment : {items : List Given} → IsCommentEnd o (W ++ r) W items
+  after_comment : {items : List Given} → IsCommentEnd o (W ++ r) W items
       → (starts_line W ≡ false → BeginsWithNo is_blank r) → IsPlace o end W r (line_end end) items
 
--- Between W and r is a place behind the glue, there the section of the name ends, and the text's document is
+-- Between W and r is a place after the glue, there the section of the name ends, and the text's document is
 -- d.
 pub record EndsAtPlace (o : ParseOption) (end : LineSeparator) (W r glue : Text) (name : Option Text)
     (d : Document) : Type 0 where
@@ -63,7 +63,7 @@ InsertsAtPlace o w key value =
     → Lacks key at.ends.pairs
     → IsDocumentOf o (W ++ (glue ++ (written_pair w (key, value) ++ r))) (set_in name key value d)
 
--- A section's header and a pair's line put in at a place behind which the text gives nothing, where it has
+-- A section's header and a pair's line put in at a place after which the text gives nothing, where it has
 -- no section of the name.
 abbrev pub AppendsAtPlace : ParseOption → WriteOption → Text → Text → Text → Type 0
 AppendsAtPlace o w name key value =

@@ -40,10 +40,10 @@ module _ (o : ParseOption) (w : WriteOption) where
   -- The edits before the one at the index make a text of T, and of that text this one is refused.
   pub record RefusesOneOf (edits : List Editing) (T : Text) (refused : RefusedEdit) : Type 0 where
     pub before : List Editing
-    pub behind : List Editing
+    pub following : List Editing
     pub found : List Bool
     pub text : Text
-    pub whole : edits ≡ before ++ behind
+    pub whole : edits ≡ before ++ following
     pub index : refused.index ≡ length before
     pub are_made : AreMade T before found text
-    pub is_refused : RefusesFirst behind text refused.refusal
+    pub is_refused : RefusesFirst following text refused.refusal

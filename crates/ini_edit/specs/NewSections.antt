@@ -1,4 +1,4 @@
--- A text to which a new section is added, behind an empty line.
+-- A text to which a new section is added, after an empty line.
 use Rattle.std.specs.Prelude.{◌≡◌, Bool, true, List, [], ◌∷◌, ◌++◌, Some, None}
 use Rattle.ini_text.specs.Grammar.CharacterKinds.{carriage_return, line_feed}
 use Rattle.ini_text.specs.Grammar.Elements.{Given}
@@ -25,16 +25,16 @@ pub data EndsEmpty : Text → Type 0 where
   by_lf : (V : Text) → is_column_one V ≡ true → EndsEmpty (V ++ line_feed ∷ [])
   by_cr_lf : (V : Text) → is_column_one V ≡ true → EndsEmpty (V ++ carriage_return ∷ line_feed ∷ [])
 
--- the empty line before a new section behind the front W: there is none at the text's front, and no second
+-- the empty line before a new section after the front W: there is none at the text's front, and no second
 -- one
 pub data EmptyLine (end : LineSeparator) (W : Text) : Text → Type 0 where
   there : EndsEmpty W → EmptyLine end W []
   new : ¬ EndsEmpty W → EmptyLine end W (line_end end)
 
--- An empty line, a section's header and a pair's line put in at a place behind which the text gives nothing,
+-- An empty line, a section's header and a pair's line put in at a place after which the text gives nothing,
 -- where it has no section of the name.
-abbrev pub AppendsBehindEmptyLine : ParseOption → WriteOption → Text → Text → Text → Type 0
-AppendsBehindEmptyLine o w name key value =
+abbrev pub AppendsAfterEmptyLine : ParseOption → WriteOption → Text → Text → Text → Type 0
+AppendsAfterEmptyLine o w name key value =
     (W r glue gap : Text) (items : List Given) → IsPlace o w.line_separator W r glue items
     → EmptyLine w.line_separator W gap → Follows o r → Reads o (W ++ r) W [] (W ++ r)
     → (d : Document) → IsDocumentOf o (W ++ r) d → first_section (Some name) d ≡ None
@@ -43,7 +43,7 @@ AppendsBehindEmptyLine o w name key value =
     (set_in (Some name) key value d)
 
 -- The text U is T, which has no section of the name, with a section of that name put in, and no byte
--- changed: an empty line, a header and the pair's line, at a place behind which T gives nothing. So the
+-- changed: an empty line, a header and the pair's line, at a place after which T gives nothing. So the
 -- section comes last in the document. What goes before the empty line says how the front ends, of which the
 -- last element is a comment or isn't.
 pub record IsInNewSection (o : ParseOption) (w : WriteOption) (T name key value U : Text) : Type 0 where
@@ -58,10 +58,10 @@ pub record IsInNewSection (o : ParseOption) (w : WriteOption) (T name key value 
   pub lacks : first_section (Some name) document ≡ None
   pub whole : T ≡ front ++ rest
   pub place : IsPlace o w.line_separator front rest glue items
-  pub nothing_behind : Reads o T front [] T
-  pub is_behind_comment : Bool
-  pub boundary : Boundary o T [] is_behind_comment front items
-  pub is_glue : Glue o w.line_separator (front_ending is_behind_comment front) glue
+  pub nothing_after : Reads o T front [] T
+  pub is_after_comment : Bool
+  pub boundary : Boundary o T [] is_after_comment front items
+  pub is_glue : Glue o w.line_separator (front_ending is_after_comment front) glue
   pub empty_line : EmptyLine w.line_separator front gap
   pub is_new : U ≡ front ++ (glue ++ (gap
       ++ (written_name w (Some name) ++ (written_pair w (key, value) ++ rest))))

@@ -1,4 +1,4 @@
--- Texts that have no place for a line: behind a section's header stands an indented key that the text's end
+-- Texts that have no place for a line: after a section's header stands an indented key that the text's end
 -- cuts short, which takes in what is put before it, or goes on with it.
 use Rattle.std.specs.Prelude.{◌≡◌, ℕ, Bool, true, ◌||◌, List, [], ◌∷◌, ◌++◌, Option, Some, None}
 use Rattle.std.specs.List.{list_all}
@@ -12,8 +12,8 @@ use Rattle.ini_text.specs.declared.option.ParseOption.{ParseOption}
 use Rattle.ini.specs.Texts.{Text}
 use Rattle.ini.specs.Documents.{Document, document_of, first_section}
 
--- Right behind the front b of the text T a section of the name opens, behind the sections d: the general one
--- at the text's front, another one behind its header.
+-- Right after the front b of the text T a section of the name opens, after the sections d: the general one
+-- at the text's front, another one after its header.
 pub data SectionOpens (o : ParseOption) (T : Text) : Option Text → Document → Text → Type 0 where
   general : SectionOpens o T None [] []
   header : {a s r name : Text} {items : List Given} → Reads o T [] items a → T ≡ a ++ (s ++ r)
@@ -22,7 +22,7 @@ pub data SectionOpens (o : ParseOption) (T : Text) : Option Text → Document �
 abbrev pub is_blank_or_line_end : ℕ → Bool
 is_blank_or_line_end c = is_blank c || is_line_end c
 
--- Behind the front b stand blanks and line ends alone, and then an indented key that the text's end cuts
+-- After the front b stand blanks and line ends alone, and then an indented key that the text's end cuts
 -- short.
 pub record CutKeyFollows (o : ParseOption) (T b : Text) : Type 0 where
   pub gap : Text
@@ -35,7 +35,7 @@ pub record CutKeyFollows (o : ParseOption) (T b : Text) : Type 0 where
   pub begins : BeginsWith begins_indented_key key
   pub cut_short : StrStops o.enabled_escape key_ends key [] EndOfText
 
--- Values are multiline, and behind the opening of the section of the name, behind the sections d, such a key
+-- Values are multiline, and after the opening of the section of the name, after the sections d, such a key
 -- follows: so the section has no pair, and the text's end is its own.
 pub record EndsInCutKey (o : ParseOption) (T : Text) (name : Option Text) (d : Document) : Type 0 where
   pub multiline : o.enabled_indented_mutiline_value ≡ true
@@ -49,7 +49,7 @@ pub record HasNoPlace (o : ParseOption) (T : Text) (name : Option Text) : Type 0
   pub first : first_section name sections ≡ None
   pub ends : EndsInCutKey o T name sections
 
--- the text has no place for a line behind all that it gives, since its last section has none
+-- the text has no place for a line after all that it gives, since its last section has none
 pub record HasNoEnd (o : ParseOption) (T : Text) : Type 0 where
   pub name : Option Text
   pub sections : Document

@@ -13,7 +13,7 @@ use Rattle.ini_text.specs.declared.option.ParseOption.{ParseOption}
 use Rattle.ini_edit.specs.Endings.{Ending, IsElementEnd, ending}
 
 -- A pair's stretches in a text: what stands before its element; its key's source, and the separator; white
--- space before the value; the value's own source; white space behind it; where values are multiline, the
+-- space before the value; the value's own source; white space after it; where values are multiline, the
 -- line end and the lines that add nothing to the value; and what follows the element.
 pub record Stretches : Type 0 where
   pub front : List ℕ
@@ -54,8 +54,8 @@ pub record StandsAt (o : ParseOption) (T : List ℕ) (p : Stretches) (key value 
   pub is_tail : Tail o p.tail p.rest
   pub then : Reads o T (up_to_end p) after T
 
--- Behind the front c all that stands behind the front b is read as it is there: a line starts behind both or
--- behind neither, and column one is behind c where it is behind b.
+-- After the front c all that stands after the front b is read as it is there: a line starts after both or
+-- after neither, and column one is after c where it is after b.
 pub record EndsLike (b c : List ℕ) : Type 0 where
   pub line : starts_line b ≡ starts_line c
   pub column : is_column_one b ≡ true → is_column_one c ≡ true
@@ -83,15 +83,15 @@ pub data Cut (o : ParseOption) (p : Stretches) : List ℕ → List ℕ → Type 
       → starts_line p.front ≡ true → is_column_one p.front ≡ false → Cut o p (line_feed ∷ []) p.rest
 
 -- A line may be put in between the front W, which gives the items, and the rest r: at the text's front; in
--- column one, before a character that ends no line; behind line ends that stand behind an element; or behind
+-- column one, before a character that ends no line; after line ends that stand after an element; or after
 -- an element that ends with an LF which no backslash takes.
 pub data IsLineStart (o : ParseOption) : List ℕ → List ℕ → List Given → Type 0 where
   at_front : {r : List ℕ} → IsLineStart o [] r []
   before_character : {W : List ℕ} {items : List Given} (c : ℕ) (r : List ℕ) → is_column_one W ≡ true
       → is_line_end c ≡ false → Reads o (W ++ c ∷ r) [] items W → IsLineStart o W (c ∷ r) items
-  behind_line_end : {r : List ℕ} {items : List Given} (V : List ℕ) (c : ℕ) (e : List ℕ)
+  past_line_end : {r : List ℕ} {items : List Given} (V : List ℕ) (c : ℕ) (e : List ℕ)
       → list_all is_line_end (c ∷ e) ≡ true → is_column_one (V ++ c ∷ e) ≡ true
       → Reads o (V ++ (c ∷ (e ++ r))) [] items V → IsLineStart o (V ++ c ∷ e) r items
-  behind_line : {W r : List ℕ} {items : List Given} → ending W ≡ Ending.line
+  after_line : {W r : List ℕ} {items : List Given} → ending W ≡ Ending.line
       → IsElementEnd o (W ++ r) W items
       → IsLineStart o W r items

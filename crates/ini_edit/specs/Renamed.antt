@@ -24,7 +24,7 @@ pub record IsPlainBareKey (o : ParseOption) (policy : EscapePolicy) (key : Text)
   -- its characters are read back
   pub read_back : IsReadBack o policy key
 
--- A key's source is white space before the key, what is written of the key itself, and white space behind
+-- A key's source is white space before the key, what is written of the key itself, and white space after
 -- it.
 pub record HasEdges (o : ParseOption) (source indent pad : Text) : Type 0 where
   pub own : Text
@@ -39,8 +39,8 @@ pub record HasEdges (o : ParseOption) (source indent pad : Text) : Type 0 where
   pub ends : end_trimmed own ≡ own
 
 -- what follows a pair's key, to the text's end
-abbrev pub behind_key : Stretches → Text
-behind_key p = p.separator ∷ ((p.lead ++ (p.own ++ (p.pad ++ p.tail))) ++ p.rest)
+abbrev pub after_key : Stretches → Text
+after_key p = p.separator ∷ ((p.lead ++ (p.own ++ (p.pad ++ p.tail))) ++ p.rest)
 
 -- The text U is T with the key `new`, as the policy writes it, in the place of that of the first pair of the
 -- key `old` in the first section of the name, and no other byte is another one: it loads as the document in
@@ -53,7 +53,7 @@ pub record IsRenamed (o : ParseOption) (policy : EscapePolicy) (T : Text) (name 
   pub indent : Text
   pub pad : Text
   pub edges : HasEdges o pair.key indent pad
-  pub text : U ≡ pair.front ++ ((indent ++ (escaped policy new ++ pad)) ++ behind_key pair)
+  pub text : U ≡ pair.front ++ ((indent ++ (escaped policy new ++ pad)) ++ after_key pair)
   pub document : Document
   pub was : IsDocumentOf o T document
   pub is : IsDocumentOf o U (rename_key_in name old new document)

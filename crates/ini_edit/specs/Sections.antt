@@ -20,14 +20,14 @@ use Rattle.ini_edit.specs.Edited.{IsEditParseOrMemory}
 use Rattle.ini_edit.specs.declared.error.EditError.{EditError}
 use Rattle.ini_edit.specs.declared.error.EditError.TheVariants as EditErrors
 
--- Behind the front b of the text T, up to the front c, stand elements that give nothing, and none of them
+-- After the front b of the text T, up to the front c, stand elements that give nothing, and none of them
 -- begins as a comment does.
 pub data Uncommented (o : ParseOption) (T b : Text) : Text → Type 0 where
   none : Uncommented o T b b
   more : {c s r : Text} → Uncommented o T b c → T ≡ c ++ (s ++ r) → Element o c s r []
       → BeginsWithNo is_comment_mark s → Uncommented o T b (c ++ s)
 
--- Behind the front b of the text T elements up to this front give the items, and the last element gives the
+-- After the front b of the text T elements up to this front give the items, and the last element gives the
 -- last item.
 pub data LastItem (o : ParseOption) (T b : Text) : Text → List Given → Type 0 where
   start : LastItem o T b b []
@@ -36,10 +36,10 @@ pub data LastItem (o : ParseOption) (T b : Text) : Text → List Given → Type 
 
 -- Where the header of a section stands in column one or doesn't, what follows the section once it is taken
 -- out: the next header, or nothing; or comments that stand before these, the first of them in column one.
-pub data StaysBehindSection (header upto rest : Text) : Type 0 where
-  next : IsEmptyOrHeader rest → StaysBehindSection header upto rest
+pub data StaysAfterSection (header upto rest : Text) : Type 0 where
+  next : IsEmptyOrHeader rest → StaysAfterSection header upto rest
   comment : is_column_one header ≡ true → is_column_one upto ≡ true → BeginsWith is_comment_mark rest
-      → StaysBehindSection header upto rest
+      → StaysAfterSection header upto rest
 
 -- Between the front and the rest of the text T stands the first section of the name: its header, which the
 -- bracket begins, its pairs, and what follows the last of these up to the rest. Where the header is in
@@ -59,7 +59,7 @@ pub record IsSectionAt (o : ParseOption) (T name front rest : Text) : Type 0 whe
   pub then : Reads o T (front ++ (items ++ gaps)) after T
   pub ends : BeginsWithHeader after
   pub first : first_section (Some name) (document_of before) ≡ None
-  pub stays : StaysBehindSection front (front ++ (items ++ gaps)) rest
+  pub stays : StaysAfterSection front (front ++ (items ++ gaps)) rest
 
 -- The text U is T without the first section of the name, and no other byte: it loads as the document without
 -- that section.
@@ -88,7 +88,7 @@ abbrev pub header_of : EscapePolicy → Text → Text
 header_of policy name = open_bracket ∷ (escaped policy name ++ close_bracket ∷ [])
 
 -- The text U is T with another name, as the policy writes it, in the header of the first section of the
--- name, and no byte behind that header or before it is another one: it loads as the document whose section
+-- name, and no byte after that header or before it is another one: it loads as the document whose section
 -- has the other name.
 pub record IsSectionRenamed (o : ParseOption) (policy : EscapePolicy) (T old new U : Text) : Type 0 where
   pub front : Text

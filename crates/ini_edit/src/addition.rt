@@ -21,9 +21,9 @@ use crate::writable::{is_writable_pair, is_writable_value};
 use ini_text::{Error, ParseOption, WriteOption, is_plain_separator};
 use std::alloc::Global;
 
-/// The text with a pair added, whatever pairs of the key are there: a line of its own behind the last item of
+/// The text with a pair added, whatever pairs of the key are there: a line of its own after the last item of
 /// the first section of the name, before comments that stand before the next header or the end; or, where
-/// the text has no section of the name, in a new one at its end, behind an empty line. No name is the
+/// the text has no section of the name, in a new one at its end, after an empty line. No name is the
 /// general section's, which is always there. A new line ends with CR LF or LF, whichever is the first in the
 /// text, and where it has neither, as the options say.
 ///
@@ -125,14 +125,14 @@ fn with_line(
     write: &WriteOption,
 ) -> Result<String, Error>
     ensures new { IfOk result (λ new. IsWithLine read write.now
-        (front_ending place.entry.is_behind_comment (chars place.entry.front.now))
+        (front_ending place.entry.is_after_comment (chars place.entry.front.now))
         (chars place.entry.front.now) (chars place.entry.rest.now)
         (chars key.now) (chars value.now) (text_of new)) }
     ensures only { IsOkUnless result (Error.Memory alloc_error) }
 {
     let mut new = String::new(alloc);
     push_text(&mut new, place.front)?;
-    push_glue(&mut new, place.front, place.is_behind_comment, read, write)?;
+    push_glue(&mut new, place.front, place.is_after_comment, read, write)?;
     push_pair(alloc, &mut new, key, value, write)?;
     push_text(&mut new, place.rest)?;
     Ok(new)

@@ -1,15 +1,15 @@
-//! What goes with a pair that is taken out of a text, and what stays behind it. This file knows line ends,
+//! What goes with a pair that is taken out of a text, and what stays it. This file knows line ends,
 //! and no value.
 ghost use Rattle.std.specs.Prelude.{chars};
 ghost use Rattle.ini_text.specs.Grammar.Places.{Tail};
 ghost use Rattle.ini_edit.specs.FirstPairs.{stretches_at};
 ghost use Rattle.ini_edit.specs.Places.{Cut};
-ghost use Rattle.ini_edit.specs.Inside.Cuts.{StaysBehind};
+ghost use Rattle.ini_edit.specs.Inside.Cuts.{StaysAfter};
 
 use crate::text::{is_column_one, last_line_end, split_first, starts_line};
 use ini_text::{PairPlaces, ParseOption};
 
-/// What stands behind the front once a pair is taken out: `kept`, then `rest`.
+/// What stands after the front once a pair is taken out: `kept`, then `rest`.
 #[derive(Debug, Clone, Copy)]
 pub(crate) struct Cutting<'a> {
     /// What stays of the pair: its last line end, or nothing.
@@ -18,7 +18,7 @@ pub(crate) struct Cutting<'a> {
     pub rest: &'a str,
 }
 
-/// What stands behind the front once the pair between it and the rest is taken out.
+/// What stands after the front once the pair between it and the rest is taken out.
 ///
 /// The front may be an edited text's: it need not be a part of the text that the places are of.
 pub(crate) fn cut<'a>(
@@ -35,7 +35,7 @@ pub(crate) fn cut<'a>(
         return Cutting { kept: "", rest };
     };
     if !read.enabled_indented_mutiline_value {
-        let stays = stays_behind(front, rest);
+        let stays = stays_after(front, rest);
         return Cutting {
             kept: "",
             rest: stays,
@@ -55,14 +55,14 @@ pub(crate) fn cut<'a>(
     Cutting { kept: "", rest }
 }
 
-// What stays of the rest behind a pair whose value is one line.
-fn stays_behind<'a>(front: &str, rest: &'a str) -> &'a str
-    ensures { StaysBehind (chars front.now) (chars rest.now) (chars result.now) }
+// What stays of the rest after a pair whose value is one line.
+fn stays_after<'a>(front: &str, rest: &'a str) -> &'a str
+    ensures { StaysAfter (chars front.now) (chars rest.now) (chars result.now) }
 {
     match split_first(rest) {
         Some(('\n', after)) if is_column_one(front) => after,
         Some(('\r', after)) => match split_first(after) {
-            Some(('\n', behind)) => if is_column_one(front) { behind } else { rest },
+            Some(('\n', following)) => if is_column_one(front) { following } else { rest },
             _ => if starts_line(front) { after } else { rest },
         },
         _ => rest,

@@ -60,7 +60,7 @@ pub fn find_pair<'a>(
     Ok(found)
 }
 
-/// Goes behind the header of the first section of the name: whether there is one. Where there is none, the
+/// Goes past the header of the first section of the name: whether there is one. Where there is none, the
 /// text is read to its end.
 pub(crate) fn reach_section(parser: &mut Parser, name: Option<&str>) -> Result<bool, Error>
     requires refusal { parser.old.refusal ≡ None }

@@ -1,4 +1,4 @@
-//! What goes before a new line that is put in behind a front of a text. This file knows line ends and
+//! What goes before a new line that is put in after a front of a text. This file knows line ends and
 //! backslashes, and no element.
 ghost use Rattle.std.specs.Prelude.{◌≡◌, ◌++◌, chars, OnOk, IsOkUnless, alloc_error};
 ghost use Rattle.ini.specs.Texts.{text_of};
@@ -9,7 +9,7 @@ use crate::append::push_text;
 use crate::text::{is_column_one, split_first};
 use ini_text::{Error, ParseOption, WriteOption};
 
-// How a text ends: within a line, behind a backslash that takes what follows, or behind an LF that ends a
+// How a text ends: within a line, after a backslash that takes what follows, or after an LF that ends a
 // line.
 #[derive(Clone, Copy, Debug)]
 pub(crate) enum TextEnd {
@@ -18,20 +18,20 @@ pub(crate) enum TextEnd {
     Line,
 }
 
-/// Puts behind a text what goes before a line that is put in behind the front, whose last element is a
+/// Puts after a text what goes before a line that is put in after the front, whose last element is a
 /// comment or isn't.
 pub(crate) fn push_glue(
     text: &mut String,
     front: &str,
-    is_behind_comment: bool,
+    is_after_comment: bool,
     read: ParseOption,
     write: &WriteOption,
 ) -> Result<(), Error>
     ensures pushed { OnOk result (PushesGlue read write.now.line_separator
-        (front_ending is_behind_comment (chars front.now)) (text_of text.old) (text_of text.new)) }
+        (front_ending is_after_comment (chars front.now)) (text_of text.old) (text_of text.new)) }
     ensures only { IsOkUnless result (Error.Memory alloc_error) }
 {
-    let end = front_end(front, is_behind_comment);
+    let end = front_end(front, is_after_comment);
     if let TextEnd::Line = end {
         return Ok(());
     }
@@ -40,10 +40,10 @@ pub(crate) fn push_glue(
 }
 
 // How a front ends. A comment has no escapes.
-fn front_end(front: &str, is_behind_comment: bool) -> TextEnd
-    ensures { ending_of result ≡ front_ending is_behind_comment (chars front.now) }
+fn front_end(front: &str, is_after_comment: bool) -> TextEnd
+    ensures { ending_of result ≡ front_ending is_after_comment (chars front.now) }
 {
-    if !is_behind_comment {
+    if !is_after_comment {
         return text_end(front);
     }
     if is_column_one(front) {

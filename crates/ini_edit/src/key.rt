@@ -14,7 +14,7 @@ use ini_text::{EscapePolicy, ParseOption, front_before, is_plain_pair};
 pub(crate) struct KeyEdges<'a> {
     /// What stands before the key; nothing where keys keep their leading white space, which is their own.
     pub indent: &'a str,
-    /// What stands behind the key.
+    /// What stands after the key.
     pub pad: &'a str,
 }
 

@@ -6,7 +6,7 @@ ghost use Rattle.ini_edit.specs.EditedTexts.{Adds, Appends, Deletes, Inserts, Ke
 ghost use Rattle.ini_edit.specs.Exchanges.{EditsChangePlaces};
 ghost use Rattle.ini_edit.specs.KeptPlaces.{ColumnsStay};
 ghost use Rattle.ini_edit.specs.LinePlaces.{AddsAtPlace, AppendsAtPlace, InsertsAtPlace};
-ghost use Rattle.ini_edit.specs.NewSections.{AppendsBehindEmptyLine};
+ghost use Rattle.ini_edit.specs.NewSections.{AppendsAfterEmptyLine};
 ghost use Rattle.ini_edit.specs.Writable.{IsWritablePair, IsWritableValue};
 
 use ini_text::{EscapePolicy, ParseOption, WriteOption};
@@ -41,7 +41,7 @@ pub fn pair_inserted(key: &str, value: &str, write: &WriteOption, read: ParseOpt
     ensures set { Inserts read write.now (chars key.now) (chars value.now) }
 {}
 
-/// A plain section with one writable pair put behind a text that has no section of the name: the text loads
+/// A plain section with one writable pair put after a text that has no section of the name: the text loads
 /// as the document in which the key is set.
 pub fn section_appended(name: &str, key: &str, value: &str, write: &WriteOption, read: ParseOption)
     requires separator { IsPlainSeparator (chars write.now.kv_separator.now) }
@@ -50,7 +50,7 @@ pub fn section_appended(name: &str, key: &str, value: &str, write: &WriteOption,
     ensures { Appends read write.now (chars name.now) (chars key.now) (chars value.now) }
 {}
 
-/// A writable pair's line put in where the section of its name ends, behind a line end where the text wants
+/// A writable pair's line put in where the section of its name ends, after a line end where the text wants
 /// one: the text loads as the document to which the pair is added. Where the section has no pair of the key,
 /// that is to set it.
 pub fn pair_inserted_at_place(key: &str, value: &str, write: &WriteOption, read: ParseOption)
@@ -60,7 +60,7 @@ pub fn pair_inserted_at_place(key: &str, value: &str, write: &WriteOption, read:
     ensures set { InsertsAtPlace read write.now (chars key.now) (chars value.now) }
 {}
 
-/// A plain section with one writable pair put at a place behind which the text gives nothing, where it has no
+/// A plain section with one writable pair put at a place after which the text gives nothing, where it has no
 /// section of the name: the text loads as the document in which the key is set.
 pub fn section_appended_at_place(
     name: &str,
@@ -76,7 +76,7 @@ pub fn section_appended_at_place(
 {}
 
 /// The same with an empty line before the section's header, where the text wants one.
-pub fn section_appended_behind_empty_line(
+pub fn section_appended_after_empty_line(
     name: &str,
     key: &str,
     value: &str,
@@ -86,7 +86,7 @@ pub fn section_appended_behind_empty_line(
     requires separator { IsPlainSeparator (chars write.now.kv_separator.now) }
     requires name { IsPlainName read write.now.escape_policy (chars name.now) }
     requires writable { IsWritablePair read write.now.escape_policy (chars key.now) (chars value.now) }
-    ensures { AppendsBehindEmptyLine read write.now (chars name.now) (chars key.now) (chars value.now) }
+    ensures { AppendsAfterEmptyLine read write.now (chars name.now) (chars key.now) (chars value.now) }
 {}
 
 /// Two pairs that are there are edited, each given another value or taken out: in either order the texts load
@@ -95,7 +95,7 @@ pub fn edits_change_places(text: &str, policy: EscapePolicy, read: ParseOption)
     ensures { EditsChangePlaces read policy (chars text.now) }
 {}
 
-/// Behind a line feed a place has its column in the old text and in the new one, if what stands behind the
+/// After a line feed a place has its column in the old text and in the new one, if what stands after the
 /// edited stretches is the same: where a text is edited, only places of that line move.
 pub fn columns_stay(old: &str, new: &str, line: &str)
     ensures { ColumnsStay (chars old.now) (chars new.now) (chars line.now) }

@@ -46,7 +46,7 @@ fn begins_with_line_feed(text: &str) -> bool
     }
 }
 
-/// The empty line that goes before a new section behind a front.
+/// The empty line that goes before a new section after a front.
 pub(crate) fn empty_line(front: &str, end: LineSeparator) -> &'static str
     ensures { EmptyLine end (chars front.now) (chars result.now) }
 {

@@ -1,4 +1,4 @@
-//! A new section put into a text, behind all that the text gives. This file knows places and parts of lines,
+//! A new section put into a text, after all that the text gives. This file knows places and parts of lines,
 //! and no element.
 ghost use Rattle.std.specs.Prelude.{◌≡◌, chars, IfErr, IfOk, IsOkUnless, Some, alloc_error};
 ghost use Rattle.ini_text.specs.Laws.Plain.{IsPlainSeparator};
@@ -61,14 +61,14 @@ fn with_section(
     write: &WriteOption,
 ) -> Result<String, Error>
     ensures new { IfOk result (λ new. IsWithSection read write.now
-        (front_ending place.entry.is_behind_comment (chars place.entry.front.now))
+        (front_ending place.entry.is_after_comment (chars place.entry.front.now))
         (chars place.entry.front.now) (chars place.entry.rest.now) (chars name.now)
         (chars key.now) (chars value.now) (text_of new)) }
     ensures only { IsOkUnless result (Error.Memory alloc_error) }
 {
     let mut new = String::new(alloc);
     push_text(&mut new, place.front)?;
-    push_glue(&mut new, place.front, place.is_behind_comment, read, write)?;
+    push_glue(&mut new, place.front, place.is_after_comment, read, write)?;
     push_text(&mut new, empty_line(place.front, write.line_separator))?;
     push_header(alloc, &mut new, name, write)?;
     push_pair(alloc, &mut new, key, value, write)?;

@@ -28,15 +28,15 @@ pub(crate) struct TextPlace<'a> {
     /// What follows it.
     pub(crate) rest: &'a str,
     /// Whether the element before it is a comment.
-    pub(crate) is_behind_comment: bool,
+    pub(crate) is_after_comment: bool,
 }
 
 /// Where the first section of a name ends, and the place there where a line may be put in, if there is one.
 #[derive(Clone, Copy, Debug)]
 pub(crate) enum SectionEnd<'a> {
-    /// There is no such section. The place is the text's last one, behind all that the text gives.
+    /// There is no such section. The place is the text's last one, after all that the text gives.
     Absent(Option<TextPlace<'a>>),
-    /// The place is behind the section's last item.
+    /// The place is after the section's last item.
     There(Option<TextPlace<'a>>),
 }
 
@@ -55,7 +55,7 @@ pub(crate) enum Reached<'a> {
     /// What follows the pair.
     Pair(FoundPair<'a>),
     /// What ends the section, which has no such pair; and the place where a line may be put in, if there is
-    /// one, behind the section's last item.
+    /// one, after the section's last item.
     End(Option<TextPlace<'a>>),
 }
 
@@ -79,7 +79,7 @@ pub(crate) fn find_section_end<'a>(
     Ok(SectionEnd::There(place))
 }
 
-/// Goes behind the header of the first section of the name; where there is none, to the text's end.
+/// Goes past the header of the first section of the name; where there is none, to the text's end.
 pub(crate) fn reach_section_or_end<'a>(
     parser: &mut Parser<'a>,
     text: &'a str,
@@ -152,7 +152,7 @@ pub(crate) fn reach_pair_or_end<'a>(
     }
 }
 
-// Goes over a section's pairs to its end: the place behind the last item where a line may be put in, on that
+// Goes over a section's pairs to its end: the place after the last item where a line may be put in, on that
 // item's line or at its end if it may be there.
 fn reach_section_end<'a>(
     parser: &mut Parser<'a>,
@@ -185,7 +185,7 @@ fn reach_section_end<'a>(
     }
 }
 
-// The place behind an element and before a rest of a text, where a line may be put in there.
+// The place after an element and before a rest of a text, where a line may be put in there.
 fn free_place<'a>(
     text: &'a str,
     source: &str,
@@ -201,7 +201,7 @@ fn free_place<'a>(
         return Some(TextPlace {
             front,
             rest,
-            is_behind_comment: begins_with_comment(source),
+            is_after_comment: begins_with_comment(source),
         });
     }
     None
@@ -239,7 +239,7 @@ fn chosen<'a>(
     place
 }
 
-// The last place behind the items, where an element stands between the two: the later one, but behind an
+// The last place after the items, where an element stands between the two: the later one, but after an
 // indented key that gives nothing.
 fn last_place<'a>(
     element: PlacedElement,

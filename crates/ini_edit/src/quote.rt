@@ -1,7 +1,7 @@
 //! The quotes that a value's source stands in. This file knows marks and backslashes, and no element.
 ghost use Rattle.std.specs.Prelude.{◌≡◌, ◌↔◌, ◌∷◌, ℕ, [], false, true, chars, MatchOption, Some};
 ghost use Rattle.ini_text.specs.Grammar.CharacterKinds.{is_quote_mark};
-ghost use Rattle.ini_edit.specs.Inside.Quotes.{IsOwnSource, IsBetweenQuoteMarks, behind_quote_mark};
+ghost use Rattle.ini_edit.specs.Inside.Quotes.{IsOwnSource, IsBetweenQuoteMarks, after_quote_mark};
 ghost use Rattle.ini_edit.specs.Quotes.{KeepsQuote, has_quote_mark};
 
 use crate::text::split_first;
@@ -30,8 +30,8 @@ fn quote_mark_around(text: &str) -> Option<char>
     ensures { MatchOption result ((m : ℕ) → ¬ IsBetweenQuoteMarks (chars text.now) m)
         (IsBetweenQuoteMarks (chars text.now)) }
 {
-    let (mark, behind) = split_first(text)?;
-    if is_quote_mark(mark) && ends_at_quote_mark(behind, mark) {
+    let (mark, following) = split_first(text)?;
+    if is_quote_mark(mark) && ends_at_quote_mark(following, mark) {
         return Some(mark);
     }
     None
@@ -39,7 +39,7 @@ fn quote_mark_around(text: &str) -> Option<char>
 
 // Whether the first mark that no backslash takes ends the text.
 fn ends_at_quote_mark(text: &str, mark: char) -> bool
-    ensures { (result ≡ true) ↔ (behind_quote_mark mark false (chars text.now) ≡ Some []) }
+    ensures { (result ≡ true) ↔ (after_quote_mark mark false (chars text.now) ≡ Some []) }
 {
     let mut rest = text;
     let mut is_taken = false;

@@ -9,7 +9,7 @@ ghost use Rattle.ini_text.specs.declared.error.Error.TheVariants.{Memory};
 ghost use Rattle.ini_edit.specs.Edited.{IfEditParse};
 ghost use Rattle.ini_edit.specs.FirstPairs.{LacksPair, stretches_of};
 ghost use Rattle.ini_edit.specs.Inside.KeyEdges.{PutsKey};
-ghost use Rattle.ini_edit.specs.Renamed.{IsKeyOrRefusal, IsPlainBareKey, IsRenamed, behind_key};
+ghost use Rattle.ini_edit.specs.Renamed.{IsKeyOrRefusal, IsPlainBareKey, IsRenamed, after_key};
 ghost use Rattle.ini_edit.specs.declared.error.EditError.TheVariants as EditErrors;
 
 use crate::append::{push, push_text};
@@ -23,7 +23,7 @@ use std::alloc::Global;
 /// The text in which the first pair of the key `old`, in the first section of the name, has the key `new`,
 /// and `None` where there is no such pair. No name is the general section's, which a text begins with.
 ///
-/// The key alone is written anew, as the policy says: white space before it and behind it, the separator and
+/// The key alone is written anew, as the policy says: white space before it and after it, the separator and
 /// the value stay, and so does every other byte. Where keys keep their leading white space that is a part of
 /// the key, and goes with it. Other pairs of either key stay. The new text loads as the document in which
 /// the pair is renamed.
@@ -80,7 +80,7 @@ fn rename_plain(
     let mut edited = String::with_capacity(alloc, text.len())?;
     push_text(&mut edited, pair.front)?;
     push_key(alloc, &mut edited, pair.places.key, new, policy, read)?;
-    push_behind_key(&mut edited, &pair)?;
+    push_after_key(&mut edited, &pair)?;
     Ok(Some(edited))
 }
 
@@ -105,10 +105,10 @@ fn push_key(
 }
 
 // Appends what follows a pair's key, to the text's end.
-fn push_behind_key(out: &mut String, pair: &FoundPair) -> Result<(), Error>
+fn push_after_key(out: &mut String, pair: &FoundPair) -> Result<(), Error>
     ensures only { IsOkUnless result (Memory alloc_error) }
     ensures written { OnOk result
-        (string_text out.new ≡ string_text out.old ++ behind_key (stretches_of pair.now)) }
+        (string_text out.new ≡ string_text out.old ++ after_key (stretches_of pair.now)) }
 {
     push(out, pair.places.separator)?;
     push_text(out, pair.places.lead)?;

@@ -23,7 +23,7 @@ pub(crate) struct FoundHeader<'a> {
     pub(crate) rest: &'a str,
 }
 
-/// Goes behind the header of the first section of the name; where there is none, to the text's end.
+/// Goes past the header of the first section of the name; where there is none, to the text's end.
 pub(crate) fn find_header<'a>(
     parser: &mut Parser<'a>,
     text: &'a str,
@@ -55,9 +55,9 @@ pub(crate) fn find_header<'a>(
     }
 }
 
-/// Goes over a section's pairs to its end, and answers what stays of the text behind the section: the next
-/// header and all behind it; or, where its own header is in column one, from the first comment on that
-/// stands behind the section's last item.
+/// Goes over a section's pairs to its end, and answers what stays of the text after the section: the next
+/// header and all after it; or, where its own header is in column one, from the first comment on that
+/// stands after the section's last item.
 pub(crate) fn reach_rest<'a>(parser: &mut Parser<'a>, is_column_one: bool) -> Result<&'a str, Error>
     requires within { StandsWithin parser.old }
     ensures rest { IfOk result (λ rest. ReachesRest parser.old.option parser.old.text parser.old.front

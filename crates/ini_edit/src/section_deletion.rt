@@ -14,7 +14,7 @@ use crate::walk::read_on;
 use ini_text::{Error, ParseOption, Parser};
 use std::alloc::Global;
 
-// What stands before a section, and what stays behind it.
+// What stands before a section, and what stays it.
 #[derive(Clone, Copy, Debug)]
 pub(crate) struct SectionPlace<'a> {
     pub(crate) front: &'a str,
@@ -26,7 +26,7 @@ pub(crate) struct SectionPlace<'a> {
 ///
 /// The section goes from its header's bracket up to the next header's, or to the text's end: blanks before
 /// its own header stay, and those before the next one go. Where the section's header is in column one, the
-/// comments behind its last pair stay, from the first one on, with all that follows: they may be about the
+/// comments after its last pair stay, from the first one on, with all that follows: they may be about the
 /// next section. Where it isn't, they go, since a comment must be in column one. Every other byte stays, and
 /// the new text loads as the document without the section.
 ///

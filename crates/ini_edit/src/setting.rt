@@ -12,7 +12,7 @@ ghost use Rattle.ini_edit.specs.Settings.{IsSet, RefusesToSet};
 ghost use Rattle.ini_edit.specs.Edited.{IfEditParse, IsSetThere, IsValueOrRefusal};
 ghost use Rattle.ini_edit.specs.declared.error.EditError.TheVariants as EditErrors;
 ghost use Rattle.ini_edit.specs.FirstPairs.{LacksPair, stretches_of};
-ghost use Rattle.ini_edit.specs.Inside.Later.{IsAlikeBehind, TakesLater};
+ghost use Rattle.ini_edit.specs.Inside.Later.{IsAlikeAfter, TakesLater};
 ghost use Rattle.ini_edit.specs.Inside.Quotes.{IsOwnSource, PutsSource, PutsValue};
 ghost use Rattle.ini_edit.specs.Inside.SetWalks.{ComesTo};
 ghost use Rattle.ini_edit.specs.Inside.Walks.{StandsWithin};
@@ -41,7 +41,7 @@ use std::alloc::Global;
 ///
 /// A value that is there already stays as it is written: where no later pair goes, no byte changes.
 ///
-/// White space around the old value stays, but behind one that ends in a backslash, where it goes; and so
+/// White space around the old value stays, but after one that ends in a backslash, where it goes; and so
 /// does every other byte. The new text loads as the document in which the key is set.
 ///
 /// # Errors
@@ -219,7 +219,7 @@ fn take_later_out<'a>(
     requires text { parser.old.text ≡ chars text.now }
     requires option { parser.old.option ≡ read }
     requires within { StandsWithin parser.old }
-    requires alike { IsAlikeBehind parser.old (string_text out.old) }
+    requires alike { IsAlikeAfter parser.old (string_text out.old) }
     ensures taken { OnOk result (TakesLater parser.old.option parser.old.text (chars key.now) parser.old.front
         (string_text out.old) parser.new (string_text out.new)) }
     ensures fault { IfParse result (IsStopOf parser.old.option parser.old.text) }
@@ -245,7 +245,7 @@ fn take_later_out<'a>(
                 }
                 let cutting = cut(out.as_str(), &pair.places, parser.rest(), read);
                 push_text(out, cutting.kept)?;
-                *parser = Parser::behind(alloc, text, cutting.rest, read);
+                *parser = Parser::resume_at(alloc, text, cutting.rest, read);
                 drop(pair);
             }
         }

@@ -44,7 +44,7 @@ fn last_or_line_feed(front: &str) -> char
     }
 }
 
-/// Whether a line starts behind a front.
+/// Whether a line starts after a front.
 pub(crate) fn starts_line(front: &str) -> bool
     ensures { result ≡ starts_line (chars front.now) }
 {
@@ -52,7 +52,7 @@ pub(crate) fn starts_line(front: &str) -> bool
     c == '\n' || c == '\r'
 }
 
-/// Whether column one is behind a front.
+/// Whether column one is after a front.
 pub(crate) fn is_column_one(front: &str) -> bool
     ensures { result ≡ is_column_one (chars front.now) }
 {

@@ -19,7 +19,7 @@ named_anew name other s = (if is_name s.0 (Some name) then Some other else s.0, 
 abbrev pub all_named_anew : Text → Text → Document → Document
 all_named_anew name other d = map (named_anew name other) d
 
--- the pairs go behind those of the first section of the name, in order
+-- the pairs go after those of the first section of the name, in order
 abbrev pub all_added : Option Text → Document → Pairs → Document
 all_added name d pairs = fold (λ e p. add_in name p.0 p.1 e) d pairs
 

@@ -3,8 +3,8 @@ use ini::{Error, Ini, ParseKind};
 use std::alloc::Global;
 
 /// What is said of a text: that it is well, or the line, the column and the reason of its refusal.
-pub fn told(alloc: Global, text: &str) -> Result<String, Error> {
-    let told = match Ini::load_from_str(alloc, text) {
+pub fn reported(alloc: Global, text: &str) -> Result<String, Error> {
+    let reported = match Ini::load_from_str(alloc, text) {
         Ok(document) => format!(in alloc; "{} sections", document.len())?,
         Err(Error::Parse(fault)) => match fault.kind {
             ParseKind::MissingKey => format!(in alloc;
@@ -15,5 +15,5 @@ pub fn told(alloc: Global, text: &str) -> Result<String, Error> {
         },
         Err(other) => return Err(other),
     };
-    Ok(told)
+    Ok(reported)
 }

@@ -52,8 +52,8 @@ fn main(rt: HostRuntime) -> Result<(), Error> {
         None => println!(rt; "no value")?,
     }
 
-    let told = faults::told(alloc, "[paths]\nlog = /tmp/log\n= /tmp/cache\n")?;
-    println!(rt; "{told}")?;
+    let reported = faults::reported(alloc, "[paths]\nlog = /tmp/log\n= /tmp/cache\n")?;
+    println!(rt; "{reported}")?;
     match edited_text::with_port(alloc, "[server]\n  port\t= 80 \n# of the proxy\n", "443") {
         Ok(text) => println!(rt; "{text}")?,
         Err(refused) => println!(rt; "{refused}")?,

@@ -5,9 +5,9 @@ use std::alloc::Global;
 
 /// The warnings of a text, a line for each, with its place.
 pub fn warnings(alloc: Global, text: &str) -> Result<String, Error> {
-    let mut told = String::new(alloc);
+    let mut reported = String::new(alloc);
     for warning in check(alloc, text, ParseOption::default())? {
-        told.push_str(format!(in alloc; "{warning}\n")?.as_str())?;
+        reported.push_str(format!(in alloc; "{warning}\n")?.as_str())?;
     }
-    Ok(told)
+    Ok(reported)
 }

@@ -55,7 +55,7 @@ onto_first-append : (x : ℕ) (some more : List Line) (line : Line) (lines : Lis
     → onto_first x (some ++ more) ≡ onto_first x some ++ more
 onto_first-append x some more line lines e = rw e refl
 
--- the last line begins behind the last line feed but one at the end
+-- the last line begins after the last line feed but one at the end
 pub lines_of-last : (xs : List ℕ) (i : ℕ) → i < length xs → ((j : ℕ) → suc j ≡ i → get_or xs j 0 ≡ line_feed)
     → ((k : ℕ) → i ≤ k → k + 1 < length xs → get_or xs k 0 ≡ line_feed → ⊥)
     → lines_of xs ≡ lines_of (take i xs) ++ drop i xs ∷ []

@@ -32,7 +32,7 @@ module _ (o : ParseOption) (files : List (Vec ℕ Global)) (i : ℕ) (file : Vec
       record {
         before = bytes_of (take i files);
         file = file.items;
-        behind = bytes_of (drop (suc i) files);
+        following = bytes_of (drop (suc i) files);
         whole = ap bytes_of (sym (take-append-drop i files))
             ∙ (map-append (λ f. f.items) (take i files) (drop i files)
             ∙ ap (λ fs. bytes_of (take i files) ++ bytes_of fs) split);

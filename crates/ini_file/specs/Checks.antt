@@ -32,7 +32,7 @@ abbrev pub some_files : List Word → Option (List Word)
 some_files [] = None
 some_files (file ∷ files) = Some (file ∷ files)
 
--- the files that words name: those behind `--`, or else all words; None where there is no file, or where,
+-- the files that words name: those after `--`, or else all words; None where there is no file, or where,
 -- without `--`, a word begins with `--`
 abbrev pub files_named : List Word → Option (List Word)
 files_named [] = None
@@ -41,17 +41,17 @@ files_named (word ∷ words) =
     else if have_no_option (word ∷ words) then Some (word ∷ words)
     else None
 
--- what is checked behind the options, if `check` stands there
-abbrev pub check_behind : Options → List Word → Option Checking
-check_behind o [] = None
-check_behind o (command ∷ words) =
+-- what is checked after the options, if `check` stands there
+abbrev pub check_after : Options → List Word → Option Checking
+check_after o [] = None
+check_after o (command ∷ words) =
     if bytes_eq command (codes "check")
     then option_map (λ files. record { reading = o.reading; files = files }) (files_named words)
     else None
 
 -- what words check; None where they are no check
 abbrev pub check_asked : List Word → Option Checking
-check_asked words = option_and_then (λ p. check_behind p.0 p.1) (given default_options words)
+check_asked words = option_and_then (λ p. check_after p.0 p.1) (given default_options words)
 
 -- the check that is kept as borrowed words
 abbrev pub checking_of : Check → Checking

@@ -1,4 +1,4 @@
--- Which words behind the command are options, what they choose, and where the words behind them begin.
+-- Which words after the command are options, what they choose, and where the words after them begin.
 use Rattle.std.specs.Prelude.{Bool, true, false, not, ◌&&◌, ◌||◌, ◌==◌, if◌then◌else◌, nat_eq, nat_lt, count_by}
 use Rattle.std.specs.Prelude.{List, [], ◌∷◌, codes, length, map, Option, None, Some, is_some, String, string_bytes}
 use Rattle.std.specs.Borrow.{Bor}
@@ -101,7 +101,7 @@ with_switch word s =
 abbrev pub have_no_option : List Word → Bool
 have_no_option words = count_by (λ word. starts_with nat_eq word (codes "--")) words == 0
 
--- the choices of words where `c` holds before them, and the words behind: those behind `--`, else those from
+-- the choices of words where `c` holds before them, and the words after: those after `--`, else those from
 -- the first one on that is no option. None where a text is missing, or where, without `--`, one of the words
 -- from there on begins with `--`
 abbrev mutual
@@ -120,7 +120,7 @@ abbrev mutual
       else option_map_or (λ s. chosen (record c { switches = s }) words) (with_switch word c.switches)
       (if have_no_option (word ∷ words) then Some (c, word ∷ words) else None)
 
-  -- the same behind a word that a text follows
+  -- the same after a word that a text follows
   pub chosen_text : (Word → Chosen) → List Word → Option (Chosen × List Word)
   chosen_text with [] = None
   chosen_text with (text ∷ words) = chosen (with text) words
@@ -135,6 +135,6 @@ chosen_of c = record {
   wait = option_map (λ seconds. seconds.now) c.wait;
 }
 
--- what a call answers: the choices, and the words behind them
+-- what a call answers: the choices, and the words after them
 abbrev pub chosen_by : Option (Choices × Bor (List (String Global))) → Option (Chosen × List Word)
 chosen_by answer = option_map (λ p. (chosen_of p.0, map string_bytes p.1.now)) answer

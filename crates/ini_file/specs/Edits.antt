@@ -13,7 +13,7 @@ use Rattle.ini_options.specs.declared.options.Options.{Options}
 use Rattle.ini_file.specs.Bytes.{has_byte_order_mark}
 use Rattle.ini_file.specs.Writing.{IsWriting}
 
--- the bytes are the mark, and behind it, in UTF-8, the text T with the edit made in it, written as the options
+-- the bytes are the mark, and after it, in UTF-8, the text T with the edit made in it, written as the options
 -- say
 pub record IsChanged (o : Options) (separator : Option Word) (e : Editing) (byte_order_mark : List ℕ)
     (T : Text)
@@ -45,7 +45,7 @@ pub record IsEditRefused (o : Options) (separator : Option Word) (e : Editing) (
   pub is_option : IsWriting o separator option
   pub is_refused : Refuses o.reading option e T refused
 
--- what an edit of the text T behind this mark is refused with: memory may be refused to each; and as a key
+-- what an edit of the text T after this mark is refused with: memory may be refused to each; and as a key
 -- that isn't read back that the file would get a mark
 abbrev pub RefusesEdit : Options → Option Word → Editing → List ℕ → Text → EditError → Type 0
 RefusesEdit o separator e byte_order_mark T (TextError (Memory _)) = ⊤

@@ -30,17 +30,17 @@ abbrev pub merge_of_files : Options → Chosen → List Word → Option Merged
 merge_of_files o c files =
     if not (takes (codes "merge") c) || reads_input_twice files then None else files_merged o c files
 
--- the same behind the options, if `merge` stands there
-abbrev pub merged_behind : Options → List Word → Option Merged
-merged_behind o [] = None
-merged_behind o (command ∷ words) =
+-- the same after the options, if `merge` stands there
+abbrev pub merged_after : Options → List Word → Option Merged
+merged_after o [] = None
+merged_after o (command ∷ words) =
     if bytes_eq command (codes "merge")
     then option_and_then (λ p. merge_of_files o p.0 p.1) (chosen no_choice words)
     else None
 
 -- what words merge; None where they are no merge
 abbrev pub merge_asked : List Word → Option Merged
-merge_asked words = option_and_then (λ p. merged_behind p.0 p.1) (given default_options words)
+merge_asked words = option_and_then (λ p. merged_after p.0 p.1) (given default_options words)
 
 -- the merge that is kept as borrowed words
 abbrev pub merging_of : Merging → Merged

@@ -49,14 +49,14 @@ RefusesFile o file _ = ⊥
 pub record RefusesOther (o : ParseOption) (files : List (List ℕ)) (index : ℕ) (e : Error) : Type 0 where
   pub before : List (List ℕ)
   pub file : List ℕ
-  pub behind : List (List ℕ)
-  pub whole : files ≡ before ++ file ∷ behind
+  pub following : List (List ℕ)
+  pub whole : files ≡ before ++ file ∷ following
   pub is_at : index ≡ length before
   pub documents : List Document
   pub are_loaded : AreLoaded o before documents
   pub is_refused : RefusesFile o file e
 
--- The bytes are the mark, and behind it, in UTF-8, the text T with what the documents set, written as the
+-- The bytes are the mark, and after it, in UTF-8, the text T with what the documents set, written as the
 -- options say; where they set nothing T has a document all the same.
 pub record IsMerged (o : Options) (documents : List Document) (byte_order_mark : List ℕ) (T : Text)
     (bytes : List ℕ)
@@ -91,7 +91,7 @@ pub record RefusesMerge (o : Options) (documents : List Document) (T : Text) (re
   pub is_option : IsWriteOption o option
   pub is_refused : RefusesOneOf o.reading option (flat_map settings_of documents) T refused
 
--- how a merge of documents into a text behind a mark ends
+-- how a merge of documents into a text after a mark ends
 abbrev pub EndsOnText : Options → List Document → List ℕ → Text → MergeEnd → Type 0
 EndsOnText o documents byte_order_mark T (Done bytes) = IsMerged o documents byte_order_mark T bytes.items
 EndsOnText o documents byte_order_mark T (Edit refused) = RefusesMerge o documents T refused

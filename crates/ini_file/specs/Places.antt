@@ -35,8 +35,8 @@ place_of c file into_file = unwrap_or c.output (if into_file then file else code
 abbrev pub place_asked : Asks → Word
 place_asked a = place_of a.choices a.file (is_of_file a.request)
 
--- the file that a fault of writing is told of: the one that is written; of standard output the one that is
--- read
+-- the file that a fault of writing is reported of: the one that is written; of standard output the one that
+-- is read
 abbrev pub told : Word → Word → Word
 told file place = if bytes_eq place (codes "-") then file else place
 

@@ -12,7 +12,7 @@ use Rattle.ini_file.specs.declared.words.Question.{Question}
 use Rattle.ini_file.specs.declared.words.Question.TheVariants as question
 
 -- Where no section is named it is the general one. With `null` names, keys and values are written as they
--- stand, with NUL behind each; with `all` each value of the key is got; with a default that where there is
+-- stand, with NUL after each; with `all` each value of the key is got; with a default that where there is
 -- none.
 pub data Asking : Type 0 where
   Format : Asking

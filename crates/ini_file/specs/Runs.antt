@@ -115,7 +115,7 @@ status_of (Refused refusal.Key) = 2
 status_of (Refused refusal.Value) = 2
 status_of (Refused refusal.Separator) = 2
 
--- what is told of words that are none of the program's
+-- what is reported of words that are none of the program's
 abbrev pub usage_line : List ℕ
 usage_line =
     codes "usage: ini_file [--noescape] [--noquote] [--multiline] [--indent] [--brackets] [--crlf] "

@@ -66,7 +66,7 @@ request_for command c (first ∷ second ∷ third ∷ []) =
     request_with_three command c (chars first) (chars second) (chars third)
 request_for command c _ = None
 
--- what is asked for behind the options and the command, which takes its choices: a file, and the command's
+-- what is asked for after the options and the command, which takes its choices: a file, and the command's
 -- arguments
 abbrev pub asks_of_file : Options → Word → Chosen → List Word → Option Asks
 asks_of_file o command c [] = None
@@ -76,7 +76,7 @@ asks_of_file o command c (file ∷ arguments) =
     (request_for command c arguments)
     else None
 
--- the same behind the options: a command comes first, and then its own options
+-- the same after the options: a command comes first, and then its own options
 abbrev pub asks_of_command : Options → List Word → Option Asks
 asks_of_command o [] = None
 asks_of_command o (command ∷ words) =

@@ -18,28 +18,28 @@ pub fn has_byte_order_mark(bytes: &[u8]) -> bool
     bytes.starts_with(&BYTE_ORDER_MARK)
 }
 
-/// The byte order mark at the front of a file's bytes, if there is one, and the text behind it.
+/// The byte order mark at the front of a file's bytes, if there is one, and the text after it.
 ///
-/// Refused as `NotUtf8` where the bytes behind the mark are no UTF-8.
+/// Refused as `NotUtf8` where the bytes after the mark are no UTF-8.
 pub fn text_of(bytes: &[u8]) -> Result<(&[u8], &str), Error>
     ensures parts { IfOk result (λ p. (p.0.now ≡ byte_order_mark_of bytes.now)
         × (p.1.now ≡ without_byte_order_mark bytes.now)) }
     ensures not_utf8 { OnErr result (¬ (IsUtf8 (without_byte_order_mark bytes.now))) }
     ensures only { IsOkUnless result NotUtf8 }
 {
-    let (byte_order_mark, behind) = if has_byte_order_mark(bytes) {
+    let (byte_order_mark, following) = if has_byte_order_mark(bytes) {
         bytes.split_at(BYTE_ORDER_MARK.len())
     } else {
         bytes.split_at(0)
     };
-    match str::from_utf8(behind) {
+    match str::from_utf8(following) {
         Ok(text) => Ok((byte_order_mark, text)),
         Err(_) => Err(Error::NotUtf8),
     }
 }
 
-/// The bytes, and those of a text behind them. Refused for want of memory alone.
-pub fn joined(alloc: Global, front: &[u8], text: &str) -> Result<Vec<u8>, Error>
+/// The bytes, and those of a text after them. Refused only when out of memory.
+pub fn concat(alloc: Global, front: &[u8], text: &str) -> Result<Vec<u8>, Error>
     ensures bytes { IfOk result (λ bytes. bytes.items ≡ front.now ++ text.now) }
     ensures only { IsOkUnless result (Memory alloc_error) }
 {

@@ -78,7 +78,7 @@ pub fn status_of_check(checked: &Result<Vec<u8>, Error>) -> u8
 }
 
 /// The exit status of two files that have one each: the larger one.
-pub fn worse(one: u8, other: u8) -> u8
+pub fn worst_of(one: u8, other: u8) -> u8
     ensures { result ≡ max one other }
 {
     if one < other { other } else { one }

@@ -1,7 +1,7 @@
-//! The check of files that are there: their warnings go to standard output, and what is refused is told. This
-//! file knows the process's streams, and no word of the program.
+//! The check of files that are there: their warnings go to standard output, and what is refused is reported.
+//! This file knows the process's streams, and no word of the program.
 
-use crate::check::{check_file, status_of_check, worse};
+use crate::check::{check_file, status_of_check, worst_of};
 use crate::check_words::Check;
 use crate::files::read_input;
 use crate::refusals::refuse;
@@ -19,13 +19,13 @@ pub fn check_files(rt: &HostRuntime, check: &Check<'_>) -> u8 {
     let mut worst = 0;
     for file in check.files {
         let found = check_one(rt, check.reading, file.as_str(), &mut lines);
-        worst = worse(worst, found);
+        worst = worst_of(worst, found);
     }
     match rt.stdout().write_all(lines.as_slice()) {
         Ok(()) => worst,
         Err(fault) => {
             let refusal = Error::Io(fault);
-            worse(
+            worst_of(
                 worst,
                 refuse(
                     rt,

@@ -22,12 +22,12 @@ pub struct Check<'a> {
 pub fn check_of(words: &[String]) -> Option<Check<'_>>
     ensures { option_map checking_of result ≡ check_asked (map string_bytes words.now) }
 {
-    let (options, behind) = Options::of_words(words)?;
-    let (command, behind) = behind.split_first()?;
+    let (options, following) = Options::of_words(words)?;
+    let (command, following) = following.split_first()?;
     if command.as_str() != "check" {
         return None;
     }
-    let files = files_of(behind)?;
+    let files = files_of(following)?;
     let reading = options.reading;
     Some(Check { reading, files })
 }
@@ -37,12 +37,12 @@ fn files_of(words: &[String]) -> Option<&[String]>
     ensures { option_map (λ files. map string_bytes files.now) result
         ≡ files_named (map string_bytes words.now) }
 {
-    let (first, behind) = words.split_first()?;
+    let (first, following) = words.split_first()?;
     if first.as_str() == "--" {
-        if behind.is_empty() {
+        if following.is_empty() {
             None
         } else {
-            Some(behind)
+            Some(following)
         }
     } else if have_no_option(words) {
         Some(words)

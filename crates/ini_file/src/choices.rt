@@ -1,4 +1,4 @@
-//! The options of the program's own, which stand behind its command. This file knows no document, and of the
+//! The options of the program's own, which stand after its command. This file knows no document, and of the
 //! commands their names alone.
 ghost use Rattle.std.specs.Prelude.{◌≡◌, ◌&&◌, ◌||◌, map, not, string_bytes};
 ghost use Rattle.std.specs.Option.{option_map};
@@ -7,14 +7,14 @@ ghost use Rattle.ini_file.specs.Choices.{are_of_saving, are_seconds, has_digits_
 ghost use Rattle.ini_file.specs.Choices.{is_short_number, takes, takes_saving};
 ghost use Rattle.ini_file.specs.Choices.{writes_pairs, writes_texts};
 
-/// What words behind the command choose by themselves.
+/// What words after the command choose by themselves.
 #[derive(Clone, Copy)]
 pub struct Switches {
     /// A value is set only where its key is there.
     pub existing: bool,
     /// Each value of a key is got, not the first alone.
     pub all: bool,
-    /// What is asked for is written as it stands, with NUL behind each name, key and value.
+    /// What is asked for is written as it stands, with NUL after each name, key and value.
     pub null: bool,
     /// What would change in a file is shown, and no file is written.
     pub dry_run: bool,
@@ -22,7 +22,7 @@ pub struct Switches {
     pub in_place: bool,
     /// A write-protected file is written too.
     pub force: bool,
-    /// Whether the file is changed is told.
+    /// Whether the file is changed is reported.
     pub verbose: bool,
 }
 
@@ -68,7 +68,7 @@ impl Switches {
     }
 }
 
-/// What the options behind the command choose.
+/// What the options after the command choose.
 #[derive(Clone, Copy)]
 pub struct Choices<'a> {
     /// What words choose by themselves.
@@ -84,7 +84,7 @@ pub struct Choices<'a> {
 }
 
 impl<'a> Choices<'a> {
-    /// The options that words have at their front, and the words behind them: those behind `--`, else those
+    /// The options that words have at their front, and the words after them: those after `--`, else those
     /// from the first one on that is no option. `None` where, without `--`, one of the words from there on
     /// begins with `--`, or where the text is missing that an option takes. Of several texts of an option the
     /// last holds. Takes no memory.
@@ -151,18 +151,18 @@ impl<'a> Choices<'a> {
     }
 
     /// Whether the command of this name takes the choices.
-    pub fn suit(self, command: &str) -> bool
+    pub fn apply_to(self, command: &str) -> bool
         ensures { result ≡ takes command.now (chosen_of self.entry) }
     {
-        only_where(self.switches.existing, command == "set")
-            && only_where(self.switches.all, command == "get")
-            && only_where(self.default.is_some(), command == "get")
-            && only_where(self.switches.null, writes_texts(command))
-            && only_where(
+        implies(self.switches.existing, command == "set")
+            && implies(self.switches.all, command == "get")
+            && implies(self.default.is_some(), command == "get")
+            && implies(self.switches.null, writes_texts(command))
+            && implies(
                 self.separator.is_some(),
                 may_separate(command, self.switches.existing),
             )
-            && only_where(self.switches.dry_run, !writes_texts(command))
+            && implies(self.switches.dry_run, !writes_texts(command))
             && self.suit_saving(command)
     }
 
@@ -170,7 +170,7 @@ impl<'a> Choices<'a> {
     fn suit_saving(self, command: &str) -> bool
         ensures { result ≡ takes_saving command.now (chosen_of self.entry) }
     {
-        only_where(
+        implies(
             self.switches.are_of_saving() || self.wait.is_some(),
             !writes_texts(command) || self.output.is_some(),
         ) && are_seconds(self.wait)
@@ -213,7 +213,7 @@ pub(crate) fn have_no_option(words: &[String]) -> bool
 }
 
 // Whether what may be chosen in its place alone is chosen nowhere else.
-fn only_where(chosen: bool, place: bool) -> bool
+fn implies(chosen: bool, place: bool) -> bool
     ensures { result ≡ (not chosen || place) }
 {
     !chosen || place

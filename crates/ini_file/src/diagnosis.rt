@@ -5,9 +5,9 @@ use std::alloc::Global;
 use std::io::Write;
 
 /// Prints the line of a fault, and below it a caret at the last character that was looked at. Where the text
-/// ends within a name, a key, quotes or an escape, the place where its element begins is told too, and shown
-/// in the same way. Where the bytes are no text nothing is printed; a fault of the writer, or of memory, is
-/// dropped.
+/// ends within a name, a key, quotes or an escape, the place where its element begins is reported too, and
+/// shown in the same way. Where the bytes are no text nothing is printed; a fault of the writer, or of
+/// memory, is dropped.
 ///
 /// No contract says what is printed; `tests/files.sh` tests it.
 pub fn point_at<W: Write>(

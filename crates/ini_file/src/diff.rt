@@ -12,8 +12,8 @@ use ini::Error;
 use std::alloc::Global;
 
 /// The diff of the bytes that a file of this name has, and of those that it is to have: one hunk, which
-/// `patch` takes; nothing where the bytes are the same. Where there is no file, it is told as `/dev/null`.
-/// Refused for want of memory alone.
+/// `patch` takes; nothing where the bytes are the same. Where there is no file, it is reported as
+/// `/dev/null`. Refused only when out of memory.
 pub fn diff(alloc: Global, name: &str, old: Option<&[u8]>, new: &[u8]) -> Result<Vec<u8>, Error>
     ensures diff { IfOk result
         (λ diff. IsDiff name.now (option_map (λ b. b.now) old.entry) new.now diff.items) }
@@ -30,52 +30,52 @@ fn change(alloc: Global, from: &str, to: &str, old: &[u8], new: &[u8]) -> Result
     ensures diff { IfOk result (λ diff. IsDiffBetween from.now to.now old.now new.now diff.items) }
     ensures only { IsOkUnless result (Memory alloc_error) }
 {
-    let (first, gone, come) = skip_first(old, new);
-    let (gone, come) = skip_last(gone, come);
-    let diff = hunk_of(alloc, from, to, first, gone, come)?;
+    let (first, removed, added) = skip_first(old, new);
+    let (removed, added) = skip_last(removed, added);
+    let diff = hunk_of(alloc, from, to, first, removed, added)?;
     Ok(diff)
 }
 
-// The hunk behind so many first lines, of the lines that go and those that come; nothing where there is none.
+// The hunk after so many first lines, of the lines that go and those that come; nothing where there is none.
 fn hunk_of(
     alloc: Global,
     from: &str,
     to: &str,
     first: usize,
-    gone: &[u8],
-    come: &[u8],
+    removed: &[u8],
+    added: &[u8],
 ) -> Result<Vec<u8>, Error>
     requires { first < 2 ^ 63 }
     ensures hunk { IfOk result (λ diff. diff.items
-        ≡ hunk_where from.now to.now first (lines_of gone.now) (lines_of come.now)) }
+        ≡ hunk_where from.now to.now first (lines_of removed.now) (lines_of added.now)) }
     ensures only { IsOkUnless result (Memory alloc_error) }
 {
-    let (goes, comes) = (count_lines(gone), count_lines(come));
-    if goes == 0 && comes == 0 {
+    let (removals, additions) = (count_lines(removed), count_lines(added));
+    if removals == 0 && additions == 0 {
         return Ok(Vec::new(alloc));
     }
-    write_hunk(alloc, from, to, first, gone, come)
+    write_hunk(alloc, from, to, first, removed, added)
 }
 
-// The hunk behind so many first lines.
+// The hunk after so many first lines.
 fn write_hunk(
     alloc: Global,
     from: &str,
     to: &str,
     first: usize,
-    gone: &[u8],
-    come: &[u8],
+    removed: &[u8],
+    added: &[u8],
 ) -> Result<Vec<u8>, Error>
     requires { first < 2 ^ 63 }
     ensures hunk { IfOk result (λ diff. diff.items
-        ≡ hunk from.now to.now first (lines_of gone.now) (lines_of come.now)) }
+        ≡ hunk from.now to.now first (lines_of removed.now) (lines_of added.now)) }
     ensures only { IsOkUnless result (Memory alloc_error) }
 {
     let mut diff = Vec::new(alloc);
-    let head = head_of(alloc, from, to, first, count_lines(gone), count_lines(come))?;
+    let head = head_of(alloc, from, to, first, count_lines(removed), count_lines(added))?;
     diff.extend_from_slice(head.as_bytes())?;
-    add_signed_lines(&mut diff, b'-', gone)?;
-    add_signed_lines(&mut diff, b'+', come)?;
+    add_signed_lines(&mut diff, b'-', removed)?;
+    add_signed_lines(&mut diff, b'+', added)?;
     Ok(diff)
 }
 
@@ -86,20 +86,20 @@ fn skip_first<'a>(old: &'a [u8], new: &'a [u8]) -> (usize, &'a [u8], &'a [u8])
     ensures count { result.0 ≤ length old.now }
 {
     let mut count = 0;
-    let mut gone = old;
-    let mut come = new;
-    'lines: while let (Some((one, behind_one)), Some((other, behind_other))) = (
-        split_first_line(gone),
-        split_first_line(come),
+    let mut removed = old;
+    let mut added = new;
+    'lines: while let (Some((one, after_one)), Some((other, after_other))) = (
+        split_first_line(removed),
+        split_first_line(added),
     ) {
         if one != other {
             break;
         }
         count += 1;
-        gone = behind_one;
-        come = behind_other;
+        removed = after_one;
+        added = after_other;
     }
-    (count, gone, come)
+    (count, removed, added)
 }
 
 // What stands before the last lines that two texts share.
@@ -107,19 +107,19 @@ fn skip_last<'a>(old: &'a [u8], new: &'a [u8]) -> (&'a [u8], &'a [u8])
     ensures shared { ShareLast old.now new.now result.0.now result.1.now }
     ensures longest { DifferLast (lines_of result.0.now) (lines_of result.1.now) }
 {
-    let mut gone = old;
-    let mut come = new;
+    let mut removed = old;
+    let mut added = new;
     'lines: while let (Some((before_one, one)), Some((before_other, other))) = (
-        split_last_line(gone),
-        split_last_line(come),
+        split_last_line(removed),
+        split_last_line(added),
     ) {
         if one != other {
             break;
         }
-        gone = before_one;
-        come = before_other;
+        removed = before_one;
+        added = before_other;
     }
-    (gone, come)
+    (removed, added)
 }
 
 // The lines that stand before those of a hunk.
@@ -128,33 +128,33 @@ fn head_of(
     from: &str,
     to: &str,
     first: usize,
-    gone: usize,
-    come: usize,
+    removed: usize,
+    added: usize,
 ) -> Result<String, Error>
     requires { first < 2 ^ 63 }
-    ensures head { IfOk result (λ head. string_bytes head ≡ hunk_head from.now to.now first gone come) }
+    ensures head { IfOk result (λ head. string_bytes head ≡ hunk_head from.now to.now first removed added) }
     ensures only { IsOkUnless result (Memory alloc_error) }
 {
-    let gone_at = if gone == 0 { first } else { first + 1 };
-    let come_at = if come == 0 { first } else { first + 1 };
-    Ok(format!(in alloc; "--- {from}\n+++ {to}\n@@ -{gone_at},{gone} +{come_at},{come} @@\n")?)
+    let removed_at = if removed == 0 { first } else { first + 1 };
+    let added_at = if added == 0 { first } else { first + 1 };
+    Ok(format!(in alloc; "--- {from}\n+++ {to}\n@@ -{removed_at},{removed} +{added_at},{added} @@\n")?)
 }
 
-// Adds lines, each behind the sign.
+// Adds lines, each after the sign.
 fn add_signed_lines(diff: &mut Vec<u8>, sign: u8, lines: &[u8]) -> Result<(), Error>
     ensures put { OnOk result (diff.new.items
         ≡ diff.old.items ++ flat_map (signed_line sign) (lines_of lines.now)) }
     ensures only { IsOkUnless result (Memory alloc_error) }
 {
     let mut rest = lines;
-    'lines: while let Some((line, behind)) = split_first_line(rest) {
+    'lines: while let Some((line, following)) = split_first_line(rest) {
         add_signed_line(diff, sign, line)?;
-        rest = behind;
+        rest = following;
     }
     Ok(())
 }
 
-// Adds a line behind the sign.
+// Adds a line after the sign.
 fn add_signed_line(diff: &mut Vec<u8>, sign: u8, line: &[u8]) -> Result<(), Error>
     ensures put { OnOk result (diff.new.items ≡ diff.old.items ++ signed_line sign line.now) }
     ensures only { IsOkUnless result (Memory alloc_error) }

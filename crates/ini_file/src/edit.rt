@@ -6,7 +6,7 @@ ghost use Rattle.ini_file.specs.Bytes.{has_byte_order_mark};
 ghost use Rattle.ini_file.specs.Edits.{IsChanged, RefusesEdit};
 ghost use Rattle.ini_file.specs.Writing.{word_of};
 
-use crate::bytes::{has_byte_order_mark, joined};
+use crate::bytes::{has_byte_order_mark, concat};
 use crate::writing::writing;
 use ini_edit::{Edit, EditError, make_edit};
 use ini_options::Options;
@@ -43,7 +43,7 @@ pub fn change(
     if gets_byte_order_mark(byte_order_mark, new.as_str()) {
         return Err(EditError::Key);
     }
-    Ok(Some(joined(alloc, byte_order_mark, new.as_str())?))
+    Ok(Some(concat(alloc, byte_order_mark, new.as_str())?))
 }
 
 /// Whether a file that has no mark, if it has none, gets one from the text.

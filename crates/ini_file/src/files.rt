@@ -71,7 +71,7 @@ pub(crate) fn print(rt: &HostRuntime, output: &[u8]) -> Result<(), Error> {
 
 /// Hands on what a command makes of a file, of which nothing was read where it wasn't there. A file that
 /// would not change is not written.
-pub(crate) fn hand_on(
+pub(crate) fn write_output(
     rt: &HostRuntime,
     target: Target<'_>,
     old: Option<&[u8]>,

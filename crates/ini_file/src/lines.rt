@@ -43,9 +43,9 @@ pub(crate) fn count_lines(bytes: &[u8]) -> usize
 {
     let mut count = 0;
     let mut rest = bytes;
-    'lines: while let Some((_, behind)) = split_first_line(rest) {
+    'lines: while let Some((_, following)) = split_first_line(rest) {
         count += 1;
-        rest = behind;
+        rest = following;
     }
     count
 }

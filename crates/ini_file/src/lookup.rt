@@ -12,7 +12,7 @@ use ini_view::View;
 use std::io::Write;
 
 /// Writes what is looked up, as it stands: the first value of the key in the first section of the name, or
-/// all of them in order, each with a line feed or NUL behind it; where the key isn't there the default. Where
+/// all of them in order, each with a line feed or NUL after it; where the key isn't there the default. Where
 /// there is no default either, the answer is `false`, and nothing is written.
 ///
 /// # Errors

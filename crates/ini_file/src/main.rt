@@ -37,7 +37,7 @@ mod writing;
 
 use check_files::check_files;
 use check_words::check_of;
-use files::{hand_on, lock_place, print, read_file};
+use files::{write_output, lock_place, print, read_file};
 use ini_options::words_of;
 use merge_files::merge_files;
 use merge_words::merge_of;
@@ -48,7 +48,7 @@ use std::process::ExitCode;
 use target::{Target, handed_on};
 use words::{Asked, parse};
 
-/// How a run over a file ended, and the file that it is told of.
+/// How a run over a file ended, and the file that it is reported of.
 #[derive(Drop)]
 struct End<'a> {
     outcome: Outcome,
@@ -81,7 +81,7 @@ fn run_here<'a>(
         return ended(outcome, file);
     };
     let old = is_there.then_some(input.as_slice());
-    match hand_on(rt, target, old, output) {
+    match write_output(rt, target, old, output) {
         Ok(()) => ended(outcome, file),
         Err(refusal) => ended(Outcome::from(refusal), target.told()),
     }

@@ -5,7 +5,7 @@ ghost use Rattle.ini.specs.Documents.{Document};
 ghost use Rattle.ini_file.specs.Merges.{AreLoaded, EndsOnText, HasMerge, Loads, RefusesFile, RefusesOther};
 ghost use Rattle.ini_file.specs.Merges.{bytes_of};
 
-use crate::bytes::{joined, text_of};
+use crate::bytes::{concat, text_of};
 use crate::edit::gets_byte_order_mark;
 use crate::settings::settings_of;
 use ini::{Error, Ini, ParseOption};
@@ -46,7 +46,7 @@ pub fn merge(alloc: Global, options: Options, input: &[u8], others: &[Vec<u8>]) 
     }
 }
 
-// What documents set, set in a text behind a mark.
+// What documents set, set in a text after a mark.
 fn merge_text(
     alloc: Global,
     options: Options,
@@ -72,7 +72,7 @@ fn merge_text(
     if gets_byte_order_mark(byte_order_mark, new.text.as_str()) {
         return MergeEnd::GetsMark;
     }
-    match joined(alloc, byte_order_mark, new.text.as_str()) {
+    match concat(alloc, byte_order_mark, new.text.as_str()) {
         Ok(bytes) => MergeEnd::Done(bytes),
         Err(refused) => MergeEnd::File(refused),
     }

@@ -1,7 +1,7 @@
-//! A merge of files that are there: they are read, what they make is handed on, and what is refused is told.
-//! This file knows the process's streams, and no word of the program.
+//! A merge of files that are there: they are read, what they make is handed on, and what is refused is
+//! reported. This file knows the process's streams, and no word of the program.
 
-use crate::files::{hand_on, lock_place, read_file, read_input};
+use crate::files::{write_output, lock_place, read_file, read_input};
 use crate::merge::{MergeEnd, load_all, merge};
 use crate::merge_words::Merging;
 use crate::refusals::refuse;
@@ -55,7 +55,7 @@ fn merge_read(
     match merge(rt.alloc(), merging.options, input, others) {
         MergeEnd::Done(bytes) => {
             let target = Target::of_merging(*merging);
-            match hand_on(rt, target, old, bytes.as_slice()) {
+            match write_output(rt, target, old, bytes.as_slice()) {
                 Ok(()) => 0,
                 Err(refusal) => refuse(rt, read, target.told(), &[], Outcome::from(refusal)),
             }

@@ -13,7 +13,7 @@ use ini_options::Options;
 pub struct Merging<'a> {
     /// How the files are read, and the file is written.
     pub options: Options,
-    /// The options behind the command.
+    /// The options after the command.
     pub choices: Choices<'a>,
     /// The file's name; `-` is standard input.
     pub file: &'a str,
@@ -26,12 +26,12 @@ pub struct Merging<'a> {
 pub fn merge_of(words: &[String]) -> Option<Merging<'_>>
     ensures { option_map merging_of result ≡ merge_asked (map string_bytes words.now) }
 {
-    let (options, behind) = Options::of_words(words)?;
-    let (command, behind) = behind.split_first()?;
+    let (options, following) = Options::of_words(words)?;
+    let (command, following) = following.split_first()?;
     if command.as_str() != "merge" {
         return None;
     }
-    let (choices, files) = Choices::of_words(behind)?;
+    let (choices, files) = Choices::of_words(following)?;
     files_merged(options, choices, files)
 }
 
@@ -44,7 +44,7 @@ fn files_merged<'a>(
     ensures { option_map merging_of result
         ≡ merge_of_files options (chosen_of choices.entry) (map string_bytes files.now) }
 {
-    if !choices.suit("merge") || reads_input_twice(files) {
+    if !choices.apply_to("merge") || reads_input_twice(files) {
         return None;
     }
     let (file, others) = files.split_first()?;

@@ -143,7 +143,7 @@ fn has_bytes(rt: &HostRuntime, target: &str, old: &[u8]) -> io::Result<bool> {
             Err(fault) => return Err(fault),
         };
         match rest.split_at_checked(count) {
-            Some((same, behind)) if Some(same) == chunk.get(..count) => rest = behind,
+            Some((same, following)) if Some(same) == chunk.get(..count) => rest = following,
             _ => return Ok(false),
         }
     }

@@ -1,4 +1,4 @@
-//! A refusal, told on standard error. This file knows the process's streams, and no word of the program.
+//! A refusal, reported on standard error. This file knows the process's streams, and no word of the program.
 
 use crate::diagnosis::point_at;
 use crate::run::{Outcome, status, tell};

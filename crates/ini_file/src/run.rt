@@ -69,8 +69,8 @@ pub fn status(outcome: &Outcome) -> u8
 /// its edit made in their text. A mark (EF BB BF) at their front is no part of the text; an edit keeps it.
 ///
 /// Words that are no command over one file are `Usage`, whatever the bytes are: a check and a merge, which
-/// are over several, have functions of their own. `NotUtf8` is told before any fault of the words or of the
-/// text. Nothing but `Done` has anything to be written.
+/// are over several, have functions of their own. `NotUtf8` is reported before any fault of the words or of
+/// the text. Nothing but `Done` has anything to be written.
 pub fn run(alloc: Global, words: &[String], input: &[u8]) -> Outcome
     ensures usage { IsUsage result ↔ (asked_by words.now ≡ None) }
     ensures outcome { HasOutcome words.now input.now result }
@@ -112,7 +112,7 @@ fn format(
     let option = writing(alloc, options, separator)?;
     let document = Ini::load_from_str_opt(alloc, text, options.reading)?;
     let mut bytes = Vec::new(alloc);
-    // Bytes in memory are refused for want of it alone.
+    // Bytes in memory are refused only when out of memory.
     if document.write_to_opt(&mut bytes, option).is_err() {
         return Err(EditError::Text(Error::Memory(AllocError)));
     }

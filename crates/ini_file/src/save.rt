@@ -38,7 +38,7 @@ const NOT_SUPPORTED: i32 = 95;
 
 /// Puts bytes in the place of those that were read of a file, or into a new file where none was read. They
 /// are written to a new file beside it, which none but its owner may read until it has the old one's owner,
-/// group and mode, is brought to the disk, and then takes its name; the folder is brought to the disk behind
+/// group and mode, is brought to the disk, and then takes its name; the folder is brought to the disk after
 /// that. Where the name is a symbolic link, the file that it stands for is replaced, and the link stays.
 /// With `in_place` the file itself is written, after a copy beside it.
 ///

@@ -69,8 +69,8 @@ impl<'a> Target<'a> {
         }
     }
 
-    /// The file that a fault is told of which arises where its bytes go: the one that is written; where that
-    /// is standard output, the one that is read.
+    /// The file that a fault is reported of which arises where its bytes go: the one that is written; where
+    /// that is standard output, the one that is read.
     pub fn told(self) -> &'a str
         ensures { result.now ≡ told self.entry.file.now self.entry.place.now }
     {

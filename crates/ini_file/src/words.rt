@@ -16,7 +16,7 @@ use ini_options::{Options, usage_line};
 pub const USAGE: &str = usage_line!("ini_file", "COMMAND [CHOICE].. [--] FILE [ARGUMENT]..",);
 
 /// What is asked of the document of a file. Where no section is named it is the general one. With `null` each
-/// name, key and value is written as it stands, with NUL behind it, and no line.
+/// name, key and value is written as it stands, with NUL after it, and no line.
 #[derive(Clone, Copy)]
 pub enum Question<'a> {
     /// A line for each pair.
@@ -47,7 +47,7 @@ pub struct Lookup<'a> {
     pub all: bool,
     /// The value where the key isn't there.
     pub default: Option<&'a str>,
-    /// NUL stands behind each value, in place of a line feed.
+    /// NUL stands after each value, in place of a line feed.
     pub null: bool,
 }
 
@@ -67,7 +67,7 @@ pub enum Command<'a> {
 pub struct Asked<'a> {
     /// How the file is read and written.
     pub options: Options,
-    /// The options behind the command.
+    /// The options after the command.
     pub choices: Choices<'a>,
     /// The file's name.
     pub file: &'a str,
@@ -233,11 +233,11 @@ fn set_of<'a>(
 pub fn parse(words: &[String]) -> Option<Asked<'_>>
     ensures { option_map asks_of result ≡ asks_of_words (map string_bytes words.now) }
 {
-    let (options, behind) = Options::of_words(words)?;
-    let (word, behind) = behind.split_first()?;
-    let (choices, behind) = Choices::of_words(behind)?;
-    let (file, arguments) = behind.split_first()?;
-    if !choices.suit(word.as_str()) {
+    let (options, following) = Options::of_words(words)?;
+    let (word, following) = following.split_first()?;
+    let (choices, following) = Choices::of_words(following)?;
+    let (file, arguments) = following.split_first()?;
+    if !choices.apply_to(word.as_str()) {
         return None;
     }
     let command = command_of(word.as_str(), choices, arguments)?;

@@ -19,7 +19,7 @@ pub fn separates(separator: Option<&str>) -> bool
 }
 
 /// How the options have documents written, with the separator between a key and its value; where none is
-/// chosen with `=` alone. Refused for want of memory alone.
+/// chosen with `=` alone. Refused only when out of memory.
 pub fn writing(
     alloc: Global,
     options: Options,
@@ -33,17 +33,17 @@ pub fn writing(
         return Ok(option);
     };
     Ok(WriteOption {
-        kv_separator: kept(alloc, separator)?,
+        kv_separator: leaked_copy(alloc, separator)?,
         ..option
     })
 }
 
 // A copy of the text that is never freed: a `WriteOption` has its separator for as long as the program runs.
-fn kept(alloc: Global, text: &str) -> Result<&'static str, Error>
-    ensures text { IfOk result (λ kept. kept.now ≡ text.now) }
+fn leaked_copy(alloc: Global, text: &str) -> Result<&'static str, Error>
+    ensures text { IfOk result (λ leaked_copy. leaked_copy.now ≡ text.now) }
     ensures only { IsOkUnless result (Memory alloc_error) }
 {
     let bytes = Vec::from_slice(alloc, text.as_bytes())?;
-    let kept: &'static [u8] = bytes.leak();
-    Ok(str::from_utf8(kept).unwrap())
+    let leaked_copy: &'static [u8] = bytes.leak();
+    Ok(str::from_utf8(leaked_copy).unwrap())
 }

@@ -120,19 +120,19 @@ impl Limits {
     };
 
     /// Whether an answer tells what stopped the writer of a text as it is, or that nothing did.
-    pub(crate) fn is_told(self, answer: &Result<(), Error>, text: &str) -> bool {
+    pub(crate) fn is_reported(self, answer: &Result<(), Error>, text: &str) -> bool {
         let full = self.room < text.len();
         match answer {
             Ok(()) => !full,
-            Err(Error::Io(told)) => full && self.fault == Some(told.kind()),
+            Err(Error::Io(reported)) => full && self.fault == Some(reported.kind()),
             Err(Error::NoProgress) => full && self.fault.is_none(),
             Err(_) => false,
         }
     }
 
     /// Asks that this held of a writer with these limits, and of what is named.
-    pub(crate) fn expect(self, rt: &impl Abort, of: impl Debug + Drop, held: bool) {
-        assert!(rt; held, "{of:?}: {self:?}");
+    pub(crate) fn expect(self, rt: &impl Abort, of: impl Debug + Drop, as_expected: bool) {
+        assert!(rt; as_expected, "{of:?}: {self:?}");
     }
 }
 

@@ -46,19 +46,19 @@ fn edit<W: Write>(alloc: Global, edits: &[Edit], out: &mut Watched<'_, W>) -> Re
     edit_text(alloc, PEERS, read, edits, write, out)
 }
 
-// Writes the edited text. Whether what stopped it is told and counted.
-fn is_told(alloc: Global, edits: &[Edit], device: &mut LimitedWriter, limits: Limits) -> bool {
+// Writes the edited text. Whether what stopped it is reported and counted.
+fn is_reported(alloc: Global, edits: &[Edit], device: &mut LimitedWriter, limits: Limits) -> bool {
     let mut out = Watched::new(device);
     let answer = edit(alloc, edits, &mut out);
-    limits.is_told(&answer, EDITED) && is_counted(&out, &answer)
+    limits.is_reported(&answer, EDITED) && is_counted(&out, &answer)
 }
 
-/// Asks that as much of the edited text goes out as there is room for, that what stopped it is told and
+/// Asks that as much of the edited text goes out as there is room for, that what stopped it is reported and
 /// counted, that no call follows it, and that nothing is flushed.
 fn expect_front(rt: &(impl Abort + AllocGlobal), edits: &[Edit], limits: Limits) {
     let mut device = LimitedWriter::new(rt.alloc(), limits);
-    let told = is_told(rt.alloc(), edits, &mut device, limits);
-    limits.expect(rt, "edited", told && device.has_front_of(EDITED));
+    let reported = is_reported(rt.alloc(), edits, &mut device, limits);
+    limits.expect(rt, "edited", reported && device.has_front_of(EDITED));
 }
 
 #[test]
@@ -137,8 +137,8 @@ fn made_with(
     let rest = famine.leave(rt, steps);
     let answer = apply(&mut document, edits);
     drop(rest);
-    let told = matches!(answer, Ok(()) | Err(Error::Memory(_)));
-    assert!(rt; told);
+    let reported = matches!(answer, Ok(()) | Err(Error::Memory(_)));
+    assert!(rt; reported);
     (edits_made(rt, &document), answer.is_ok())
 }
 

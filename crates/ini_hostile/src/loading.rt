@@ -128,12 +128,12 @@ fn each_request_of_reading_is_refused(rt: HostRuntime) {
     expect_shown(&rt, "reading", &document, EACH_SHOWN);
 }
 
-/// A text that is refused behind a pair.
+/// A text that is refused after a pair.
 pub(crate) const REFUSED: &'static str = "key=value\n=v";
 
-// Loads the refused text with so much memory. Whether the place of its fault is told; else memory was
+// Loads the refused text with so much memory. Whether the place of its fault is reported; else memory was
 // refused.
-fn is_told(rt: &(impl Abort + AllocGlobal), famine: &mut Famine, steps: usize) -> bool {
+fn is_reported(rt: &(impl Abort + AllocGlobal), famine: &mut Famine, steps: usize) -> bool {
     let rest = famine.leave(rt, steps);
     let answer = Ini::load_from_str(rt.alloc(), REFUSED);
     drop(rest);
@@ -151,7 +151,7 @@ fn is_told(rt: &(impl Abort + AllocGlobal), famine: &mut Famine, steps: usize) -
 fn a_refused_text_is_told_where_memory_is_enough(rt: HostRuntime) {
     let mut famine = Famine::new(&rt);
     for steps in 0..CALLS {
-        if is_told(&rt, &mut famine, steps) {
+        if is_reported(&rt, &mut famine, steps) {
             assert!(rt; steps > 0);
             return;
         }
@@ -159,7 +159,7 @@ fn a_refused_text_is_told_where_memory_is_enough(rt: HostRuntime) {
     panic!(rt; "never told")
 }
 
-// Whether the next item is refused for want of memory.
+// Whether the next item is refused when out of memory.
 fn wants_memory(parser: &mut Parser<'_>) -> bool {
     matches!(parser.next_item(), Err(Error::Memory(_)))
 }

@@ -17,8 +17,8 @@ const PIECE: usize = 0x1_0000;
 const STEPS: [usize; 3] = [usize::MAX, 4093, 1];
 
 /// Asks that this held of what is named.
-fn expect(rt: &impl Abort, of: impl Debug + Drop, held: bool) {
-    assert!(rt; held, "{of:?}");
+fn expect(rt: &impl Abort, of: impl Debug + Drop, as_expected: bool) {
+    assert!(rt; as_expected, "{of:?}");
 }
 
 // The text so many times over.
@@ -26,7 +26,7 @@ fn repeated(rt: &(impl Abort + AllocGlobal), text: &str, count: usize) -> String
     text.repeat(rt.alloc(), count).expect(rt, "memory")
 }
 
-// Three texts, one behind another.
+// Three texts, one after another.
 fn joined(rt: &(impl Abort + AllocGlobal), front: &str, middle: &str, end: &str) -> String {
     format!(in rt.alloc(); "{front}{middle}{end}").expect(rt, "memory")
 }
@@ -123,7 +123,7 @@ fn no_section_is_lost(rt: HostRuntime) {
     }
 }
 
-/// Asks that a pair with this value, written so, is read whole, and the pairs before it and behind it.
+/// Asks that a pair with this value, written so, is read whole, and the pairs before it and after it.
 fn expect_value(
     rt: &(impl Abort + AllocGlobal),
     of: &str,
@@ -161,10 +161,10 @@ fn is_cut(text: &str, place: usize) -> bool {
     }
 }
 
-/// Comments whose lengths differ by one, so that what is behind them is shifted.
+/// Comments whose lengths differ by one, so that what is after them is shifted.
 const FRONTS: [&'static str; 4] = [";\n", ";x\n", ";xx\n", ";xxx\n"];
 
-/// Asks that so many pairs of so many such characters are read whole behind each front, and that each cut
+/// Asks that so many pairs of so many such characters are read whole after each front, and that each cut
 /// within the character comes at the ends of the first two reads.
 fn expect_characters(
     rt: &(impl Abort + AllocGlobal),
@@ -213,7 +213,7 @@ fn a_mark_before_a_long_text_is_dropped_or_text(rt: HostRuntime) {
 /// Line, column and kind of a refusal.
 type Place = (usize, usize, ParseKind);
 
-// Whether the refusal of this place is told.
+// Whether the refusal of this place is reported.
 fn is_refused(answer: &Result<Ini, Error>, (line, col, kind): Place) -> bool {
     match answer {
         Err(Error::Parse(fault)) => { (fault.line, fault.col) == (line, col) && fault.kind == kind }
@@ -249,13 +249,13 @@ const REFUSED: [(&'static str, usize, ParseKind); 3] = [
 const PAIRS: [(&'static str, usize); 2] = [("key=value\n", 1), ("key=\"a\nb\"\r\n", 2)];
 
 #[test]
-fn a_refusal_behind_two_reads_is_told_at_its_place(rt: HostRuntime) {
-    let behind = repeated(&rt, "key=value\n", 7_000);
+fn a_refusal_after_two_reads_is_told_at_its_place(rt: HostRuntime) {
+    let following = repeated(&rt, "key=value\n", 7_000);
     for (pair, lines) in PAIRS {
         let front = repeated(&rt, pair, 15_000);
         let line = lines.saturating_mul(15_000).saturating_add(1);
         for (refused, col, kind) in REFUSED {
-            let text = joined(&rt, &front, refused, &behind);
+            let text = joined(&rt, &front, refused, &following);
             expect_refusal(&rt, refused, &text, (line, col, kind));
         }
         let text = joined(&rt, &front, "key", "");
@@ -273,7 +273,7 @@ fn a_column_longer_than_two_reads_is_told(rt: HostRuntime) {
 /// How texts begin: some are refused there, one is never whole.
 const BEGINNINGS: [&'static str; 4] = ["k=v\n", "=v\n", "[p] # c\n", "k=\""];
 
-// The beginning, 150,000 bytes of pairs, and bytes behind them.
+// The beginning, 150,000 bytes of pairs, and bytes after them.
 fn long_bytes(rt: &(impl Abort + AllocGlobal), beginning: &str, end: &[u8]) -> Vec<u8> {
     let pairs = repeated(rt, "key=value\n", 15_000);
     let mut out = Vec::new(rt.alloc());
@@ -285,12 +285,12 @@ fn long_bytes(rt: &(impl Abort + AllocGlobal), beginning: &str, end: &[u8]) -> V
 
 // Whether the bytes are refused as no text, however many a call gives.
 fn is_no_text(alloc: Global, bytes: &[u8]) -> bool {
-    let mut held = true;
+    let mut as_expected = true;
     for step in STEPS {
         let answer = read(alloc, bytes, step, ParseOption::default(), false);
-        held = held && matches!(&answer, Err(Error::NotUtf8));
+        as_expected = as_expected && matches!(&answer, Err(Error::NotUtf8));
     }
-    held
+    as_expected
 }
 
 #[test]
@@ -299,26 +299,26 @@ fn bytes_that_are_no_text_are_told_before_a_refusal(rt: HostRuntime) {
         let ends: [&'static [u8]; 4] = [b"\xFF", b"\xC3", b"\xE2\x82\nk=v\n", b"k=\xF0\x9F\x90"];
         for end in ends {
             let bytes = long_bytes(&rt, beginning, end);
-            let told = is_no_text(rt.alloc(), bytes.as_slice());
-            expect(&rt, (beginning, end), told);
+            let reported = is_no_text(rt.alloc(), bytes.as_slice());
+            expect(&rt, (beginning, end), reported);
         }
     }
 }
 
-// Whether a fault at the call is told as it is, counted once, and no call follows it.
-fn is_told(alloc: Global, bytes: &[u8], (step, call): (usize, usize), fault: ErrorKind) -> bool {
+// Whether a fault at the call is reported as it is, counted once, and no call follows it.
+fn is_reported(alloc: Global, bytes: &[u8], (step, call): (usize, usize), fault: ErrorKind) -> bool {
     let mut device = StepReader::failing(bytes, step, call, fault);
     let mut reader = Watched::new(&mut device);
     let answer = Ini::read_watched(alloc, &mut reader, ParseOption::default(), false);
     let counted = reader.failures() == 1 && reader.stalls() == 0;
-    let told = match &answer {
-        Err(Error::Io(told)) => told.kind() == fault,
+    let reported = match &answer {
+        Err(Error::Io(reported)) => reported.kind() == fault,
         _ => false,
     };
-    told && counted && device.calls == call
+    reported && counted && device.calls == call
 }
 
-/// Calls behind two reads, by how many bytes each gives.
+/// Calls after two reads, by how many bytes each gives.
 const LATE_CALLS: [(usize, usize); 4] = [
     (usize::MAX, 3),
     (usize::MAX, 4),
@@ -327,13 +327,13 @@ const LATE_CALLS: [(usize, usize); 4] = [
 ];
 
 #[test]
-fn a_fault_behind_two_reads_is_told_and_ends_reading(rt: HostRuntime) {
+fn a_fault_after_two_reads_is_told_and_ends_reading(rt: HostRuntime) {
     for beginning in BEGINNINGS {
         let bytes = long_bytes(&rt, beginning, b"\xFF");
         for late in LATE_CALLS {
             for fault in READ_FAULTS {
-                let told = is_told(rt.alloc(), bytes.as_slice(), late, fault);
-                expect(&rt, (beginning, late, fault), told);
+                let reported = is_reported(rt.alloc(), bytes.as_slice(), late, fault);
+                expect(&rt, (beginning, late, fault), reported);
             }
         }
     }

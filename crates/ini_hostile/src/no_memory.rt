@@ -43,11 +43,11 @@ fn is_looked_up(document: &Ini) -> bool {
 // `section_all`, `sections`, `iter`.
 fn is_walked(document: &Ini) -> bool {
     let counted = document.section_all(P).count() == 2 && document.sections().count() == 3;
-    let mut held = counted && document.iter().size_hint() == (4, Some(4));
+    let mut as_expected = counted && document.iter().size_hint() == (4, Some(4));
     for (name, section) in document {
-        held = held && section.is_empty() == (name == Some("q"));
+        as_expected = as_expected && section.is_empty() == (name == Some("q"));
     }
-    held
+    as_expected
 }
 
 // `section_mut`, `get_from_mut`, `section_all_mut`, `iter_mut`.
@@ -60,23 +60,23 @@ fn is_looked_up_for_writing(document: &mut Ini) -> bool {
 
 // A walk for writing over all values.
 fn is_walked_for_writing(document: &mut Ini) -> bool {
-    let mut held = true;
+    let mut as_expected = true;
     for (_, section) in document {
         for (_, value) in section {
-            held = held && !value.is_empty();
+            as_expected = as_expected && !value.is_empty();
         }
     }
-    held
+    as_expected
 }
 
 fn is_walked_by_value(document: Ini) -> bool {
-    let mut held = true;
+    let mut as_expected = true;
     for (_, section) in document {
         for (key, _) in section {
-            held = held && !key.is_empty();
+            as_expected = as_expected && !key.is_empty();
         }
     }
-    held
+    as_expected
 }
 
 #[test]
@@ -148,15 +148,15 @@ const DELETED: &'static str = "10 11 12 13 14 15 16 17 18 19 20 21 22 23 24 25 2
 
 // Takes the pairs of these keys out, those from 20 to 29 by a setter. Whether each was there.
 fn is_deleted(document: &mut Ini) -> bool {
-    let mut held = true;
+    let mut as_expected = true;
     for key in DELETED.split(' ') {
         if key.starts_with('2') {
             let _ = document.with_section(P).delete(key);
         } else {
-            held = held && document.delete_from(P, key).is_some();
+            as_expected = as_expected && document.delete_from(P, key).is_some();
         }
     }
-    held
+    as_expected
 }
 
 #[test]
@@ -362,7 +362,7 @@ fn writing(rt: HostRuntime) {
     }
 }
 
-// Whether the fault behind the line's second column is told.
+// Whether the fault after the line's second column is reported.
 fn is_refused(parser: &mut Parser<'_>) -> bool {
     match parser.next_item() {
         Err(Error::Parse(fault)) => {

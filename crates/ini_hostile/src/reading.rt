@@ -52,7 +52,7 @@ pub(crate) const CONTINUED: &'static str = "\n[Foo]\nbar =\n    u\n    v\n\n\
 pub(crate) const CONTINUED_SHOWN: &'static str =
     "general: [Foo]: <bar|u\nv> <baz|w\nx # intentional trailing whitespace below\ny\n\nz #2> <bla|a> ";
 
-/// Asks that the form reads the marked text so, by one call for each byte and one behind the last.
+/// Asks that the form reads the marked text so, by one call for each byte and one after the last.
 fn expect_reading(rt: &(impl Abort + AllocGlobal), form: Form, want: &str) {
     let mut device = SlowReader::new(MARKED.as_bytes());
     let document = form.read(rt.alloc(), &mut device).expect(rt, "a document");
@@ -62,28 +62,28 @@ fn expect_reading(rt: &(impl Abort + AllocGlobal), form: Form, want: &str) {
 }
 
 #[test]
-fn each_form_asks_once_behind_the_last_byte(rt: HostRuntime) {
+fn each_form_asks_once_after_the_last_byte(rt: HostRuntime) {
     for (form, want) in READINGS {
         expect_reading(&rt, form, want);
     }
 }
 
-// Whether a fault at the call is told as it is, and no call follows it.
-fn is_told(alloc: Global, form: Form, bytes: &[u8], call: usize, fault: ErrorKind) -> bool {
+// Whether a fault at the call is reported as it is, and no call follows it.
+fn is_reported(alloc: Global, form: Form, bytes: &[u8], call: usize, fault: ErrorKind) -> bool {
     let mut device = SlowReader::failing(bytes, call, fault);
     let answer = form.read(alloc, &mut device);
-    let told = match &answer {
-        Err(Error::Io(told)) => told.kind() == fault,
+    let reported = match &answer {
+        Err(Error::Io(reported)) => reported.kind() == fault,
         _ => false,
     };
-    told && device.calls == call
+    reported && device.calls == call
 }
 
 /// Asks that each form tells a fault at the call as it is, and that no call follows it.
 fn expect_fault(rt: &(impl Abort + AllocGlobal), bytes: &[u8], call: usize, fault: ErrorKind) {
     for (form, _) in READINGS {
-        let told = is_told(rt.alloc(), form, bytes, call, fault);
-        assert!(rt; told, "{form:?}: {fault:?} at call {call}");
+        let reported = is_reported(rt.alloc(), form, bytes, call, fault);
+        assert!(rt; reported, "{form:?}: {fault:?} at call {call}");
     }
 }
 

@@ -100,8 +100,8 @@ impl Famine {
 
     /// Asks that a call held, and that the free blocks are whole, so that it made no request. As many are
     /// left again.
-    pub(crate) fn expect(&mut self, rt: &impl Abort, held: bool, call: &str) {
-        assert!(rt; held, "{call}");
+    pub(crate) fn expect(&mut self, rt: &impl Abort, as_expected: bool, call: &str) {
+        assert!(rt; as_expected, "{call}");
         for _ in 0..self.free {
             assert!(rt; self.is_whole(), "{call}: memory was asked for");
         }

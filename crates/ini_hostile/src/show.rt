@@ -6,7 +6,7 @@ use ini::{Ini, ParseOption, Properties};
 use std::fmt::{Debug, Write};
 use std::process::Abort;
 
-// Puts the section behind the others.
+// Puts the section after the others.
 fn show_section(rt: &impl Abort, out: &mut String, name: Option<&str>, section: &Properties) {
     let named = match name {
         None => out.push_str("general:"),

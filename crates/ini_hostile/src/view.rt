@@ -62,9 +62,9 @@ fn each_request_of_a_view_is_refused(rt: HostRuntime) {
     }
 }
 
-// Loads the refused text with so much memory. Whether the place of its fault is told; else memory was
+// Loads the refused text with so much memory. Whether the place of its fault is reported; else memory was
 // refused.
-fn is_told(rt: &(impl Abort + AllocGlobal), famine: &mut Famine, steps: usize) -> bool {
+fn is_reported(rt: &(impl Abort + AllocGlobal), famine: &mut Famine, steps: usize) -> bool {
     let rest = famine.leave(rt, steps);
     let answer = View::load_from_str(rt.alloc(), REFUSED);
     drop(rest);
@@ -82,7 +82,7 @@ fn is_told(rt: &(impl Abort + AllocGlobal), famine: &mut Famine, steps: usize) -
 fn a_view_of_a_refused_text_is_told_where_memory_is_enough(rt: HostRuntime) {
     let mut famine = Famine::new(&rt);
     for steps in 0..CALLS {
-        if is_told(&rt, &mut famine, steps) {
+        if is_reported(&rt, &mut famine, steps) {
             assert!(rt; steps > 0);
             return;
         }
@@ -107,14 +107,14 @@ fn is_looked_up(view: &View<'_>) -> bool {
 // `sections`, `iter`; of each section `is_empty`, `get_all`, `iter`.
 fn is_walked(view: &View<'_>) -> bool {
     let counted = view.sections().count() == 3;
-    let mut held = counted && view.iter().size_hint() == (4, Some(4));
+    let mut as_expected = counted && view.iter().size_hint() == (4, Some(4));
     for (name, section) in view {
-        held = held && section.is_empty() == (name == Some("q"));
+        as_expected = as_expected && section.is_empty() == (name == Some("q"));
         for (key, value) in section {
-            held = held && section.get_all(key).count() > 0 && !value.is_empty();
+            as_expected = as_expected && section.get_all(key).count() > 0 && !value.is_empty();
         }
     }
-    held
+    as_expected
 }
 
 #[test]

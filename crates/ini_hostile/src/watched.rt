@@ -1,5 +1,5 @@
-//! Watched devices that fail, are full or end: what is told and counted, what they took, and how often they
-//! are called.
+//! Watched devices that fail, are full or end: what is reported and counted, what they took, and how often
+//! they are called.
 use crate::devices::{LimitedWriter, Limits, StepReader, WRITE_FAULTS, is_counted};
 use ini_text::{Error, EscapePolicy, Watched, write_escaped, write_raw};
 use std::alloc::Global;
@@ -14,8 +14,8 @@ fn is_fault<T: Drop>(answer: Result<T, Error>, kind: ErrorKind) -> bool {
     }
 }
 
-// Whether three bytes are read by pieces of two, and then the fault that stands in place of the end is told
-// and counted.
+// Whether three bytes are read by pieces of two, and then the fault that stands in place of the end is
+// reported and counted.
 fn is_read_up_to(kind: ErrorKind) -> bool {
     let mut device = StepReader::failing(b"abc", usize::MAX, 3, kind);
     let mut input = Watched::new(&mut device);
@@ -27,11 +27,11 @@ fn is_read_up_to(kind: ErrorKind) -> bool {
         return false;
     }
     let none = (input.failures(), input.stalls()) == (0, 0);
-    let told = is_fault(input.read(&mut piece), kind);
-    none && told && (input.failures(), input.stalls()) == (1, 0)
+    let reported = is_fault(input.read(&mut piece), kind);
+    none && reported && (input.failures(), input.stalls()) == (1, 0)
 }
 
-// Whether the end of a device is told as such.
+// Whether the end of a device is reported as such.
 fn is_read_at_the_end() -> bool {
     let mut ended: &[u8] = b"";
     let mut input = Watched::new(&mut ended);
@@ -46,13 +46,13 @@ fn reads_up_to_the_fault(rt: HostRuntime) {
     assert!(rt; is_read_at_the_end());
 }
 
-// Whether a reader whose first call fails, and no other, is called once, and the fault told and counted.
+// Whether a reader whose first call fails, and no other, is called once, and the fault reported and counted.
 fn is_read_once(kind: ErrorKind) -> bool {
     let mut device = StepReader::failing(b"", 1, 1, kind);
     let mut input = Watched::new(&mut device);
-    let told = is_fault(input.read(&mut [0u8; 2]), kind);
+    let reported = is_fault(input.read(&mut [0u8; 2]), kind);
     let counted = (input.failures(), input.stalls()) == (1, 0);
-    told && counted && device.calls == 1
+    reported && counted && device.calls == 1
 }
 
 // The same of a writer.
@@ -64,9 +64,9 @@ fn is_written_once(alloc: Global, kind: ErrorKind) -> bool {
     };
     let mut device = LimitedWriter::new(alloc, limits);
     let mut out = Watched::new(&mut device);
-    let told = is_fault(write_raw("ab", &mut out), kind);
+    let reported = is_fault(write_raw("ab", &mut out), kind);
     let counted = (out.failures(), out.stalls()) == (1, 0);
-    told && counted && device.has_taken("", 1)
+    reported && counted && device.has_taken("", 1)
 }
 
 #[test]
@@ -83,7 +83,7 @@ const TEXT: &'static str = "[a]\né=\\";
 const ESCAPED: &'static str = r"[a]\n\x00e9=\\";
 
 // Whether a writer takes as many bytes of the text as it has room for, as it is or escaped, and what stopped
-// it is told and counted.
+// it is reported and counted.
 fn has_front(alloc: Global, limits: Limits, as_it_is: bool) -> bool {
     let mut device = LimitedWriter::new(alloc, limits);
     let mut out = Watched::new(&mut device);
@@ -93,7 +93,7 @@ fn has_front(alloc: Global, limits: Limits, as_it_is: bool) -> bool {
         write_escaped(TEXT, EscapePolicy::BasicsUnicode, &mut out)
     };
     let counted = is_counted(&out, &answer);
-    counted && limits.is_told(&answer, ESCAPED) && device.has_front_of(ESCAPED)
+    counted && limits.is_reported(&answer, ESCAPED) && device.has_front_of(ESCAPED)
 }
 
 #[test]

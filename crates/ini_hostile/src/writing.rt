@@ -60,8 +60,8 @@ const WRITTEN: [(Form, &'static str, &'static str); 6] = [
     (Form::Watched, "", ""),
 ];
 
-/// Asks that as much of the text goes out as there is room for, that what stopped it is told as it is, that
-/// no call follows it, and that nothing is flushed.
+/// Asks that as much of the text goes out as there is room for, that what stopped it is reported as it is,
+/// that no call follows it, and that nothing is flushed.
 fn expect_front(
     rt: &(impl Abort + AllocGlobal),
     form: Form,
@@ -71,8 +71,8 @@ fn expect_front(
 ) {
     let mut device = LimitedWriter::new(rt.alloc(), limits);
     let answer = form.write(rt, document, &mut device);
-    let told = limits.is_told(&answer, text) && device.has_front_of(text);
-    limits.expect(rt, form, told);
+    let reported = limits.is_reported(&answer, text) && device.has_front_of(text);
+    limits.expect(rt, form, reported);
 }
 
 // Asks that of the document, at each room, for each fault, by bytes and by whole texts.

@@ -66,7 +66,7 @@ impl Layers {
 
     /// Puts the document last, so that its values count before those of all others.
     ///
-    /// Refused, for want of memory alone, it hands the document back, and the layers stay as they were.
+    /// Refused, only when out of memory, it hands the document back, and the layers stay as they were.
     pub fn push(&mut self, document: Ini) -> Result<(), NoLayer>
         ensures pushed { OnOk result (self.new ≡ self.old ++ document ∷ []) }
         ensures unchanged { OnErr result (self.new ≡ self.old) }
@@ -110,7 +110,7 @@ impl Layers {
     ///
     /// The general section comes first, and each other name where a document first has a pair in its first
     /// section of the name; each key where it first comes. A name whose first sections have no pairs is left
-    /// out, the general one excepted, and each name and each key is there once. Refused for want of memory
+    /// out, the general one excepted, and each name and each key is there once. Refused when out of memory
     /// alone; the layers stay in any case.
     pub fn merged(&self) -> Result<Ini, Error>
         ensures values { IfOk result (HasLayeredValues self.now) }

@@ -16,13 +16,13 @@ text_in Escaped text = escaped Basics text
 text_in AsIs text = text
 text_in Null text = text
 
--- what stands behind an entry
+-- what stands after an entry
 abbrev pub end_in : Form → ℕ
 end_in Escaped = line_feed
 end_in AsIs = line_feed
 end_in Null = 0
 
--- what stands behind a section's name and behind a key, where a value follows
+-- what stands after a section's name and after a key, where a value follows
 abbrev pub between_in : Form → ℕ
 between_in Escaped = tab
 between_in AsIs = tab

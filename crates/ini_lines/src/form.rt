@@ -8,14 +8,14 @@ ghost use Rattle.ini_lines.specs.Lines.{between_in, end_in};
 pub enum Form {
     /// With the basic escapes, so that each stands on one line; a pair is a line, with tabs in it.
     Escaped,
-    /// As they stand, with a line feed behind each; a pair has tabs in it.
+    /// As they stand, with a line feed after each; a pair has tabs in it.
     AsIs,
-    /// As they stand, with NUL behind each, for other programs to read.
+    /// As they stand, with NUL after each, for other programs to read.
     Null,
 }
 
 impl Form {
-    /// What stands behind a section's name and behind a key, where a value follows.
+    /// What stands after a section's name and after a key, where a value follows.
     pub(crate) fn between(self) -> &'static str
         ensures { chars result.now ≡ between_in self ∷ [] }
     {
@@ -26,7 +26,7 @@ impl Form {
         }
     }
 
-    /// What stands behind an entry.
+    /// What stands after an entry.
     pub(crate) fn end(self) -> &'static str
         ensures { chars result.now ≡ end_in self ∷ [] }
     {

@@ -1,4 +1,4 @@
-//! What an entry is put together from: texts in their form, and behind each another as it is. This file knows
+//! What an entry is put together from: texts in their form, and after each another as it is. This file knows
 //! no document.
 ghost use Rattle.std.specs.Prelude.{◌++◌, chars, flat_map};
 ghost use Rattle.ini_text.specs.Device.Gathering.{Sends};
@@ -24,7 +24,7 @@ pub(crate) fn put_entry<W: Write>(
     put_part(lines, form, text, form.end(), out)
 }
 
-// Texts in the form, and behind each another as it is.
+// Texts in the form, and after each another as it is.
 pub(crate) fn put_parts<W: Write>(
     lines: &mut Gatherer,
     form: Form,
@@ -35,26 +35,26 @@ pub(crate) fn put_parts<W: Write>(
     ensures { Sends W.contents out.old out.new lines.old lines.new result
         (flat_map (part_text form) parts.now) }
 {
-    for (text, behind) in parts {
-        put_part(lines, form, text, behind, out)?;
+    for (text, following) in parts {
+        put_part(lines, form, text, following, out)?;
     }
     Ok(())
 }
 
-// A text in the form, and another as it is behind it.
+// A text in the form, and another as it is after it.
 fn put_part<W: Write>(
     lines: &mut Gatherer,
     form: Form,
     text: &str,
-    behind: &str,
+    following: &str,
     out: &mut Watched<'_, W>,
 ) -> Result<(), Error>
     requires { IsClear out.old }
     ensures { Sends W.contents out.old out.new lines.old lines.new result
-        (text_in form (chars text.now) ++ chars behind.now) }
+        (text_in form (chars text.now) ++ chars following.now) }
 {
     put_text(lines, form, text, out)?;
-    lines.put(behind, out)
+    lines.put(following, out)
 }
 
 // A text in the form.

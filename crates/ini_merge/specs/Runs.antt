@@ -104,7 +104,7 @@ status_of Usage = 2
 status_of (NotLoaded at e) = refusal_status e
 status_of (Refused e) = refusal_status e
 
--- what is told of words that are none of the program's
+-- what is reported of words that are none of the program's
 abbrev pub usage_line : List ℕ
 usage_line =
     codes "usage: ini_merge [--noescape] [--noquote] [--multiline] [--indent] [--brackets] [--crlf] "

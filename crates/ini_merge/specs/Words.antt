@@ -12,7 +12,7 @@ abbrev pub at_least_one : List Word → Option (List Word)
 at_least_one [] = None
 at_least_one (word ∷ words) = Some (word ∷ words)
 
--- the names of files in the words behind the options: all behind `--`, else all words, of which the first
+-- the names of files in the words after the options: all after `--`, else all words, of which the first
 -- doesn't begin with `--`
 abbrev pub files_in : List Word → Option (List Word)
 files_in [] = None

@@ -10,14 +10,14 @@ pub const USAGE: &str = usage_line!("ini_merge", "[--] FILE..");
 
 /// The options and the names of files that the words are, if they are the program's: options in any order,
 /// each as often as one likes, of which the last `--policy` holds, and then at least one name. The names
-/// are the words behind `--`; where there is no such word they begin with the first that is no option, which
+/// are the words after `--`; where there is no such word they begin with the first that is no option, which
 /// then doesn't begin with `--`. Takes no memory.
 pub fn parse(words: &[String]) -> Option<(Options, &[String])>
     ensures given { given_by result ≡ asks_of_words (map string_bytes words.now) }
     ensures no_more { IfSome result (λ p. length p.1.now ≤ length words.now) }
 {
-    let (options, behind) = Options::of_words(words)?;
-    let (word, after) = behind.split_first()?;
+    let (options, following) = Options::of_words(words)?;
+    let (word, after) = following.split_first()?;
     let word = word.as_str();
     if word == "--" {
         if after.is_empty() {
@@ -28,5 +28,5 @@ pub fn parse(words: &[String]) -> Option<(Options, &[String])>
     if word.as_bytes().starts_with(b"--") {
         return None;
     }
-    Some((options, behind))
+    Some((options, following))
 }

@@ -1,5 +1,5 @@
 -- The holes at the front of the slots: they stay where a slot is added or made a hole, and no pair stands in
--- them, so a walk may begin behind them.
+-- them, so a walk may begin after them.
 use Rattle.std.proofs.Common.{◌≡◌, ℕ, zero, suc, ◌+◌, ◌-◌, ◌<◌, Bool, List, [], ◌∷◌, ◌++◌, length, take, drop, get_or, is_some, false, true≢false, length-append, length-drop, Option, None, Some, refl, sym, subst, ap, ◌∙◌, arith, inl, inr}
 use Rattle.std.proofs.lemmas.Bool.{cases_lt}
 use Rattle.std.proofs.lemmas.List.{take_all}
@@ -19,7 +19,7 @@ module _ {K : Type 0} where
   hole_read ks n None h e none = value_read ks n None h e
   hole_read ks n (Some k) h e none = absurd (true≢false none)
 
-  -- the slot behind them is a hole too
+  -- the slot after them is a hole too
   pub leading_more : (ks : List (Option K)) (n : ℕ) → HasLeadingHoles ks n → n < length ks
       → value_in ks n ≡ None → HasLeadingHoles ks (n + 1)
   leading_more ks n leads h hole = record {
@@ -54,9 +54,9 @@ module _ {K : Type 0} where
     holes = λ i less. hole_stays ks s i (leads.holes i less);
   }
 
-  behind : (k : Option K) (ks : List (Option K)) (n : ℕ) → HasLeadingHoles (k ∷ ks) (suc n)
+  following : (k : Option K) (ks : List (Option K)) (n : ℕ) → HasLeadingHoles (k ∷ ks) (suc n)
       → HasLeadingHoles ks n
-  behind k ks n leads = record {
+  following k ks n leads = record {
     within = omega (
       arith,
       leads.within,
@@ -64,7 +64,7 @@ module _ {K : Type 0} where
     holes = λ i less. leads.holes (suc i) (omega (arith, less));
   }
 
--- how many slots are behind them
+-- how many slots are after them
 pub length-from : {A : Type 0} (xs : List A) (n : ℕ)
     → length (take (length xs - n) (drop n xs)) ≡ length xs - n
 length-from xs n =
@@ -77,36 +77,36 @@ module _ {K V : Type 0} where
   pairs_leading ks vs zero leads = refl
   pairs_leading [] vs (suc n) leads = refl
   pairs_leading (k ∷ ks) [] (suc n) leads = refl
-  pairs_leading (None ∷ ks) (v ∷ vs) (suc n) leads = pairs_leading ks vs n (behind None ks n leads)
+  pairs_leading (None ∷ ks) (v ∷ vs) (suc n) leads = pairs_leading ks vs n (following None ks n leads)
   pairs_leading (Some k ∷ ks) (v ∷ vs) (suc n) leads =
       absurd (none_is_some (sym (leads.holes 0 (omega arith))))
 
-  -- all pairs stand behind them
-  pairs_behind : (ks : List (Option K)) (vs : List (Option V)) (n : ℕ) → HasLeadingHoles ks n
+  -- all pairs stand after them
+  pairs_after : (ks : List (Option K)) (vs : List (Option V)) (n : ℕ) → HasLeadingHoles ks n
       → pairs_in (drop n ks) (drop n vs) ≡ pairs_in ks vs
-  pairs_behind ks vs zero leads = refl
-  pairs_behind [] vs (suc n) leads = refl
-  pairs_behind (k ∷ ks) [] (suc n) leads = pairs_none (drop n ks)
-  pairs_behind (None ∷ ks) (v ∷ vs) (suc n) leads = pairs_behind ks vs n (behind None ks n leads)
-  pairs_behind (Some k ∷ ks) (v ∷ vs) (suc n) leads =
+  pairs_after ks vs zero leads = refl
+  pairs_after [] vs (suc n) leads = refl
+  pairs_after (k ∷ ks) [] (suc n) leads = pairs_none (drop n ks)
+  pairs_after (None ∷ ks) (v ∷ vs) (suc n) leads = pairs_after ks vs n (following None ks n leads)
+  pairs_after (Some k ∷ ks) (v ∷ vs) (suc n) leads =
       absurd (none_is_some (sym (leads.holes 0 (omega arith))))
 
-  -- the pairs in the slots behind them, as a walk is given them
+  -- the pairs in the slots after them, as a walk is given them
   pub pairs_from : (ks : List (Option K)) (vs : List (Option V)) (n : ℕ) → HasLeadingHoles ks n
       → pairs_in (take (length ks - n) (drop n ks)) (take (length vs - n) (drop n vs)) ≡ pairs_in ks vs
   pairs_from ks vs n leads =
       (λ j. pairs_in (take_all (length ks - n) (drop n ks) (omega (arith, length-drop n ks)) j)
       (take_all (length vs - n) (drop n vs) (omega (arith, length-drop n vs)) j))
-      ∙ pairs_behind ks vs n leads
+      ∙ pairs_after ks vs n leads
 
   -- their distinct keys
-  pub keys_behind : (eq : K → K → Bool) (slots : Columns K V) (n : ℕ) → HasLeadingHoles slots.keys n
+  pub keys_after : (eq : K → K → Bool) (slots : Columns K V) (n : ℕ) → HasLeadingHoles slots.keys n
       → fresh_between eq slots n (length slots.keys) ≡ distinct_keys eq (pairs_of slots)
-  keys_behind eq slots n leads =
+  keys_after eq slots n leads =
       let end = length slots.keys in
       let ks = take end slots.keys in
       let vs = take end slots.values in
       let P : List (Option K) → Type 0 = λ l. HasLeadingHoles l n in
       let same = subst P (sym (take_all end slots.keys (omega arith))) leads in
       λ j. fresh eq (pairs_leading ks vs n same j)
-      ((pairs_behind ks vs n same ∙ pairs_cut slots.keys slots.values end (omega arith)) j)
+      ((pairs_after ks vs n same ∙ pairs_cut slots.keys slots.values end (omega arith)) j)

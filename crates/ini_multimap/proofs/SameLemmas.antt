@@ -66,10 +66,10 @@ module _ (n : ℕ) (a b : List ℕ) (long : length a ≡ length b) (some : n ≤
       sym (take_all n (drop back a) (omega (arith, length-drop back a))) ∙ last
       ∙ take_all n (drop back b) (omega (arith, length-drop back b, long)) in
       let all : back + (n - back) ≡ n = omega arith in
-      let behind : drop n a ≡ drop n b =
+      let following : drop n a ≡ drop n b =
       sym (drop-drop (n - back) back a ∙ ap (λ k. drop k a) all) ∙ ap (drop (n - back)) rest
       ∙ drop-drop (n - back) back b ∙ ap (λ k. drop k b) all in
-      sym (take-append-drop n a) ∙ ap₂ (λ l m. l ++ m) front behind ∙ take-append-drop n b
+      sym (take-append-drop n a) ∙ ap₂ (λ l m. l ++ m) front following ∙ take-append-drop n b
 
   abbrev bits : ℕ
   bits = differences (take n a) (take n b) (chunk back n a) (chunk back n b)

@@ -4,9 +4,9 @@ use Rattle.std.proofs.lemmas.List.{take_all, drop_all, length-take}
 use Rattle.ini_multimap.specs.Pairs.{values_at}
 use Rattle.ini_multimap.specs.Slots.{pairs_in}
 use Rattle.ini_multimap.specs.Inside.Fits.{value_in, fits_at, fits_before}
-use Rattle.ini_multimap.specs.Inside.Candidates.{AreBetween, IsAhead, IsBehind, IsCandidate, back_left, values_from, walk_left}
+use Rattle.ini_multimap.specs.Inside.Candidates.{AreBetween, IsAhead, IsAfter, IsCandidate, back_left, values_from, walk_left}
 use Rattle.ini_multimap.proofs.CellLemmas.{nth_is, fits_count}
-use Rattle.ini_multimap.proofs.WalkLemmas.{walk_shorter, back_shorter, before_zero, before_hit, before_miss, before_more, none_ahead, no_more, none_behind, none_before}
+use Rattle.ini_multimap.proofs.WalkLemmas.{walk_shorter, back_shorter, before_zero, before_hit, before_miss, before_more, none_ahead, no_more, none_after, none_before}
 
 module _ {A : Type 0} where
   none_left : (a b : ℕ) (xs : List A) → b ≤ a → drop a (take b xs) ≡ []
@@ -33,10 +33,10 @@ module _ (chained : Bool) {K : Type 0} (code : K → ℕ) (c : ℕ) (ks : List (
   ahead_candidate i None f = tt
   ahead_candidate i (Some t) f = f.1
 
-  pub behind_candidate : (i : ℕ) (r : Option ℕ) → IsBehind chained code c ks i r
+  pub after_candidate : (i : ℕ) (r : Option ℕ) → IsAfter chained code c ks i r
       → IfSome r (IsCandidate chained code c ks)
-  behind_candidate i None f = tt
-  behind_candidate i (Some t) f = f.1
+  after_candidate i None f = tt
+  after_candidate i (Some t) f = f.1
 
   module _ (first last : Option ℕ) (s : ℕ) (slots : AreBetween chained code c ks first last)
       (r : Option ℕ) where
@@ -51,10 +51,10 @@ module _ (chained : Bool) {K : Type 0} (code : K → ℕ) (c : ℕ) (ks : List (
         rw at (walk_shorter chained code c ks s r f here.0)
 
     -- and one from the back
-    pub back_slots : IsBehind chained code c ks s r → AreBetween chained code c ks first r
-    back_slots f = (slots.0, behind_candidate s r f)
+    pub back_slots : IsAfter chained code c ks s r → AreBetween chained code c ks first r
+    back_slots f = (slots.0, after_candidate s r f)
 
-    pub back_left_less : last ≡ Some s → IsBehind chained code c ks s r → back_left r < back_left last
+    pub back_left_less : last ≡ Some s → IsAfter chained code c ks s r → back_left r < back_left last
     back_left_less at f = rw at (back_shorter chained code c ks s r f)
 
 module _ {K V : Type 0} {code : K → ℕ} {test : K → Bool} {c : ℕ} (class : (p : K) → test p ≡ true
@@ -73,25 +73,25 @@ module _ {K V : Type 0} {code : K → ℕ} {test : K → Bool} {c : ℕ} (class 
   from_ahead i e (Some t) h within f =
       ap (λ n. drop n (take (before (suc e)) all)) (none_ahead code test c class chained ks vs i t f)
 
-  to_behind : (s i : ℕ) (r : Option ℕ) → IsBehind chained code c ks i r
+  to_after : (s i : ℕ) (r : Option ℕ) → IsAfter chained code c ks i r
       → values_from test ks vs (Some s) r ≡ drop (before s) (take (before i) all)
-  to_behind s i None f =
+  to_after s i None f =
       let none = none_before code test c class chained ks vs i f in
       sym (none_left (before s) (before i) all (omega arith))
-  to_behind s i (Some t) f =
-      ap (λ n. drop (before s) (take n all)) (sym (none_behind code test c class chained ks vs i t f))
+  to_after s i (Some t) f =
+      ap (λ n. drop (before s) (take n all)) (sym (none_after code test c class chained ks vs i t f))
 
   whole : take (before (length ks)) all ≡ all
   whole = take_all (before (length ks)) all (omega (arith, fits_count test ks vs))
 
-  pub all_from : (r t : Option ℕ) → IsAhead chained code c ks 0 r → IsBehind chained code c ks (length ks) t
+  pub all_from : (r t : Option ℕ) → IsAhead chained code c ks 0 r → IsAfter chained code c ks (length ks) t
       → values_from test ks vs r t ≡ all
   all_from None t f h =
       let none = no_more code test c class chained ks vs 0 (length ks) (omega arith) (omega arith) f in
       sym (sym whole
       ∙ none_left 0 (before (length ks)) all (omega (arith, none, before_zero test ks vs)))
   all_from (Some s) t f h =
-      to_behind s (length ks) t h
+      to_after s (length ks) t h
       ∙ ap (λ n. drop n (take (before (length ks)) all))
       (none_ahead code test c class chained ks vs 0 s f ∙ before_zero test ks vs) ∙ whole
 
@@ -131,17 +131,17 @@ module _ {K V : Type 0} {code : K → ℕ} {test : K → Bool} {c : ℕ} (class 
           ∙ sym (ap (λ l. v ∷ l) (after f ∙ ap (λ n. drop n (take (before (suc e)) all)) one))
 
       -- past the last one
-      until : IsBehind chained code c ks e r
+      until : IsAfter chained code c ks e r
           → values_from test ks vs first r ≡ drop (before s) (take (before e) all)
-      until f = ap (λ f. values_from test ks vs f r) at_first ∙ to_behind s e r f
+      until f = ap (λ f. values_from test ks vs f r) at_first ∙ to_after s e r f
 
-      pub back_misses : IsBehind chained code c ks e r → fits_at test ks vs e ≡ false
+      pub back_misses : IsAfter chained code c ks e r → fits_at test ks vs e ≡ false
           → values_from test ks vs first last ≡ values_from test ks vs first r
       back_misses f miss =
           both_ends
           ∙ sym (until f ∙ ap (λ n. drop (before s) (take n all)) (sym (before_miss test ks vs e miss)))
 
-      pub back_fits : (v : V) → IsBehind chained code c ks e r → fits_at test ks vs e ≡ true
+      pub back_fits : (v : V) → IsAfter chained code c ks e r → fits_at test ks vs e ≡ true
           → value_in vs e ≡ Some v
           → values_from test ks vs first last ≡ values_from test ks vs first r ++ v ∷ []
       back_fits v f hit is =

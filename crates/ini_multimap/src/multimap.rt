@@ -110,7 +110,7 @@ impl<K: MapKey, V> Multimap<K, V> {
     }
 
     /// Makes the index by which look-ups find a key among many, where there is none yet. Few pairs need
-    /// none. The pairs stay, also where it is refused, for want of memory alone.
+    /// none. The pairs stay, also where it is refused, only when out of memory.
     pub fn make_index(&mut self) -> Result<(), AllocError>
         ensures { self.new ≡ self.old }
     {
@@ -325,7 +325,7 @@ impl<K: MapKey + Clone, V: Clone> Clone for Multimap<K, V> {
     ghost is_clone = { AreClones K.is_clone V.is_clone };
 
     /// The same pairs in the same order, each key and each value cloned: an equal list, where clones
-    /// equal their elements. Refused, nothing is left behind.
+    /// equal their elements. Refused, nothing is left.
     fn clone(&self) -> Result<Self, AllocError>
         ensures clones { IfOk result (AreClones K.is_clone V.is_clone self.now) }
         ensures equal_if_clones_are { IfOk result (λ copy. ((x y : K) → K.is_clone x y → y ≡ x)

@@ -43,7 +43,7 @@ pub(crate) struct Slots<K: MapKey, V> {
     index: Option<Box<Chains>>,
     // How many holes there are.
     holes: usize,
-    // So many slots at the front are known to be holes. Walks begin behind them.
+    // So many slots at the front are known to be holes. Walks begin after them.
     leading: usize,
     // Whether each key is known to have its value. What a walk for writing leaves isn't followed, so it
     // forgets that, until holes are closed.

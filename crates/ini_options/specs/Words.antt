@@ -1,4 +1,4 @@
--- Which words are options, what they set, and where the words behind them begin.
+-- Which words are options, what they set, and where the words after them begin.
 use Rattle.std.specs.Prelude.{◌≡◌, ℕ, true, false, if◌then◌else◌, List, [], ◌∷◌, codes, map}
 use Rattle.std.specs.Prelude.{Option, None, Some, option_and_then, String, string_bytes}
 use Rattle.std.specs.Borrow.{Bor}
@@ -63,8 +63,8 @@ policy_named name =
     else if bytes_eq name (codes "Everything") then Some Everything
     else None
 
--- the options of words where `o` holds before them, and the words behind: each word that is an option
--- changes it, and those behind begin at the first that is none. None where the name of a policy is missing,
+-- the options of words where `o` holds before them, and the words after: each word that is an option
+-- changes it, and those after begin at the first that is none. None where the name of a policy is missing,
 -- or is no policy's
 abbrev mutual
   pub given : Options → List Word → Option (Options × List Word)
@@ -73,13 +73,13 @@ abbrev mutual
       if bytes_eq word (codes "--policy") then given_policy o words
       else option_map_or (λ p. given p words) (with_switch word o) (Some (o, word ∷ words))
 
-  -- the same behind the word `--policy`, which the name of a policy follows
+  -- the same after the word `--policy`, which the name of a policy follows
   pub given_policy : Options → List Word → Option (Options × List Word)
   given_policy o [] = None
   given_policy o (name ∷ words) =
       option_and_then (λ policy. given (record o { escape_policy = policy }) words) (policy_named name)
 
--- what a call answers: the options, and the words behind them
+-- what a call answers: the options, and the words after them
 abbrev pub given_by : Option (Options × Bor (List (String Global))) → Option (Options × List Word)
 given_by answer = option_map (λ p. (p.0, map string_bytes p.1.now)) answer
 

@@ -31,8 +31,8 @@ impl Default for Options {
 
 impl Options {
     /// The options that words have at their front, in any order and each as often as one likes, and the
-    /// words behind them: those from the first one on that is no option. The last `--policy` holds. `None`
-    /// where the name of a policy is missing behind that, or is no policy's. Takes no memory.
+    /// words after them: those from the first one on that is no option. The last `--policy` holds. `None`
+    /// where the name of a policy is missing after that, or is no policy's. Takes no memory.
     pub fn of_words(words: &[String]) -> Option<(Options, &[String])>
         ensures given { given_by result ≡ given default_options (map string_bytes words.now) }
         ensures no_more { IfSome result (λ p. length p.1.now ≤ length words.now) }

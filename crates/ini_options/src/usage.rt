@@ -1,15 +1,15 @@
 //! The line that tells what a program takes. This file knows the options by their names alone.
 
-/// The usage line of a program that takes the options: its name, then they, then what its words are behind
+/// The usage line of a program that takes the options: its name, then they, then what its words are after
 /// them, and the line end.
 #[macro_export]
 macro_rules! usage_line {
-    ($program:literal, $behind:literal $(,)?) => {
+    ($program:literal, $following:literal $(,)?) => {
         concat!(
             "usage: ",
             $program,
             " [--noescape] [--noquote] [--multiline] [--indent] [--brackets] [--crlf] [--policy NAME] ",
-            $behind,
+            $following,
             "\n",
         )
     };

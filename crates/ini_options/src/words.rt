@@ -10,7 +10,7 @@ use std::io;
 // How many bytes a word has room for at first.
 const FIRST_ROOM: usize = 256;
 
-/// The words behind the program's name, in order.
+/// The words after the program's name, in order.
 ///
 /// # Errors
 ///
@@ -51,7 +51,7 @@ fn bytes_of<R: Env>(rt: &R, alloc: Global, number: usize) -> Result<Option<Vec<u
     Err(Error::Memory(AllocError))
 }
 
-// What is told of a word that is not UTF-8.
+// What is reported of a word that is not UTF-8.
 fn not_utf8(alloc: Global, number: usize) -> Error
     ensures { IsMemoryOrIo result }
 {

@@ -1,4 +1,4 @@
-//! Bytes in a row, which more are put behind. This file knows bytes and characters, and no device and no
+//! Bytes in a row, which more are put after. This file knows bytes and characters, and no device and no
 //! text.
 ghost use Rattle.std.specs.Prelude.{◌≡◌, ◌+◌, ◌≤◌, ◌↔◌, [], ◌++◌, length, take, IsTrue};
 ghost use Rattle.std.specs.Char.{encode_utf8};
@@ -70,7 +70,7 @@ impl<const SIZE: usize> Buffer<SIZE> {
     }
 }
 
-/// Puts a few bytes behind the first `len`, and answers how many there are then.
+/// Puts a few bytes after the first `len`, and answers how many there are then.
 #[inline(always)]
 pub(crate) fn place(bytes: &mut [u8], len: usize, few: &[u8]) -> usize
     requires { len + length few.now ≤ length bytes.old }

@@ -28,14 +28,14 @@ pub enum ParseKind {
 
 /// Where and why reading a text stopped.
 ///
-/// The place is the one behind the character that was looked at, or behind the last one where the text
+/// The place is the one after the character that was looked at, or after the last one where the text
 /// ended. Lines and columns count from 1, and columns count characters. LF alone ends a line here; CR
 /// counts as a character.
 #[derive(Debug, Drop)]
 pub struct ParseError {
     /// The line of the place.
     pub line: usize,
-    /// The column of the place, which is behind the character that was looked at: `=v` is refused at 1:2.
+    /// The column of the place, which is after the character that was looked at: `=v` is refused at 1:2.
     pub col: usize,
     /// The fault in words, always a constant.
     pub msg: CowStr<'static>,

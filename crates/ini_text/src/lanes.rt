@@ -122,7 +122,7 @@ impl Marks for Three {
     }
 }
 
-/// Puts sixteen bytes behind the first `len`.
+/// Puts sixteen bytes after the first `len`.
 #[inline(always)]
 pub(crate) fn place_lanes(bytes: &mut [u8], len: usize, lanes: u8x16)
     requires { len + LANES ≤ length bytes.old }

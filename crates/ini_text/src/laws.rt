@@ -31,7 +31,7 @@ pub fn refusal_stands(front: &str, follows: &str, other: &str, option: ParseOpti
     ensures { Stops option (chars front.now ++ chars other.now) kind (chars front.now) }
 {}
 
-/// Behind a text that is empty or ends in LF, a text has the outcome that it has alone, moved down.
+/// After a text that is empty or ends in LF, a text has the outcome that it has alone, moved down.
 #[tactic(auto, using(crate::proofs::LawLemmas::MovedLemmas::moved))]
 pub fn moved(before: &str, text: &str, option: ParseOption)
     requires line_start { is_column_one (chars before.now) ≡ true }

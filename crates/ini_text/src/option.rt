@@ -7,7 +7,7 @@ ghost use Rattle.ini_text.specs.Options.ReadOptions.{default_parse_option};
 pub struct ParseOption {
     /// A part of a value may stand in double or single quotes.
     pub enabled_quote: bool,
-    /// A backslash begins an escape. Without it a backslash and the character behind it stay, and that
+    /// A backslash begins an escape. Without it a backslash and the character after it stay, and that
     /// character ends nothing; before LF both go, with and without it.
     pub enabled_escape: bool,
     /// A value goes on over the lines below it that begin with a space or a tab.

@@ -80,13 +80,13 @@ impl<'a> Parser<'a> {
         ensures front { result.front ≡ [] }
         ensures refusal { result.refusal ≡ None }
     {
-        Parser::behind(alloc, text, text, opt)
+        Parser::resume_at(alloc, text, text, opt)
     }
 
     /// A parser at the rest of a text, which must be one. It takes no memory.
     ///
     /// It is public since `ini` goes on so in a text that goes by: what one other crate may call, all may.
-    pub fn behind(alloc: Global, text: &'a str, rest: &'a str, opt: ParseOption) -> Self
+    pub fn resume_at(alloc: Global, text: &'a str, rest: &'a str, opt: ParseOption) -> Self
         requires { IsRest (chars text.now) (chars rest.now) }
         ensures option { result.option ≡ opt }
         ensures text { result.text ≡ chars text.now }
@@ -123,13 +123,13 @@ impl<'a> Parser<'a> {
             → AnswersItem self.old.option self.old.text self.old.front self.new.front result }
         ensures ended { self.old.refusal ≡ None → self.old.front ≡ self.old.text → result ≡ Ok None }
 
-        // A refusal is kept, and told again.
+        // A refusal is kept, and reported again.
         ensures refused_again { IfSome self.old.refusal (λ refusal. IsErrAnd result (TellsRefusal refusal)) }
         ensures refusal { KeepsRefusal self.old.refusal self.new.refusal result }
         ensures stays { OnErr result (self.new.front ≡ self.old.front) }
     {
         if let Some(stop) = self.refusal {
-            return Err(told(self.text, stop));
+            return Err(error_at(self.text, stop));
         }
         let found = find_owned(
             self.alloc,
@@ -141,7 +141,7 @@ impl<'a> Parser<'a> {
         self.answer(found)
     }
 
-    /// Goes behind what was found and answers it; or stays, keeps why reading stopped, and answers that.
+    /// Goes after what was found and answers it; or stays, keeps why reading stopped, and answers that.
     #[inline(always)]
     fn answer<T>(&mut self, found: Result<(T, &'a str), Stop<'a>>) -> Result<T, Error>
         requires { IsWithin self.now.text found }
@@ -156,7 +156,7 @@ impl<'a> Parser<'a> {
             }
             Err(stop) => {
                 self.refusal = Some(stop);
-                Err(told(self.text, stop))
+                Err(error_at(self.text, stop))
             }
         }
     }
@@ -210,7 +210,7 @@ fn find_item<'a>(
 }
 
 /// The error of a text that stops: its line and column are counted anew each time, without memory.
-fn told(text: &str, stop: Stop<'_>) -> Error
+fn error_at(text: &str, stop: Stop<'_>) -> Error
     requires { StopIsWithin (chars text.now) stop }
     ensures { TellsRefusal (refusal_of (chars text.now) stop.entry) result }
 {

@@ -56,7 +56,7 @@ pub fn is_plain_pair(key: &str, value: &str, policy: EscapePolicy, read: ParseOp
         && is_plain_value(value, policy, read)
 }
 
-/// Whether a value is plain: what `is_plain_pair` asks of a pair's value alone, behind any key.
+/// Whether a value is plain: what `is_plain_pair` asks of a pair's value alone, after any key.
 pub fn is_plain_value(value: &str, policy: EscapePolicy, read: ParseOption) -> bool
     ensures { IsTrue result ↔ IsPlainValue read policy (chars value.now) }
 {

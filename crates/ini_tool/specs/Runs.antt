@@ -113,7 +113,7 @@ status_of (Refused (Io _)) = 4
 status_of (Refused (Memory _)) = 4
 status_of (Refused NoProgress) = 4
 
--- what is told of words that are none of the program's
+-- what is reported of words that are none of the program's
 abbrev pub usage_line : List ℕ
 usage_line =
     codes "usage: ini_tool [--noescape] [--noquote] [--multiline] [--indent] [--brackets] [--crlf] "

@@ -31,7 +31,7 @@ request_for command _ = None
 abbrev pub with_options : Options → Option Request → Option (Options × Request)
 with_options o request = option_map (λ r. (o, r)) request
 
--- the request of the words behind the options: a command, and its arguments
+-- the request of the words after the options: a command, and its arguments
 abbrev pub request_of_command : List Word → Option Request
 request_of_command [] = None
 request_of_command (command ∷ arguments) = request_for command arguments

@@ -13,7 +13,7 @@ use std::io::Read;
 const PIECE: usize = 0x1_0000;
 
 /// The bytes of a reader, which is read to its end: to the first read that gives none. Refused where the
-/// reader answers a fault, and for want of memory.
+/// reader answers a fault, and when out of memory.
 pub fn read_all<R: Read>(alloc: Global, reader: &mut Watched<'_, R>) -> Result<Vec<u8>, Error>
     requires { IsClear reader.old }
     ensures same_device { SameDevice reader.old reader.new }
@@ -24,12 +24,12 @@ pub fn read_all<R: Read>(alloc: Global, reader: &mut Watched<'_, R>) -> Result<V
     ensures only { IfErr result IsIoOrMemory }
 {
     let mut bytes = Vec::new(alloc);
-    read_behind(reader, &mut bytes)?;
+    read_after(reader, &mut bytes)?;
     Ok(bytes)
 }
 
-// Reads behind the bytes, to the reader's end.
-fn read_behind<R: Read>(reader: &mut Watched<'_, R>, bytes: &mut Vec<u8>) -> Result<(), Error>
+// Reads after the bytes, to the reader's end.
+fn read_after<R: Read>(reader: &mut Watched<'_, R>, bytes: &mut Vec<u8>) -> Result<(), Error>
     requires { IsClear reader.old }
     ensures same_device { SameDevice reader.old reader.new }
     ensures read { OnOk result (HasRead (R.remaining (device_now reader.old))

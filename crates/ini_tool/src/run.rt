@@ -47,7 +47,7 @@ pub fn status(outcome: &Outcome) -> u8
 /// at the front of the input is dropped.
 ///
 /// Words that are none of the program's are `Usage`, before anything is read. `Usage`, `NotFound`, a
-/// refused text, a reader that failed and want of memory have written nothing; where the writer failed, a
+/// refused text, a reader that failed and out of memory have written nothing; where the writer failed, a
 /// front of what is asked for was written.
 pub fn run<R: Read, W: Write>(
     alloc: Global,
@@ -62,7 +62,7 @@ pub fn run<R: Read, W: Write>(
     ensures usage { IsUsage result ↔ (asked_by words.now ≡ None) }
     ensures usage_reads_nothing { IsUsage result → device_now reader.new ≡ device_now reader.old }
 
-    // What is read decides what is written, and which refusal is told.
+    // What is read decides what is written, and which refusal is reported.
     ensures done { IsDone result
         → WritesOutput W.contents words.now (R.remaining (device_now reader.old)) writer.old writer.new }
     ensures not_found { IsNotFound result
@@ -79,7 +79,7 @@ pub fn run<R: Read, W: Write>(
         → WritesOutputFront W.contents words.now (R.remaining (device_now reader.old))
         writer.old writer.new }
 
-    // A device's fault is told, and no call follows it.
+    // A device's fault is reported, and no call follows it.
     ensures failures { failure_count reader.new + failure_count writer.new ≡ failures_of result }
     ensures stalls { stall_count writer.new ≡ stalls_of result }
     ensures reader_stalls { stall_count reader.new ≡ 0 }

@@ -114,7 +114,7 @@ fn command_of<'a>(word: &'a str, arguments: &'a [String]) -> Option<Command<'a>>
 pub fn parse(words: &[String]) -> Option<(Options, Command<'_>)>
     ensures { given_by result ≡ asks_of_words default_options (map string_bytes words.now) }
 {
-    let (options, behind) = Options::of_words(words)?;
-    let (command, arguments) = behind.split_first()?;
+    let (options, following) = Options::of_words(words)?;
+    let (command, arguments) = following.split_first()?;
     Some((options, command_of(command.as_str(), arguments)?))
 }

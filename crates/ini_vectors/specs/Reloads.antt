@@ -16,7 +16,7 @@ IsNoRefusal (Parse _) = ⊥
 IsNoRefusal NotUtf8 = ⊥
 IsNoRefusal _ = ⊤
 
--- the answer is this outcome, want of memory aside
+-- the answer is this outcome, out of memory aside
 abbrev pub TellsOutcome : Outcome → Result Document Error → Type 0
 TellsOutcome (loaded d) (Ok e) = e ≡ d
 TellsOutcome (refused kind line column) (Err (Parse fault)) =
@@ -28,8 +28,8 @@ TellsOutcome x (Err e) = IsNoRefusal e
 abbrev pub TellsOutcomeOf : ParseOption → Text → Result Document Error → Type 0
 TellsOutcomeOf o T result = (x : Outcome) → HasOutcome o T x → TellsOutcome x result
 
--- the answer is what comes of the text Y, behind the document
-abbrev pub TellsOutcomeBehind : ParseOption → WriteOption → Document → Text → Result Document Error → Type 0
-TellsOutcomeBehind o w d Y result =
+-- the answer is what comes of the text Y, after the document
+abbrev pub TellsOutcomeAfter : ParseOption → WriteOption → Document → Text → Result Document Error → Type 0
+TellsOutcomeAfter o w d Y result =
     let lines = count_by is_line_feed (written d w) in
     (x : Outcome) → HasOutcome o Y x → TellsOutcome (after d lines x) result

@@ -7,7 +7,7 @@ ghost use Rattle.ini.specs.Outcomes.{loaded};
 ghost use Rattle.ini.specs.Plain.{IsPlain};
 ghost use Rattle.ini.specs.Texts.{text_of};
 ghost use Rattle.ini.specs.Written.{written};
-ghost use Rattle.ini_vectors.specs.Reloads.{IsNoRefusal, TellsOutcome, TellsOutcomeBehind, TellsOutcomeOf};
+ghost use Rattle.ini_vectors.specs.Reloads.{IsNoRefusal, TellsOutcome, TellsOutcomeAfter, TellsOutcomeOf};
 
 use ini::laws::{inversion, one_outcome};
 use ini::{Error, Ini, ParseOption, WriteOption};
@@ -50,8 +50,8 @@ pub fn reload(
     load(alloc, &text, read)
 }
 
-/// Writes a plain document, and loads what was written with another text behind it that is empty or begins
-/// with an opening bracket: the outcome of that text, behind the document.
+/// Writes a plain document, and loads what was written with another text after it that is empty or begins
+/// with an opening bracket: the outcome of that text, after the document.
 pub fn reload_with(
     alloc: Global,
     document: &Ini,
@@ -61,7 +61,7 @@ pub fn reload_with(
 ) -> Result<Ini, Error>
     requires plain { IsPlain document.now write read }
     requires begins { IsEmptyOrHeader (chars more.now) }
-    ensures { TellsOutcomeBehind read write document.now (chars more.now) result }
+    ensures { TellsOutcomeAfter read write document.now (chars more.now) result }
 {
     inversion(document, &write, read, more);
     let mut text = written_text(alloc, document, write)?;

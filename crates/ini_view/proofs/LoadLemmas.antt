@@ -3,7 +3,7 @@ use Rattle.std.proofs.Common.{◌≡◌, ◌∙◌, [], ◌∷◌, ◌++◌, Non
 use Rattle.ini_text.specs.declared.error.Error.{Error}
 use Rattle.ini_text.specs.declared.option.ParseOption.{ParseOption}
 use Rattle.ini.specs.Documents.{Document, HasGeneral, with_pair}
-use Rattle.ini.specs.Inside.Passing.{Makes}
+use Rattle.ini.specs.Inside.StreamLoader.{Makes}
 use Rattle.ini.specs.Loading.{IsDocumentOf}
 use Rattle.ini.specs.Properties.{Pairs}
 use Rattle.ini.specs.Texts.{Text}
@@ -26,7 +26,7 @@ module _ {o : ParseOption} {T : Text} (r : Result Document Error) {d : Document}
       at (Ok e) same = subst HasGeneral (sym (same ∙ made.document)) (has_general made.items)
       at (Err e) same = tt
 
--- a pair put behind those of the last section
+-- a pair put after those of the last section
 pub with_pair-last : (key value : Text) (d : Document) (n : Option Text) (s : Pairs)
     → with_pair key value (d ++ (n, s) ∷ []) ≡ d ++ (n, s ++ (key, value) ∷ []) ∷ []
 with_pair-last key value [] n s = refl

@@ -12,7 +12,7 @@ use Rattle.ini_text.specs.declared.option.ParseOption.{ParseOption}
 use Rattle.ini.specs.Texts.{Text}
 use Rattle.ini.specs.Documents.{Document, with_item}
 use Rattle.ini.specs.Loading.{IfParse}
-use Rattle.ini.specs.Inside.Passing.{Makes, StopsLater}
+use Rattle.ini.specs.Inside.StreamLoader.{Makes, StopsLater}
 use Rattle.ini.proofs.ReadingLemmas.{IsReading, Loaded, Reads-append, Reads-within, with_item-some}
 
 -- one call of the parser, from the place p to the place q

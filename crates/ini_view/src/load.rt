@@ -60,7 +60,7 @@ impl<'a> View<'a> {
     }
 
     /// The document of bytes. With `drop_mark` one mark (the bytes EF BB BF) at their front is left out, and
-    /// places count from behind it.
+    /// places count from after it.
     ///
     /// # Errors
     ///
@@ -79,12 +79,12 @@ impl<'a> View<'a> {
         ensures not_utf8 { IsNotUtf8 result → ¬ (IsUtf8 (text_bytes drop_mark bytes.now)) }
         ensures only { IfErr result IsTextRefusal }
     {
-        let (_, behind) = if drop_mark && bytes.starts_with(&BYTE_ORDER_MARK) {
+        let (_, following) = if drop_mark && bytes.starts_with(&BYTE_ORDER_MARK) {
             bytes.split_at(BYTE_ORDER_MARK.len())
         } else {
             bytes.split_at(0)
         };
-        match str::from_utf8(behind) {
+        match str::from_utf8(following) {
             Ok(text) => View::load_from_str_opt(alloc, text, opt),
             Err(_) => Err(Error::NotUtf8),
         }
@@ -136,7 +136,7 @@ impl<'a> Loading<'a> {
         }
     }
 
-    // Opens a section behind the last.
+    // Opens a section after the last.
     fn open(&mut self, name: CowStr<'a>) -> Result<(), Error>
         ensures opened { OnOk result (self.new ≡ self.old ++ (Some (cow_text name.entry), []) ∷ []) }
         ensures only_memory { IsOkUnless result (Error.Memory alloc_error) }

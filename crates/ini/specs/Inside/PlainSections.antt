@@ -1,4 +1,4 @@
--- Sections behind the general one that are plain.
+-- Sections after the general one that are plain.
 use Rattle.std.specs.Prelude.{IsSomeAnd, All, Option}
 use Rattle.ini_text.specs.Laws.Plain.{IsPlainName, IsPlainPair}
 use Rattle.ini_text.specs.declared.option.ParseOption.{ParseOption}

@@ -11,7 +11,7 @@ use std::alloc::AllocError;
 
 #[tactic(auto, using(crate::proofs::SectionLemmas::sections))]
 impl Ini {
-    // Ends the last section, and opens one behind it.
+    // Ends the last section, and opens one after it.
     pub(crate) fn open_section(&mut self, name: SectionKey) -> Result<(), Error>
         requires { 0 < length self.old }
         ensures opened { OnOk result (self.new ≡ self.old ++ (name_of name, []) ∷ []) }

@@ -27,7 +27,7 @@ pub fn set_is_there()
         → value_in name key (set_in name key value d) ≡ Some value }
 {}
 
-/// What was left behind a reference into a section, behind an entry, or behind a reference to a value, is
+/// What was left after a reference into a section, after an entry, or after a reference to a value, is
 /// there.
 #[tactic(auto, using(crate::proofs::EditLawLemmas::there))]
 pub fn lent_is_there()
@@ -172,7 +172,7 @@ pub fn later_sections_stay()
 {}
 
 /// Where the name has no section, the document stays whole, and a new section, with the one pair or with
-/// the pairs of an entry, comes behind it.
+/// the pairs of an entry, comes after it.
 #[tactic(auto, using(crate::proofs::EditLawLemmas::opened))]
 pub fn new_section_comes_last()
     ensures set { (name : Option Text) (key value : Text) (d : Document)

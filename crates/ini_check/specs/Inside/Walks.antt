@@ -20,12 +20,12 @@ pub record IsReading (o : ParseOption) (T : Text) (p : Place) : Type 0 where
   pub text : p.text ≡ T
   pub refusal : p.refusal ≡ None
 
--- behind the front b stood the element, and now the parser stands behind it
+-- after the front b stood the element, and now the parser stands after it
 pub record Steps (o : ParseOption) (T b : Text) (q : Place) (e : PlacedElement) : Type 0 where
   pub is_reading : IsReading o T q
   pub stands : StandsBetween o T b q.front e
 
--- no element stood behind the front b: it is the text
+-- no element stood after the front b: it is the text
 pub record IsPastLast (o : ParseOption) (T b : Text) (q : Place) : Type 0 where
   pub is_reading : IsReading o T q
   pub was_end : b ≡ T

@@ -1,4 +1,4 @@
--- Ends of texts, and what stays behind a pair in one line.
+-- Ends of texts, and what stays a pair in one line.
 use Rattle.std.specs.Prelude.{◌≡◌, ℕ, true, [], ◌∷◌, ◌++◌}
 use Rattle.std.specs.List.{list_all}
 use Rattle.ini_text.specs.Grammar.CharacterKinds.{is_line_end}
@@ -19,8 +19,8 @@ pub record HasLastLineEnd (text e : Text) : Type 0 where
   pub whole : text ≡ before ++ e
   pub is_line_end : LineEnd e []
 
--- of the rest behind a pair r stays: all, or all but a line end, which what follows doesn't miss
-pub data StaysBehind (front rest : Text) : Text → Type 0 where
-  whole : StaysBehind front rest rest
+-- of the rest after a pair r stays: all, or all but a line end, which what follows doesn't miss
+pub data StaysAfter (front rest : Text) : Text → Type 0 where
+  whole : StaysAfter front rest rest
   without_line_end : (e r : Text) → rest ≡ e ++ r → list_all is_line_end e ≡ true
-      → ((W : Text) → EndsLike (W ++ e) front) → StaysBehind front rest r
+      → ((W : Text) → EndsLike (W ++ e) front) → StaysAfter front rest r

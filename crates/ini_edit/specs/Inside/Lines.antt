@@ -17,20 +17,20 @@ ending_of ends.Inside = Ending.inside
 ending_of ends.Escape = Ending.escape
 ending_of ends.Line = Ending.line
 
--- the glue behind a front that ends so was put behind a text
+-- the glue after a front that ends so was put after a text
 pub record PushesGlue (o : ParseOption) (end : LineSeparator) (e : Ending) (old new : Text) : Type 0 where
   pub glue : Text
   pub is_glue : Glue o end e glue
   pub is_new : new ≡ old ++ glue
 
--- between W, which ends so, and r stands the pair's line, behind the glue
+-- between W, which ends so, and r stands the pair's line, after the glue
 pub record IsWithLine (o : ParseOption) (w : WriteOption) (e : Ending) (W r key value new : Text)
     : Type 0 where
   pub glue : Text
   pub is_glue : Glue o w.line_separator e glue
   pub is_new : new ≡ W ++ (glue ++ (written_pair w (key, value) ++ r))
 
--- between W, which ends so, and r stand an empty line, a header and the pair's line, behind the glue
+-- between W, which ends so, and r stand an empty line, a header and the pair's line, after the glue
 pub record IsWithSection (o : ParseOption) (w : WriteOption) (e : Ending) (W r name key value new : Text)
     : Type 0 where
   pub glue : Text

@@ -1,4 +1,4 @@
--- Walks on which no place for a line was found: behind the front b of the text T, where a section opens.
+-- Walks on which no place for a line was found: after the front b of the text T, where a section opens.
 use Rattle.std.specs.Prelude.{◌≡◌, true, false, ◌||◌, [], ◌++◌, Option, None}
 use Rattle.std.specs.List.{list_all}
 use Rattle.ini_text.specs.Grammar.CharacterKinds.{is_blank, is_line_end}
@@ -34,13 +34,13 @@ pub record LooksIndented (source : Text) : Type 0 where
 -- key stands before that
 pub data NoneChosen (source : Text) (old next : Option TextPlace) : Type 0 where
   neither : old ≡ None → next ≡ None → ¬ IsIndentedKey source → NoneChosen source old next
-  behind_key : old ≡ None → LooksIndented source → NoneChosen source old next
+  after_key : old ≡ None → LooksIndented source → NoneChosen source old next
 
 module _ (o : ParseOption) (T b : Text) where
   -- up to the front c blanks and line ends alone were read, and there no line may be put in
   pub record WhiteSoFar (c : Text) : Type 0 where
     pub gap : Text
-    pub is_behind : c ≡ b ++ gap
+    pub is_after : c ≡ b ++ gap
     pub rest : Text
     pub whole : T ≡ c ++ rest
     pub white : list_all is_blank_or_line_end gap ≡ true
@@ -57,7 +57,7 @@ module _ (o : ParseOption) (T b : Text) where
     white : WhiteSoFar c → NoneYet c
     key : c ≡ T → EndsInKey → NoneYet c
 
--- up to the front c there was no place behind the last section's opening
+-- up to the front c there was no place after the last section's opening
 pub record NoEndYet (o : ParseOption) (T c : Text) : Type 0 where
   pub name : Option Text
   pub sections : Document

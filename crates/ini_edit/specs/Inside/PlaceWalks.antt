@@ -1,4 +1,4 @@
--- Walks to a place where a line may be put in: behind the items that stand between the front b of the text T
+-- Walks to a place where a line may be put in: after the items that stand between the front b of the text T
 -- and that place.
 use Rattle.std.specs.Prelude.{◌≡◌, ◌≢◌, [], false, List, Option, None, chars, ◌++◌, IfSome, MatchOption}
 use Rattle.ini_text.specs.Grammar.CharacterKinds.{is_blank, is_comment_mark, BeginsWithNo}
@@ -31,9 +31,9 @@ pub record IsFree (o : ParseOption) (W r : Text) : Type 0 where
   pub follows : Follows o r
   pub unblank : starts_line W ≡ false → BeginsWithNo is_blank r
 
--- the place stands before this rest of the text, behind an element of this source, and it is free
+-- the place stands before this rest of the text, after an element of this source, and it is free
 pub record IsFreeAt (o : ParseOption) (T source r : Text) (place : TextPlace) : Type 0 where
-  pub comment : place.is_behind_comment ≡ begins is_comment_mark source
+  pub comment : place.is_after_comment ≡ begins is_comment_mark source
   pub whole : T ≡ chars place.front.now ++ chars place.rest.now
   pub rest : chars place.rest.now ≡ r
   pub free : IsFree o (chars place.front.now) (chars place.rest.now)
@@ -43,28 +43,28 @@ pub data Chooses (source : Text) (old next : Option TextPlace) : Option TextPlac
   stays : Chooses source old next old
   moves : ¬ IsIndentedKey source → Chooses source old next next
 
--- of two places one is taken, where an element that gives items stands between them: the later one behind
+-- of two places one is taken, where an element that gives items stands between them: the later one after
 -- items, and else as above
 pub data Keeps (source : Text) (given : List Given) (old next : Option TextPlace) : Option TextPlace
     → Type 0 where
-  behind_item : given ≢ [] → Keeps source given old next next
-  behind_nothing : {new : Option TextPlace} → given ≡ [] → Chooses source old next new
+  after_item : given ≢ [] → Keeps source given old next next
+  after_nothing : {new : Option TextPlace} → given ≡ [] → Chooses source old next new
       → Keeps source given old next new
 
 -- of two places, where an element that gives items stands between them, none was taken
 pub data NoneKept (source : Text) (given : List Given) (old next : Option TextPlace) : Type 0 where
-  behind_item : given ≢ [] → next ≡ None → NoneKept source given old next
-  behind_nothing : given ≡ [] → NoneChosen source old next → NoneKept source given old next
+  after_item : given ≢ [] → next ≡ None → NoneKept source given old next
+  after_nothing : given ≡ [] → NoneChosen source old next → NoneKept source given old next
 
 module _ (o : ParseOption) (T b : Text) where
-  -- behind the items a line may be put in there, and from there to the front c nothing is given
+  -- after the items a line may be put in there, and from there to the front c nothing is given
   pub record IsLastPlace (items : List Given) (c : Text) (place : TextPlace) : Type 0 where
     pub whole : T ≡ chars place.front.now ++ chars place.rest.now
-    pub boundary : Boundary o T b place.is_behind_comment (chars place.front.now) items
+    pub boundary : Boundary o T b place.is_after_comment (chars place.front.now) items
     pub free : IsFree o (chars place.front.now) (chars place.rest.now)
     pub nothing : Reads o T (chars place.front.now) [] c
 
-  -- behind pairs the section ended, and now the parser stands behind what ended it
+  -- after pairs the section ended, and now the parser stands after what ended it
   pub record ReachesSectionEnd (q : Place) (found : Option TextPlace) : Type 0 where
     pub is_reading : IsReading o T q
     pub front : Text
@@ -74,18 +74,18 @@ module _ (o : ParseOption) (T b : Text) where
     pub place : IfSome found (IsLastPlace (pair_items pairs) front)
     pub none : found ≡ None → EndsInKey o T b
 
--- behind the items `before` the first section of the name ends, and a line may be put in there
+-- after the items `before` the first section of the name ends, and a line may be put in there
 pub record IsFirstSectionEnd (o : ParseOption) (T : Text) (name : Option Text)
     (place : TextPlace) : Type 0 where
   pub before : List Given
   pub after : List Given
   pub whole : T ≡ chars place.front.now ++ chars place.rest.now
-  pub boundary : Boundary o T [] place.is_behind_comment (chars place.front.now) before
+  pub boundary : Boundary o T [] place.is_after_comment (chars place.front.now) before
   pub free : IsFree o (chars place.front.now) (chars place.rest.now)
   pub then : Reads o T (chars place.front.now) after T
   pub ends : IsSectionEnd name before after
 
--- behind all that the text gives a line may be put in there
+-- after all that the text gives a line may be put in there
 pub record IsTextEnd (o : ParseOption) (T : Text) (place : TextPlace) : Type 0 where
   pub items : List Given
   pub is_last : IsLastPlace o T [] items T place
@@ -104,7 +104,7 @@ abbrev pub ReachesSection : ParseOption → Text → Option Text → Place → O
 ReachesSection o T name q openings.There = OpensFirst o T q name
 ReachesSection o T name q (openings.Absent place) = LacksSection o T name × AnswersTextEnd o T place
 
--- behind the front b a section's first pair of the key stood before where the parser stands; or the section
+-- after the front b a section's first pair of the key stood before where the parser stands; or the section
 -- ended there without one
 abbrev pub Reaches : ParseOption → Text → Text → Text → Place → Reached → Type 0
 Reaches o T b key q (reached.Pair pair) = ReachesPair o T b q key pair

@@ -9,24 +9,24 @@ use Rattle.ini.specs.Texts.{Text}
 use Rattle.ini_edit.specs.Places.{Stretches, pair_with}
 use Rattle.ini_edit.specs.Quotes.{IsPut}
 
--- a value's own source: with white space behind it, it is the lines of a value
+-- a value's own source: with white space after it, it is the lines of a value
 pub record IsOwnSource (o : ParseOption) (own : Text) : Type 0 where
   pub pad : Text
   pub rest : Text
   pub lines : OwnLines o (own ++ pad) rest
 
 -- what follows the first mark that no backslash takes; the text's first character is taken or isn't
-abbrev pub behind_quote_mark : ℕ → Bool → Text → Option Text
-behind_quote_mark m taken [] = None
-behind_quote_mark m taken (c ∷ cs) =
-    if c == m && not taken then Some cs else behind_quote_mark m (c == backslash && not taken) cs
+abbrev pub after_quote_mark : ℕ → Bool → Text → Option Text
+after_quote_mark m taken [] = None
+after_quote_mark m taken (c ∷ cs) =
+    if c == m && not taken then Some cs else after_quote_mark m (c == backslash && not taken) cs
 
 -- a mark begins the text, and where it stands next with no backslash that takes it, it ends the text
 pub record IsBetweenQuoteMarks (text : Text) (m : ℕ) : Type 0 where
   pub mark : is_quote_mark m ≡ true
-  pub behind : Text
-  pub whole : text ≡ m ∷ behind
-  pub ends : behind_quote_mark m false behind ≡ Some []
+  pub following : Text
+  pub whole : text ≡ m ∷ following
+  pub ends : after_quote_mark m false following ≡ Some []
 
 -- The text `old` goes on with what stands in the place of a value's source.
 pub record PutsSource (o : ParseOption) (policy : EscapePolicy) (own before value old new : Text)

@@ -8,7 +8,7 @@ use Rattle.ini_text.specs.declared.write.policy.EscapePolicy.{EscapePolicy}
 use Rattle.ini.specs.Texts.{Text}
 use Rattle.ini_edit.specs.Endings.{Ending, ending}
 
--- the text doesn't end behind a backslash that takes what follows it
+-- the text doesn't end after a backslash that takes what follows it
 abbrev pub is_closed : Ending → Bool
 is_closed Ending.inside = true
 is_closed Ending.escape = false

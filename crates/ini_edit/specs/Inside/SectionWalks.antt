@@ -16,7 +16,7 @@ use Rattle.ini_edit.specs.Inside.Walks.{EndsSection, IsReading}
 use Rattle.ini_edit.specs.declared.section.FoundHeader.{FoundHeader}
 
 module _ (o : ParseOption) (T : Text) where
-  -- the header begins the first section of the name, and the parser stands behind it
+  -- the header begins the first section of the name, and the parser stands after it
   pub record OpensAt (q : Place) (name : Text) (found : FoundHeader) : Type 0 where
     pub is_reading : IsReading o T q
     pub items : List Given
@@ -27,7 +27,7 @@ module _ (o : ParseOption) (T : Text) where
         (Header name ∷ [])
     pub reaches : q.front ≡ chars found.front.now ++ chars found.source.now
 
-  -- Behind the section's pairs, which reach the front `last`, what stays of the text begins at the front
+  -- After the section's pairs, which reach the front `last`, what stays of the text begins at the front
   -- `upto`; if that isn't the front c it begins with a comment.
   pub record KeepsRest (b : Text) (column : Bool) (c rest : Text) : Type 0 where
     pub pairs : Pairs
@@ -41,7 +41,7 @@ module _ (o : ParseOption) (T : Text) where
     pub kept : (upto ≡ c) ⊎ ((column ≡ true)
         × ((is_column_one upto ≡ true) × BeginsWith is_comment_mark rest))
 
-  -- behind pairs the section ended, and now the parser stands behind what ended it
+  -- after pairs the section ended, and now the parser stands after what ended it
   pub record ReachesRest (b : Text) (column : Bool) (q : Place) (rest : Text) : Type 0 where
     pub is_reading : IsReading o T q
     pub front : Text

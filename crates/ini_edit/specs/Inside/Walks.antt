@@ -32,11 +32,11 @@ pub data EndsSection (o : ParseOption) (T c : Text) : Text → Type 0 where
   end : c ≡ T → EndsSection o T c c
   header : {d : Text} (name : Text) → Reads o T c (Header name ∷ []) d → EndsSection o T c d
 
--- The front is b, or at it an element ends, a comment or another one, behind items from b on; if the element
+-- The front is b, or at it an element ends, a comment or another one, after items from b on; if the element
 -- gives nothing it isn't an indented key, which the text's end cuts short.
 pub data Boundary (o : ParseOption) (T b : Text) : (comment : Bool) → Text → List Given → Type 0 where
   start : Boundary o T b false b []
-  behind : {a s r : Text} {items gives : List Given} → Reads o T b items a → T ≡ a ++ (s ++ r)
+  following : {a s r : Text} {items gives : List Given} → Reads o T b items a → T ≡ a ++ (s ++ r)
       → Element o a s r gives → (gives ≡ [] → ¬ IsIndentedKey s)
       → Boundary o T b (begins is_comment_mark s) (a ++ s) (items ++ gives)
 
@@ -53,18 +53,18 @@ module _ (o : ParseOption) (T : Text) where
     pub text : p.text ≡ T
     pub refusal : p.refusal ≡ None
 
-  -- behind the front b stood the element, and now the parser stands behind it
+  -- after the front b stood the element, and now the parser stands after it
   pub record Steps (b : Text) (q : Place) (e : PlacedElement) : Type 0 where
     pub is_reading : IsReading q
     pub stands : StandsBetween o T b q.front e
 
-  -- no element stood behind the front b: it is the text
+  -- no element stood after the front b: it is the text
   pub record IsPastLast (b : Text) (q : Place) : Type 0 where
     pub is_reading : IsReading q
     pub was_end : b ≡ T
     pub is_end : q.front ≡ T
 
-  -- it stands behind what opens the first section of the name
+  -- it stands after what opens the first section of the name
   pub record OpensFirst (q : Place) (name : Option Text) : Type 0 where
     pub is_reading : IsReading q
     pub items : List Given
@@ -80,7 +80,7 @@ module _ (o : ParseOption) (T : Text) where
     pub lacks : Lacks key pairs
     pub reads : Reads o T b (pair_items pairs) c
 
-  -- behind such pairs stood the pair of the key, and now the parser stands behind it
+  -- after such pairs stood the pair of the key, and now the parser stands after it
   pub record ReachesPair (b : Text) (q : Place) (key : Text) (pair : FoundPair) : Type 0 where
     pub is_reading : IsReading q
     pub passes : PassesPairs b (chars pair.front.now) key
@@ -89,7 +89,7 @@ module _ (o : ParseOption) (T : Text) where
     pub placed : ArePlaced o (chars pair.front.now) (source_of (stretches_of pair)) (chars pair.rest.now)
         key (cow_text pair.value)
 
-  -- behind such pairs the section ended, and now the parser stands behind what ended it
+  -- after such pairs the section ended, and now the parser stands after what ended it
   pub record ReachesEnd (b : Text) (q : Place) (key : Text) : Type 0 where
     pub is_reading : IsReading q
     pub front : Text

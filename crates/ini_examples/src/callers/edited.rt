@@ -121,7 +121,7 @@ impl Settings {
         Ok(Settings { document })
     }
 
-    /// Sets a value in a section, and another one behind it.
+    /// Sets a value in a section, and another one after it.
     pub fn set(&mut self, name: &str, key: &str, value: &str) -> Result<(), Error> {
         edits::sections_stay_there();
         self.document

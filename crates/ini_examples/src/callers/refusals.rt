@@ -13,7 +13,7 @@ fn loaded(alloc: Global, text: &str) -> Result<Ini, Error> {
     Ok(document)
 }
 
-/// How many lines stand before the one that is refused: lines count from one, behind any number of `?`.
+/// How many lines stand before the one that is refused: lines count from one, after any number of `?`.
 pub fn lines_before(alloc: Global, text: &str) -> usize {
     match loaded(alloc, text) {
         Err(Error::Parse(fault)) => fault.line - 1,

@@ -73,7 +73,7 @@ pub fn rename(alloc: Global, document: &Ini, name: &str, other: &str) -> Result<
     Ok(copy)
 }
 
-// Puts the pairs behind those of the section.
+// Puts the pairs after those of the section.
 fn add_all(document: &mut Ini, to: &str, pairs: &Properties) -> Result<(), Error>
     ensures { OnOk result (document.new ≡ all_added (Some (chars to.now)) document.old pairs.now) }
 {
@@ -83,7 +83,7 @@ fn add_all(document: &mut Ini, to: &str, pairs: &Properties) -> Result<(), Error
     Ok(())
 }
 
-/// Takes the first section of a name out, and puts its pairs behind those of another.
+/// Takes the first section of a name out, and puts its pairs after those of another.
 pub fn move_pairs(document: &mut Ini, from: &str, to: &str) -> Result<(), Error>
     ensures { OnOk result (document.new ≡ all_added (Some (chars to.now))
         (section_removed (Some (chars from.now)) document.old)

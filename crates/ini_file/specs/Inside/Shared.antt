@@ -2,7 +2,7 @@
 use Rattle.std.specs.Prelude.{◌≡◌, ◌<◌, ℕ, List, [], ◌∷◌, ◌++◌, length}
 use Rattle.ini_file.specs.Diffs.{Line, lines_of}
 
--- the first line of bytes, and the bytes behind it
+-- the first line of bytes, and the bytes after it
 pub record IsFirstLine (bytes line rest : List ℕ) : Type 0 where
   pub lines : lines_of bytes ≡ line ∷ lines_of rest
   pub shorter : length rest < length bytes

@@ -10,8 +10,8 @@ use std::panic::Expect;
 use std::process::Abort;
 
 // Asks that this held of the call at a key's text.
-fn expect(rt: &impl Abort, held: bool, call: &str, key: &str) {
-    assert!(rt; held, "{call} {key}");
+fn expect(rt: &impl Abort, as_expected: bool, call: &str, key: &str) {
+    assert!(rt; as_expected, "{call} {key}");
 }
 
 // The key of a text.

@@ -181,7 +181,7 @@ impl<K: MapKey + Drop> PlainList<K> {
 
 impl<K: TextKey> PlainList<K> {
     /// The text of the key and the value of the pair at `at`, where there is one.
-    pub fn told(&self, at: usize) -> Option<(&str, u32)> {
+    pub fn reported(&self, at: usize) -> Option<(&str, u32)> {
         match self.pairs.get(at) {
             Some((key, value)) => Some((key.text(), *value)),
             None => None,

@@ -127,7 +127,7 @@ fn expect_two_calls<'a>(
     }
 }
 
-// The keys differ in the low byte of their codes. Where a hole has it, those behind it are compared, until
+// The keys differ in the low byte of their codes. Where a hole has it, those after it are compared, until
 // holes are closed.
 #[test]
 fn a_look_up_among_few_compares_the_key_of_its_byte(rt: HostRuntime) {

@@ -179,7 +179,7 @@ pub fn same_walk<K: TextKey, W: Walk>(
 ) {
     for turn in 0..places.len() {
         let want = match places.get(order.index(turn, places.len())) {
-            Some(at) => list.told(*at),
+            Some(at) => list.reported(*at),
             None => None,
         };
         let same = want.is_some() && walk.gives(order.is_from_back(turn), want);

@@ -4,7 +4,7 @@ use ini_multimap::Multimap;
 use std::panic::Expect;
 use std::process::Abort;
 
-// The keys of two pairs a, with pairs of two other keys before, between and behind them; and the same with
+// The keys of two pairs a, with pairs of two other keys before, between and after them; and the same with
 // pairs that are taken out again.
 const KEYS: [&'static str; 2] = ["y z a y z a z y", "- y z a y - z a z y -"];
 

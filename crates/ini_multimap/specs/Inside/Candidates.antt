@@ -18,8 +18,8 @@ module _ (chained : Bool) {K : Type 0} (code : K → ℕ) (c : ℕ) (ks : List (
       (λ t. (i ≤ t) × IsCandidate t × ((k : ℕ) → i ≤ k → k < t → code_at code ks k ≢ Some c))
 
   -- r is the last one before slot i
-  abbrev pub IsBehind : ℕ → Option ℕ → Type 0
-  IsBehind i r = MatchOption r ((k : ℕ) → k < i → code_at code ks k ≢ Some c)
+  abbrev pub IsAfter : ℕ → Option ℕ → Type 0
+  IsAfter i r = MatchOption r ((k : ℕ) → k < i → code_at code ks k ≢ Some c)
       (λ t. (t < i) × IsCandidate t × ((k : ℕ) → t < k → k < i → code_at code ks k ≢ Some c))
 
   -- a walk over the values of the code has the candidates from `first` to `last` left

@@ -37,7 +37,7 @@ IsInjective {K} eq code ks = (i j : ℕ) (x y : K) → value_in ks i ≡ Some x 
 abbrev pub IsKeyOf : {K : Type 0} → (K → K → Bool) → List (Option K) → Option ℕ → K → Type 0
 IsKeyOf {K} eq ks s key = IfSome s (λ i. (x : K) → value_in ks i ≡ Some x → eq x key ≡ true)
 
--- where its code tells each key from the others, it still does with this slot behind them
+-- where its code tells each key from the others, it still does with this slot after them
 abbrev pub IsToldBy : {K : Type 0} → (K → K → Bool) → (K → ℕ) → List (Option K) → Option K → Type 0
 IsToldBy eq code ks slot = IsInjective eq code ks → IsInjective eq code (ks ++ slot ∷ [])
 

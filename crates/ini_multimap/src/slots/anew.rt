@@ -78,8 +78,8 @@ impl Chains {
         };
         let mut is_injective = true;
         for s in 0..keys.len() {
-            let is_told = chains.push_slot(&keys[..s], &keys[s]);
-            is_injective = is_injective && is_told;
+            let is_reported = chains.push_slot(&keys[..s], &keys[s]);
+            is_injective = is_injective && is_reported;
         }
         chains.give_back();
         Ok((chains, is_injective))

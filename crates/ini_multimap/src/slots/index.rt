@@ -3,7 +3,7 @@
 ghost use Rattle.std.specs.Prelude.{◌≡◌, ◌<◌, ◌^◌, ◌∷◌, ◌++◌, [], ℕ, Some, None, suc, length, slice_set, false};
 ghost use Rattle.std.specs.Prelude.{IfOk, IfSome, OnErr, OnOk, is_some, vec_len, vec_capacity};
 ghost use Rattle.std.specs.Bool.{OnTrue};
-ghost use Rattle.ini_multimap.specs.Inside.Candidates.{IsAhead, IsBehind, IsCandidate};
+ghost use Rattle.ini_multimap.specs.Inside.Candidates.{IsAhead, IsAfter, IsCandidate};
 ghost use Rattle.ini_multimap.specs.Inside.Fits.{IsInjective, code_at};
 ghost use Rattle.ini_multimap.specs.Inside.Chains.{HasRoom, IsIndexed};
 
@@ -42,7 +42,7 @@ impl<K: MapKey, V> Slots<K, V> {
 
     // The last candidate for the code that the probe has.
     pub(crate) fn last_candidate<Q: Probe<K> + Copy>(&self, q: Q) -> Option<usize>
-        ensures last { IsBehind self.now.is_chained K.key_code (Q.probe_code q) self.now.keys
+        ensures last { IsAfter self.now.is_chained K.key_code (Q.probe_code q) self.now.keys
             (length self.now.keys) result }
         ensures countable { length self.now.keys < 2 ^ 64 }
     {
@@ -71,7 +71,7 @@ impl<K: MapKey, V> Slots<K, V> {
     pub(crate) fn candidate_before(&self, s: usize) -> Option<usize>
         requires { s < length self.now.keys }
         ensures { (c : ℕ) → IsCandidate self.now.is_chained K.key_code c self.now.keys s
-            → IsBehind self.now.is_chained K.key_code c self.now.keys s result }
+            → IsAfter self.now.is_chained K.key_code c self.now.keys s result }
     {
         match &self.index {
             Some(chains) => chains.prev(s),

@@ -44,7 +44,7 @@ impl Tags {
         }
     }
 
-    // Slot s has the key. Behind the first slots no tag is kept.
+    // Slot s has the key. After the first slots no tag is kept.
     #[inline(always)]
     pub(super) fn put<K: MapKey>(&mut self, s: usize, key: &K)
         ensures { self.new.of ≡ slice_set self.old.of s (tag_of (K.key_code key.now)) }

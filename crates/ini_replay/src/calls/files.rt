@@ -66,7 +66,7 @@ fn file_calls<R: Files>(
     times: usize,
     path: &str,
 ) -> Result<String, Error> {
-    let mut told = String::from_str(alloc, "none")?;
+    let mut reported = String::from_str(alloc, "none")?;
     let saved = Ini::load_from_str(alloc, "k = v\n[s]\nj = w\n")?;
     for _ in 0..times {
         let answer = if form.starts_with("load") {
@@ -74,12 +74,12 @@ fn file_calls<R: Files>(
         } else {
             save(rt, &saved, form, Path::new(path)).map(|_| 0)
         };
-        told = match answer {
+        reported = match answer {
             Ok(sections) => format!(in alloc; "{sections}")?,
             Err(refusal) => format!(in alloc; "{refusal}")?,
         };
     }
-    Ok(told)
+    Ok(reported)
 }
 
 /// The answer to a question, without a line end.
@@ -89,9 +89,9 @@ pub(crate) fn answer(rt: &HostRuntime, question: &str) -> Result<String, Error> 
     let form = words.next().unwrap_or("");
     let times = words.next().unwrap_or("").parse().unwrap_or(0);
     let path = words.next().unwrap_or("");
-    let told = match form {
+    let reported = match form {
         "found" => numbers_found(rt, alloc, times, path)?,
         _ => file_calls(rt, alloc, form, times, path)?,
     };
-    Ok(format!(in alloc; "{question}: {told}")?)
+    Ok(format!(in alloc; "{question}: {reported}")?)
 }

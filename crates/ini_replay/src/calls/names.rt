@@ -12,7 +12,7 @@ pub(crate) fn layers_of(alloc: Global, document: Ini) -> Result<Layers, Error> {
     }
 }
 
-/// The texts of a document, and behind them those that it doesn't have.
+/// The texts of a document, and after them those that it doesn't have.
 #[derive(Drop)]
 pub(crate) struct Names {
     alloc: Global,

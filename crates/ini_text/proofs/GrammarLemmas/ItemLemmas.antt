@@ -3,7 +3,7 @@ use Rattle.std.proofs.Common.{◌≡◌, ◌<◌, ◌≤◌, ℕ, List, [], ◌�
 use Rattle.ini_text.specs.Grammar.CharacterKinds.{is_blank}
 use Rattle.ini_text.specs.Grammar.Elements.{Given, Gap, Element, ElementStops}
 use Rattle.ini_text.specs.Parsing.Fronts.{front_of, IsRest}
-use Rattle.ini_text.specs.Parsing.Parser.{memory, parse, Refuses, TellsRefusal, refusal_of, StopsBehind}
+use Rattle.ini_text.specs.Parsing.Parser.{memory, parse, Refuses, TellsRefusal, refusal_of, StopsPast}
 use Rattle.ini_text.specs.Inside.ItemSearch.{StopIsWithin}
 use Rattle.ini_text.specs.Errors.Messages.{HasMessage}
 use Rattle.ini_text.specs.declared.error.ParseKind.{ParseKind}
@@ -48,7 +48,7 @@ element-some (Element.dropped_blanks {w = w} i) = BeginsWith-some is_blank w i.s
 element-some (Element.dropped_key {w = w} {s = s} i begins str) =
     omega (arith, length-append w s, BeginsWith-some is_blank w i.some)
 
--- behind the rest of a text, an element moves the parser on
+-- after the rest of a text, an element moves the parser on
 pub record Moved (o : ParseOption) (T b rest after : List ℕ) (gives : List Given) : Type 0 where
   pub reads : Reads o T b gives (front_of T after)
   pub within : IsRest T after
@@ -85,7 +85,7 @@ module _ (o : ParseOption) (T b : List ℕ) where
   tells_memory errors.NoProgress t = absurd t
 
   tells_parse : {kind : ParseKind} {line column : ℕ} (message : List ℕ)
-      → StopsBehind o T b kind line column → HasMessage kind message → (e : Error)
+      → StopsPast o T b kind line column → HasMessage kind message → (e : Error)
       → TellsRefusal (parse kind line column message) e → Refuses o T b e
   tells_parse message stop m (errors.Memory x) t = absurd t
   tells_parse message stop m (errors.Io x) t = absurd t

@@ -1,4 +1,4 @@
--- A text behind another one: what is read of it stays, and its places move down.
+-- A text after another one: what is read of it stays, and its places move down.
 use Rattle.std.proofs.Common.{◌≡◌, ℕ, ◌+◌, Bool, true, cond, List, [], ◌∷◌, ◌++◌, refl, sym, ap, ◌∙◌, subst, append_assoc, append-nil, length, length-append, arith, count_by, eqb, eqb-true}
 use Rattle.std.proofs.lemmas.Bool.{cond-true, or_right, or_left, false≢true, not-false}
 use Rattle.std.specs.Char.{is_whitespace}
@@ -11,97 +11,97 @@ use Rattle.ini_text.specs.Grammar.Positions.{column_of, last_or, line_of, starts
 use Rattle.ini_text.specs.Grammar.Keys.{Indentation, KeyFront, begins_key}
 use Rattle.ini_text.specs.Grammar.Elements.{Given, Gap, Element, ElementStops}
 use Rattle.ini_text.specs.Grammar.Texts.{Reads, Derives, Stops}
-use Rattle.ini_text.specs.Parsing.Parser.{StopsBehind}
+use Rattle.ini_text.specs.Parsing.Parser.{StopsPast}
 use Rattle.ini_text.specs.Laws.PlainLaws.{BeginsWithHeader, IsEmptyOrHeader, IsMoved}
 use Rattle.ini_text.proofs.GrammarLemmas.ItemLemmas.{element-some, reads-append}
 
-pub last_or-behind : (d c : ℕ) (W b : List ℕ) → last_or d (W ++ (c ∷ b)) ≡ last_or c b
-last_or-behind d c [] b = refl
-last_or-behind d c (x ∷ W) b = last_or-behind x c W b
+pub last_or-after : (d c : ℕ) (W b : List ℕ) → last_or d (W ++ (c ∷ b)) ≡ last_or c b
+last_or-after d c [] b = refl
+last_or-after d c (x ∷ W) b = last_or-after x c W b
 
 line_feed_ends_line : (c : ℕ) → is_line_feed c ≡ true → is_line_end c ≡ true
 line_feed_ends_line c h = or_left (is_line_feed c) (eqb c 13) h
 
-whole-behind : (W b t : List ℕ) {Y : List ℕ} → Y ≡ b ++ t → W ++ Y ≡ (W ++ b) ++ t
-whole-behind W b t h = ap (λ y. W ++ y) h ∙ sym (append_assoc W b t)
+whole-after : (W b t : List ℕ) {Y : List ℕ} → Y ≡ b ++ t → W ++ Y ≡ (W ++ b) ++ t
+whole-after W b t h = ap (λ y. W ++ y) h ∙ sym (append_assoc W b t)
 
 module _ (W : List ℕ) (one : is_column_one W ≡ true) where
-  starts_line-behind : (b : List ℕ) → starts_line (W ++ b) ≡ starts_line b
-  starts_line-behind [] = rw (append-nil W) (line_feed_ends_line (last_or line_feed W) one)
-  starts_line-behind (c ∷ b) = ap is_line_end (last_or-behind line_feed c W b)
+  starts_line-after : (b : List ℕ) → starts_line (W ++ b) ≡ starts_line b
+  starts_line-after [] = rw (append-nil W) (line_feed_ends_line (last_or line_feed W) one)
+  starts_line-after (c ∷ b) = ap is_line_end (last_or-after line_feed c W b)
 
-  pub is_column_one-behind : (b : List ℕ) → is_column_one (W ++ b) ≡ is_column_one b
-  is_column_one-behind [] = rw (append-nil W) one
-  is_column_one-behind (c ∷ b) = ap is_line_feed (last_or-behind line_feed c W b)
+  pub is_column_one-after : (b : List ℕ) → is_column_one (W ++ b) ≡ is_column_one b
+  is_column_one-after [] = rw (append-nil W) one
+  is_column_one-after (c ∷ b) = ap is_line_feed (last_or-after line_feed c W b)
 
-  Indentation-behind : {b w : List ℕ} → Indentation b w → Indentation (W ++ b) w
-  Indentation-behind {b} i =
-      record { at_line_start = starts_line-behind b ∙ i.at_line_start; some = i.some; blank = i.blank }
+  Indentation-after : {b w : List ℕ} → Indentation b w → Indentation (W ++ b) w
+  Indentation-after {b} i =
+      record { at_line_start = starts_line-after b ∙ i.at_line_start; some = i.some; blank = i.blank }
 
-  Gap-behind : {b s r : List ℕ} → Gap b s r → Gap (W ++ b) s r
-  Gap-behind (Gap.blank_line c i e) = Gap.blank_line c (Indentation-behind i) e
-  Gap-behind (Gap.before_header i) = Gap.before_header (Indentation-behind i)
-  Gap-behind {b} (Gap.white h n) = Gap.white h (λ q. starts_line-behind b ∙ n q)
+  Gap-after : {b s r : List ℕ} → Gap b s r → Gap (W ++ b) s r
+  Gap-after (Gap.blank_line c i e) = Gap.blank_line c (Indentation-after i) e
+  Gap-after (Gap.before_header i) = Gap.before_header (Indentation-after i)
+  Gap-after {b} (Gap.white h n) = Gap.white h (λ q. starts_line-after b ∙ n q)
 
   module _ {o : ParseOption} where
-    KeyFront-behind : {b s r v : List ℕ} → KeyFront o b s r v → KeyFront o (W ++ b) s r v
-    KeyFront-behind (KeyFront.unindented h str) = KeyFront.unindented h str
-    KeyFront-behind (KeyFront.indented i h str) = KeyFront.indented (Indentation-behind i) h str
+    KeyFront-after : {b s r v : List ℕ} → KeyFront o b s r v → KeyFront o (W ++ b) s r v
+    KeyFront-after (KeyFront.unindented h str) = KeyFront.unindented h str
+    KeyFront-after (KeyFront.indented i h str) = KeyFront.indented (Indentation-after i) h str
 
-    Element-behind : {b s r : List ℕ} {gives : List Given} → Element o b s r gives
+    Element-after : {b s r : List ℕ} {gives : List Given} → Element o b s r gives
         → Element o (W ++ b) s r gives
-    Element-behind (Element.gap g) = Element.gap (Gap-behind g)
-    Element-behind {b} (Element.comment s at mark all) =
-        Element.comment s (is_column_one-behind b ∙ at) mark all
-    Element-behind {b} (Element.last_comment at mark all) =
-        Element.last_comment (is_column_one-behind b ∙ at) mark all
-    Element-behind (Element.header off str) = Element.header off str
-    Element-behind (Element.bracketed_header on str i) = Element.bracketed_header on str i
-    Element-behind (Element.pair front some sep value) = Element.pair (KeyFront-behind front) some sep value
-    Element-behind (Element.dropped_blanks i) = Element.dropped_blanks (Indentation-behind i)
-    Element-behind (Element.dropped_key i begins stops) =
-        Element.dropped_key (Indentation-behind i) begins stops
+    Element-after (Element.gap g) = Element.gap (Gap-after g)
+    Element-after {b} (Element.comment s at mark all) =
+        Element.comment s (is_column_one-after b ∙ at) mark all
+    Element-after {b} (Element.last_comment at mark all) =
+        Element.last_comment (is_column_one-after b ∙ at) mark all
+    Element-after (Element.header off str) = Element.header off str
+    Element-after (Element.bracketed_header on str i) = Element.bracketed_header on str i
+    Element-after (Element.pair front some sep value) = Element.pair (KeyFront-after front) some sep value
+    Element-after (Element.dropped_blanks i) = Element.dropped_blanks (Indentation-after i)
+    Element-after (Element.dropped_key i begins stops) =
+        Element.dropped_key (Indentation-after i) begins stops
 
-    ElementStops-behind : {b s r : List ℕ} {kind : ParseKind} → ElementStops o b s r kind
+    ElementStops-after : {b s r : List ℕ} {kind : ParseKind} → ElementStops o b s r kind
         → ElementStops o (W ++ b) s r kind
-    ElementStops-behind (ElementStops.in_header off stops) = ElementStops.in_header off stops
-    ElementStops-behind (ElementStops.in_bracketed_header on stops) =
+    ElementStops-after (ElementStops.in_header off stops) = ElementStops.in_header off stops
+    ElementStops-after (ElementStops.in_bracketed_header on stops) =
         ElementStops.in_bracketed_header on stops
-    ElementStops-behind (ElementStops.no_header_end on str none) = ElementStops.no_header_end on str none
-    ElementStops-behind (ElementStops.in_key begins stops) = ElementStops.in_key begins stops
-    ElementStops-behind (ElementStops.in_indented_key i begins stops n) =
-        ElementStops.in_indented_key (Indentation-behind i) begins stops n
-    ElementStops-behind (ElementStops.no_key front sep) = ElementStops.no_key (KeyFront-behind front) sep
-    ElementStops-behind (ElementStops.in_value front some sep stops) =
-        ElementStops.in_value (KeyFront-behind front) some sep stops
-    ElementStops-behind {b} (ElementStops.late_comment mark late) =
-        ElementStops.late_comment mark (is_column_one-behind b ∙ late)
+    ElementStops-after (ElementStops.no_header_end on str none) = ElementStops.no_header_end on str none
+    ElementStops-after (ElementStops.in_key begins stops) = ElementStops.in_key begins stops
+    ElementStops-after (ElementStops.in_indented_key i begins stops n) =
+        ElementStops.in_indented_key (Indentation-after i) begins stops n
+    ElementStops-after (ElementStops.no_key front sep) = ElementStops.no_key (KeyFront-after front) sep
+    ElementStops-after (ElementStops.in_value front some sep stops) =
+        ElementStops.in_value (KeyFront-after front) some sep stops
+    ElementStops-after {b} (ElementStops.late_comment mark late) =
+        ElementStops.late_comment mark (is_column_one-after b ∙ late)
 
-    pub Reads-behind : {Y b c : List ℕ} {items : List Given} → Reads o Y b items c
+    pub Reads-after : {Y b c : List ℕ} {items : List Given} → Reads o Y b items c
         → Reads o (W ++ Y) (W ++ b) items (W ++ c)
-    Reads-behind {b = b} (Reads.stay r h) = Reads.stay r (whole-behind W b r h)
-    Reads-behind {Y} {b} {c} (Reads.step {s = s} {r = r} {items = items} h e reads) =
+    Reads-after {b = b} (Reads.stay r h) = Reads.stay r (whole-after W b r h)
+    Reads-after {Y} {b} {c} (Reads.step {s = s} {r = r} {items = items} h e reads) =
         let rest : Reads o (W ++ Y) ((W ++ b) ++ s) items (W ++ c) =
-        subst (λ x. Reads o (W ++ Y) x items (W ++ c)) (sym (append_assoc W b s)) (Reads-behind reads) in
-        Reads.step (whole-behind W b (s ++ r) h) (Element-behind e) rest
+        subst (λ x. Reads o (W ++ Y) x items (W ++ c)) (sym (append_assoc W b s)) (Reads-after reads) in
+        Reads.step (whole-after W b (s ++ r) h) (Element-after e) rest
 
-    -- behind the items of W
+    -- after the items of W
     Reads-then : {Y c : List ℕ} {before items : List Given} → Reads o (W ++ Y) [] before W
         → Reads o Y [] items c → Reads o (W ++ Y) [] (before ++ items) (W ++ c)
     Reads-then {Y} {c} {items = items} first reads =
         reads-append first
-        (subst (λ x. Reads o (W ++ Y) x items (W ++ c)) (append-nil W) (Reads-behind reads))
+        (subst (λ x. Reads o (W ++ Y) x items (W ++ c)) (append-nil W) (Reads-after reads))
 
-    Stops-behind : {Y f : List ℕ} {kind : ParseKind} {before : List Given} → Reads o (W ++ Y) [] before W
+    Stops-after : {Y f : List ℕ} {kind : ParseKind} {before : List Given} → Reads o (W ++ Y) [] before W
         → Stops o Y kind f → Stops o (W ++ Y) kind (W ++ f)
-    Stops-behind {Y} {kind = kind} first (Stops.stops {b} {s} {r} reads h e) =
+    Stops-after {Y} {kind = kind} first (Stops.stops {b} {s} {r} reads h e) =
         subst (Stops o (W ++ Y) kind) (append_assoc W b s)
-        (Stops.stops (Reads-then first reads) (whole-behind W b (s ++ r) h) (ElementStops-behind e))
+        (Stops.stops (Reads-then first reads) (whole-after W b (s ++ r) h) (ElementStops-after e))
 
 -- a line begun anew
-last_line-behind : (W f : List ℕ) → is_column_one W ≡ true → last_line (W ++ f) ≡ last_line f
-last_line-behind [] f one = refl
-last_line-behind (c ∷ W) f one = at W f one (last_line-behind W f)
+last_line-after : (W f : List ℕ) → is_column_one W ≡ true → last_line (W ++ f) ≡ last_line f
+last_line-after [] f one = refl
+last_line-after (c ∷ W) f one = at W f one (last_line-after W f)
   where
     some_line_feed : (d : ℕ) (W f : List ℕ) → is_line_feed (last_or d W) ≡ true
         → list_any is_line_feed (d ∷ (W ++ f)) ≡ true
@@ -118,31 +118,31 @@ last_line-behind (c ∷ W) f one = at W f one (last_line-behind W f)
         cond-true (list_any is_line_feed (c ∷ (x ∷ (W ++ f)))) (last_line (x ∷ (W ++ f)))
         (c ∷ (x ∷ (W ++ f))) (some_line_feed c (x ∷ W) f h) ∙ more h
 
-pub line_of-behind : (W f : List ℕ) → line_of (W ++ f) ≡ line_of f + count_by is_line_feed W
-line_of-behind W f =
+pub line_of-after : (W f : List ℕ) → line_of (W ++ f) ≡ line_of f + count_by is_line_feed W
+line_of-after W f =
     ap (λ n. 1 + n) (sum_by-append (λ x. cond (is_line_feed x) 1 0) W f) ∙ omega arith
 
-pub column_of-behind : (W f : List ℕ) → is_column_one W ≡ true → column_of (W ++ f) ≡ column_of f
-column_of-behind W f one = ap (λ l. 1 + length l) (last_line-behind W f one)
+pub column_of-after : (W f : List ℕ) → is_column_one W ≡ true → column_of (W ++ f) ≡ column_of f
+column_of-after W f one = ap (λ l. 1 + length l) (last_line-after W f one)
 
--- where reading stops behind a front
-pub StopsBehind-behind : {o : ParseOption} {Y b : List ℕ} {kind : ParseKind} {line column : ℕ} (W : List ℕ)
-    → is_column_one W ≡ true → StopsBehind o Y b kind line column
-    → StopsBehind o (W ++ Y) (W ++ b) kind (line + count_by is_line_feed W) column
-StopsBehind-behind W one stop =
+-- where reading stops after a front
+pub StopsAfter-after : {o : ParseOption} {Y b : List ℕ} {kind : ParseKind} {line column : ℕ} (W : List ℕ)
+    → is_column_one W ≡ true → StopsPast o Y b kind line column
+    → StopsPast o (W ++ Y) (W ++ b) kind (line + count_by is_line_feed W) column
+StopsAfter-after W one stop =
     let f = stop.front ++ stop.source in
     record {
       front = W ++ stop.front;
       source = stop.source;
       rest = stop.rest;
-      reads = Reads-behind W one stop.reads;
-      whole = whole-behind W stop.front (stop.source ++ stop.rest) stop.whole;
-      stops = ElementStops-behind W one stop.stops;
+      reads = Reads-after W one stop.reads;
+      whole = whole-after W stop.front (stop.source ++ stop.rest) stop.whole;
+      stops = ElementStops-after W one stop.stops;
       line_is =
-          ap (λ n. n + count_by is_line_feed W) stop.line_is ∙ sym (line_of-behind W f)
+          ap (λ n. n + count_by is_line_feed W) stop.line_is ∙ sym (line_of-after W f)
           ∙ ap line_of (sym (append_assoc W stop.front stop.source));
       column_is =
-          stop.column_is ∙ sym (column_of-behind W f one)
+          stop.column_is ∙ sym (column_of-after W f one)
           ∙ ap column_of (sym (append_assoc W stop.front stop.source));
     }
 
@@ -150,9 +150,9 @@ pub moved : (o : ParseOption) (W Y : List ℕ) (before : List Given) → is_colu
     → Reads o (W ++ Y) [] before W → IsMoved o W Y before
 moved o W Y before one first = record {
   derives = Reads-then W one first;
-  stops = Stops-behind W one first;
-  line = line_of-behind W;
-  column = λ f. column_of-behind W f one;
+  stops = Stops-after W one first;
+  line = line_of-after W;
+  column = λ f. column_of-after W f one;
 }
 
 -- A text that begins with an opening bracket begins with a header.

@@ -17,9 +17,9 @@ use Rattle.ini_text.proofs.ReaderLemmas.ValueReaderLemmas.{EndedLine, line_end-s
 pub data Alike : List ℕ → List ℕ → Type 0 where
   same : {c : ℕ} {r x : List ℕ} → Alike (c ∷ r) (c ∷ x)
 
-pub Alike-behind : (s : List ℕ) {r x : List ℕ} → Alike r x → Alike (s ++ r) (s ++ x)
-Alike-behind [] a = a
-Alike-behind (c ∷ s) a = Alike.same
+pub Alike-after : (s : List ℕ) {r x : List ℕ} → Alike r x → Alike (s ++ r) (s ++ x)
+Alike-after [] a = a
+Alike-after (c ∷ s) a = Alike.same
 
 pub Alike-some : (s : List ℕ) (r x : List ℕ) → 1 ≤ length s → Alike (s ++ r) (s ++ x)
 Alike-some [] r x l = absurd (omega arith)
@@ -52,14 +52,14 @@ Gap-alike a (Gap.white h n) = Gap.white h n
 module _ {o : ParseOption} where
   pub Line-alike : {first : Bool} {s r v x : List ℕ} → Alike r x → Line o first s r v → Line o first s x v
   Line-alike a (Line.line {p = p} k plain str) =
-      Line.line k (λ on. BeginsWithNo-alike is_quote_mark (Alike-behind p a) (plain on)) (Str-alike a str)
+      Line.line k (λ on. BeginsWithNo-alike is_quote_mark (Alike-after p a) (plain on)) (Str-alike a str)
 
   -- a line before its line end stands before each text before which the line end does
   pub EndedLine-before : {first : Bool} {w l e r x u : List ℕ} → LineEnd e x → EndedLine o first w l e r u
       → EndedLine o first w l e x u
   EndedLine-before {l = l} {e} {r} {x} end n =
       let a = Alike-some e r x (line_end-some end) in
-      record { lead = Lead-alike (Alike-behind l a) n.lead; line = Line-alike a n.line; end = end }
+      record { lead = Lead-alike (Alike-after l a) n.lead; line = Line-alike a n.line; end = end }
 
   pub MoreLines-alike : {s r v x : List ℕ} → Alike r x → MoreLines o s r v → MoreLines o s x v
   MoreLines-alike a (MoreLines.done n m) =
@@ -68,26 +68,26 @@ module _ {o : ParseOption} where
   MoreLines-alike a (MoreLines.empty_cr_lf m) = MoreLines.empty_cr_lf (MoreLines-alike a m)
   MoreLines-alike a (MoreLines.continued {t = t} b lead ln end m) =
       let n =
-      EndedLine-before (LineEnd-alike (Alike-behind t a) end)
+      EndedLine-before (LineEnd-alike (Alike-after t a) end)
       (record { lead = lead; line = ln; end = end }) in
       MoreLines.continued b n.lead n.line n.end (MoreLines-alike a m)
   MoreLines-alike a (MoreLines.last b lead ln) = elim a [ ]
 
   pub Value-alike : {s r v x : List ℕ} → Alike r x → Value o s r v → Value o s x v
   Value-alike a (Value.one_line {l = l} off lead ln) =
-      Value.one_line off (Lead-alike (Alike-behind l a) lead) (Line-alike a ln)
+      Value.one_line off (Lead-alike (Alike-after l a) lead) (Line-alike a ln)
   Value-alike a (Value.to_end on lead ln) = elim a [ ]
   Value-alike a (Value.lines {t = t} on lead ln end m) =
       let n =
-      EndedLine-before (LineEnd-alike (Alike-behind t a) end)
+      EndedLine-before (LineEnd-alike (Alike-after t a) end)
       (record { lead = lead; line = ln; end = end }) in
       Value.lines on n.lead n.line n.end (MoreLines-alike a m)
 
   pub KeyFront-alike : {b s r v x : List ℕ} → Alike r x → KeyFront o b s r v → KeyFront o b s x v
   KeyFront-alike a (KeyFront.unindented {s} begins str) =
-      KeyFront.unindented (BeginsWith-alike begins_key (Alike-behind s a) begins) (Str-alike a str)
+      KeyFront.unindented (BeginsWith-alike begins_key (Alike-after s a) begins) (Str-alike a str)
   KeyFront-alike a (KeyFront.indented {s = s} ind begins str) =
-      KeyFront.indented ind (BeginsWith-alike begins_indented_key (Alike-behind s a) begins)
+      KeyFront.indented ind (BeginsWith-alike begins_indented_key (Alike-after s a) begins)
       (Str-alike a str)
 
   pub Element-alike : {b s r x : List ℕ} {gives : List Given} → Alike r x → Element o b s r gives
@@ -116,12 +116,12 @@ module _ {o : ParseOption} where
       (Reads.step {s = s} {r = y} {gives = gives} {items} q e reads) rest =
       let front = Reads-front reads in
       let m = front.0 in
-      let behind : y ≡ m ++ r = append_cancel_left (b ++ s) y (m ++ r)
+      let following : y ≡ m ++ r = append_cancel_left (b ++ s) y (m ++ r)
       (append_assoc b s y ∙ sym q ∙ h ∙ ap (λ z. z ++ r) (sym front.1) ∙ append_assoc (b ++ s) m r) in
       let whole : c ++ x ≡ b ++ (s ++ (m ++ x)) =
       ap (λ z. z ++ x) (sym front.1) ∙ append_assoc (b ++ s) m x ∙ append_assoc b s (m ++ x) in
       subst (λ z. Reads o (c ++ x) b z d) (sym (append_assoc gives items others))
-      (Reads.step whole (Element-alike (Alike-behind m a) (subst (λ z. Element o b s z gives) behind e))
+      (Reads.step whole (Element-alike (Alike-after m a) (subst (λ z. Element o b s z gives) following e))
       (Reads-alike a h reads rest))
 
   -- elements up to the front c stand there whatever follows its next character

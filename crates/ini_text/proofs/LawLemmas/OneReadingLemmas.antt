@@ -13,7 +13,7 @@ use Rattle.ini_text.proofs.GrammarLemmas.ItemLemmas.{element-some}
 use Rattle.ini_text.proofs.ReaderLemmas.ElementReaderLemmas.{element-end, element-sound, element-finds, element-stops}
 
 module _ (o : ParseOption) (T : List ℕ) where
-  -- what comes of the text behind the front b
+  -- what comes of the text after the front b
   data Gives : List ℕ → Answer Given → Type 0 where
     over : {b : List ℕ} → T ≡ b → Gives b (found [] [])
     halts : {b s r : List ℕ} {k : ParseKind} → T ≡ b ++ (s ++ r) → ElementStops o b s r k
@@ -21,13 +21,13 @@ module _ (o : ParseOption) (T : List ℕ) where
     then : {b s r : List ℕ} {gives : List Given} {a : Answer Given} → T ≡ b ++ (s ++ r)
         → Element o b s r gives → Gives (b ++ s) a → Gives b (prepend gives a)
 
-  Gives-behind : {b c : List ℕ} {items : List Given} {a : Answer Given} → Reads o T b items c → Gives c a
+  Gives-after : {b c : List ℕ} {items : List Given} {a : Answer Given} → Reads o T b items c → Gives c a
       → Gives b (prepend items a)
-  Gives-behind {a = a} (Reads.stay r h) g = subst (Gives _) (sym (prepend-nil a)) g
-  Gives-behind {a = a} (Reads.step {gives = gives} {items} h e reads) g =
-      subst (Gives _) (prepend-prepend gives items a) (Gives.then h e (Gives-behind reads g))
+  Gives-after {a = a} (Reads.stay r h) g = subst (Gives _) (sym (prepend-nil a)) g
+  Gives-after {a = a} (Reads.step {gives = gives} {items} h e reads) g =
+      subst (Gives _) (prepend-prepend gives items a) (Gives.then h e (Gives-after reads g))
 
-  -- the outcome behind the front b, as the grammar has it
+  -- the outcome after the front b, as the grammar has it
   abbrev OutcomeAt : List ℕ → Answer Given → Type 0
   OutcomeAt b (found items r) = Reads o T b items T
   OutcomeAt b (stopped r k) = (items : List Given) × (c : List ℕ) × (s : List ℕ) × Reads o T b items c
@@ -36,16 +36,16 @@ module _ (o : ParseOption) (T : List ℕ) where
   outcome_at : {b : List ℕ} {a : Answer Given} → Gives b a → OutcomeAt b a
   outcome_at {b} (Gives.over h) = subst (Reads o T b []) (sym h) (Reads.stay [] (h ∙ sym (append-nil b)))
   outcome_at {b} (Gives.halts {s = s} {r} h e) = ([], b, s, Reads.stay (s ++ r) h, h, e)
-  outcome_at (Gives.then {gives = gives} {a} h e rest) = behind a h e (outcome_at rest)
+  outcome_at (Gives.then {gives = gives} {a} h e rest) = following a h e (outcome_at rest)
     where
-      behind : {b s r : List ℕ} {gives : List Given} (a : Answer Given) → T ≡ b ++ (s ++ r)
+      following : {b s r : List ℕ} {gives : List Given} (a : Answer Given) → T ≡ b ++ (s ++ r)
           → Element o b s r gives → OutcomeAt (b ++ s) a
           → OutcomeAt b (prepend gives a)
-      behind (found items x) h e reads = Reads.step h e reads
-      behind {gives = gives} (stopped x k) h e (items, c, s, reads, whole, stops) =
+      following (found items x) h e reads = Reads.step h e reads
+      following {gives = gives} (stopped x k) h e (items, c, s, reads, whole, stops) =
           (gives ++ items, c, s, Reads.step h e reads, whole, stops)
 
-  -- reading behind the front b, by as many elements as there are characters
+  -- reading after the front b, by as many elements as there are characters
   abbrev onward : (List ℕ → List ℕ → Answer Given) → List ℕ → List ℕ → Answer Given → Answer Given
   onward rest b t (found gives r) = prepend gives (rest (b ++ take (length t - length r) t) r)
   onward rest b t (stopped r k) = stopped r k
@@ -102,12 +102,12 @@ module _ (o : ParseOption) (T : List ℕ) where
 
   Derives-gives : {items : List Given} → Derives o T items → Gives [] (found items [])
   Derives-gives {items} d =
-      subst (λ y. Gives [] (found y [])) (append-nil items) (Gives-behind d (Gives.over refl))
+      subst (λ y. Gives [] (found y [])) (append-nil items) (Gives-after d (Gives.over refl))
 
   Stops-gives : {kind : ParseKind} {f : List ℕ} → Stops o T kind f
       → (r : List ℕ) × Gives [] (stopped r kind) × (T ≡ f ++ r)
   Stops-gives (Stops.stops {b} {s} {r} reads h e) =
-      (r, Gives-behind reads (Gives.halts h e), h ∙ sym (append_assoc b s r))
+      (r, Gives-after reads (Gives.halts h e), h ∙ sym (append_assoc b s r))
 
   one : (a c : Answer Given) → Gives [] a → Gives [] c → a ≡ c
   one a c g k =

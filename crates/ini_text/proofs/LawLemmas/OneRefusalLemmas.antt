@@ -43,7 +43,7 @@ StrStops-stands x n (StrStops.in_escape {s} {p = p} row on stops) =
       StrStops.in_escape row on y.1,
     )
 
--- behind a line end stands a CR alone before the text's end: without it a line ends there too
+-- after a line end stands a CR alone before the text's end: without it a line ends there too
 LineEnd-cut : {e y : List ℕ} (t r : List ℕ) → y ≡ (t ++ carriage_return ∷ []) ++ r → LineEnd e y
     → LineEnd e (t ++ [])
 LineEnd-cut t r h LineEnd.lf = LineEnd.lf
@@ -60,11 +60,11 @@ record IsCut {A : Type 0} (P : Rule A) (s r : List ℕ) (k : ParseKind) : Type 0
   source : s ≡ before ++ carriage_return ∷ []
   whole : P before [] value
 
-IsCut-behind : {A B : Type 0} {P : Rule A} {Q : Rule B} {s r y : List ℕ} {k : ParseKind} (p : List ℕ)
+IsCut-after : {A B : Type 0} {P : Rule A} {Q : Rule B} {s r y : List ℕ} {k : ParseKind} (p : List ℕ)
     → p ++ s ≡ y
     → ((t : List ℕ) (v : List A) → s ≡ t ++ carriage_return ∷ [] → P t [] v
     → (w : List B) × Q (p ++ t) [] w) → IsCut P s r k → IsCut Q y r k
-IsCut-behind p e grows c =
+IsCut-after p e grows c =
     let x = grows c.before c.value c.source c.whole in
     record {
       kind = c.kind;
@@ -97,17 +97,17 @@ module _ (o : ParseOption) where
       → (1 ≤ length s) × MoreLinesStop o s x k
   MoreLinesStop-stands x n uncut (MoreLinesStop.empty_lf m) =
       let cut =
-      IsCut-behind (line_feed ∷ []) refl (λ t v h more. (line_feed ∷ v, MoreLines.empty_lf more)) in
+      IsCut-after (line_feed ∷ []) refl (λ t v h more. (line_feed ∷ v, MoreLines.empty_lf more)) in
       (omega arith, MoreLinesStop.empty_lf (MoreLinesStop-stands x n (λ c. uncut (cut c)) m).1)
   MoreLinesStop-stands x n uncut (MoreLinesStop.empty_cr_lf m) =
       let cut =
-      IsCut-behind (carriage_return ∷ line_feed ∷ []) refl
+      IsCut-after (carriage_return ∷ line_feed ∷ []) refl
       (λ t v h more. (line_feed ∷ v, MoreLines.empty_cr_lf more)) in
       (omega arith, MoreLinesStop.empty_cr_lf (MoreLinesStop-stands x n (λ c. uncut (cut c)) m).1)
   MoreLinesStop-stands {k = k} x n uncut (MoreLinesStop.continued {w} {l} {e} {t} {r} {u} b lead ln end m) =
       let line : EndedLine o false w l e (t ++ r) u = record { lead = lead; line = ln; end = end } in
       let cut : IsCut (MoreLines o) t r k → IsCut (MoreLines o) (w ++ (l ++ (e ++ t))) r k =
-      IsCut-behind (w ++ (l ++ e)) (simp append_assoc) (λ before v h more.
+      IsCut-after (w ++ (l ++ e)) (simp append_assoc) (λ before v h more.
       let c = EndedLine-cut r before h line in
       (line_feed ∷ (u ++ v), simp append_assoc (MoreLines.continued b c.lead c.line c.end more))) in
       let y = MoreLinesStop-stands x n (λ c. uncut (cut c)) m in
@@ -144,7 +144,7 @@ module _ (o : ParseOption) where
   ValueStops-stands {k = k} x n uncut (ValueStops.later_line {w} {l} {e} {t} {r} {u} on lead ln end m) =
       let line : EndedLine o true w l e (t ++ r) u = record { lead = lead; line = ln; end = end } in
       let cut : IsCut (MoreLines o) t r k → IsCut (Value o) (w ++ (l ++ (e ++ t))) r k =
-      IsCut-behind (w ++ (l ++ e)) (simp append_assoc) (λ before v h more.
+      IsCut-after (w ++ (l ++ e)) (simp append_assoc) (λ before v h more.
       let c = EndedLine-cut r before h line in
       (without_outer_line_feeds (u ++ v), simp append_assoc (Value.lines on c.lead c.line c.end more))) in
       let y = MoreLinesStop-stands x n (λ c. uncut (cut c)) m in
@@ -178,7 +178,7 @@ module _ (o : ParseOption) where
   ElementStops-stands {b = b} {k = kind} x n uncut
       (ElementStops.in_value {k} {s} {r} {key} {m} front some sep stops) =
       let cut : IsCut (Value o) s r kind → IsCut (Element o b) (k ++ m ∷ s) r kind =
-      IsCut-behind (k ++ m ∷ []) (append_assoc k (m ∷ []) s) (λ before v h given. (
+      IsCut-after (k ++ m ∷ []) (append_assoc k (m ∷ []) s) (λ before v h given. (
         Pair key v ∷ [],
         rw (append_assoc k (m ∷ []) before) (Element.pair (KeyFront-alike Alike.same front) some sep given),
       )) in (
@@ -189,11 +189,11 @@ module _ (o : ParseOption) where
   ElementStops-stands x n uncut (ElementStops.late_comment mark late) =
       (omega arith, ElementStops.late_comment mark late)
 
-  -- a whole element and a CR behind a front: the text is whole but for the CR
-  IsWholeBeforeCr-behind : {T b s r : List ℕ} {items : List Given} {k : ParseKind} → Reads o T [] items b
+  -- a whole element and a CR after a front: the text is whole but for the CR
+  IsWholeBeforeCr-after : {T b s r : List ℕ} {items : List Given} {k : ParseKind} → Reads o T [] items b
       → T ≡ b ++ (s ++ r) → IsCut (Element o b) s r k
       → IsWholeBeforeCr o (b ++ s)
-  IsWholeBeforeCr-behind {b = b} {s} {r} {items} reads h c =
+  IsWholeBeforeCr-after {b = b} {s} {r} {items} reads h c =
       let t = c.before in
       let begun : Alike (t ++ carriage_return ∷ r) t =
       rw (append-nil t) at (Alike-some t (carriage_return ∷ r) [] (element-some c.whole)) in
@@ -215,7 +215,7 @@ module _ (o : ParseOption) where
       let same : follows ≡ r =
       append_cancel_left (b ++ s) follows r (sym q ∙ h ∙ sym (append_assoc b s r)) in
       let y = ElementStops-stands other seen.not_cut_short
-      (λ c. seen.no_last_cr c.kind (same ∙ c.last) (IsWholeBeforeCr-behind reads h c)) e in
+      (λ c. seen.no_last_cr c.kind (same ∙ c.last) (IsWholeBeforeCr-after reads h c)) e in
       rw (append_assoc b s other)
       (Stops.stops (Reads-alike (Alike-some s r other y.0) h reads (Reads.stay (s ++ other) refl)) refl y.1)
 

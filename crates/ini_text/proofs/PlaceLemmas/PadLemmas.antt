@@ -1,4 +1,4 @@
--- The white space at the end of a value's own lines, character by character from behind.
+-- The white space at the end of a value's own lines, character by character from after.
 use Rattle.std.proofs.Common.{◌≡◌, ◌≢◌, ◌<◌, ℕ, true, false, List, [], ◌∷◌, ◌++◌, length, refl, sym, ap, ◌∙◌, subst, subst₂, append_assoc, append-nil, length-append, arith, chars, IsUtf8, IsCharBoundary, take, drop, ne_eqb, encode_utf8_all}
 use Rattle.std.proofs.lemmas.List.{append_cancel_left}
 use Rattle.std.proofs.lemmas.Str.{encodes-append, encodes-chars, chars-append, IsCharBoundary-from_take}
@@ -10,7 +10,7 @@ use Rattle.ini_text.specs.Grammar.Places.{Padded, ends_bare}
 use Rattle.ini_text.specs.Inside.PlaceReader.{IsBeforePad}
 use Rattle.ini_text.proofs.StringLemmas.ScanLemmas.{last_or_append}
 
--- behind `own` white space alone is left of the lines
+-- after `own` white space alone is left of the lines
 pub record PadSoFar (lines own : List ℕ) : Type 0 where
   pub white : List ℕ
   pub whole : lines ≡ own ++ white
@@ -50,15 +50,15 @@ pub shorter_before : {own : List ℕ} (before : List ℕ) (c : ℕ) → own ≡ 
     → length before < length own
 shorter_before before c is = omega (arith, ap length is, length-append before (c ∷ []))
 
--- the bytes of a text behind a front of it
-behind_bytes : (t f w : List ℕ) → IsUtf8 t → IsUtf8 f → chars t ≡ chars f ++ w → t ≡ f ++ encode_utf8_all w
-behind_bytes t f w u v h =
+-- the bytes of a text after a front of it
+after_bytes : (t f w : List ℕ) → IsUtf8 t → IsUtf8 f → chars t ≡ chars f ++ w → t ≡ f ++ encode_utf8_all w
+after_bytes t f w u v h =
     sym (encodes-chars t u) ∙ ap encode_utf8_all h ∙ encodes-append (chars f) w
     ∙ ap (λ x. x ++ encode_utf8_all w) (encodes-chars f v)
 
 module _ (t f : List ℕ) (u : IsUtf8 t) (v : IsUtf8 f) (before : IsBeforePad (chars t) (chars f)) where
   bytes : t ≡ f ++ encode_utf8_all before.0
-  bytes = behind_bytes t f before.0 u v before.1
+  bytes = after_bytes t f before.0 u v before.1
 
   front_bytes : take (length f) t ≡ f
   front_bytes = ap (take (length f)) bytes ∙ take-append_seam f (encode_utf8_all before.0)
@@ -85,7 +85,7 @@ module _ (t f a b : List ℕ) (u : IsUtf8 t) (v : IsUtf8 f) (before : IsBeforePa
 
   pub padded_parts : Padded (chars a) (chars b)
   padded_parts =
-      let behind : chars b ≡ before.0 =
+      let following : chars b ≡ before.0 =
       append_cancel_left (chars f) (chars b) before.0 (ap (λ x. chars x ++ chars b) (sym front_is)
       ∙ sym pad_whole ∙ before.1) in
-      subst₂ (λ x y. Padded (chars x) y) (sym front_is) (sym behind) before.2
+      subst₂ (λ x y. Padded (chars x) y) (sym front_is) (sym following) before.2

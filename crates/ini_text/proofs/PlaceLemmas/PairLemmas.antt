@@ -98,7 +98,7 @@ indented_begins (c ∷ t) begins =
     let x = or_parts (is_blank c || is_line_end c) (c == open_bracket) (not-true _ begins) in
     (or_parts (is_blank c) (is_line_end c) x.0).0
 
--- behind the blanks of its line a key is read as a string
+-- after the blanks of its line a key is read as a string
 key_read : {o : ParseOption} {b k x key : List ℕ} {m : ℕ} → KeyFront o b k (m ∷ x) key
     → (u : List ℕ) × (string o.enabled_escape key_ends (skipped is_blank (k ++ m ∷ x)) ≡ found u (m ∷ x))
 key_read {o} {x = x} {m = m} (KeyFront.unindented {s} {v = v} begins str) = (
@@ -107,11 +107,11 @@ key_read {o} {x = x} {m = m} (KeyFront.unindented {s} {v = v} begins str) = (
       ∙ (string-reads o.enabled_escape key_ends refl).finds str,
 )
 key_read {o} {x = x} {m = m} (KeyFront.indented {w} {s} {v = v} ind begins str) =
-    let behind : skipped is_blank ((w ++ s) ++ m ∷ x) ≡ s ++ m ∷ x =
+    let following : skipped is_blank ((w ++ s) ++ m ∷ x) ≡ s ++ m ∷ x =
     ap (skipped is_blank) (append_assoc w s (m ∷ x))
     ∙ (run-finds is_blank w (s ++ m ∷ x) ind.blank (indented_begins (s ++ m ∷ x) begins)).1 in (
       v,
-      ap (string o.enabled_escape key_ends) behind ∙ (string-reads o.enabled_escape key_ends refl).finds str,
+      ap (string o.enabled_escape key_ends) following ∙ (string-reads o.enabled_escape key_ends refl).finds str,
     )
 
 -- what is read of a pair
@@ -119,11 +119,11 @@ pub record PairRead (o : ParseOption) (t r name : List ℕ) : Type 0 where
   pub u : List ℕ
   pub m : ℕ
   pub k : List ℕ
-  pub behind : List ℕ
+  pub following : List ℕ
   pub v : List ℕ
-  pub key_is : string o.enabled_escape key_ends name ≡ found u (m ∷ behind)
-  pub value_is : value o behind ≡ found v r
-  pub whole : k ++ m ∷ behind ≡ t
+  pub key_is : string o.enabled_escape key_ends name ≡ found u (m ∷ following)
+  pub value_is : value o following ≡ found v r
+  pub whole : k ++ m ∷ following ≡ t
 
 read_of : {o : ParseOption} {t r name b s key v : List ℕ} → name ≡ skipped is_blank t
     → Element o b s r (Pair key v ∷ []) → s ++ r ≡ t → PairRead o t r name
@@ -135,7 +135,7 @@ read_of {o} {t} {r} {name} {v = v} name_is holds whole =
       u = (key_read p.front).0;
       m = p.m;
       k = p.k;
-      behind = p.x ++ r;
+      following = p.x ++ r;
       v = v;
       key_is =
           ap (string o.enabled_escape key_ends) (name_is ∙ ap (skipped is_blank) (sym at_t))
@@ -149,30 +149,30 @@ pub pair_read : {o : ParseOption} {t r name : List ℕ} → BeginsPair o t r →
 pair_read (b, s, key, v, holds, whole) name_is = read_of name_is holds whole
 
 module _ {o : ParseOption} {t r name : List ℕ} (p : PairRead o t r name) where
-  module _ {out behind_key : List ℕ}
-      (read : string o.enabled_escape key_ends name ≡ found out behind_key) where
-    pub behind_key_is : behind_key ≡ p.m ∷ p.behind
-    behind_key_is = found_rest (sym read ∙ p.key_is)
+  module _ {out after_key : List ℕ}
+      (read : string o.enabled_escape key_ends name ≡ found out after_key) where
+    pub after_key_is : after_key ≡ p.m ∷ p.following
+    after_key_is = found_rest (sym read ∙ p.key_is)
 
-    pub behind_key_whole : p.k ++ behind_key ≡ t
-    behind_key_whole = ap (λ x. p.k ++ x) behind_key_is ∙ p.whole
+    pub after_key_whole : p.k ++ after_key ≡ t
+    after_key_whole = ap (λ x. p.k ++ x) after_key_is ∙ p.whole
 
-    pub behind_key_within : IsRest t behind_key
-    behind_key_within = rest_of p.k behind_key t behind_key_whole
+    pub after_key_within : IsRest t after_key
+    after_key_within = rest_of p.k after_key t after_key_whole
 
-    pub behind_key_some : behind_key ≡ [] → ⊥
-    behind_key_some none = let z : [] ≡ p.m ∷ p.behind = sym none ∙ behind_key_is in cc
+    pub after_key_some : after_key ≡ [] → ⊥
+    after_key_some none = let z : [] ≡ p.m ∷ p.following = sym none ∙ after_key_is in cc
 
-    module _ {after : List ℕ} {sep : ℕ} (splits : behind_key ≡ sep ∷ after) where
-      pub after_is : after ≡ p.behind
-      after_is = let z : sep ∷ after ≡ p.m ∷ p.behind = sym splits ∙ behind_key_is in cc
+    module _ {after : List ℕ} {sep : ℕ} (splits : after_key ≡ sep ∷ after) where
+      pub after_is : after ≡ p.following
+      after_is = let z : sep ∷ after ≡ p.m ∷ p.following = sym splits ∙ after_key_is in cc
 
       pub separator_is : sep ≡ p.m
-      separator_is = let z : sep ∷ after ≡ p.m ∷ p.behind = sym splits ∙ behind_key_is in cc
+      separator_is = let z : sep ∷ after ≡ p.m ∷ p.following = sym splits ∙ after_key_is in cc
 
 pub tail_within : {o : ParseOption} {after start tail gives r : List ℕ}
     → HasTail o after start tail gives r → IsRest tail r
-tail_within {tail = tail} {r = r} h = rest_of h.behind r tail (sym h.tail_is)
+tail_within {tail = tail} {r = r} h = rest_of h.following r tail (sym h.tail_is)
 
 pub own_within : {o : ParseOption} {after start tail gives r : List ℕ} → HasTail o after start tail gives r
     → IsRest start tail
@@ -194,11 +194,11 @@ made_of key_s sep lead_s own pad tail_s =
 
 -- the stretches, from the rests at which they end
 module _ {o : ParseOption} (t r : List ℕ)
-    {name out behind_key after start tail own pad key_s lead_s tail_s gives : List ℕ} {sep : ℕ}
+    {name out after_key after start tail own pad key_s lead_s tail_s gives : List ℕ} {sep : ℕ}
     (name_is : name ≡ skipped is_blank t)
-    (read : string o.enabled_escape key_ends name ≡ found out behind_key)
-    (splits : behind_key ≡ sep ∷ after) (h : HasTail o after start tail gives r)
-    (key_cut : key_s ≡ front_of t behind_key) (lead_cut : lead_s ≡ front_of after start)
+    (read : string o.enabled_escape key_ends name ≡ found out after_key)
+    (splits : after_key ≡ sep ∷ after) (h : HasTail o after start tail gives r)
+    (key_cut : key_s ≡ front_of t after_key) (lead_cut : lead_s ≡ front_of after start)
     (own_cut : front_of start tail ≡ own ++ pad) (padded : Padded own pad)
     (tail_cut : tail_s ≡ front_of tail r) where
   own_is : h.own ≡ own ++ pad
@@ -216,13 +216,13 @@ module _ {o : ParseOption} (t r : List ℕ)
 
     key_is : p.k ≡ key_s
     unfolding read_of
-    key_is = sym (key_cut ∙ front_is p.k behind_key t (behind_key_whole q read))
+    key_is = sym (key_cut ∙ front_is p.k after_key t (after_key_whole q read))
 
-    tail_whole : h.behind ++ r ≡ tail
+    tail_whole : h.following ++ r ≡ tail
     tail_whole = sym h.tail_is
 
-    tail_is : h.behind ≡ tail_s
-    tail_is = sym (tail_cut ∙ front_is h.behind r tail tail_whole)
+    tail_is : h.following ≡ tail_s
+    tail_is = sym (tail_cut ∙ front_is h.following r tail tail_whole)
 
     tail_at : tail ≡ tail_s ++ r
     tail_at = sym tail_whole ∙ ap (λ x. x ++ r) tail_is
@@ -372,24 +372,24 @@ module _ (o : ParseOption) (t : List ℕ) (rests : Rests) where
   header_rests (Ok x) h = no_rests (chars x.1.now) x.0 h
   header_rests (Err e) h = tt
 
-  some_rests : {behind_key : List ℕ} (r u : List ℕ)
-      → string o.enabled_escape key_ends (skipped is_blank t) ≡ found u behind_key
-      → (g : Option BorrowedItem) → HasValueRests o behind_key rests g r → HasRests o t rests g r
+  some_rests : {after_key : List ℕ} (r u : List ℕ)
+      → string o.enabled_escape key_ends (skipped is_blank t) ≡ found u after_key
+      → (g : Option BorrowedItem) → HasValueRests o after_key rests g r → HasRests o t rests g r
   some_rests r u read None h = tt
   some_rests r u read (Some (items.Header name)) h = tt
   some_rests r u read (Some (items.Pair k v)) h =
       subst (λ b. ReadsPair o t b (chars rests.start.now) (chars rests.tail.now)
       (cow_text v) r) (sym h.0) (record { key = u; key_is = read; value_is = h.1 })
 
-  pub value_rests : {behind_key u : List ℕ}
-      → string o.enabled_escape key_ends (skipped is_blank t) ≡ found u behind_key
+  pub value_rests : {after_key u : List ℕ}
+      → string o.enabled_escape key_ends (skipped is_blank t) ≡ found u after_key
       → (r : Result (Option BorrowedItem × Bor (List ℕ)) Stop)
-      → IfOk r (λ p. HasValueRests o behind_key rests p.0 (chars p.1.now))
+      → IfOk r (λ p. HasValueRests o after_key rests p.0 (chars p.1.now))
       → IfOk r (λ p. HasRests o t rests p.0 (chars p.1.now))
   value_rests {u = u} read (Ok x) h = some_rests (chars x.1.now) u read x.0 h
   value_rests read (Err e) h = tt
 
--- a string that was altered behind reading
+-- a string that was altered after reading
 pub unaltered : (f : List ℕ → List ℕ) {v r : List ℕ} (a : Answer ℕ) → altered_answer f a ≡ found v r
     → (u : List ℕ) × (a ≡ found u r)
 unaltered f (found u x) h = (u, cc)

@@ -1,4 +1,4 @@
--- A value's own lines and what stands behind them, line by line.
+-- A value's own lines and what stands after them, line by line.
 use Rattle.std.proofs.Common.{◌≡◌, ◌≢◌, ◌<◌, ℕ, true, false, ◌==◌, List, [], ◌∷◌, ◌++◌, length, Some, None, inl, inr, refl, sym, ap, ◌∙◌, subst, append_assoc, append-nil, eqb-true, ne_eqb}
 use Rattle.std.proofs.Math.Bool.{or-false}
 use Rattle.std.proofs.lemmas.Bool.{cases_Bool}
@@ -38,9 +38,9 @@ feeds_some (c ∷ cs) h = elim (cases_Bool (is_line_feed c)) [
   | inr n ↦ rw n refl
 ]
 
-all_behind : (u v : List ℕ) → list_all is_line_feed u ≡ true → list_all is_line_feed v ≡ true
+all_after : (u v : List ℕ) → list_all is_line_feed u ≡ true → list_all is_line_feed v ≡ true
     → list_all is_line_feed (u ++ v) ≡ true
-all_behind u v a b = rw (list_all-append is_line_feed u v, a, b) refl
+all_after u v a b = rw (list_all-append is_line_feed u v, a, b) refl
 
 -- a line that no line end follows ends the text
 no_end : (t : List ℕ) → Closes plain_ends t → after_end t ≡ None → t ≡ []
@@ -55,10 +55,10 @@ found_rest h = cc
 pub found_stopped : {A : Type 0} {v : List A} {x y : List ℕ} {k : ParseKind} → stopped x k ≡ found v y → ⊥
 found_stopped h = cc
 
--- behind the CR of an empty line stands LF
-behind_cr-is : (cs r : List ℕ) → empty_cr cs ≡ found [] r → cs ≡ line_feed ∷ r
-behind_cr-is [] r h = absurd (found_stopped h)
-behind_cr-is (c ∷ cs) r h = elim (cases_Bool (c == line_feed)) [
+-- after the CR of an empty line stands LF
+after_cr-is : (cs r : List ℕ) → empty_cr cs ≡ found [] r → cs ≡ line_feed ∷ r
+after_cr-is [] r h = absurd (found_stopped h)
+after_cr-is (c ∷ cs) r h = elim (cases_Bool (c == line_feed)) [
   | inl q ↦ let feed : c ≡ line_feed = eqb-true c 10 q in
       ap (λ x. x ∷ cs) feed ∙ ap (λ x. line_feed ∷ x) (found_rest (rw q at h))
   | inr n ↦ absurd (found_stopped (rw n at h))
@@ -96,7 +96,7 @@ module _ (o : ParseOption) where
             ∙ ap (λ y. run_of is_inline_white t ++ y) (h ∙ skips) ∙ split.whole;
       }
 
-  -- a row p, of the value u, behind which `next` stands
+  -- a row p, of the value u, after which `next` stands
   record Row (p next u : List ℕ) : Type 0 where
     pub last : (s r : List ℕ) → s ++ r ≡ next → LastLine o s r → LastLine o (p ++ s) r
     pub more : (s r v : List ℕ) → s ++ r ≡ next → MoreLines o s r v → MoreLines o (p ++ s) r (u ++ v)
@@ -146,7 +146,7 @@ module _ (o : ParseOption) {text start : List ℕ} (skips : start ≡ skipped is
       let (l, ln, whole) = first_said o h in
       record {
         own = l;
-        behind = [];
+        following = [];
         skips = skips;
         own_is = sym whole;
         tail_is = refl;
@@ -162,7 +162,7 @@ module _ (o : ParseOption) {text start : List ℕ} (skips : start ≡ skipped is
       let (l, ln, whole) = first_said o h in
       record {
         own = l;
-        behind = [];
+        following = [];
         skips = skips;
         own_is = sym whole;
         tail_is = refl;
@@ -195,7 +195,7 @@ module _ (o : ParseOption) {text start : List ℕ} (skips : start ≡ skipped is
             (subst (LineEnd e) (sym q) le) last);
       }
 
-  -- a row that gives nothing stays behind the value's own lines
+  -- a row that gives nothing stays after the value's own lines
   tail_row : {tail rest next given : List ℕ} (p u : List ℕ) → TailSoFar o text start tail rest given
       → rest ≡ p ++ next
       → more_lines o rest ≡ prepend u (more_lines o next)
@@ -215,7 +215,7 @@ module _ (o : ParseOption) {text start : List ℕ} (skips : start ≡ skipped is
         ∙ ap (altered_answer without_outer_line_feeds) (prepend-prepend given u (more_lines o next));
     closes = λ s r v q m feeds.
         let x = st.closes (p ++ s) r (u ++ v) (append_assoc p s r ∙ ap (λ y. p ++ y) q ∙ sym is)
-        (row.more s r v q m) (all_behind u v all feeds) in
+        (row.more s r v q m) (all_after u v all feeds) in
         (x.0, subst (λ y. MoreLines o y r x.0) (sym (append_assoc st.lines p s)) x.1, x.2);
     grows = λ s r q last.
         subst (λ y. OwnLines o y r) (sym (append_assoc st.before p s))
@@ -233,10 +233,10 @@ module _ (o : ParseOption) {text start : List ℕ} (skips : start ≡ skipped is
       → TailSoFar o text start tail next (given ++ line_feed ∷ [])
   tail_cr_lf {cs = cs} {next} {c} st is cr h =
       tail_row (carriage_return ∷ line_feed ∷ []) (line_feed ∷ []) st
-      (is ∙ ap (λ x. x ∷ cs) cr ∙ ap (λ x. carriage_return ∷ x) (behind_cr-is cs next h))
+      (is ∙ ap (λ x. x ∷ cs) cr ∙ ap (λ x. carriage_return ∷ x) (after_cr-is cs next h))
       (empty_cr_line o is cr h) (cr_lf_row o next) refl
 
-  -- reading stops behind what is known
+  -- reading stops after what is known
   pub tail_stops : {tail rest given r : List ℕ} {k : ParseKind} → TailSoFar o text start tail rest given
       → more_lines o rest ≡ stopped r k → value o text ≡ stopped r k
   tail_stops {given = given} st h =
@@ -253,7 +253,7 @@ module _ (o : ParseOption) {text start : List ℕ} (skips : start ≡ skipped is
       ap (λ y. st.lines ++ y) (sym q) ∙ sym (append_assoc st.lines s r) in
       record {
         own = st.own;
-        behind = st.end ++ (st.lines ++ s);
+        following = st.end ++ (st.lines ++ s);
         skips = skips;
         own_is = st.own_is;
         tail_is = st.tail_is ∙ ap (λ y. st.end ++ y) whole ∙ sym (append_assoc st.end (st.lines ++ s) r);
@@ -284,18 +284,18 @@ module _ (o : ParseOption) {text start : List ℕ} (skips : start ≡ skipped is
       tail_ends on st (subst (BeginsWithNo is_blank) (sym none) tt)
       (subst (BeginsWithNo is_line_end) (sym none) tt)
 
-  pub tail_line_stops : {tail rest cs behind r given : List ℕ} {c : ℕ} {k : ParseKind}
+  pub tail_line_stops : {tail rest cs following r given : List ℕ} {c : ℕ} {k : ParseKind}
       → TailSoFar o text start tail rest given → rest ≡ c ∷ cs → is_blank c ≡ true
-      → behind ≡ skipped is_inline_white rest → line o false behind ≡ stopped r k
+      → following ≡ skipped is_inline_white rest → line o false following ≡ stopped r k
       → value o text ≡ stopped r k
   tail_line_stops {rest = rest} st is b from h =
       tail_stops st (sym (prepend-nil (more_lines o rest))
       ∙ line_stops o [] (line_feed ∷ []) is b from refl (ap (prepend (line_feed ∷ [])) h))
 
   -- a line that begins with a blank
-  module _ {tail rest cs behind end u given : List ℕ} {c : ℕ}
+  module _ {tail rest cs following end u given : List ℕ} {c : ℕ}
       (on : o.enabled_indented_mutiline_value ≡ true) (st : TailSoFar o text start tail rest given) (is : rest ≡ c ∷ cs) (b : is_blank c ≡ true)
-      (from : behind ≡ skipped is_inline_white rest) (read : line o false behind ≡ found u end) where
+      (from : following ≡ skipped is_inline_white rest) (read : line o false following ≡ found u end) where
     here : LineAt o rest end u
     here = line_at o is b from read
 
@@ -308,7 +308,7 @@ module _ (o : ParseOption) {text start : List ℕ} (skips : start ≡ skipped is
         st.start_is ∙ ap (λ x. st.before ++ x) (sym here.whole)
         ∙ sym (append_assoc st.before (here.w ++ here.l) end)
 
-    feed_first : prepend (line_feed ∷ []) (line o false behind) ≡ found (line_feed ∷ u) end
+    feed_first : prepend (line_feed ∷ []) (line o false following) ≡ found (line_feed ∷ u) end
     feed_first = ap (prepend (line_feed ∷ [])) read
 
     module _ (none : after_end end ≡ None) where
@@ -331,7 +331,7 @@ module _ (o : ParseOption) {text start : List ℕ} (skips : start ≡ skipped is
           → HasTail o text start end (without_outer_line_feeds (given ++ (line_feed ∷ u))) end
       last_line-own some = record {
         own = st.before ++ (here.w ++ here.l);
-        behind = [];
+        following = [];
         skips = skips;
         own_is = own_whole;
         tail_is = refl;

@@ -19,7 +19,7 @@ use Rattle.ini_text.specs.Laws.PlainLaws.{AreGaps, GivesLine, IsElementThenGaps,
 use Rattle.ini_text.specs.Options.WriteOptions.{line_end}
 use Rattle.ini_text.proofs.GrammarLemmas.KindLemmas.{line_end_no_blank}
 use Rattle.ini_text.proofs.PlainLemmas.EscapedTextLemmas.{AllRead, NoRawEnd, all_read, row_escaped}
-use Rattle.ini_text.proofs.LawLemmas.MovedLemmas.{last_or-behind}
+use Rattle.ini_text.proofs.LawLemmas.MovedLemmas.{last_or-after}
 use Rattle.ini_text.proofs.PlainLemmas.PlainTrimLemmas.{line_end_is_white}
 
 -- line ends are gaps
@@ -68,10 +68,10 @@ element_then_gaps-gives {o} {b} {s} {e} {r} {item} x =
     gaps_read x.are_gaps (whole ∙ sym (append_assoc b s (e ++ r))) in
     (subst (Reads o T b (item ∷ [])) (append_assoc b s e) (Reads.step whole x.element gaps), x.column_one)
 
--- behind line ends column one begins
-pub column_one_behind : (x : List ℕ) (c : ℕ) (y : List ℕ)
+-- after line ends column one begins
+pub column_one_after : (x : List ℕ) (c : ℕ) (y : List ℕ)
     → is_column_one (x ++ c ∷ y) ≡ is_column_one (c ∷ y)
-column_one_behind x c y = ap is_line_feed (last_or-behind line_feed c x y)
+column_one_after x c y = ap is_line_feed (last_or-after line_feed c x y)
 
 pub line_ends_column : (x : List ℕ) (w : WriteOption) (twice : Bool)
     → is_column_one (x ++ line_ends w twice) ≡ true
@@ -79,13 +79,13 @@ line_ends_column x w twice = at w.line_separator twice
   where
     at : (s : LineSeparator) (twice : Bool)
         → is_column_one (x ++ (line_end s ++ cond twice (line_end s) [])) ≡ true
-    at SystemDefault true = column_one_behind x line_feed (line_feed ∷ [])
-    at SystemDefault false = column_one_behind x line_feed []
-    at CR true = column_one_behind x line_feed (line_feed ∷ [])
-    at CR false = column_one_behind x line_feed []
+    at SystemDefault true = column_one_after x line_feed (line_feed ∷ [])
+    at SystemDefault false = column_one_after x line_feed []
+    at CR true = column_one_after x line_feed (line_feed ∷ [])
+    at CR false = column_one_after x line_feed []
     at CRLF true =
-        column_one_behind x carriage_return (line_feed ∷ (carriage_return ∷ (line_feed ∷ [])))
-    at CRLF false = column_one_behind x carriage_return (line_feed ∷ [])
+        column_one_after x carriage_return (line_feed ∷ (carriage_return ∷ (line_feed ∷ [])))
+    at CRLF false = column_one_after x carriage_return (line_feed ∷ [])
 
 -- headers
 name_no_end : (policy : EscapePolicy) (name : List ℕ) → list_all (λ c. not (eqb c close_bracket)) name ≡ true

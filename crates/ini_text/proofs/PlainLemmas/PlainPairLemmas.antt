@@ -25,7 +25,7 @@ use Rattle.ini_text.specs.Options.WriteOptions.{line_end}
 use Rattle.ini_text.proofs.GrammarLemmas.KindLemmas.{no_white_no_blank}
 use Rattle.ini_text.proofs.PlainLemmas.EscapedTextLemmas.{AllRead, NoRawEnd, all_read, row_escaped}
 use Rattle.ini_text.proofs.PlainLemmas.PlainLineLemmas.{element_then_gaps-gives, line_end_gaps, line_ends_column, row_of}
-use Rattle.ini_text.proofs.PlainLemmas.PlainTrimLemmas.{line_end_is_white, trimmed_begins, trimmed_end, end_trimmed-blanks, trimmed-blanks, end_trimmed-behind, some_behind, without_line_feeds-trimmed}
+use Rattle.ini_text.proofs.PlainLemmas.PlainTrimLemmas.{line_end_is_white, trimmed_begins, trimmed_end, end_trimmed-blanks, trimmed-blanks, end_trimmed-after, some_after, without_line_feeds-trimmed}
 
 -- what an escaped text begins with: a backslash, or its first character, which isn't escaped
 escape_by-begins : (letter : Option ℕ) (c : ℕ) → (y : List ℕ) × (escape_by letter c ≡ backslash ∷ y)
@@ -110,7 +110,7 @@ module _ {o : ParseOption} (policy : EscapePolicy) where
     bare_begins (BeginsWithNo is_line_end) (λ y. refl) policy r bare
         (λ c y white mark bracket. no_white_no_line_end c white),
   )
-  follows_multiline (FollowsPair.pair r (IsPlainKey.behind_spaces spaces kept off all bare)) on =
+  follows_multiline (FollowsPair.pair r (IsPlainKey.after_spaces spaces kept off all bare)) on =
       absurd (both_ways o.enabled_indented_mutiline_value off on)
 
 -- blanks stand for themselves in a key
@@ -151,7 +151,7 @@ key_no_end policy (c ∷ cs) h =
     at false true z h = h
     at false false z h = h
 
--- a bare key, and blanks behind it, before a separator
+-- a bare key, and blanks after it, before a separator
 module _ {o : ParseOption} {policy : EscapePolicy} {key : List ℕ} (bare : IsBareKey o policy key)
     (all : AllRead o.enabled_escape policy key) where
   bare_end : end_trimmed key ≡ key
@@ -206,10 +206,10 @@ escaped-spaces policy (c ∷ spaces) key h =
     ap (λ p. p ++ escaped policy (spaces ++ key)) (cond-false (is_escaped policy c) (escape c) (c ∷ []) raw)
     ∙ ap (λ l. c ∷ l) (escaped-spaces policy spaces key parts.1)
 
-AllRead-behind : {escapes : Bool} {policy : EscapePolicy} {key : List ℕ} (w : List ℕ)
+AllRead-after : {escapes : Bool} {policy : EscapePolicy} {key : List ℕ} (w : List ℕ)
     → AllRead escapes policy (w ++ key) → AllRead escapes policy key
-AllRead-behind [] all = all
-AllRead-behind (c ∷ w) (AllRead.more one all) = AllRead-behind w all
+AllRead-after [] all = all
+AllRead-after (c ∷ w) (AllRead.more one all) = AllRead-after w all
 
 spaces_blank : (spaces : List ℕ) → list_all (λ c. eqb c space) spaces ≡ true
     → list_all is_blank spaces ≡ true
@@ -241,7 +241,7 @@ module _ {o : ParseOption} {policy : EscapePolicy} where
       cond-true o.enabled_preserve_key_leading_whitespace _ _ kept
       ∙ ap end_trimmed (sym (append_assoc (c ∷ spaces) key w))
       ∙ end_trimmed-blanks ((c ∷ spaces) ++ key) w blank
-      ∙ end_trimmed-behind (c ∷ spaces) key bare.some (bare_end bare read) in
+      ∙ end_trimmed-after (c ∷ spaces) key bare.some (bare_end bare read) in
       subst (KeyFront o b ((c ∷ spaces) ++ (escaped policy key ++ w)) (m ∷ r)) key_is
       (KeyFront.indented ind begins (bare_string bare read w r m blank sep))
 
@@ -250,16 +250,16 @@ module _ {o : ParseOption} {policy : EscapePolicy} where
       → list_all is_blank w ≡ true → is_separator m ≡ true
       → KeyFront o b (escaped policy key ++ w) (m ∷ r) key
   key_front w r m one (IsPlainKey.bare bare) read blank sep = bare_front bare read w r m blank sep
-  key_front {b} w r m one (IsPlainKey.behind_spaces {key} spaces kept off all bare) read blank sep =
+  key_front {b} w r m one (IsPlainKey.after_spaces {key} spaces kept off all bare) read blank sep =
       let source : spaces ++ (escaped policy key ++ w) ≡ escaped policy (spaces ++ key) ++ w =
       sym (append_assoc spaces (escaped policy key) w)
       ∙ ap (λ x. x ++ w) (sym (escaped-spaces policy spaces key all)) in
       subst (λ s. KeyFront o b s (m ∷ r) (spaces ++ key)) source
-      (spaced_front spaces w r m one kept all bare (AllRead-behind spaces read) blank sep)
+      (spaced_front spaces w r m one kept all bare (AllRead-after spaces read) blank sep)
 
   pub key_some : {key : List ℕ} → IsPlainKey o policy key → key ≢ []
   key_some (IsPlainKey.bare bare) = bare.some
-  key_some (IsPlainKey.behind_spaces {key} spaces kept off all bare) = some_behind spaces key bare.some
+  key_some (IsPlainKey.after_spaces {key} spaces kept off all bare) = some_after spaces key bare.some
 
 -- values
 pub value_no_end : {escapes : Bool} {policy : EscapePolicy} {value : List ℕ} → AllRead escapes policy value
@@ -415,7 +415,7 @@ module _ (o : ParseOption) (w : WriteOption) (twice : Bool) (b key value r : Lis
       subst (Value o source r) (without_line_feeds-trimmed value more.0 plain.plain_value.is_trimmed more.1)
       (Value.lines on parts.0 parts.1 (line_end-is w.line_separator (more_ends ++ r)) more.2)
 
-  -- behind the line column one begins
+  -- after the line column one begins
   column : is_column_one (b ++ (pair_source w key value ++ line_ends w twice)) ≡ true
   column =
       let source = pair_source w key value in

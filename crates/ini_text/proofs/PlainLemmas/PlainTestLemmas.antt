@@ -63,11 +63,11 @@ separator_no_blank c h = at (eqb c 0x3D) refl
     at true e = ap is_blank (eqb-true c 0x3D e)
     at false e = ap is_blank (eqb-true c 0x3A (subst (λ b. (b || eqb c 0x3A) ≡ true) e h))
 
-skipped-behind : (p : ℕ → Bool) (w cs : List ℕ) → list_all p w ≡ true → skipped p (w ++ cs) ≡ skipped p cs
-skipped-behind p [] cs h = refl
-skipped-behind p (c ∷ w) cs h =
+skipped-after : (p : ℕ → Bool) (w cs : List ℕ) → list_all p w ≡ true → skipped p (w ++ cs) ≡ skipped p cs
+skipped-after p [] cs h = refl
+skipped-after p (c ∷ w) cs h =
     let parts = and_parts (p c) (list_all p w) h in
-    cond-true (p c) (skipped p (w ++ cs)) (c ∷ (w ++ cs)) parts.0 ∙ skipped-behind p w cs parts.1
+    cond-true (p c) (skipped p (w ++ cs)) (c ∷ (w ++ cs)) parts.0 ∙ skipped-after p w cs parts.1
 
 skipped-none : (p : ℕ → Bool) (cs : List ℕ) → BeginsWithNo p cs → skipped p cs ≡ cs
 skipped-none p [] h = refl
@@ -93,7 +93,7 @@ separator_decides text = (
   separator_found text (skipped is_blank text) refl,
   λ s.
       let found : skipped is_blank text ≡ s.separator ∷ s.after =
-      ap (skipped is_blank) s.whole ∙ skipped-behind is_blank s.before (s.separator ∷ s.after) s.blank_before
+      ap (skipped is_blank) s.whole ∙ skipped-after is_blank s.before (s.separator ∷ s.after) s.blank_before
       ∙ skipped-none is_blank (s.separator ∷ s.after) (separator_no_blank s.separator s.separates) in
       ap is_separator_and_blanks found
       ∙ and_from (is_separator s.separator) (list_all is_blank s.after) s.separates s.blank_after,
@@ -234,7 +234,7 @@ module _ (o : ParseOption) (policy : EscapePolicy) where
           let on =
           and_parts o.enabled_preserve_key_leading_whitespace (not o.enabled_indented_mutiline_value) b in
           subst (IsPlainKey o policy) (run-sound (λ c. eqb c space) key).whole
-          (IsPlainKey.behind_spaces (run_of (λ c. eqb c space) key) on.0
+          (IsPlainKey.after_spaces (run_of (λ c. eqb c space) key) on.0
           (not-true o.enabled_indented_mutiline_value on.1) ((run-sound (λ c. eqb c space) key).all)
           ((bare_decides _).0 h))
       at false b h = IsPlainKey.bare ((bare_decides key).0 h)
@@ -249,12 +249,12 @@ module _ (o : ParseOption) (policy : EscapePolicy) where
   key_tested (IsPlainKey.bare {key} k) =
       cond_both (may_indent o) (skipped (λ c. eqb c space) key) key (λ l. is_bare_key o policy l ≡ true)
       (λ _. bare_stays key k) (λ _. (bare_decides key).1 k)
-  key_tested (IsPlainKey.behind_spaces {key} spaces on off all k) =
+  key_tested (IsPlainKey.after_spaces {key} spaces on off all k) =
       ap (is_bare_key o policy)
       (cond-true (may_indent o) (skipped (λ c. eqb c space) (spaces ++ key)) (spaces ++ key)
       (and_from o.enabled_preserve_key_leading_whitespace (not o.enabled_indented_mutiline_value) on
       (ap not off))
-      ∙ skipped-behind (λ c. eqb c space) spaces key all) ∙ bare_stays key k
+      ∙ skipped-after (λ c. eqb c space) spaces key all) ∙ bare_stays key k
 
   key_decides : (key : List ℕ) → Decides (is_plain_key o policy key) (IsPlainKey o policy key)
   key_decides key = (key_found key, key_tested)

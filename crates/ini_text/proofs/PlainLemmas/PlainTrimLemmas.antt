@@ -50,7 +50,7 @@ skip_none (c ∷ cs) h = cond-false (is_whitespace c) _ _ h
 pub trimmed_end : (cs : List ℕ) → trimmed cs ≡ cs → end_trimmed cs ≡ cs
 trimmed_end cs h = sym (ap drop_trailing_whitespace (skip_none cs (trimmed_begins cs h))) ∙ h
 
--- blanks behind a text go
+-- blanks after a text go
 drop_blanks : (w : List ℕ) → list_all is_blank w ≡ true → drop_trailing_whitespace w ≡ []
 drop_blanks [] h = refl
 drop_blanks (c ∷ w) h =
@@ -76,16 +76,16 @@ not_zero : (cs : List ℕ) → cs ≢ [] → eqb (length cs) 0 ≡ false
 not_zero [] some = absurd (some refl)
 not_zero (c ∷ cs) some = ne_eqb (length (c ∷ cs)) 0 (λ e. omega arith)
 
-pub some_behind : (w cs : List ℕ) → cs ≢ [] → (w ++ cs) ≢ []
-some_behind [] cs some = some
-some_behind (c ∷ w) cs some = λ e. cc
+pub some_after : (w cs : List ℕ) → cs ≢ [] → (w ++ cs) ≢ []
+some_after [] cs some = some
+some_after (c ∷ w) cs some = λ e. cc
 
-pub end_trimmed-behind : (w cs : List ℕ) → cs ≢ [] → end_trimmed cs ≡ cs → end_trimmed (w ++ cs) ≡ w ++ cs
-end_trimmed-behind [] cs some h = h
-end_trimmed-behind (c ∷ w) cs some h =
-    ap (λ l. cond (is_whitespace c && eqb (length l) 0) [] (c ∷ l)) (end_trimmed-behind w cs some h)
+pub end_trimmed-after : (w cs : List ℕ) → cs ≢ [] → end_trimmed cs ≡ cs → end_trimmed (w ++ cs) ≡ w ++ cs
+end_trimmed-after [] cs some h = h
+end_trimmed-after (c ∷ w) cs some h =
+    ap (λ l. cond (is_whitespace c && eqb (length l) 0) [] (c ∷ l)) (end_trimmed-after w cs some h)
     ∙ cond-false (is_whitespace c && eqb (length (w ++ cs)) 0) [] (c ∷ (w ++ cs))
-    (and_right (is_whitespace c) _ (not_zero (w ++ cs) (some_behind w cs some)))
+    (and_right (is_whitespace c) _ (not_zero (w ++ cs) (some_after w cs some)))
 
 -- a text whose end is trimmed has no line feeds at its end
 not_nil : (c : ℕ) (cs : List ℕ) → [] ≢ (c ∷ cs)
@@ -117,7 +117,7 @@ drop_no_line_feeds (c ∷ cs) h =
     ap (λ l. cond (is_line_feed c && eqb (length l) 0) [] (c ∷ l)) rest ∙ cond-false
     (is_line_feed c && eqb (length cs) 0) [] (c ∷ cs) stays
 
--- line feeds behind a text go
+-- line feeds after a text go
 drop_all_line_feeds : (w : List ℕ) → list_all is_line_feed w ≡ true → drop_line_feeds w ≡ []
 drop_all_line_feeds [] h = refl
 drop_all_line_feeds (c ∷ w) h =
@@ -125,11 +125,11 @@ drop_all_line_feeds (c ∷ w) h =
     cond-true (is_line_feed c && eqb (length (drop_line_feeds w)) 0) _ _
     (and_from (is_line_feed c) _ parts.0 (ap (λ l. eqb (length l) 0) (drop_all_line_feeds w parts.1)))
 
-drop_line_feeds-behind : (cs w : List ℕ) → list_all is_line_feed w ≡ true
+drop_line_feeds-after : (cs w : List ℕ) → list_all is_line_feed w ≡ true
     → drop_line_feeds (cs ++ w) ≡ drop_line_feeds cs
-drop_line_feeds-behind [] w h = drop_all_line_feeds w h
-drop_line_feeds-behind (c ∷ cs) w h =
-    ap (λ l. cond (is_line_feed c && eqb (length l) 0) [] (c ∷ l)) (drop_line_feeds-behind cs w h)
+drop_line_feeds-after [] w h = drop_all_line_feeds w h
+drop_line_feeds-after (c ∷ cs) w h =
+    ap (λ l. cond (is_line_feed c && eqb (length l) 0) [] (c ∷ l)) (drop_line_feeds-after cs w h)
 
 skip_all_line_feeds : (w : List ℕ) → list_all is_line_feed w ≡ true → skip_line_feeds w ≡ []
 skip_all_line_feeds [] h = refl
@@ -137,7 +137,7 @@ skip_all_line_feeds (c ∷ w) h =
     let parts = and_parts (is_line_feed c) (list_all is_line_feed w) h in cond-true
     (is_line_feed c) _ _ parts.0 ∙ skip_all_line_feeds w parts.1
 
--- a trimmed text stays, and line feeds behind it go
+-- a trimmed text stays, and line feeds after it go
 pub without_line_feeds-trimmed : (cs w : List ℕ) → trimmed cs ≡ cs → list_all is_line_feed w ≡ true
     → without_outer_line_feeds (cs ++ w) ≡ cs
 without_line_feeds-trimmed [] w h l = ap drop_line_feeds (skip_all_line_feeds w l)
@@ -145,5 +145,5 @@ without_line_feeds-trimmed (c ∷ cs) w h l =
     let no : is_line_feed c ≡ false =
     false_from_ne_true (is_line_feed c)
     (λ e. both_ways (is_whitespace c) (trimmed_begins (c ∷ cs) h) (line_feed_is_white c e)) in
-    ap drop_line_feeds (cond-false (is_line_feed c) _ _ no) ∙ drop_line_feeds-behind (c ∷ cs) w l
+    ap drop_line_feeds (cond-false (is_line_feed c) _ _ no) ∙ drop_line_feeds-after (c ∷ cs) w l
     ∙ drop_no_line_feeds (c ∷ cs) (trimmed_end (c ∷ cs) h)

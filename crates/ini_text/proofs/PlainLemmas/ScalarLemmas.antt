@@ -62,8 +62,8 @@ separator-scalar m h = elim (or_cases (eqb m 0x3D) (eqb m 0x3A) h) [
 pub separator-scalars : (text : List ℕ) → IsPlainSeparator text → all_scalars text ≡ true
 separator-scalars text sep =
     let after = blanks-scalars sep.after sep.blank_after in
-    let behind : all_scalars (sep.separator ∷ sep.after) ≡ true =
+    let following : all_scalars (sep.separator ∷ sep.after) ≡ true =
     and_from (scalar sep.separator) _ (separator-scalar sep.separator sep.separates) after in
     subst (λ x. all_scalars x ≡ true) (sym sep.whole)
     (scalars-append sep.before (sep.separator ∷ sep.after)
-    (blanks-scalars sep.before sep.blank_before) behind)
+    (blanks-scalars sep.before sep.blank_before) following)

@@ -17,7 +17,7 @@ use Rattle.ini_text.specs.Grammar.Strings.{Ends, is_endpoint, Str, StrStops, nam
 use Rattle.ini_text.specs.Grammar.Values.{Value, ValueStops}
 use Rattle.ini_text.specs.Grammar.Keys.{Indentation, begins_key, begins_indented_key, KeyFront}
 use Rattle.ini_text.specs.Grammar.Elements.{Given, Gap, Element, ElementStops}
-use Rattle.ini_text.specs.Inside.ElementReader.{name_in, header, header_of_name, bracketed_header, behind_bracket, pair_of_value, behind_separator, trimmed_key, pair_of_key, unindented_pair, dropped_tail, indented_pair_of_key, kept_blanks, indented_pair, behind_blanks, is_comment_part, element}
+use Rattle.ini_text.specs.Inside.ElementReader.{name_in, header, header_of_name, bracketed_header, after_bracket, pair_of_value, after_separator, trimmed_key, pair_of_key, unindented_pair, dropped_tail, indented_pair_of_key, kept_blanks, indented_pair, after_blanks, is_comment_part, element}
 use Rattle.ini_text.specs.Inside.Reading.{Answer, found, stopped, prepend, altered_answer}
 use Rattle.ini_text.specs.Inside.Scans.{run_of, skipped, trimmed_at}
 use Rattle.ini_text.specs.Inside.StringReader.{string}
@@ -63,14 +63,14 @@ indented_value : (kept : Bool) (w v : List ℕ)
 indented_value true w v = refl
 indented_value false w v = refl
 
--- behind a key, and where an indented key begins
-pub behind_key : (o : ParseOption) (key r : List ℕ) → key ≢ []
-    → behind_separator o key r ≡ pair_of_value key (value o r)
-behind_key o [] r some = absurd (some refl)
-behind_key o (c ∷ key) r some = refl
+-- after a key, and where an indented key begins
+pub after_key : (o : ParseOption) (key r : List ℕ) → key ≢ []
+    → after_separator o key r ≡ pair_of_value key (value o r)
+after_key o [] r some = absurd (some refl)
+after_key o (c ∷ key) r some = refl
 
 pub key_at : (o : ParseOption) (w : List ℕ) {t cs : List ℕ} {c : ℕ} → t ≡ c ∷ cs → is_line_end c ≡ false
-    → c ≢ open_bracket → behind_blanks o w t ≡ indented_pair o w t
+    → c ≢ open_bracket → after_blanks o w t ≡ indented_pair o w t
 key_at o w {c = c} is end bracket = rw is (rw (end, ne_eqb c 91 bracket))
 
 -- where blanks aren't kept, a key is trimmed at both ends
@@ -116,12 +116,12 @@ module _ (o : ParseOption) (b : List ℕ) where
   name-bracket {r = m ∷ x} (Str.closed k h) = (x, ap (λ y. y ∷ x) (eqb-true m 93 (rw or-false at h)))
   name-bracket (Str.lone k h) = cc
 
-  behind_separator-sound : {k r : List ℕ} {m : ℕ} (key : List ℕ) → KeyFront o b k (m ∷ r) key
+  after_separator-sound : {k r : List ℕ} {m : ℕ} (key : List ℕ) → KeyFront o b k (m ∷ r) key
       → is_separator m ≡ true
-      → ElementSays (k ++ m ∷ r) (behind_separator o key r)
-  behind_separator-sound {k} {r} {m} [] front sep =
+      → ElementSays (k ++ m ∷ r) (after_separator o key r)
+  after_separator-sound {k} {r} {m} [] front sep =
       (k ++ m ∷ [], ElementStops.no_key front sep, append_assoc k (m ∷ []) r)
-  behind_separator-sound {k} {r} {m} (c ∷ key) front sep = by (value o r) ((value-reads o).sound r)
+  after_separator-sound {k} {r} {m} (c ∷ key) front sep = by (value o r) ((value-reads o).sound r)
     where
       by : (a : Answer ℕ) → Says (Value o) (ValueStops o) r a
           → ElementSays (k ++ m ∷ r) (pair_of_value (c ∷ key) a)
@@ -135,19 +135,19 @@ module _ (o : ParseOption) (b : List ℕ) where
   pair_of_key-sound : (w : List ℕ) {s r v t : List ℕ} (key : List ℕ)
       → ((x : List ℕ) → s ++ x ≡ t → Str o.enabled_escape key_ends s x v → KeyFront o b (w ++ s) x key)
       → Str o.enabled_escape key_ends s r v → s ++ r ≡ t
-      → ElementSays (w ++ t) (behind_separator o key (drop 1 r))
+      → ElementSays (w ++ t) (after_separator o key (drop 1 r))
   pair_of_key-sound w {s} {r} {v} {t} key front str h =
       let x = key-separator str in
       let whole : s ++ x.0 ∷ x.1 ≡ t = ap (λ y. s ++ y) (sym x.2) ∙ h in
-      rw x.2 (subst (λ y. ElementSays y (behind_separator o key x.1))
+      rw x.2 (subst (λ y. ElementSays y (after_separator o key x.1))
       (append_assoc w s (x.0 ∷ x.1) ∙ ap (λ y. w ++ y) whole)
-      (behind_separator-sound
+      (after_separator-sound
       key (front (x.0 ∷ x.1) whole (subst (λ y. Str o.enabled_escape key_ends s y v) x.2 str)) x.3))
 
   unindented_pair-sound : (t : List ℕ) → BeginsWith begins_key t → (a : Answer ℕ)
       → StringSays o.enabled_escape key_ends t a → ElementSays t (pair_of_key o (trimmed_key o a))
   unindented_pair-sound t begins (found v r) (s, str, h) =
-      subst (λ k. ElementSays t (behind_separator o k (drop 1 r)))
+      subst (λ k. ElementSays t (after_separator o k (drop 1 r)))
       (sym (key_value o.enabled_preserve_key_leading_whitespace v))
       (pair_of_key-sound [] _ (λ x q k. KeyFront.unindented (subst (BeginsWith begins_key) (sym q) begins) k)
       str
@@ -159,7 +159,7 @@ module _ (o : ParseOption) (b : List ℕ) where
       → StringSays o.enabled_escape key_ends t a
       → ElementSays (w ++ t) (indented_pair_of_key o (trimmed_key o (prepend (kept_blanks o w) a)))
   indented_pair-sound w t ind begins (found v r) (s, str, h) =
-      subst (λ k. ElementSays (w ++ t) (behind_separator o k (drop 1 r)))
+      subst (λ k. ElementSays (w ++ t) (after_separator o k (drop 1 r)))
       (sym (indented_value o.enabled_preserve_key_leading_whitespace w v))
       (pair_of_key-sound w
       _ (λ x q k. KeyFront.indented ind (subst (BeginsWith begins_indented_key) (sym q) begins) k) str h)
@@ -178,10 +178,10 @@ module _ (o : ParseOption) (b : List ℕ) where
           (w ++ s, subst (λ y. Element o b (w ++ s) y []) (sym none) key, whole)
       by k stops begins = (w ++ s, ElementStops.in_indented_key ind begins stops (λ q. cc), whole)
 
-  behind_blanks-sound : (w t : List ℕ) → Indentation b w → BeginsWithNo is_blank t
-      → ElementSays (w ++ t) (behind_blanks o w t)
-  behind_blanks-sound w [] ind other = (w, Element.dropped_blanks ind, refl)
-  behind_blanks-sound w (c ∷ cs) ind other = elim (cases_Bool (is_line_end c)) [
+  after_blanks-sound : (w t : List ℕ) → Indentation b w → BeginsWithNo is_blank t
+      → ElementSays (w ++ t) (after_blanks o w t)
+  after_blanks-sound w [] ind other = (w, Element.dropped_blanks ind, refl)
+  after_blanks-sound w (c ∷ cs) ind other = elim (cases_Bool (is_line_end c)) [
     | inl h ↦ rw h (w ++ c ∷ [], Element.gap (Gap.blank_line c ind h), append_assoc w (c ∷ []) cs)
     | inr n ↦ elim (cases_Bool (c == open_bracket)) [
       | inl q ↦ rw (eqb-true c 91 q) (w, Element.gap (Gap.before_header ind), refl)
@@ -225,8 +225,8 @@ module _ (o : ParseOption) (b : List ℕ) where
       (open_bracket ∷ s, ElementStops.in_bracketed_header on stops, ap (λ y. open_bracket ∷ y) h)
   bracketed_header-sound on t (found v r) (s, str, h) = header_of_name-sound on str h (name_in v) refl
 
-  behind_bracket-sound : (cs : List ℕ) → ElementSays (open_bracket ∷ cs) (behind_bracket o cs)
-  behind_bracket-sound cs = elim (cases_Bool o.enabled_brackets_in_section_names) [
+  after_bracket-sound : (cs : List ℕ) → ElementSays (open_bracket ∷ cs) (after_bracket o cs)
+  after_bracket-sound cs = elim (cases_Bool o.enabled_brackets_in_section_names) [
     | inl on ↦
         subst (ElementSays (open_bracket ∷ cs)) (sym (cond-true o.enabled_brackets_in_section_names _ _ on))
         (bracketed_header-sound on cs (string o.enabled_escape bracketed_name_ends cs) (line-reads.sound cs))
@@ -262,15 +262,15 @@ module _ (o : ParseOption) (b : List ℕ) where
   ]
 
   blanks-sound : (c : ℕ) (cs : List ℕ) → is_blank c ≡ true → starts_line b ≡ true
-      → ElementSays (c ∷ cs) (behind_blanks o (run_of is_blank (c ∷ cs)) (skipped is_blank (c ∷ cs)))
+      → ElementSays (c ∷ cs) (after_blanks o (run_of is_blank (c ∷ cs)) (skipped is_blank (c ∷ cs)))
   blanks-sound c cs blank start =
       let split = run-sound is_blank (c ∷ cs) in
       let w = run_of is_blank (c ∷ cs) in
       let rest = skipped is_blank (c ∷ cs) in
       let ind : Indentation b w =
       record { at_line_start = start; some = rw blank blank; blank = split.all } in
-      subst (λ y. ElementSays y (behind_blanks o w rest)) split.whole
-      (behind_blanks-sound w rest ind split.ends)
+      subst (λ y. ElementSays y (after_blanks o w rest)) split.whole
+      (after_blanks-sound w rest ind split.ends)
 
   pub element-sound : (c : ℕ) (cs : List ℕ) → ElementSays (c ∷ cs) (element o b (c ∷ cs))
   unfolding element
@@ -281,7 +281,7 @@ module _ (o : ParseOption) (b : List ℕ) where
       | inr x ↦ elim (cases_Bool (is_comment_mark c)) [
         | inl m ↦ rw (n, x, m) (mark-sound c cs m)
         | inr m ↦ elim (cases_Bool (c == open_bracket)) [
-          | inl q ↦ rw (eqb-true c 91 q) (behind_bracket-sound cs)
+          | inl q ↦ rw (eqb-true c 91 q) (after_bracket-sound cs)
           | inr k ↦ rw (n, x, m, k)
               (unindented_pair-sound (c ∷ cs) (rw (x, m, k) refl) (string o.enabled_escape key_ends (c ∷ cs))
               (key-reads.sound (c ∷ cs)))
@@ -290,9 +290,9 @@ module _ (o : ParseOption) (b : List ℕ) where
     ]
   ]
 
-  -- at a line's start, behind blanks
+  -- at a line's start, after blanks
   element-blanks : {w : List ℕ} (t : List ℕ) → Indentation b w → BeginsWithNo is_blank t
-      → element o b (w ++ t) ≡ behind_blanks o w t
+      → element o b (w ++ t) ≡ after_blanks o w t
   unfolding element
   element-blanks {w = []} t ind other = let none = ind.some in cc
   element-blanks {w = c ∷ w} t ind other =
@@ -317,13 +317,13 @@ module _ (o : ParseOption) (b : List ℕ) where
       rw (no_white_no_blank c y.0, y.0, y.1, x.1)
 
   element-key : {k x key : List ℕ} {m : ℕ} → KeyFront o b k (m ∷ x) key → is_separator m ≡ true
-      → element o b (k ++ m ∷ x) ≡ behind_separator o key x
+      → element o b (k ++ m ∷ x) ≡ after_separator o key x
   element-key {x = x} {m = m} (KeyFront.unindented {s} {v = v} begins str) sep =
       rw (element-unindented_pair (s ++ m ∷ x) begins, key-reads.finds str)
-      (ap (λ k. behind_separator o k x) (key_value o.enabled_preserve_key_leading_whitespace v))
+      (ap (λ k. after_separator o k x) (key_value o.enabled_preserve_key_leading_whitespace v))
   element-key {x = x} {m = m} (KeyFront.indented {w} {s} {v = v} ind begins str) sep =
       rw (append_assoc w s (m ∷ x), element-indented_pair (s ++ m ∷ x) ind begins, key-reads.finds str)
-      (ap (λ k. behind_separator o k x) (indented_value o.enabled_preserve_key_leading_whitespace w v))
+      (ap (λ k. after_separator o k x) (indented_value o.enabled_preserve_key_leading_whitespace w v))
 
   element-gap : {s r : List ℕ} → Gap b s r → element o b (s ++ r) ≡ found [] r
   unfolding element
@@ -360,7 +360,7 @@ module _ (o : ParseOption) (b : List ℕ) where
       rw (
         append_assoc k (m ∷ s) r,
         element-key front sep,
-        behind_key o key (s ++ r) some,
+        after_key o key (s ++ r) some,
         (value-reads o).finds given,
       )
   element-finds (Element.dropped_blanks ind) = element-blanks [] ind tt
@@ -391,7 +391,7 @@ module _ (o : ParseOption) (b : List ℕ) where
       rw (
         append_assoc k (m ∷ s) r,
         element-key front sep,
-        behind_key o key (s ++ r) some,
+        after_key o key (s ++ r) some,
         (value-reads o).stops stops,
       )
   element-stops (ElementStops.late_comment {m} mark late) =
@@ -402,7 +402,7 @@ module _ (o : ParseOption) (b : List ℕ) where
       → ElementSays t a
   element-says {t} {cs} {c} is e = subst (ElementSays t) e (rw is (element-sound c cs))
 
--- the front before the rest behind a line's blanks
+-- the front before the rest after a line's blanks
 pub blanks_front : {t start : List ℕ} → start ≡ skipped is_blank t
     → (front_of t start ≡ run_of is_blank t) × IsRest t start
 blanks_front {t} {start} is =

@@ -8,11 +8,11 @@ use Rattle.ini_text.specs.declared.error.ParseKind.{ParseKind}
 use Rattle.ini_text.specs.Grammar.CharacterKinds.{is_quote_mark}
 use Rattle.ini_text.specs.Grammar.Strings.{Ends, quote_ends, plain_ends, Str, StrStops}
 use Rattle.ini_text.specs.Grammar.Lines.{Quoted, BeginsPlain, plain_value, Line, LineStops}
-use Rattle.ini_text.specs.Inside.LineReader.{quote_at, opens_quote, behind_quoted, part, parts, plain_part, line}
+use Rattle.ini_text.specs.Inside.LineReader.{quote_at, opens_quote, after_quoted, part, parts, plain_part, line}
 use Rattle.ini_text.specs.Inside.Reading.{Answer, found, stopped, prepend, altered_answer, and_then, Step, more, go_on}
 use Rattle.ini_text.specs.Inside.Scans.{trimmed_at}
 use Rattle.ini_text.specs.Inside.StringReader.{string}
-use Rattle.ini_text.proofs.ReaderLemmas.ReaderLemmas.{and_found, and_stopped, prepend-nil, prepend-prepend, then_found, then_stopped, stopped_behind, read_behind, Says, IsReader, StepSays, turn, shortens, reads}
+use Rattle.ini_text.proofs.ReaderLemmas.ReaderLemmas.{and_found, and_stopped, prepend-nil, prepend-prepend, then_found, then_stopped, stopped_after, read_after, Says, IsReader, StepSays, turn, shortens, reads}
 use Rattle.ini_text.proofs.ReaderLemmas.StringReaderLemmas.{StringSays, string-reads}
 
 -- what follows a string in quotes begins with their mark, and the string ends so before any text
@@ -60,12 +60,12 @@ module _ (o : ParseOption) where
   abbrev PartSays : List ℕ → Step ℕ → Type 0
   PartSays t x = StepSays Parts PartsStop t x
 
-  -- behind a quoted part
-  behind : {m : ℕ} {s v : List ℕ} → o.enabled_quote ≡ true → is_quote_mark m ≡ true
+  -- after a quoted part
+  following : {m : ℕ} {s v : List ℕ} → o.enabled_quote ≡ true → is_quote_mark m ≡ true
       → Str o.enabled_escape (quote_ends m) s (m ∷ []) v
       → (r : List ℕ) (a : Answer ℕ) → Says Parts PartsStop r a
       → Says Parts PartsStop (m ∷ (s ++ m ∷ r)) (prepend v a)
-  behind {m} {s} {v} on mark str r (found w x) (q, (quoted, plain), h) =
+  following {m} {s} {v} on mark str r (found w x) (q, (quoted, plain), h) =
       let opens : opens_quote o ((m ∷ (s ++ m ∷ q)) ++ x) ≡ true = rw (on, mark) refl in (
         m ∷ (s ++ m ∷ q),
         (
@@ -75,7 +75,7 @@ module _ (o : ParseOption) where
         ),
         simp (append_assoc, h),
       )
-  behind {m} {s} {v} on mark str r (stopped x k)
+  following {m} {s} {v} on mark str r (stopped x k)
       (_, PartsStop.stop {q} {w} {s = p} {m = n} quoted on' mark' stops, h) =
       let whole : q ++ n ∷ (p ++ x) ≡ r = simp append_assoc at h in (
         (m ∷ (s ++ m ∷ q)) ++ n ∷ p,
@@ -83,22 +83,22 @@ module _ (o : ParseOption) where
         simp (append_assoc, whole),
       )
 
-  behind-sound : (m : ℕ) (t : List ℕ) → o.enabled_quote ≡ true → is_quote_mark m ≡ true → (a : Answer ℕ)
+  following-sound : (m : ℕ) (t : List ℕ) → o.enabled_quote ≡ true → is_quote_mark m ≡ true → (a : Answer ℕ)
       → StringSays o.enabled_escape (quote_ends m) t a
-      → PartSays (m ∷ t) (behind_quoted a)
-  behind-sound m t on mark (stopped r k) (s, stops, h) =
+      → PartSays (m ∷ t) (after_quoted a)
+  following-sound m t on mark (stopped r k) (s, stops, h) =
       (m ∷ s, PartsStop.stop Quoted.none on mark stops, ap (λ y. m ∷ y) h)
-  behind-sound m t on mark (found v r) (s, str, h) =
+  following-sound m t on mark (found v r) (s, str, h) =
       let x = closed_by_mark str in
       let whole : s ++ m ∷ x.0 ≡ t = ap (λ y. s ++ y) (sym x.1) ∙ h in
-      rw (x.1, ← whole) (omega (arith, length-append s (m ∷ x.0)), behind on mark x.2 x.0)
+      rw (x.1, ← whole) (omega (arith, length-append s (m ∷ x.0)), following on mark x.2 x.0)
 
   part-sound : (t : List ℕ) → PartSays t (part o t)
   part-sound [] = ([], (Quoted.none, λ on. tt), refl)
   part-sound (c ∷ cs) = elim (cases_Bool (o.enabled_quote && is_quote_mark c)) [
     | inl h ↦
         let test = and_parts o.enabled_quote (is_quote_mark c) h in
-        rw h (behind-sound c cs test.0 test.1 (string o.enabled_escape (quote_ends c) cs)
+        rw h (following-sound c cs test.0 test.1 (string o.enabled_escape (quote_ends c) cs)
         ((quote-reads c test.1).sound cs))
     | inr h ↦ rw h ([], (rw h Quoted.none, λ on. rw on at h), refl)
   ]
@@ -115,13 +115,13 @@ module _ (o : ParseOption) where
   pub parts_end : (t : List ℕ) → quote_at o t ≡ None → parts o t ≡ found [] t
   parts_end t none = parts-turn t ∙ rw none
 
-  behind-mark : (a : Answer ℕ) → go_on (parts o) (behind_quoted a) ≡ and_then (λ r. parts o (drop 1 r)) a
-  behind-mark (found v r) = refl
-  behind-mark (stopped r k) = refl
+  following-mark : (a : Answer ℕ) → go_on (parts o) (after_quoted a) ≡ and_then (λ r. parts o (drop 1 r)) a
+  following-mark (found v r) = refl
+  following-mark (stopped r k) = refl
 
   module _ {after : List ℕ} {to : Ends} (t w : List ℕ) (opens : quote_at o t ≡ Some (to, after)) where
     part-turn : parts o t ≡ and_then (λ r. parts o (drop 1 r)) (string o.enabled_escape to after)
-    part-turn = parts-turn t ∙ rw opens (behind-mark (string o.enabled_escape to after))
+    part-turn = parts-turn t ∙ rw opens (following-mark (string o.enabled_escape to after))
 
     pub one_part : {v r : List ℕ} → prepend w (string o.enabled_escape to after) ≡ found v r
         → prepend w (parts o t) ≡ prepend v (parts o (drop 1 r))
@@ -134,8 +134,8 @@ module _ (o : ParseOption) where
     pub part_shortens : {v r : List ℕ} → prepend w (string o.enabled_escape to after) ≡ found v r
         → length (drop 1 r) < length t
     part_shortens {r = r} h =
-        let (u, read, grown) = read_behind w (string o.enabled_escape to after) h in
-        let step : part o t ≡ more u (drop 1 r) = rw opens (ap behind_quoted read) in
+        let (u, read, grown) = read_after w (string o.enabled_escape to after) h in
+        let step : part o t ≡ more u (drop 1 r) = rw opens (ap after_quoted read) in
         shortens Parts PartsStop (part o) part-sound step
 
   pub line_plain : (t : List ℕ) → quote_at o t ≡ None
@@ -217,7 +217,7 @@ module _ (o : ParseOption) where
         stops (LineStops.in_plain {q} {s} {r} k plain str) =
             rw (append_assoc q, part_found k (s ++ r) plain, plain-reads.stops str)
 
-  -- the plain part behind the quoted parts
+  -- the plain part after the quoted parts
   module _ (first : Bool) (t rest old out : List ℕ)
       (read : prepend old (parts o t) ≡ prepend out (parts o rest)) (none : quote_at o rest ≡ None) where
     line-parts : (quoted : Bool)
@@ -231,7 +231,7 @@ module _ (o : ParseOption) where
         → prepend old (line o first t) ≡ stopped r k
     unfolding line
     line_stops h =
-        line-parts (opens_quote o t) ∙ rw (stopped_behind out (string o.enabled_escape plain_ends rest) h)
+        line-parts (opens_quote o t) ∙ rw (stopped_after out (string o.enabled_escape plain_ends rest) h)
 
     pub line_read : {new end v : List ℕ} (quoted : Bool) → opens_quote o t ≡ (quoted || opens_quote o rest)
         → string o.enabled_escape plain_ends rest ≡ found v end

@@ -32,7 +32,7 @@ StepSays {A} P Q t (more w r) =
     (length r < length t) × ((a : Answer A) → Says P Q r a → Says P Q t (prepend w a))
 StepSays P Q t (ends a) = Says P Q t a
 
--- what is said of the rest t is said behind p, whose value is w
+-- what is said of the rest t is said after p, whose value is w
 pub prefixed : {A : Type 0} {P : Rule A} {Q : StopRule} (p : List ℕ) (w : List A) (t : List ℕ)
     → ((s r : List ℕ) (v : List A) → P s r v → P (p ++ s) r (w ++ v))
     → ((s r : List ℕ) (k : ParseKind) → Q s r k → Q (p ++ s) r k)
@@ -105,28 +105,28 @@ pub and_stopped : {A : Type 0} {whole a : Answer A} {r : List ℕ} {k : ParseKin
     → whole ≡ prepend old a → a ≡ stopped r k → whole ≡ stopped r k
 and_stopped old h e = h ∙ ap (prepend old) e
 
--- what was read behind w
-pub read_behind : {A : Type 0} {v : List A} {r : List ℕ} (w : List A) (a : Answer A)
+-- what was read after w
+pub read_after : {A : Type 0} {v : List A} {r : List ℕ} (w : List A) (a : Answer A)
     → prepend w a ≡ found v r → (u : List A) × (a ≡ found u r) × (v ≡ w ++ u)
-read_behind w (found u x) h = (u, cc, cc)
-read_behind w (stopped x k) h = cc
+read_after w (found u x) h = (u, cc, cc)
+read_after w (stopped x k) h = cc
 
-pub stopped_behind : {A : Type 0} {r : List ℕ} {k : ParseKind} (w : List A) (a : Answer A)
+pub stopped_after : {A : Type 0} {r : List ℕ} {k : ParseKind} (w : List A) (a : Answer A)
     → prepend w a ≡ stopped r k → a ≡ stopped r k
-stopped_behind w (found u x) h = cc
-stopped_behind w (stopped x k) h = h
+stopped_after w (found u x) h = cc
+stopped_after w (stopped x k) h = h
 
--- and more behind that
+-- and more after that
 pub then_found : {A : Type 0} {v : List A} {r : List ℕ} (next : List ℕ → Answer A) (w : List A)
     (a : Answer A) → prepend w a ≡ found v r → prepend w (and_then next a) ≡ prepend v (next r)
 then_found {v = v} {r} next w a h =
-    let (u, is, grown) = read_behind w a h in
+    let (u, is, grown) = read_after w a h in
     ap (λ x. prepend w (and_then next x)) is ∙ prepend-prepend w u (next r)
     ∙ ap (λ x. prepend x (next r)) (sym grown)
 
 pub then_stopped : {A : Type 0} {r : List ℕ} {k : ParseKind} (next : List ℕ → Answer A) (w : List A)
     (a : Answer A) → prepend w a ≡ stopped r k → prepend w (and_then next a) ≡ stopped r k
-then_stopped next w a h = ap (λ x. prepend w (and_then next x)) (stopped_behind w a h)
+then_stopped next w a h = ap (λ x. prepend w (and_then next x)) (stopped_after w a h)
 
 -- a string that is empty when reading begins
 pub from_nothing : {bytes : List ℕ} (a : Answer ℕ) → bytes ≡ [] → prepend (chars bytes) a ≡ a

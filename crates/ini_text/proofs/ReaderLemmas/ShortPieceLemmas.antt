@@ -75,7 +75,7 @@ four_spell t None four is = tt
 four_spell t (Some v) four is = (coded_digits four.0 refl refl refl (sym is), four.1)
 
 module _ (to : Ends) where
-  -- a backslash and the character behind it
+  -- a backslash and the character after it
   pub pair_read : {t rest : List ℕ} {d v : ℕ} → t ≡ backslash ∷ d ∷ rest → d ≢ line_feed → d ≢ letter_x
       → v ≡ unwrap_or (control d) d
       → string true to t ≡ prepend (v ∷ []) (string true to rest)
@@ -102,16 +102,16 @@ letter_escape two n m is = record {
   shorter = omega (arith, ap length two.read);
 }
 
-pub coded_escape : {t behind : List ℕ} {v : ℕ} → BeginsWithTwo t 92 120 → 2 ≤ length t → behind ≡ drop 2 t
-    → coded_character (chars behind) ≡ found (v ∷ []) (chars (drop 4 behind)) → IsCharBoundary behind 4
+pub coded_escape : {t following : List ℕ} {v : ℕ} → BeginsWithTwo t 92 120 → 2 ≤ length t → following ≡ drop 2 t
+    → coded_character (chars following) ≡ found (v ∷ []) (chars (drop 4 following)) → IsCharBoundary following 4
     → IsEscape t v 6
-coded_escape {t} {behind} {v} two long is_behind is cut =
+coded_escape {t} {following} {v} two long is_after is cut =
     let codes : coded_character (chars (drop 2 t)) ≡ found (v ∷ []) (chars (drop 6 t)) =
-    ap (λ x. coded_character (chars x)) (sym is_behind) ∙ is
-    ∙ ap (λ x. found (v ∷ []) (chars x)) (ap (drop 4) is_behind ∙ drop-drop 4 2 t) in
+    ap (λ x. coded_character (chars x)) (sym is_after) ∙ is
+    ∙ ap (λ x. found (v ∷ []) (chars x)) (ap (drop 4) is_after ∙ drop-drop 4 2 t) in
     record {
       few = omega arith;
-      cut = IsCharBoundary-from_rest t 2 4 long (subst (λ x. IsCharBoundary x 4) is_behind cut);
+      cut = IsCharBoundary-from_rest t 2 4 long (subst (λ x. IsCharBoundary x 4) is_after cut);
       read = λ to. coded_read to two.read codes;
       shorter = coded_shorter two.read codes;
     }
@@ -154,12 +154,12 @@ run_seen to {bits} {t} sees some =
 pub short_piece : (ends : Endpoints) (t stop : List ℕ) (n v k : ℕ) → IsUtf8 t → 16 ≤ length t → n ≤ 16
     → n ≡ prefix_len (is_raw (ends_of ends)) t → stop ≡ drop n t → IsEscape stop v k
     → IsShort (ends_of ends) t n v k
-short_piece ends t stop n v k u long within is behind escape =
+short_piece ends t stop n v k u long within is following escape =
     let plain = is_raw (ends_of ends) in
     let cut : IsCharBoundary t n = subst (IsCharBoundary t) (sym is) (boundary plain t (raw_wide ends)) in
     let run = take n t in
-    let parts = split_chars t run stop n u cut refl behind in
-    let rest : drop k stop ≡ drop (n + k) t = ap (drop k) behind ∙ drop-drop k n t in
+    let parts = split_chars t run stop n u cut refl following in
+    let rest : drop k stop ≡ drop (n + k) t = ap (drop k) following ∙ drop-drop k n t in
     let read =
     escape.read (ends_of ends) ∙ ap (λ x. prepend (v ∷ []) (string true (ends_of ends) (chars x))) rest in
     record {
@@ -167,7 +167,7 @@ short_piece ends t stop n v k u long within is behind escape =
       few = escape.few;
       long = long;
       run = IsUtf8-take t n u cut;
-      cut = IsCharBoundary-from_rest t n k (omega arith) (subst (λ x. IsCharBoundary x k) behind escape.cut);
+      cut = IsCharBoundary-from_rest t n k (omega arith) (subst (λ x. IsCharBoundary x k) following escape.cut);
       read =
           string_run true (ends_of ends) (chars run) (chars stop) parts
           (run_chars plain t run n (raw_wide ends) u is refl)

@@ -13,8 +13,8 @@ use Rattle.ini_text.specs.Grammar.EscapeSequences.{control, spelled, EscapeSeque
 use Rattle.ini_text.specs.Grammar.Strings.{Ends, is_endpoint, Row, Closes, Str, StrStops}
 use Rattle.ini_text.specs.Inside.Reading.{Answer, found, stopped, prepend, and_then, Step, more, ends, go_on}
 use Rattle.ini_text.specs.Inside.Scans.{is_raw}
-use Rattle.ini_text.specs.Inside.StringReader.{folded_unit, units, character, spelled_character, coded_character, value_behind_backslash, as_step, escape, piece, string}
-use Rattle.ini_text.proofs.ReaderLemmas.ReaderLemmas.{prepend-nil, prepend-prepend, Says, IsReader, StepSays, prefixed, and_found, and_stopped, read_behind, turn, shortens, reads}
+use Rattle.ini_text.specs.Inside.StringReader.{folded_unit, units, character, spelled_character, coded_character, value_after_backslash, as_step, escape, piece, string}
+use Rattle.ini_text.proofs.ReaderLemmas.ReaderLemmas.{prepend-nil, prepend-prepend, Says, IsReader, StepSays, prefixed, and_found, and_stopped, read_after, turn, shortens, reads}
 
 digit-apart : (c : ℕ) → is_digit c 16 ≡ true → c ≢ backslash
 digit-apart c h q = let z = subst (λ x. is_digit x 16 ≡ true) q h in cc
@@ -109,7 +109,7 @@ value_of c None h a b = EscapeSequence.itself refl a b h
 
 -- a backslash and one character
 escape_of : (e : Bool) (c : ℕ) → (c == letter_x && e) ≡ false
-    → EscapeSequence e (backslash ∷ c ∷ []) (value_behind_backslash e c)
+    → EscapeSequence e (backslash ∷ c ∷ []) (value_after_backslash e c)
 escape_of e c other = elim (cases_Bool (c == line_feed)) [
   | inl q ↦ rw (eqb-true c 10 q) EscapeSequence.folded
   | inr n ↦ rw n (by e (eqb-false c 10 n) other)
@@ -185,15 +185,15 @@ module _ (e : Bool) (to : Ends) where
   StrStops-append {p} k (StrStops.in_escape {s} {p = q} {r} {kind} x on h) =
       subst (λ y. StrStops e to y r kind) (append_assoc p s q) (StrStops.in_escape (row-append k x) on h)
 
-  behind : {p w : List ℕ} → Row e to p w → (r : List ℕ) (a : Answer ℕ) → StringSays e to r a
+  following : {p w : List ℕ} → Row e to p w → (r : List ℕ) (a : Answer ℕ) → StringSays e to r a
       → StringSays e to (p ++ r) (prepend w a)
-  behind {p} {w} k r =
+  following {p} {w} k r =
       prefixed p w r (λ s x v str. Str-append k str) (λ s x kind stops. StrStops-append k stops)
 
   escaped : {p w : List ℕ} (r : List ℕ) → EscapeSequence e p w → length r < length (p ++ r)
       → PieceSays (p ++ r) (more w r)
   escaped {p} {w} r k l =
-      (l, behind (subst₂ (Row e to) (append-nil p) (append-nil w) (Row.escape k Row.none)) r)
+      (l, following (subst₂ (Row e to) (append-nil p) (append-nil w) (Row.escape k Row.none)) r)
 
   character-sound : {u : List ℕ} {us : List (Option ℕ)} (r : List ℕ) → e ≡ true → Units u us
       → length us ≡ 4 → (o : Option ℕ) → spelled_by us ≡ o
@@ -235,7 +235,7 @@ module _ (e : Bool) (to : Ends) where
     | inl q ↦ rw (eqb-true c 92 q) (escape-sound cs)
     | inr n ↦ elim (cases_Bool (is_endpoint to c)) [
       | inl h ↦ rw (n, h) ([], Str.closed Row.none h, refl)
-      | inr h ↦ rw (n, h) (omega arith, behind (Row.raw (eqb-false c 92 n) h Row.none) cs)
+      | inr h ↦ rw (n, h) (omega arith, following (Row.raw (eqb-false c 92 n) h Row.none) cs)
     ]
   ]
 
@@ -282,10 +282,10 @@ module _ (e : Bool) (to : Ends) where
       → string e to t ≡ (if text then found (backslash ∷ []) cs else stopped cs EndOfText)
   string_at_backslash first b none is = rw (first, b, none, is) (string-turn (backslash ∷ []))
 
-  -- a backslash and the character behind it
+  -- a backslash and the character after it
   pub string_pair : {t cs ds : List ℕ} {c d : ℕ} → t ≡ c ∷ cs → c ≡ backslash → cs ≡ d ∷ ds
       → (d == letter_x && e) ≡ false
-      → string e to t ≡ prepend (value_behind_backslash e d) (string e to ds)
+      → string e to t ≡ prepend (value_after_backslash e d) (string e to ds)
   string_pair {ds = ds} {d = d} first b next other =
       rw (first, b, next) (string-turn (backslash ∷ d ∷ ds) ∙ rw other)
 
@@ -303,7 +303,7 @@ module _ (e : Bool) (to : Ends) where
       → cs ≡ d ∷ ds → e ≡ true → d ≡ letter_x
       → prepend w (coded_character ds) ≡ found v r → length r < length t
   coded_shortens {t} {ds = ds} {r = r} w first b next on x h =
-      let (u, read, grown) = read_behind w (coded_character ds) h in
+      let (u, read, grown) = read_after w (coded_character ds) h in
       let step : piece e to t ≡ more u r = rw (first, b, next, x, on) (ap as_step read) in
       shortens (Str e to) (StrStops e to) (piece e to) piece-sound step
 

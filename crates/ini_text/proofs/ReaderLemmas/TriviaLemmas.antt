@@ -9,7 +9,7 @@ use Rattle.ini_text.specs.Grammar.Keys.{Indentation}
 use Rattle.ini_text.specs.Grammar.Positions.{starts_line, is_column_one}
 use Rattle.ini_text.specs.Inside.ElementReader.{is_comment_part}
 use Rattle.ini_text.specs.Inside.Scans.{run_of, skipped}
-use Rattle.ini_text.specs.Inside.TriviaSearch.{behind_first, behind_line_end, behind_line_feed}
+use Rattle.ini_text.specs.Inside.TriviaSearch.{past_first, past_line_end, after_line_feed}
 use Rattle.ini_text.specs.Parsing.Fronts.{front_of, IsRest}
 use Rattle.ini_text.specs.Parsing.Trivia.{IsTrivia, BeginsWithNoTrivia, AreTrivia, SkipsTrivia}
 use Rattle.ini_text.specs.declared.option.ParseOption.{ParseOption}
@@ -32,7 +32,7 @@ module _ (b : List ℕ) where
   kind (Element.comment s one mark all) = comment s one mark all
 
   -- the first of the trivia with which a text begins
-  pub record IsBehind (t after : List ℕ) : Type 0 where
+  pub record IsAfter (t after : List ℕ) : Type 0 where
     pub source : List ℕ
     pub whole : t ≡ source ++ after
     pub some : 1 ≤ length source
@@ -84,7 +84,7 @@ module _ (b : List ℕ) where
       cc
 
   blanks-say : (w rest : List ℕ) → Indentation b w → BeginsWithNo is_blank rest
-      → MatchOption (behind_line_end rest) (BeginsNone (w ++ rest)) (λ after. IsBehind (w ++ rest) after)
+      → MatchOption (past_line_end rest) (BeginsNone (w ++ rest)) (λ after. IsAfter (w ++ rest) after)
   blanks-say w [] ind other = λ o s r q t. no_blank_line w [] s r ind tt tt (kind (t (0x61 ∷ []))) q
   blanks-say w (c ∷ cs) ind other = elim (cases_Bool (is_line_end c)) [
     | inl h ↦ rw h (record {
@@ -100,8 +100,8 @@ module _ (b : List ℕ) where
   comment-says : (c : ℕ) (w rest : List ℕ) → is_column_one b ≡ true → is_comment_mark c ≡ true
       → list_all is_comment_part w ≡ true
       → BeginsWithNo is_comment_part rest
-      → MatchOption (behind_line_feed rest) (BeginsNone (c ∷ (w ++ rest)))
-      (λ after. IsBehind (c ∷ (w ++ rest)) after)
+      → MatchOption (after_line_feed rest) (BeginsNone (c ∷ (w ++ rest)))
+      (λ after. IsAfter (c ∷ (w ++ rest)) after)
   comment-says c w [] one mark all other =
       λ o s r q t. no_line_feed c w s r mark all (kind (t (0x61 ∷ []))) q
   comment-says c w (l ∷ rest) one mark all other =
@@ -113,7 +113,7 @@ module _ (b : List ℕ) where
         trivia = λ o r. Element.comment w one mark all;
       })
 
-  first-says : (t : List ℕ) → MatchOption (behind_first b t) (BeginsNone t) (λ after. IsBehind t after)
+  first-says : (t : List ℕ) → MatchOption (past_first b t) (BeginsNone t) (λ after. IsAfter t after)
   first-says [] = λ o s r q t. omega (arith, element-some (t []), ap length q, length-append s r)
   first-says (c ∷ cs) = elim (cases_Bool (is_blank c && starts_line b)) [
     | inl h ↦
@@ -125,7 +125,7 @@ module _ (b : List ℕ) where
         record { at_line_start = two.1; some = two.0; blank = rw (two.0, split.all) refl } in
         rw h
         (subst
-        (λ y. MatchOption (behind_line_end rest) (BeginsNone (c ∷ y)) (λ after. IsBehind (c ∷ y) after))
+        (λ y. MatchOption (past_line_end rest) (BeginsNone (c ∷ y)) (λ after. IsAfter (c ∷ y) after))
         split.whole
         (blanks-say w rest ind split.ends))
     | inr n ↦ elim (cases_Bool (is_whitespace c)) [
@@ -141,8 +141,8 @@ module _ (b : List ℕ) where
             let two = and_parts (is_comment_mark c) (is_column_one b) m in
             let split = run-sound is_comment_part cs in
             let rest = skipped is_comment_part cs in
-            rw (n, x, m) (subst (λ y. MatchOption (behind_line_feed rest) (BeginsNone (c ∷ y))
-            (λ after. IsBehind (c ∷ y) after)) split.whole
+            rw (n, x, m) (subst (λ y. MatchOption (after_line_feed rest) (BeginsNone (c ∷ y))
+            (λ after. IsAfter (c ∷ y) after)) split.whole
             (comment-says c (run_of is_comment_part cs) rest two.1 two.0 split.all split.ends))
         | inr m ↦ rw (n, x, m) (λ o s r q t. no_first c cs s r x m (kind (t (0x61 ∷ []))) q)
       ]
@@ -150,9 +150,9 @@ module _ (b : List ℕ) where
   ]
 
   -- by what the code finds
-  pub first-is : (t : List ℕ) {r : Option (List ℕ)} → behind_first b t ≡ r
-      → MatchOption r (BeginsNone t) (λ after. IsBehind t after)
-  first-is t e = subst (λ r. MatchOption r (BeginsNone t) (λ after. IsBehind t after)) e (first-says t)
+  pub first-is : (t : List ℕ) {r : Option (List ℕ)} → past_first b t ≡ r
+      → MatchOption r (BeginsNone t) (λ after. IsAfter t after)
+  first-is t e = subst (λ r. MatchOption r (BeginsNone t) (λ after. IsAfter t after)) e (first-says t)
 
 module _ {o : ParseOption} where
   -- one more of them
@@ -169,9 +169,9 @@ pub record SkipsOne (T b rest after : List ℕ) : Type 0 where
 module _ {T b front : List ℕ} (rest : List ℕ) (within : IsRest T rest)
     (skipped : (o : ParseOption) → AreTrivia o b (front_of T rest))
     (at : front ≡ front_of T rest) where
-  pub skips_one : {after : List ℕ} → behind_first front rest ≡ Some after → SkipsOne T b rest after
+  pub skips_one : {after : List ℕ} → past_first front rest ≡ Some after → SkipsOne T b rest after
   skips_one {after} e =
-      let x = subst (λ f. IsBehind f rest after) at (first-is front rest e) in
+      let x = subst (λ f. IsAfter f rest after) at (first-is front rest e) in
       let grown = front_grows T rest x.source after within x.whole in
       record {
         within = grown.1;
@@ -179,7 +179,7 @@ module _ {T b front : List ℕ} (rest : List ℕ) (within : IsRest T rest)
         shorter = omega (arith, x.some, ap length x.whole, length-append x.source after);
       }
 
-  pub skips_all : behind_first front rest ≡ None → (o : ParseOption) → SkipsTrivia o T b (front_of T rest)
+  pub skips_all : past_first front rest ≡ None → (o : ParseOption) → SkipsTrivia o T b (front_of T rest)
   skips_all e o = record {
     rest = rest;
     whole = sym within;

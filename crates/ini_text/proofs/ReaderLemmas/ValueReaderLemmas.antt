@@ -15,9 +15,9 @@ use Rattle.ini_text.specs.Inside.LineReader.{line}
 use Rattle.ini_text.specs.Inside.Reading.{Answer, found, stopped, prepend, altered_answer, Step, more, ends, go_on}
 use Rattle.ini_text.specs.Inside.Scans.{run_of, skipped}
 use Rattle.ini_text.specs.Inside.StringReader.{as_step}
-use Rattle.ini_text.specs.Inside.ValueReader.{behind_cr, after_end, empty_cr, before_end, behind_line, row, more_lines, multiline_value, value}
+use Rattle.ini_text.specs.Inside.ValueReader.{past_cr, after_end, empty_cr, before_end, after_line, row, more_lines, multiline_value, value}
 use Rattle.ini_text.proofs.GrammarLemmas.KindLemmas.{blank_inline}
-use Rattle.ini_text.proofs.ReaderLemmas.ReaderLemmas.{and_more, and_found, read_behind, stopped_behind, Says, IsReader, StepSays, prefixed, turn, shortens, reads}
+use Rattle.ini_text.proofs.ReaderLemmas.ReaderLemmas.{and_more, and_found, read_after, stopped_after, Says, IsReader, StepSays, prefixed, turn, shortens, reads}
 use Rattle.ini_text.proofs.ReaderLemmas.LineReaderLemmas.{LineSays, line-reads}
 use Rattle.ini_text.proofs.ReaderLemmas.RunReaderLemmas.{BeginsWith-some, run-finds, run-sound}
 
@@ -41,7 +41,7 @@ after_end-sound (c ∷ cs) = elim (cases_Bool (c == line_feed)) [
       [ inl q ↦ rw (eqb-true c 13 q) (at_cr cs) | inr m ↦ rw (n, m) (rw (n, m) refl) ]
 ]
   where
-    at_cr : (cs : List ℕ) → EndSays (carriage_return ∷ cs) (Some (behind_cr cs))
+    at_cr : (cs : List ℕ) → EndSays (carriage_return ∷ cs) (Some (past_cr cs))
     at_cr [] = (carriage_return ∷ [], LineEnd.cr tt, refl)
     at_cr (d ∷ ds) = elim (cases_Bool (d == line_feed)) [
       | inl q ↦ rw (eqb-true d 10 q) (carriage_return ∷ line_feed ∷ [], LineEnd.cr_lf, refl)
@@ -92,8 +92,8 @@ ended {o} {first} {w} {x} {u} c r lead (l, ln, h) = by (after_end (c ∷ r)) ref
 blank-apart : (c x : ℕ) → is_blank x ≡ false → is_blank c ≡ true → c ≢ x
 blank-apart c x n h q = let z = subst (λ y. is_blank y ≡ true) q h in cc
 
-behind_lead : {w x : List ℕ} → Lead w x → skipped is_inline_white (w ++ x) ≡ x
-behind_lead {w} {x} lead = (run-finds is_inline_white w x lead.white lead.ends).1
+after_lead : {w x : List ℕ} → Lead w x → skipped is_inline_white (w ++ x) ≡ x
+after_lead {w} {x} lead = (run-finds is_inline_white w x lead.white lead.ends).1
 
 module _ (o : ParseOption) where
   abbrev LinesSay : List ℕ → Answer ℕ → Type 0
@@ -113,7 +113,7 @@ module _ (o : ParseOption) where
       (w ++ (l ++ (e ++ s)), MoreLinesStop.continued b x.lead x.line x.end m, simp (append_assoc, h))
 
   abbrev goes_on : Answer ℕ → Step ℕ
-  goes_on a = behind_line (prepend (line_feed ∷ []) a)
+  goes_on a = after_line (prepend (line_feed ∷ []) a)
 
   goes_on-sound : (w x : List ℕ) → BeginsWith is_blank w → Lead w x → (a : Answer ℕ) → LineSays o false x a
       → RowSays (w ++ x) (goes_on a)
@@ -202,7 +202,7 @@ module _ (o : ParseOption) where
         ne_eqb c 10 (blank-apart c 10 refl b),
         ne_eqb c 13 (blank-apart c 13 refl b),
         b,
-        behind_lead
+        after_lead
             {w = w} (record { white = white; ends = lead.ends }),
       )
 
@@ -300,7 +300,7 @@ module _ (o : ParseOption) where
       → value o (w ++ (l ++ (e ++ n))) ≡ joined u (more_lines o n)
   unfolding value
   value-lines {u = u} on ln =
-      rw (behind_lead ln.lead, (line-reads o true).finds ln.line, on, after_end-finds ln.end)
+      rw (after_lead ln.lead, (line-reads o true).finds ln.line, on, after_end-finds ln.end)
 
   pub value-reads : IsReader (Value o) (ValueStops o) (value o)
   unfolding value
@@ -323,17 +323,17 @@ module _ (o : ParseOption) where
 
       finds : {s r v : List ℕ} → Value o s r v → value o (s ++ r) ≡ found v r
       finds {r = r} (Value.one_line {w} {l} off lead ln) =
-          rw (append_assoc w l r, behind_lead lead, (line-reads o true).finds ln, off)
+          rw (append_assoc w l r, after_lead lead, (line-reads o true).finds ln, off)
       finds (Value.to_end {w} {l} {v} on lead ln) =
           let reads : line o true l ≡ found v [] = rw (append-nil l) at ((line-reads o true).finds ln) in
-          rw (append-nil (w ++ l), behind_lead lead, reads, on)
+          rw (append-nil (w ++ l), after_lead lead, reads, on)
       finds (Value.lines {u = u} on lead ln end m) =
           simp append_assoc (value-lines on (record { lead = lead; line = ln; end = end })
           ∙ ap (joined u) (more_lines-reads.finds m))
 
       stops : {s r : List ℕ} {k : ParseKind} → ValueStops o s r k → value o (s ++ r) ≡ stopped r k
       stops {r = r} {k} (ValueStops.first_line {w} {s} lead x) =
-          rw (append_assoc w s r, behind_lead lead, (line-reads o true).stops x)
+          rw (append_assoc w s r, after_lead lead, (line-reads o true).stops x)
           (cond_both o.enabled_indented_mutiline_value _ _ (λ a. a ≡ stopped r k) (λ on. refl) (λ off. refl))
       stops (ValueStops.later_line {u = u} on lead ln end m) =
           simp append_assoc (value-lines on (record { lead = lead; line = ln; end = end })
@@ -359,14 +359,14 @@ module _ (o : ParseOption) where
       → empty_cr cs ≡ stopped r k → more_lines o t ≡ stopped r k
   empty_cr_stops {cs = cs} is q h = rw (is, q) (lines-turn (carriage_return ∷ cs) ∙ rw h)
 
-  -- a line that begins with a blank, behind what was read, `old`, and a line feed
+  -- a line that begins with a blank, after what was read, `old`, and a line feed
   module _ {t cs start : List ℕ} {c : ℕ} (old pushed : List ℕ) (is : t ≡ c ∷ cs) (b : is_blank c ≡ true)
       (skips : start ≡ skipped is_inline_white t) (feed : pushed ≡ old ++ line_feed ∷ []) where
     row-at : row o t ≡ goes_on (line o false start)
     row-at =
-        let behind : start ≡ skipped is_inline_white cs = skips ∙ ap (skipped is_inline_white) is
+        let following : start ≡ skipped is_inline_white cs = skips ∙ ap (skipped is_inline_white) is
         ∙ cond-true (is_inline_white c) _ _ (blank_inline c b) in
-        rw (behind, is)
+        rw (following, is)
         (rw (ne_eqb c 10 (blank-apart c 10 refl b), ne_eqb c 13 (blank-apart c 13 refl b), b))
 
     line-turn : more_lines o t ≡ go_on (more_lines o) (goes_on (line o false start))
@@ -379,7 +379,7 @@ module _ (o : ParseOption) where
         → after_end end ≡ Some next
         → (prepend old (more_lines o t) ≡ prepend new (more_lines o next)) × (length next < length t)
     line_goes_on {end = end} {next} h e =
-        let (u, read, grown) = read_behind pushed (line o false start) h in
+        let (u, read, grown) = read_after pushed (line o false start) h in
         let step : row o t ≡ more (line_feed ∷ u) next =
         row-at ∙ ap goes_on read ∙ ap (before_end (line_feed ∷ u) end) e in (
           and_more old (line_feed ∷ u) (more_lines o next) refl
@@ -390,7 +390,7 @@ module _ (o : ParseOption) where
     pub line_ends : {new end : List ℕ} → prepend pushed (line o false start) ≡ found new end
         → after_end end ≡ None → prepend old (more_lines o t) ≡ found new end
     line_ends {end = end} h e =
-        let (u, read, grown) = read_behind pushed (line o false start) h in
+        let (u, read, grown) = read_after pushed (line o false start) h in
         let step : row o t ≡ ends (found (line_feed ∷ u) end) =
         row-at ∙ ap goes_on read ∙ ap (before_end (line_feed ∷ u) end) e in
         and_found old refl (lines-turn t ∙ ap (go_on (more_lines o)) step) (grown-by u grown)
@@ -399,9 +399,9 @@ module _ (o : ParseOption) where
         → prepend old (more_lines o t) ≡ stopped r k
     line_stops h =
         ap (prepend old) (line-turn
-        ∙ ap (λ a. go_on (more_lines o) (goes_on a)) (stopped_behind pushed (line o false start) h))
+        ∙ ap (λ a. go_on (more_lines o) (goes_on a)) (stopped_after pushed (line o false start) h))
 
-  -- a value, behind its lead
+  -- a value, after its lead
   module _ {start : List ℕ} (t : List ℕ) (skips : start ≡ skipped is_inline_white t) where
     pub value_line : o.enabled_indented_mutiline_value ≡ false → value o t ≡ line o true start
     unfolding value

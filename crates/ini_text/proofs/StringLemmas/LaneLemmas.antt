@@ -193,7 +193,7 @@ bits_past p (suc j) (suc k) (x ∷ xs) =
     ∙ ap (λ n. n / 2 ^ j) (halved (p x) bits) ∙ bits_past p j k xs
     ∙ ap (λ n. mask_l (map p (take n (drop j xs)))) (let same : k - j ≡ suc k - suc j = omega arith in same)
 
--- What bits tell of the first bytes, behind which so many more follow.
+-- What bits tell of the first bytes, after which so many more follow.
 module _ (p : ℕ → Bool) where
   pub Tells-none : (more : ℕ) (bytes : List ℕ) → Tells p more 0 bytes
   Tells-none more bytes = record { lanes = 0; few = omega arith; within = λ some. omega arith; are = refl }
@@ -254,7 +254,7 @@ Tells-same p q same {bytes = bytes} tells = record {
   are = tells.are ∙ ap mask_l (map_same p q same (take tells.lanes bytes));
 }
 
--- of lanes that are put behind the first bytes, so many are kept
+-- of lanes that are put after the first bytes, so many are kept
 pub placed : (len n : ℕ) (bytes lanes : List ℕ) → len + length lanes ≤ length bytes → n ≤ length lanes
     → take (len + n) (put_chunk len bytes lanes) ≡ take len bytes ++ take n lanes
 placed len n bytes lanes room some =

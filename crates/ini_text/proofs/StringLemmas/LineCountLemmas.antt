@@ -74,7 +74,7 @@ pub no_lines : (text : List ℕ) → IsUtf8 text → ((k : ℕ) → k < length t
     → 0 ≡ count_by is_line_feed (chars text)
 no_lines text u none = sym (no_feeds text none) ∙ feeds_of_text text u
 
--- an LF stands there, and none behind it
+-- an LF stands there, and none after it
 abbrev pub IsLastFeed : List ℕ → ℕ → Type 0
 IsLastFeed text last =
     (last < length text) × (get_or text last 0 ≡ line_feed)
@@ -86,9 +86,9 @@ ends_in_feed text last (within, is, none) =
     take_more text last 0 within ∙ ap (λ c. take last text ++ c ∷ []) is
     ∙ ap (λ l. take last text ++ l) (sym (encode_ascii line_feed (omega arith)))
 
-none_behind : (text : List ℕ) (last : ℕ) → IsLastFeed text last
+none_after : (text : List ℕ) (last : ℕ) → IsLastFeed text last
     → count_by is_line_feed (drop (last + 1) text) ≡ 0
-none_behind text last (within, is, none) = no_feeds (drop (last + 1) text) (λ k inside is_feed.
+none_after text last (within, is, none) = no_feeds (drop (last + 1) text) (λ k inside is_feed.
     none (last + 1 + k) (omega arith) (omega (arith, length-drop (last + 1) text))
     (sym (get_or-drop (last + 1) text k 0) ∙ is_feed))
 
@@ -109,5 +109,5 @@ feeds_of_lines text lines last u is_last are =
     let front = take (last + 1) text in
     let whole = ap (count_by is_line_feed) (take-append-drop (last + 1) text) in
     let parts = feeds_of_parts front (drop (last + 1) text) in
-    ap (count_by is_line_feed) are ∙ omega (arith, none_behind text last is_last, whole, parts)
+    ap (count_by is_line_feed) are ∙ omega (arith, none_after text last is_last, whole, parts)
     ∙ feeds_of_text text u

@@ -6,7 +6,7 @@ use Rattle.std.specs.List.{list_any, fold}
 use Rattle.ini_text.specs.Grammar.CharacterKinds.{line_feed, is_line_feed}
 use Rattle.ini_text.specs.Grammar.Positions.{last_line, column_of}
 
--- the column behind a text that begins at column n
+-- the column after a text that begins at column n
 abbrev pub column_from : ℕ → List ℕ → ℕ
 column_from n cs = cond (list_any is_line_feed cs) (1 + length (last_line cs)) (n + length cs)
 

@@ -10,7 +10,7 @@ use Rattle.ini_text.specs.Grammar.CharacterKinds.{BeginsWithNo}
 use Rattle.ini_text.specs.Inside.Scans.{is_visible, trimmed_at}
 use Rattle.ini_text.specs.Grammar.WhiteSpace.{end_trimmed, trimmed}
 use Rattle.ini_text.proofs.StringLemmas.PushLemmas.{one_character}
-use Rattle.ini_text.proofs.PlainLemmas.PlainTrimLemmas.{end_trimmed-behind, end_trimmed-blanks, skip_none}
+use Rattle.ini_text.proofs.PlainLemmas.PlainTrimLemmas.{end_trimmed-after, end_trimmed-blanks, skip_none}
 use Rattle.ini_text.proofs.StringLemmas.RunLemmas.{split_chars}
 
 visible-low : (c : ℕ) → is_visible c ≡ true → c < 128
@@ -35,7 +35,7 @@ visible_last t n c u long last sees =
     ∙ ap (λ x. chars (take n t) ++ x)
     (ap chars one ∙ one_character (c ∷ []) text refl (visible-low c sees)) in
     subst (λ x. end_trimmed x ≡ x) (sym parts)
-    (end_trimmed-behind (chars (take n t)) (c ∷ []) (λ e. cc) (one_kept c (visible-black c sees)))
+    (end_trimmed-after (chars (take n t)) (c ∷ []) (λ e. cc) (one_kept c (visible-black c sees)))
 
 visible_first : (t : List ℕ) (c : ℕ) → IsUtf8 t → 0 < length t → get_or t 0 0 ≡ c → is_visible c ≡ true
     → BeginsWithNo is_whitespace (chars t)
@@ -62,8 +62,8 @@ trimmed-space (c ∷ cs) = at (is_whitespace c) (trimmed-space cs)
     at : (b : Bool) → trimmed (cs ++ 32 ∷ []) ≡ trimmed cs
         → end_trimmed (cond b (skip_leading_whitespace (cs ++ 32 ∷ [])) (c ∷ (cs ++ 32 ∷ [])))
         ≡ end_trimmed (cond b (skip_leading_whitespace cs) (c ∷ cs))
-    at true behind = behind
-    at false behind = end_trimmed-blanks (c ∷ cs) (32 ∷ []) refl
+    at true following = following
+    at false following = end_trimmed-blanks (c ∷ cs) (32 ∷ []) refl
 
 pub trimmed_at-space : (both : Bool) (cs : List ℕ) → trimmed_at both (cs ++ 32 ∷ []) ≡ trimmed_at both cs
 trimmed_at-space true cs = trimmed-space cs

@@ -22,7 +22,7 @@ use Rattle.ini_text.specs.declared.option.ParseOption.{ParseOption}
 use Rattle.ini_text.specs.declared.error.ParseKind.{ParseKind}
 use Rattle.ini_text.proofs.GrammarLemmas.ItemLemmas.{reads-append}
 
--- behind the front b, the rest t of a text gives the items
+-- after the front b, the rest t of a text gives the items
 pub data RestGives (o : ParseOption) : List ℕ → List ℕ → List Given → Type 0 where
   whole : {b : List ℕ} → RestGives o b [] []
   skip : {b s r : List ℕ} {items : List Given} → Element o b s r [] → RestGives o (b ++ s) r items
@@ -30,7 +30,7 @@ pub data RestGives (o : ParseOption) : List ℕ → List ℕ → List Given → 
   give : {b s r : List ℕ} {item : Given} {items : List Given} → Element o b s r (item ∷ [])
       → RestGives o (b ++ s) r items → RestGives o b (s ++ r) (item ∷ items)
 
--- behind the front b, reading the rest t of a text stops at the end of the front f
+-- after the front b, reading the rest t of a text stops at the end of the front f
 pub data RestStops (o : ParseOption) : List ℕ → List ℕ → ParseKind → List ℕ → Type 0 where
   stop : {b s r : List ℕ} {kind : ParseKind} → ElementStops o b s r kind
       → RestStops o b (s ++ r) kind (b ++ s)
@@ -172,7 +172,7 @@ pub one_line : {o : ParseOption} {s r v : List ℕ} → o.enabled_indented_mutil
     → is_lead [] (s ++ r) ≡ true → Line o true s r v → Value o s r v
 one_line {s = s} {r = r} m h content = Value.one_line {w = []} m (lead [] (s ++ r) h) content
 
--- what a key of the string k behind the blanks w is, without backslashes
+-- what a key of the string k after the blanks w is, without backslashes
 abbrev pub key_of : ParseOption → List ℕ → List ℕ → List ℕ
 key_of o w k = if o.enabled_preserve_key_leading_whitespace then end_trimmed (w ++ k) else trimmed k
 
@@ -193,14 +193,14 @@ plain_key {r = r} k h =
     let parts = and_parts (begins begins_key (k ++ r)) (is_raw_string key_ends k r) h in
     KeyFront.unindented (begins_with begins_key (k ++ r) parts.0) (raw_string k parts.1)
 
--- a key before r behind the blanks w
+-- a key before r after the blanks w
 abbrev pub is_indented_key : List ℕ → List ℕ → List ℕ → List ℕ → Bool
 is_indented_key b w k r =
     is_indentation b w && (begins begins_indented_key (k ++ r) && is_raw_string key_ends k r)
 
-pub key_behind_blanks : {o : ParseOption} {b r : List ℕ} (w k : List ℕ) → is_indented_key b w k r ≡ true
+pub key_after_blanks : {o : ParseOption} {b r : List ℕ} (w k : List ℕ) → is_indented_key b w k r ≡ true
     → KeyFront o b (w ++ k) r (key_of o w k)
-key_behind_blanks {b = b} {r = r} w k h =
+key_after_blanks {b = b} {r = r} w k h =
     let blanks =
     and_parts (is_indentation b w) (begins begins_indented_key (k ++ r) && is_raw_string key_ends k r) h in
     let parts = and_parts (begins begins_indented_key (k ++ r)) (is_raw_string key_ends k r) blanks.1 in
@@ -213,10 +213,10 @@ pub pair_of : {o : ParseOption} {b s r v : List ℕ} (k : List ℕ) → is_plain
     → Value o s r v → Element o b (k ++ equals ∷ s) r (Pair (key_of o [] k) v ∷ [])
 pair_of k key some value = Element.pair (plain_key k key) (not_empty some) refl value
 
-pub pair_behind_blanks : {o : ParseOption} {b s r v : List ℕ} (w k : List ℕ)
+pub pair_after_blanks : {o : ParseOption} {b s r v : List ℕ} (w k : List ℕ)
     → is_indented_key b w k (equals ∷ (s ++ r)) ≡ true → begins is_any (key_of o w k) ≡ true
     → Value o s r v → Element o b ((w ++ k) ++ equals ∷ s) r (Pair (key_of o w k) v ∷ [])
-pair_behind_blanks w k key some value = Element.pair (key_behind_blanks w k key) (not_empty some) refl value
+pair_after_blanks w k key some value = Element.pair (key_after_blanks w k key) (not_empty some) refl value
 
 -- such a pair in whose value reading stops
 pub stops_in_value_of : {o : ParseOption} {b s r : List ℕ} {kind : ParseKind} (k : List ℕ)
@@ -255,7 +255,7 @@ plain_header {o} {r = r} n h =
     and_parts (not o.enabled_brackets_in_section_names) (is_raw_string name_ends n (close_bracket ∷ r)) h in
     Element.header (not-true o.enabled_brackets_in_section_names parts.0) (raw_string n parts.1)
 
--- such a header with brackets in names, and the blanks w behind its last bracket
+-- such a header with brackets in names, and the blanks w after its last bracket
 abbrev pub is_bracketed_header : ParseOption → List ℕ → List ℕ → List ℕ → Bool
 is_bracketed_header o n w r =
     o.enabled_brackets_in_section_names

@@ -172,7 +172,7 @@ letter_key o = record {
 }
 
 spaces : IsPlainKey kept Basics (codes "  k")
-spaces = IsPlainKey.behind_spaces (codes "  ") refl refl refl (letter_key kept)
+spaces = IsPlainKey.after_spaces (codes "  ") refl refl refl (letter_key kept)
 
 -- a tab before a key, which is escaped, in multiline values too
 tab_before : (o : ParseOption) → o.enabled_preserve_key_leading_whitespace ≡ true
@@ -185,6 +185,6 @@ tab_before o on = record {
   no_comment = refl;
 }
 
--- a mark of a comment begins a key only where it is escaped, behind spaces too
+-- a mark of a comment begins a key only where it is escaped, after spaces too
 comment_mark : (o : ParseOption) → ¬ IsBareKey o Basics (codes ";k")
 comment_mark o k = true≢false k.no_comment

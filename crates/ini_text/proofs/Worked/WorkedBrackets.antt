@@ -22,8 +22,8 @@ pub last_bracket_ends_a_name : Derives with_brackets (codes "[a]]\nk=v\n")
 last_bracket_ends_a_name = derives (give (plain_bracketed_header (codes "a]") [] refl) (skip (white refl) (
     give (plain_pair (codes "k") (codes "v") refl) (skip (white refl) whole))))
 
--- Behind the last bracket stands something else than a blank, which is told at the line end.
-pub text_behind_a_header : StopsAt with_brackets (codes "[a]x\n") HeaderEnd 2 1
-text_behind_a_header = stops_at
+-- After the last bracket stands something else than a blank, which is reported at the line end.
+pub text_after_a_header : StopsAt with_brackets (codes "[a]x\n") HeaderEnd 2 1
+text_after_a_header = stops_at
     (stop (ElementStops.no_header_end refl (raw_string (codes "a]x") refl) (no_name (codes "a]x") refl)))
     refl refl

@@ -51,9 +51,9 @@ surrogate =
     (StrStops.in_escape Row.none refl
     (EscapeStops.unknown (units_before (codes "D800") refl Units.none) refl refl)))))) refl refl
 
--- A comment's mark behind CR isn't in column one.
-pub comment_behind_cr : StopsAt default_parse_option (codes "k=v\r# c\n") InlineComment 1 6
-comment_behind_cr = stops_at
+-- A comment's mark after CR isn't in column one.
+pub comment_after_cr : StopsAt default_parse_option (codes "k=v\r# c\n") InlineComment 1 6
+comment_after_cr = stops_at
     (past (plain_pair (codes "k") (codes "v") refl)
     (past (white refl) (stop (ElementStops.late_comment refl refl)))) refl refl
 

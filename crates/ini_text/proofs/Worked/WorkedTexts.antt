@@ -14,7 +14,7 @@ use Rattle.ini_text.specs.Grammar.Elements.{Element}
 use Rattle.ini_text.specs.Grammar.Elements.Given.{Header, Pair}
 use Rattle.ini_text.specs.Grammar.Texts.{Derives}
 use Rattle.ini_text.specs.declared.option.ParseOption.{ParseOption}
-use Rattle.ini_text.proofs.Worked.DerivationLemmas.{derives, differs, one_line, pair_of, plain_pair, plain_header, white, not_empty, raws, raws_before, plain_key, pair_behind_blanks, plain_line, unquoted_line, raw_string, quoted, lead, indentation}
+use Rattle.ini_text.proofs.Worked.DerivationLemmas.{derives, differs, one_line, pair_of, plain_pair, plain_header, white, not_empty, raws, raws_before, plain_key, pair_after_blanks, plain_line, unquoted_line, raw_string, quoted, lead, indentation}
 use Rattle.ini_text.proofs.Worked.DerivationLemmas.RestGives.{whole, skip, give}
 
 -- The options that differ from the default in one field; `without_escapes` is another.
@@ -72,7 +72,7 @@ trimmed_keys_and_values = derives (
     give (Element.pair {k = codes "x"} {s = codes " y"} (plain_key (codes "x") refl) (not_empty refl) refl
     (Value.one_line {w = codes " "} refl (lead _ _ refl) (plain_line (codes "y") refl))) whole))))))
 
--- Quoted parts and the plain part behind them join. The plain part then keeps the white space that it begins
+-- Quoted parts and the plain part after them join. The plain part then keeps the white space that it begins
 -- with.
 pub quoted_and_plain_parts : Derives default_parse_option (codes "k=\"a\"\"b\" c")
     (Pair (codes "k") (codes "ab c") ∷ [])
@@ -99,7 +99,7 @@ continued_line = derives (give (pair_of (codes "k") refl refl (one_line refl ref
 pub key_with_kept_indentation : Derives with_kept_indentation (codes "# c\n  k=v")
     (Pair (codes "  k") (codes "v") ∷ [])
 key_with_kept_indentation = derives (skip (Element.comment (codes " c") refl refl refl) (
-    give (pair_behind_blanks (codes "  ") (codes "k") refl refl
+    give (pair_after_blanks (codes "  ") (codes "k") refl refl
     (one_line refl refl (plain_line (codes "v") refl))) whole))
 
 -- An indented key without a separator is dropped.

@@ -78,17 +78,17 @@ module _ (p : ℕ → Bool) where
   stopped_at_mark bytes run stops = rw stops.position (passes_at_first p bytes 0
       (let inside = stops.within in omega (arith, inside, stops.position)))
 
-  -- the same behind bytes that are not marked
-  pub marked_escaped-behind : (bytes : List ℕ) (run : ℕ) → StopsAt p 0 bytes run → marked_escaped p bytes
+  -- the same after bytes that are not marked
+  pub marked_escaped-after : (bytes : List ℕ) (run : ℕ) → StopsAt p 0 bytes run → marked_escaped p bytes
       ≡ (take run bytes ++ escape (get_or bytes run 0)) ++ marked_escaped p (drop (run + 1) bytes)
-  marked_escaped-behind bytes run stops =
+  marked_escaped-after bytes run stops =
       marked_escaped-run run bytes (omega (arith, stops.position))
       ∙ ap (λ l. take run bytes ++ l) (marked_escaped-marked bytes run (omega (arith, stops.within))
       (stopped_at_mark bytes run stops))
       ∙ sym (append_assoc (take run bytes) (escape (get_or bytes run 0))
       (marked_escaped p (drop (run + 1) bytes)))
 
-  -- the bytes before the first that is marked, and what stands behind them
+  -- the bytes before the first that is marked, and what stands after them
   pub marked_escaped-split : (bytes front back : List ℕ) (run : ℕ) → run ≡ position_or_len p bytes
       → front ≡ take run bytes → back ≡ drop run bytes
       → marked_escaped p bytes ≡ front ++ marked_escaped p back

@@ -21,16 +21,16 @@ pub at_ok : {P : Type 0} (r : Result (Unit {0}) Error) → P → OnOk r P
 at_ok (Ok x) holds = holds
 at_ok (Err e) holds = tt
 
--- a text escaped, and another as it is behind it
-part-bytes : (policy : EscapePolicy) (text behind : List ℕ) → IsUtf8 behind
-    → encode_utf8_all (escaped policy (chars text) ++ chars behind) ≡ escaped_bytes policy text ++ behind
-part-bytes policy text behind utf8 = rw (encodes-append, encodes-chars behind utf8) refl
+-- a text escaped, and another as it is after it
+part-bytes : (policy : EscapePolicy) (text following : List ℕ) → IsUtf8 following
+    → encode_utf8_all (escaped policy (chars text) ++ chars following) ≡ escaped_bytes policy text ++ following
+part-bytes policy text following utf8 = rw (encodes-append, encodes-chars following utf8) refl
 
-part-scalars : (policy : EscapePolicy) (text behind : List ℕ) → IsUtf8 text → IsUtf8 behind
-    → all_scalars (escaped policy (chars text) ++ chars behind) ≡ true
-part-scalars policy text behind u v =
-    scalars-append (escaped policy (chars text)) (chars behind)
-    (escaped-scalars policy (chars text) (scalars-chars text u)) (scalars-chars behind v)
+part-scalars : (policy : EscapePolicy) (text following : List ℕ) → IsUtf8 text → IsUtf8 following
+    → all_scalars (escaped policy (chars text) ++ chars following) ≡ true
+part-scalars policy text following u v =
+    scalars-append (escaped policy (chars text)) (chars following)
+    (escaped-scalars policy (chars text) (scalars-chars text u)) (scalars-chars following v)
 
 module _ {W : Type 0} {contents : W → Option (List ℕ)} where
   pub WritesBytes-nil : {a : Watched W} → IsClear a → WritesBytes contents a a (Ok (tt {0})) []
@@ -45,7 +45,7 @@ module _ {W : Type 0} {contents : W → Option (List ℕ)} where
     only = tt;
   }
 
-  -- the second bytes behind the first
+  -- the second bytes after the first
   WritesBytes-then : {a b c : Watched W} {xs ys : List ℕ} {r : Result (Unit {0}) Error} → IsClear a
       → WritesBytes contents a b (Ok (tt {0})) xs → WritesBytes contents b c r ys
       → WritesBytes contents a c r (xs ++ ys)
@@ -81,7 +81,7 @@ module _ {W : Type 0} {contents : W → Option (List ℕ)} where
         only = cut.only;
       }
 
-  -- bytes that are held back
+  -- bytes that are buffered
   pub SendsBytes-held : {a : Watched W} {g h : Gatherer} {xs : List ℕ} → IsClear a
       → held h ≡ held g ++ xs → SendsBytes contents a a g h (Ok (tt {0})) xs
   SendsBytes-held {g = g} {xs = xs} clear is = record {
@@ -92,11 +92,11 @@ module _ {W : Type 0} {contents : W → Option (List ℕ)} where
     held_back = is;
   }
 
-  -- what is held back already, and the bytes that are left
-  pub SendsBytes-behind : {a b : Watched W} {g h i : Gatherer} {xs ys : List ℕ}
+  -- what is buffered already, and the bytes that are left
+  pub SendsBytes-after : {a b : Watched W} {g h i : Gatherer} {xs ys : List ℕ}
       {r : Result (Unit {0}) Error} → held g ++ xs ≡ held h ++ ys → SendsBytes contents a b h i r ys
       → SendsBytes contents a b g i r xs
-  SendsBytes-behind same sent = record {
+  SendsBytes-after same sent = record {
     done = sent.done;
     rest = sent.rest;
     parts = same ∙ sent.parts;
@@ -104,7 +104,7 @@ module _ {W : Type 0} {contents : W → Option (List ℕ)} where
     held_back = sent.held_back;
   }
 
-  -- bytes that go out while nothing is held back
+  -- bytes that go out while nothing is buffered
   pub SendsBytes-direct : {a b : Watched W} {g : Gatherer} {xs : List ℕ} {r : Result (Unit {0}) Error}
       → held g ≡ [] → WritesBytes contents a b r xs → SendsBytes contents a b g g r xs
   SendsBytes-direct {xs = xs} {r = r} none all = record {
@@ -115,7 +115,7 @@ module _ {W : Type 0} {contents : W → Option (List ℕ)} where
     held_back = at_ok r none;
   }
 
-  -- the second bytes behind the first
+  -- the second bytes after the first
   pub SendsBytes-then : {a b c : Watched W} {g h i : Gatherer} {xs ys : List ℕ}
       {r : Result (Unit {0}) Error} → IsClear a → SendsBytes contents a b g h (Ok (tt {0})) xs
       → SendsBytes contents b c h i r ys → SendsBytes contents a c g i r (xs ++ ys)
@@ -188,7 +188,7 @@ module _ {W : Type 0} {contents : W → Option (List ℕ)} where
       → Sends contents a a g h (Ok (tt {0})) []
   Sends-nil clear is = record { bytes = SendsBytes-held clear is; characters = refl }
 
-  -- the second text behind the first
+  -- the second text after the first
   pub Sends-then : {a b c : Watched W} {g h i : Gatherer} {xs ys : List ℕ} {r : Result (Unit {0}) Error}
       → IsClear a → Sends contents a b g h (Ok (tt {0})) xs → Sends contents b c h i r ys
       → Sends contents a c g i r (xs ++ ys)
@@ -218,7 +218,7 @@ module _ {W : Type 0} {contents : W → Option (List ℕ)} where
       subst (WritesBytes contents a c r) (append-nil (encode_utf8_all xs))
       (SendsBytes-all r none (SendsBytes-then clear first.bytes second.bytes) empty)
 
--- a front of the whole was written, and the rest is held back or is to come
+-- a front of the whole was written, and the rest is buffered or is to come
 pub record Leaving {W : Type 0} (contents : W → Option (List ℕ)) (a b : Watched W) (whole left : List ℕ)
     : Type 0 where
   pub done : List ℕ
@@ -241,7 +241,7 @@ module _ {W : Type 0} {contents : W → Option (List ℕ)} where
 
   module _ {a b c : Watched W} {h i : Gatherer} {whole left : List ℕ} (clear : IsClear a) (xs : List ℕ)
       (so_far : Leaving contents a b whole left) where
-    -- a call that was to send the bytes xs behind what is held
+    -- a call that was to send the bytes xs after what is held
     pub Leaving-goes_on : (more : List ℕ) → left ≡ held h ++ (xs ++ more)
         → SendsBytes contents b c h i (Ok (tt {0})) xs → Leaving contents a c whole (held i ++ more)
     Leaving-goes_on more front step = record {

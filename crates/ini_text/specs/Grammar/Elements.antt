@@ -1,4 +1,4 @@
--- Elements: gaps, comments, headers, pairs and a dropped tail, each behind the front b.
+-- Elements: gaps, comments, headers, pairs and a dropped tail, each after the front b.
 use Rattle.std.specs.Prelude.{◌≡◌, ◌≢◌, ℕ, true, false, not, List, [], ◌∷◌, ◌++◌}
 use Rattle.std.specs.Char.{is_whitespace}
 use Rattle.std.specs.List.{list_all}
@@ -68,7 +68,7 @@ pub data ElementStops (o : ParseOption) (b : List ℕ) : List ℕ → List ℕ �
       → StrStops o.enabled_escape name_ends s r kind → ElementStops o b (open_bracket ∷ s) r kind
   in_bracketed_header : {s r : List ℕ} {kind : ParseKind} → o.enabled_brackets_in_section_names ≡ true
       → StrStops o.enabled_escape bracketed_name_ends s r kind → ElementStops o b (open_bracket ∷ s) r kind
-  -- no bracket ends the name, which is told at the line end's first character
+  -- no bracket ends the name, which is reported at the line end's first character
   no_header_end : {s r v : List ℕ} {c : ℕ} → o.enabled_brackets_in_section_names ≡ true
       → Str o.enabled_escape bracketed_name_ends s (c ∷ r) v
       → ((name : List ℕ) → ¬ IsBracketed v name)

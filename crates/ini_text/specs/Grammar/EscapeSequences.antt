@@ -46,7 +46,7 @@ pub data EscapeSequence (escapes : Bool) : List ℕ → List ℕ → Type 0 wher
   kept : {c : ℕ} → escapes ≡ false → c ≢ line_feed
       → EscapeSequence escapes (backslash ∷ c ∷ []) (backslash ∷ c ∷ [])
 
--- Units behind \x: each a character other than a backslash, or a backslash and LF, which stands for none.
+-- Units after \x: each a character other than a backslash, or a backslash and LF, which stands for none.
 pub data Units : List ℕ → List (Option ℕ) → Type 0 where
   none : Units [] []
   character : {c : ℕ} {s : List ℕ} {us : List (Option ℕ)} → c ≢ backslash → Units s us
@@ -63,7 +63,7 @@ pub data EscapeStops : List ℕ → List ℕ → ParseKind → Type 0 where
   -- the text ends before the fourth unit
   cut_short : {u : List ℕ} {us : List (Option ℕ)} → Units u us → length us < 4
       → EscapeStops (backslash ∷ letter_x ∷ u) [] EndOfText
-  -- the text ends behind a backslash among the units
+  -- the text ends after a backslash among the units
   cut_in_unit : {u : List ℕ} {us : List (Option ℕ)} → Units u us → length us < 4
       → EscapeStops (backslash ∷ letter_x ∷ (u ++ backslash ∷ [])) [] EndOfText
   -- a backslash among the units, before a character other than LF

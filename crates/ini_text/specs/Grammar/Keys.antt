@@ -9,7 +9,7 @@ use Rattle.ini_text.specs.Grammar.WhiteSpace.{trimmed, end_trimmed}
 use Rattle.ini_text.specs.Grammar.Strings.{Str, key_ends}
 use Rattle.ini_text.specs.declared.option.ParseOption.{ParseOption}
 
--- the blanks with which a line begins behind the front b, at least one
+-- the blanks with which a line begins after the front b, at least one
 pub record Indentation (b blanks : List ℕ) : Type 0 where
   pub at_line_start : starts_line b ≡ true
   pub some : BeginsWith is_blank blanks

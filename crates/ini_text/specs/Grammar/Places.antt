@@ -13,7 +13,7 @@ use Rattle.ini_text.specs.Grammar.Keys.{KeyFront}
 use Rattle.ini_text.specs.declared.option.ParseOption.{ParseOption}
 
 -- A pair's stretches: its key, with the blanks that indent it; the separator; the white space before its
--- value; the value as it is written; the white space behind that; and the lines that give nothing more.
+-- value; the value as it is written; the white space after that; and the lines that give nothing more.
 pub record Stretches : Type 0 where
   pub key : List ℕ
   pub separator : ℕ
@@ -22,7 +22,7 @@ pub record Stretches : Type 0 where
   pub pad : List ℕ
   pub tail : List ℕ
 
--- what stands behind the separator
+-- what stands after the separator
 abbrev pub value_source : Stretches → List ℕ
 value_source p = p.lead ++ (p.own ++ (p.pad ++ p.tail))
 
@@ -45,7 +45,7 @@ pub data OwnLines (o : ParseOption) : List ℕ → List ℕ → Type 0 where
   more : {l e t r u : List ℕ} → Line o true l (e ++ (t ++ r)) u → LineEnd e (t ++ r) → LastLine o t r
       → OwnLines o (l ++ (e ++ t)) r
 
--- what stands behind a value's own lines, before r: nothing; or, where values are multiline, their last line
+-- what stands after a value's own lines, before r: nothing; or, where values are multiline, their last line
 -- end and lines that give line feeds alone
 pub data Tail (o : ParseOption) : List ℕ → List ℕ → Type 0 where
   line : {r : List ℕ} → o.enabled_indented_mutiline_value ≡ false → Closes plain_ends r → Tail o [] r
@@ -64,7 +64,7 @@ pub data Padded : List ℕ → List ℕ → Type 0 where
   escaped : (front white : List ℕ) → list_all is_inline_white white ≡ true
       → Padded (front ++ backslash ∷ white) []
 
--- behind the front b and before r the stretches are those of a pair of this key and value
+-- after the front b and before r the stretches are those of a pair of this key and value
 pub record ArePlaced (o : ParseOption) (b : List ℕ) (p : Stretches) (r key value : List ℕ) : Type 0 where
   pub key_front : KeyFront o b p.key (p.separator ∷ (value_source p ++ r)) key
   pub some : key ≢ []

@@ -25,6 +25,6 @@ last_line (c ∷ cs) = if list_any is_line_feed (c ∷ cs) then last_line cs els
 abbrev pub line_of : List ℕ → ℕ
 line_of front = 1 + count_by is_line_feed front
 
--- one more than there are characters behind the front's last LF
+-- one more than there are characters after the front's last LF
 abbrev pub column_of : List ℕ → ℕ
 column_of front = 1 + length (last_line front)

@@ -58,7 +58,7 @@ pub data Str (escapes : Bool) (ends : Ends) : List ℕ → List ℕ → List ℕ
 
 -- a string's source s, at whose end reading stops, before r
 pub data StrStops (escapes : Bool) (ends : Ends) : List ℕ → List ℕ → ParseKind → Type 0 where
-  -- the text ends before an endpoint, perhaps behind a backslash
+  -- the text ends before an endpoint, perhaps after a backslash
   at_end : {s v : List ℕ} → Row escapes ends s v → ends.text ≡ false → StrStops escapes ends s [] EndOfText
   after_backslash : {s v : List ℕ} → Row escapes ends s v → ends.text ≡ false
       → StrStops escapes ends (s ++ backslash ∷ []) [] EndOfText

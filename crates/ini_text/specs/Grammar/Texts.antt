@@ -15,7 +15,7 @@ pub data Reads (o : ParseOption) (T : List ℕ) : List ℕ → List Given → Li
 abbrev pub Derives : ParseOption → List ℕ → List Given → Type 0
 Derives o T items = Reads o T [] items T
 
--- behind a front that a row of elements reaches, an element stops at the end of the front f
+-- after a front that a row of elements reaches, an element stops at the end of the front f
 pub data Stops (o : ParseOption) (T : List ℕ) : ParseKind → List ℕ → Type 0 where
   stops : {b s r : List ℕ} {items : List Given} {kind : ParseKind} → Reads o T [] items b
       → T ≡ b ++ (s ++ r) → ElementStops o b s r kind → Stops o T kind (b ++ s)

@@ -14,7 +14,7 @@ pub data LineEnd : List ℕ → List ℕ → Type 0 where
   cr_lf : {r : List ℕ} → LineEnd (carriage_return ∷ line_feed ∷ []) r
   cr : {r : List ℕ} → BeginsWithNo is_line_feed r → LineEnd (carriage_return ∷ []) r
 
--- the lines behind a value's first line end, before r, and their values joined
+-- the lines after a value's first line end, before r, and their values joined
 pub data MoreLines (o : ParseOption) : List ℕ → List ℕ → List ℕ → Type 0 where
   done : {r : List ℕ} → BeginsWithNo is_blank r → BeginsWithNo is_line_end r → MoreLines o [] r []
   empty_lf : {t r v : List ℕ} → MoreLines o t r v → MoreLines o (line_feed ∷ t) r (line_feed ∷ v)
@@ -39,7 +39,7 @@ pub data Value (o : ParseOption) : List ℕ → List ℕ → List ℕ → Type 0
       → Lead w (l ++ (e ++ (t ++ r))) → Line o true l (e ++ (t ++ r)) u → LineEnd e (t ++ r)
       → MoreLines o t r v → Value o (w ++ (l ++ (e ++ t))) r (without_outer_line_feeds (u ++ v))
 
--- the source of lines behind the first line end, at whose end reading stops, before r
+-- the source of lines after the first line end, at whose end reading stops, before r
 pub data MoreLinesStop (o : ParseOption) : List ℕ → List ℕ → ParseKind → Type 0 where
   empty_lf : {t r : List ℕ} {kind : ParseKind} → MoreLinesStop o t r kind
       → MoreLinesStop o (line_feed ∷ t) r kind

@@ -30,7 +30,7 @@ abbrev pub name_from : ℕ → List ℕ → Option (List ℕ) → Option (List �
 name_from c cs (Some name) = Some (c ∷ name)
 name_from c cs None = if c == close_bracket && list_all is_blank cs then Some [] else None
 
--- the name before the last closing bracket, behind which blanks alone stand
+-- the name before the last closing bracket, after which blanks alone stand
 abbrev pub name_in : List ℕ → Option (List ℕ)
 name_in [] = None
 name_in (c ∷ cs) = name_from c cs (name_in cs)
@@ -39,7 +39,7 @@ abbrev pub header : Answer ℕ → Answer Given
 header (found name r) = found (Header name ∷ []) (drop 1 r)
 header (stopped r k) = stopped r k
 
--- behind a header's string, by the name in it
+-- after a header's string, by the name in it
 abbrev pub header_of_name : Option (List ℕ) → List ℕ → Answer Given
 header_of_name (Some name) r = found (Header (trimmed name) ∷ []) r
 header_of_name None r = stopped (drop 1 r) HeaderEnd
@@ -48,9 +48,9 @@ abbrev pub bracketed_header : Answer ℕ → Answer Given
 bracketed_header (found v r) = header_of_name (name_in v) r
 bracketed_header (stopped r k) = stopped r k
 
--- behind an opening bracket
-abbrev pub behind_bracket : ParseOption → List ℕ → Answer Given
-behind_bracket o cs =
+-- after an opening bracket
+abbrev pub after_bracket : ParseOption → List ℕ → Answer Given
+after_bracket o cs =
     if o.enabled_brackets_in_section_names
     then bracketed_header (string o.enabled_escape bracketed_name_ends cs)
     else header (altered_answer (trimmed_at true) (string o.enabled_escape name_ends cs))
@@ -59,16 +59,16 @@ abbrev pub pair_of_value : List ℕ → Answer ℕ → Answer Given
 pair_of_value key (found v r) = found (Pair key v ∷ []) r
 pair_of_value key (stopped r k) = stopped r k
 
-abbrev pub behind_separator : ParseOption → List ℕ → List ℕ → Answer Given
-behind_separator o [] r = stopped r MissingKey
-behind_separator o (c ∷ key) r = pair_of_value (c ∷ key) (value o r)
+abbrev pub after_separator : ParseOption → List ℕ → List ℕ → Answer Given
+after_separator o [] r = stopped r MissingKey
+after_separator o (c ∷ key) r = pair_of_value (c ∷ key) (value o r)
 
 -- a key's string is trimmed at both ends, or at its end alone
 abbrev pub trimmed_key : ParseOption → Answer ℕ → Answer ℕ
 trimmed_key o a = altered_answer (trimmed_at (not o.enabled_preserve_key_leading_whitespace)) a
 
 abbrev pub pair_of_key : ParseOption → Answer ℕ → Answer Given
-pair_of_key o (found key r) = behind_separator o key (drop 1 r)
+pair_of_key o (found key r) = after_separator o key (drop 1 r)
 pair_of_key o (stopped r k) = stopped r k
 
 abbrev pub unindented_pair : ParseOption → List ℕ → Answer Given
@@ -80,7 +80,7 @@ dropped_tail r EndOfText = found [] r
 dropped_tail r k = stopped r k
 
 abbrev pub indented_pair_of_key : ParseOption → Answer ℕ → Answer Given
-indented_pair_of_key o (found key r) = behind_separator o key (drop 1 r)
+indented_pair_of_key o (found key r) = after_separator o key (drop 1 r)
 indented_pair_of_key o (stopped r k) = dropped_tail r k
 
 -- the blanks with which a key begins, where they are kept
@@ -91,10 +91,10 @@ abbrev pub indented_pair : ParseOption → List ℕ → List ℕ → Answer Give
 indented_pair o w t =
     indented_pair_of_key o (trimmed_key o (prepend (kept_blanks o w) (string o.enabled_escape key_ends t)))
 
--- behind the blanks w at a line's start
-abbrev pub behind_blanks : ParseOption → List ℕ → List ℕ → Answer Given
-behind_blanks o w [] = found [] []
-behind_blanks o w (c ∷ cs) =
+-- after the blanks w at a line's start
+abbrev pub after_blanks : ParseOption → List ℕ → List ℕ → Answer Given
+after_blanks o w [] = found [] []
+after_blanks o w (c ∷ cs) =
     if is_line_end c then found [] cs
     else if c == open_bracket then found [] (c ∷ cs)
     else indented_pair o w (c ∷ cs)
@@ -106,10 +106,10 @@ unfoldable pub element : ParseOption → List ℕ → List ℕ → Answer Given
 element o b [] = found [] []
 element o b (c ∷ cs) =
     if is_blank c && starts_line b
-    then behind_blanks o (run_of is_blank (c ∷ cs)) (skipped is_blank (c ∷ cs))
+    then after_blanks o (run_of is_blank (c ∷ cs)) (skipped is_blank (c ∷ cs))
     else if is_whitespace c then found [] cs
     else if is_comment_mark c
     then (if is_column_one b then found [] (drop 1 (skipped is_comment_part cs))
     else stopped cs InlineComment)
-    else if c == open_bracket then behind_bracket o cs
+    else if c == open_bracket then after_bracket o cs
     else unindented_pair o (c ∷ cs)

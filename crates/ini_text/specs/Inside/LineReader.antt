@@ -16,13 +16,13 @@ quote_at o (c ∷ cs) = if o.enabled_quote && is_quote_mark c then Some (quote_e
 abbrev pub opens_quote : ParseOption → List ℕ → Bool
 opens_quote o t = is_some (quote_at o t)
 
-abbrev pub behind_quoted : Answer ℕ → Step ℕ
-behind_quoted (found v r) = more v (drop 1 r)
-behind_quoted (stopped r k) = ends (stopped r k)
+abbrev pub after_quoted : Answer ℕ → Step ℕ
+after_quoted (found v r) = more v (drop 1 r)
+after_quoted (stopped r k) = ends (stopped r k)
 
 abbrev pub part_of : ParseOption → List ℕ → Option (Ends × List ℕ) → Step ℕ
 part_of o t None = ends (found [] t)
-part_of o t (Some p) = behind_quoted (string o.enabled_escape p.0 p.1)
+part_of o t (Some p) = after_quoted (string o.enabled_escape p.0 p.1)
 
 abbrev pub part : ParseOption → List ℕ → Step ℕ
 part o t = part_of o t (quote_at o t)

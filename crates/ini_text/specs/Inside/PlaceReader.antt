@@ -29,19 +29,19 @@ use Rattle.std.specs.declared.borrow.CowStr.{CowStr}
 use Rattle.ini_text.specs.declared.parser.placed.PairPlaces.{PairPlaces}
 use Rattle.ini_text.specs.declared.parser.placed.PlacedElement.{PlacedElement}
 
--- Of the value behind a separator, which is `gives`, its own lines begin at `start`, and end at `tail`; `rest`
+-- Of the value after a separator, which is `gives`, its own lines begin at `start`, and end at `tail`; `rest`
 -- follows it.
 pub record HasTail (o : ParseOption) (text start tail gives rest : List ℕ) : Type 0 where
   pub own : List ℕ
-  pub behind : List ℕ
+  pub following : List ℕ
   pub skips : start ≡ skipped is_inline_white text
   pub own_is : start ≡ own ++ tail
-  pub tail_is : tail ≡ behind ++ rest
+  pub tail_is : tail ≡ following ++ rest
   pub reads : value o text ≡ found gives rest
   pub own_lines : OwnLines o own tail
-  pub is_tail : Tail o behind rest
+  pub is_tail : Tail o following rest
 
--- Of a value the own lines are known up to `tail`, and the lines behind them, which give nothing, up to
+-- Of a value the own lines are known up to `tail`, and the lines after them, which give nothing, up to
 -- `rest`. So far they give `given`.
 pub record TailSoFar (o : ParseOption) (text start tail rest given : List ℕ) : Type 0 where
   pub before : List ℕ
@@ -65,29 +65,29 @@ ReadsValue o text rests r =
     (λ p. HasTail o text (chars rests.start.now) (chars rests.tail.now) (cow_text p.0) (chars p.1.now))
     (StopsBy (value o text))
 
--- a pair was read at the front of a text: behind the blanks of its key a string ends before `behind_key`, and
+-- a pair was read at the front of a text: after the blanks of its key a string ends before `after_key`, and
 -- the value's own lines stand between `start` and `tail`
-pub record ReadsPair (o : ParseOption) (text behind_key start tail gives rest : List ℕ) : Type 0 where
+pub record ReadsPair (o : ParseOption) (text after_key start tail gives rest : List ℕ) : Type 0 where
   pub key : List ℕ
-  pub key_is : string o.enabled_escape key_ends (skipped is_blank text) ≡ found key behind_key
-  pub value_is : HasTail o (drop 1 behind_key) start tail gives rest
+  pub key_is : string o.enabled_escape key_ends (skipped is_blank text) ≡ found key after_key
+  pub value_is : HasTail o (drop 1 after_key) start tail gives rest
 
 -- where the value stands that was read
 abbrev pub HasRestsOf : ParseOption → List ℕ → Rests → List ℕ → List ℕ → Type 0
 HasRestsOf o text rests value rest =
-    ReadsPair o text (chars rests.behind_key.now) (chars rests.start.now) (chars rests.tail.now) value rest
+    ReadsPair o text (chars rests.after_key.now) (chars rests.start.now) (chars rests.tail.now) value rest
 
 -- where what was read stands, if it is a pair
 abbrev pub HasRests : ParseOption → List ℕ → Rests → Option BorrowedItem → List ℕ → Type 0
 HasRests o text rests (Some (items.Pair key value)) rest = HasRestsOf o text rests (cow_text value) rest
 HasRests o text rests _ rest = ⊤
 
--- the same behind the key
+-- the same after the key
 abbrev pub HasValueRests : ParseOption → List ℕ → Rests → Option BorrowedItem → List ℕ → Type 0
-HasValueRests o behind_key rests (Some (items.Pair key value)) rest =
-    (chars rests.behind_key.now ≡ behind_key)
-    × HasTail o (drop 1 behind_key) (chars rests.start.now) (chars rests.tail.now) (cow_text value) rest
-HasValueRests o behind_key rests _ rest = ⊤
+HasValueRests o after_key rests (Some (items.Pair key value)) rest =
+    (chars rests.after_key.now ≡ after_key)
+    × HasTail o (drop 1 after_key) (chars rests.start.now) (chars rests.tail.now) (cow_text value) rest
+HasValueRests o after_key rests _ rest = ⊤
 
 -- no pair was read
 abbrev pub IsHeader : Option BorrowedItem → Type 0

@@ -7,7 +7,7 @@ use Rattle.ini_text.specs.declared.error.ParseKind.{ParseKind}
 use Rattle.ini_text.specs.declared.parser.fault.Stop.{Stop}
 use Rattle.ini_text.specs.declared.parser.fault.Stop.TheVariants as stops
 
--- what was read and the text behind it, or the text behind a stop and its kind
+-- what was read and the text after it, or the text after a stop and its kind
 pub data Answer (A : Type 0) : Type 0 where
   found : List A → List ℕ → Answer A
   stopped : List ℕ → ParseKind → Answer A
@@ -21,12 +21,12 @@ abbrev pub altered_answer : {A B : Type 0} → (List A → List B) → Answer A 
 altered_answer f (found v r) = found (f v) r
 altered_answer f (stopped r k) = stopped r k
 
--- more is read behind it
+-- more is read after it
 abbrev pub and_then : {A : Type 0} → (List ℕ → Answer A) → Answer A → Answer A
 and_then more (found v r) = prepend v (more r)
 and_then more (stopped r k) = stopped r k
 
--- one step of reading: a part of the value and the text behind it, or the answer
+-- one step of reading: a part of the value and the text after it, or the answer
 pub data Step (A : Type 0) : Type 0 where
   more : List A → List ℕ → Step A
   ends : Answer A → Step A
@@ -44,7 +44,7 @@ in_steps step (suc n) t = go_on (in_steps step n) (step t)
 unfoldable pub read_by : {A : Type 0} → (List ℕ → Step A) → List ℕ → Answer A
 read_by step t = in_steps step (suc (length t)) t
 
--- the text behind a fault, and its kind
+-- the text after a fault, and its kind
 abbrev pub fault_of : Stop → Option (List ℕ × ParseKind)
 fault_of stops.Memory = None
 fault_of (stops.Fault fault) = Some (chars fault.rest.now, fault.kind)

@@ -20,7 +20,7 @@ pub record IsEscape (text : List ℕ) (v n : ℕ) : Type 0 where
       ≡ prepend (v ∷ []) (string true to (chars (drop n text)))
   pub shorter : length (chars (drop n text)) < length (chars text)
 
--- at the text's front: a run of n bytes, and behind it an escape of k bytes that stands for the character v
+-- at the text's front: a run of n bytes, and after it an escape of k bytes that stands for the character v
 pub record IsShort (to : Ends) (text : List ℕ) (n v k : ℕ) : Type 0 where
   pub within : n ≤ 16
   pub few : k ≤ 6

@@ -7,7 +7,7 @@ use Rattle.ini_text.specs.Grammar.Strings.{Ends, is_endpoint}
 use Rattle.ini_text.specs.Inside.Reading.{Answer, found, stopped, and_then, Step, more, ends, read_by}
 use Rattle.ini_text.specs.declared.error.ParseKind.TheVariants.{EndOfText, BrokenEscape, UnknownCharacter}
 
--- behind a backslash among the units
+-- after a backslash among the units
 abbrev pub folded_unit : List ℕ → Answer (Option ℕ)
 folded_unit [] = stopped [] EndOfText
 folded_unit (c ∷ cs) = if c == line_feed then found (None ∷ []) cs else stopped cs BrokenEscape
@@ -30,18 +30,18 @@ abbrev pub spelled_character : Answer (Option ℕ) → Answer ℕ
 spelled_character (found us r) = character (spelled_by us) r
 spelled_character (stopped r k) = stopped r k
 
--- behind \x
+-- after \x
 unfoldable pub coded_character : List ℕ → Answer ℕ
 coded_character t = spelled_character (units 4 t)
 
--- what a backslash and the character behind it stand for, where that is not the x of a code
-abbrev pub value_behind_backslash : Bool → ℕ → List ℕ
-value_behind_backslash escapes c =
+-- what a backslash and the character after it stand for, where that is not the x of a code
+abbrev pub value_after_backslash : Bool → ℕ → List ℕ
+value_after_backslash escapes c =
     if c == line_feed then []
     else if escapes then unwrap_or (control c) c ∷ []
     else backslash ∷ c ∷ []
 
--- where the text ends, behind the characters w
+-- where the text ends, after the characters w
 abbrev pub at_end : Ends → List ℕ → Answer ℕ
 at_end to w = if to.text then found w [] else stopped [] EndOfText
 
@@ -49,11 +49,11 @@ abbrev pub as_step : Answer ℕ → Step ℕ
 as_step (found v r) = more v r
 as_step (stopped r k) = ends (stopped r k)
 
--- behind a backslash
+-- after a backslash
 abbrev pub escape : Bool → Ends → List ℕ → Step ℕ
 escape e to [] = ends (at_end to (backslash ∷ []))
 escape e to (c ∷ cs) =
-    if c == letter_x && e then as_step (coded_character cs) else more (value_behind_backslash e c) cs
+    if c == letter_x && e then as_step (coded_character cs) else more (value_after_backslash e c) cs
 
 abbrev pub piece : Bool → Ends → List ℕ → Step ℕ
 piece e to [] = ends (at_end to [])

@@ -10,31 +10,31 @@ use Rattle.ini_text.specs.Inside.StringReader.{as_step}
 use Rattle.ini_text.specs.declared.error.ParseKind.TheVariants.{CrAlone}
 use Rattle.ini_text.specs.declared.option.ParseOption.{ParseOption}
 
-abbrev pub behind_cr : List ℕ → List ℕ
-behind_cr [] = []
-behind_cr (c ∷ cs) = if c == line_feed then cs else c ∷ cs
+abbrev pub past_cr : List ℕ → List ℕ
+past_cr [] = []
+past_cr (c ∷ cs) = if c == line_feed then cs else c ∷ cs
 
 -- what follows the line end with which the text begins
 abbrev pub after_end : List ℕ → Option (List ℕ)
 after_end [] = None
 after_end (c ∷ cs) =
     if c == line_feed then Some cs
-    else if c == carriage_return then Some (behind_cr cs)
+    else if c == carriage_return then Some (past_cr cs)
     else None
 
--- behind the CR of an empty line
+-- after the CR of an empty line
 abbrev pub empty_cr : List ℕ → Answer ℕ
 empty_cr [] = stopped [] CrAlone
 empty_cr (c ∷ cs) = if c == line_feed then found [] cs else stopped cs CrAlone
 
--- behind a line with the value u
+-- after a line with the value u
 abbrev pub before_end : List ℕ → List ℕ → Option (List ℕ) → Step ℕ
 before_end u r None = ends (found u r)
 before_end u r (Some next) = more u next
 
-abbrev pub behind_line : Answer ℕ → Step ℕ
-behind_line (found u r) = before_end u r (after_end r)
-behind_line (stopped r k) = ends (stopped r k)
+abbrev pub after_line : Answer ℕ → Step ℕ
+after_line (found u r) = before_end u r (after_end r)
+after_line (stopped r k) = ends (stopped r k)
 
 -- a line with which a value goes on; a blank is inline white
 abbrev pub row : ParseOption → List ℕ → Step ℕ
@@ -43,7 +43,7 @@ row o (c ∷ cs) =
     if c == line_feed then more (line_feed ∷ []) cs
     else if c == carriage_return then as_step (prepend (line_feed ∷ []) (empty_cr cs))
     else if is_blank c
-    then behind_line (prepend (line_feed ∷ []) (line o false (skipped is_inline_white cs)))
+    then after_line (prepend (line_feed ∷ []) (line o false (skipped is_inline_white cs)))
     else ends (found [] (c ∷ cs))
 
 unfoldable pub more_lines : ParseOption → List ℕ → Answer ℕ
@@ -51,7 +51,7 @@ more_lines o t = read_by (row o) t
 
 -- a multiline value, by its first line
 abbrev pub multiline_value : ParseOption → Answer ℕ → Answer ℕ
-multiline_value o a = altered_answer without_outer_line_feeds (go_on (more_lines o) (behind_line a))
+multiline_value o a = altered_answer without_outer_line_feeds (go_on (more_lines o) (after_line a))
 
 unfoldable pub value : ParseOption → List ℕ → Answer ℕ
 value o t =

@@ -22,7 +22,7 @@ pub record IsPlainSeparator (text : List ℕ) : Type 0 where
   pub separates : is_separator separator ≡ true
   -- only spaces and tabs stand before it
   pub blank_before : list_all is_blank before ≡ true
-  -- only spaces and tabs stand behind it
+  -- only spaces and tabs stand after it
   pub blank_after : list_all is_blank after ≡ true
 
 -- U+000B and U+000C, whose escapes \v and \f aren't read
@@ -92,7 +92,7 @@ pub record IsBareKey (o : ParseOption) (policy : EscapePolicy) (key : List ℕ) 
 pub data IsPlainKey (o : ParseOption) (policy : EscapePolicy) : List ℕ → Type 0 where
   bare : {key : List ℕ} → IsBareKey o policy key → IsPlainKey o policy key
   -- where keys keep their indentation and values aren't multiline, spaces may stand before such a key
-  behind_spaces : {key : List ℕ} (spaces : List ℕ) → o.enabled_preserve_key_leading_whitespace ≡ true
+  after_spaces : {key : List ℕ} (spaces : List ℕ) → o.enabled_preserve_key_leading_whitespace ≡ true
       → o.enabled_indented_mutiline_value ≡ false → list_all (λ c. c == space) spaces ≡ true
       → IsBareKey o policy key → IsPlainKey o policy (spaces ++ key)
 

@@ -1,4 +1,4 @@
--- Laws of plain names and pairs as they are written, and of a text behind another.
+-- Laws of plain names and pairs as they are written, and of a text after another.
 use Rattle.std.specs.Prelude.{◌≡◌, ℕ, ◌+◌, Bool, true, false, List, [], ◌∷◌, ◌++◌, count_by, if◌then◌else◌}
 use Rattle.std.specs.Prelude.{not, ◌==◌, ⊤, chars}
 use Rattle.ini_text.specs.Grammar.CharacterKinds.{open_bracket, close_bracket, is_line_feed, BeginsWithNo}
@@ -27,19 +27,19 @@ module _ (w : WriteOption) where
   pair_source key value =
       escaped w.escape_policy key ++ (chars w.kv_separator.now ++ escaped w.escape_policy value)
 
--- a row of gaps of source s, behind the front b and before r
+-- a row of gaps of source s, after the front b and before r
 pub data AreGaps (r : List ℕ) : List ℕ → List ℕ → Type 0 where
   none : {b : List ℕ} → AreGaps r b []
   more : {b s t : List ℕ} → Gap b s (t ++ r) → AreGaps r (b ++ s) t → AreGaps r b (s ++ t)
 
--- Behind the front b the source is one element, which gives the item, and what follows it up to r are gaps.
--- Behind those column one begins.
+-- After the front b the source is one element, which gives the item, and what follows it up to r are gaps.
+-- After those column one begins.
 pub record IsElementThenGaps (o : ParseOption) (b source gaps r : List ℕ) (item : Given) : Type 0 where
   pub element : Element o b source (gaps ++ r) (item ∷ [])
   pub are_gaps : AreGaps r (b ++ source) gaps
   pub column_one : is_column_one (b ++ (source ++ gaps)) ≡ true
 
--- behind the front b and before r the source gives the item, and behind it column one begins
+-- after the front b and before r the source gives the item, and after it column one begins
 abbrev pub GivesLine : ParseOption → List ℕ → List ℕ → List ℕ → Given → Type 0
 GivesLine o b source r item =
     Reads o (b ++ (source ++ r)) b (item ∷ []) (b ++ source) × (is_column_one (b ++ source) ≡ true)
@@ -65,7 +65,7 @@ pub data FollowsPair (o : ParseOption) (policy : EscapePolicy) : List ℕ → Ty
   pair : {key : List ℕ} (r : List ℕ) → IsPlainKey o policy key
       → FollowsPair o policy (escaped policy key ++ r)
 
--- Behind the text W, which gives the items `before`, the text Y has the same outcome: its items come behind
+-- After the text W, which gives the items `before`, the text Y has the same outcome: its items come after
 -- those of W, and a stop is as many lines further down as W has line feeds.
 pub record IsMoved (o : ParseOption) (W Y : List ℕ) (before : List Given) : Type 0 where
   pub derives : {items : List Given} → Derives o Y items → Derives o (W ++ Y) (before ++ items)

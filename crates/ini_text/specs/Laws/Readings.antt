@@ -32,7 +32,7 @@ IsWholeBeforeCr o T =
     (whole : List ℕ) × (items : List Given) × (T ≡ whole ++ carriage_return ∷ []) × Derives o whole items
 
 -- A stop at the end of the front is at the front's last character, and not at the text's end: the text
--- isn't cut short, and where it ends with the front, it doesn't end in a CR that stands alone behind a
+-- isn't cut short, and where it ends with the front, it doesn't end in a CR that stands alone after a
 -- whole text.
 pub record IsAtCharacter (o : ParseOption) (front follows : List ℕ) (kind : ParseKind) : Type 0 where
   pub not_cut_short : kind ≢ EndOfText

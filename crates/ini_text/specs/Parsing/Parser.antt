@@ -17,7 +17,7 @@ use Rattle.ini_text.specs.declared.parser.fault.Stop.{Stop}
 use Rattle.ini_text.specs.declared.parser.fault.Stop.TheVariants as stops
 use Rattle.ini_text.specs.Parsing.Fronts.{front_of}
 
--- a refusal that was answered: for want of memory, or with kind, line, column and message
+-- a refusal that was answered: when out of memory, or with kind, line, column and message
 pub data AnsweredRefusal : Type 0 where
   memory : AnsweredRefusal
   parse : ParseKind → ℕ → ℕ → List ℕ → AnsweredRefusal
@@ -35,9 +35,9 @@ TellsRefusal (parse kind line column message) (errors.Parse e) =
     (e.kind ≡ kind) × (e.line ≡ line) × (e.col ≡ column) × (cow_str_bytes e.msg ≡ message)
 TellsRefusal _ _ = ⊥
 
--- behind the front b, elements that give nothing reach a front behind which reading stops, with this kind,
+-- after the front b, elements that give nothing reach a front after which reading stops, with this kind,
 -- line and column
-pub record StopsBehind (o : ParseOption) (T b : List ℕ) (kind : ParseKind) (line column : ℕ) : Type 0 where
+pub record StopsPast (o : ParseOption) (T b : List ℕ) (kind : ParseKind) (line column : ℕ) : Type 0 where
   pub front : List ℕ
   pub source : List ℕ
   pub rest : List ℕ
@@ -47,11 +47,11 @@ pub record StopsBehind (o : ParseOption) (T b : List ℕ) (kind : ParseKind) (li
   pub line_is : line ≡ line_of (front ++ source)
   pub column_is : column ≡ column_of (front ++ source)
 
--- what the text is refused with behind the front b
+-- what the text is refused with after the front b
 abbrev pub Refuses : ParseOption → List ℕ → List ℕ → Error → Type 0
 Refuses o T b (errors.Memory _) = ⊤
 Refuses o T b (errors.Parse e) =
-    StopsBehind o T b e.kind e.line e.col × HasMessage e.kind (cow_str_bytes e.msg)
+    StopsPast o T b e.kind e.line e.col × HasMessage e.kind (cow_str_bytes e.msg)
 Refuses o T b _ = ⊥
 
 -- from the front b to the front c of the text T: no item, only at the text's end; an item, and a longer

@@ -33,7 +33,7 @@ gives contents.Nothing = []
 gives (contents.Header name) = Header (cow_text name) ∷ []
 gives (contents.Pair pair) = Pair (cow_text pair.key) (cow_text pair.value) ∷ []
 
--- behind the front b and before r, the source of a pair is made of its stretches
+-- after the front b and before r, the source of a pair is made of its stretches
 abbrev pub HasPlaces : ParseOption → List ℕ → List ℕ → List ℕ → Content → Type 0
 HasPlaces o b source r (contents.Pair pair) = (source ≡ pair_source (stretches_of pair.places))
     × ArePlaced o b (stretches_of pair.places) r (cow_text pair.key) (cow_text pair.value)
@@ -48,7 +48,7 @@ pub record StandsBetween (o : ParseOption) (T b c : List ℕ) (e : PlacedElement
   pub is_element : Element o b (chars e.source.now) rest (gives e.content)
   pub places : HasPlaces o b (chars e.source.now) rest e.content
 
--- right behind the front b an element begins in which reading stops, with this kind, line and column
+-- right after the front b an element begins in which reading stops, with this kind, line and column
 pub record StopsAfter (o : ParseOption) (T b : List ℕ) (kind : ParseKind) (line column : ℕ) : Type 0 where
   pub source : List ℕ
   pub rest : List ℕ
@@ -57,7 +57,7 @@ pub record StopsAfter (o : ParseOption) (T b : List ℕ) (kind : ParseKind) (lin
   pub line_is : line ≡ line_of (b ++ source)
   pub column_is : column ≡ column_of (b ++ source)
 
--- what the element behind the front b is refused with
+-- what the element after the front b is refused with
 abbrev pub RefusesElement : ParseOption → List ℕ → List ℕ → Error → Type 0
 RefusesElement o T b (errors.Memory _) = ⊤
 RefusesElement o T b (errors.Parse e) =

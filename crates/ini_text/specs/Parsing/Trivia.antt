@@ -4,7 +4,7 @@ use Rattle.ini_text.specs.Grammar.Elements.{Element}
 use Rattle.ini_text.specs.declared.option.ParseOption.{ParseOption}
 
 module _ (o : ParseOption) where
-  -- behind the front b, an element that gives nothing, whatever follows it
+  -- after the front b, an element that gives nothing, whatever follows it
   abbrev pub IsTrivia : List ℕ → List ℕ → Type 0
   IsTrivia b s = (r : List ℕ) → Element o b s r []
 

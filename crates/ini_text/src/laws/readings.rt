@@ -1,4 +1,4 @@
-//! Laws of what is read of a text: what stands whatever follows, what stands behind whole lines, and what
+//! Laws of what is read of a text: what stands whatever follows, what stands after whole lines, and what
 //! plain names and pairs are read back as.
 //!
 //! Each law goes over all texts, so it takes nothing: a caller whose proof needs it calls it.
@@ -11,7 +11,7 @@ ghost use Rattle.ini_text.specs.Laws.Plain.{IsPlainName, IsPlainPair, IsPlainSep
 ghost use Rattle.ini_text.specs.Laws.PlainLaws.{FollowsPair, GivesLine, header_source, line_ends};
 ghost use Rattle.ini_text.specs.Laws.PlainLaws.{pair_source};
 ghost use Rattle.ini_text.specs.Laws.Readings.{IsAtCharacter};
-ghost use Rattle.ini_text.specs.Parsing.Parser.{StopsBehind};
+ghost use Rattle.ini_text.specs.Parsing.Parser.{StopsPast};
 ghost use Rattle.ini_text.specs.declared.error.ParseKind.{ParseKind};
 ghost use Rattle.ini_text.specs.declared.option.ParseOption.{ParseOption};
 ghost use Rattle.ini_text.specs.declared.write.option.WriteOption.{WriteOption};
@@ -30,15 +30,15 @@ pub fn refusals_stand()
         → Stops o (front ++ other) kind front }
 {}
 
-/// Behind a text that is empty or ends in LF, a text is read as it is alone, and where reading it stops is
+/// After a text that is empty or ends in LF, a text is read as it is alone, and where reading it stops is
 /// as many lines further down as there are line feeds before it.
 pub fn lines_move()
     ensures items { (o : ParseOption) (before text b c : List ℕ) (items : List Given)
         → is_column_one before ≡ true → Reads o text b items c
         → Reads o (before ++ text) (before ++ b) items (before ++ c) }
     ensures stop { (o : ParseOption) (before text b : List ℕ) (kind : ParseKind) (line column : ℕ)
-        → is_column_one before ≡ true → StopsBehind o text b kind line column
-        → StopsBehind o (before ++ text) (before ++ b) kind (line + count_by is_line_feed before) column }
+        → is_column_one before ≡ true → StopsPast o text b kind line column
+        → StopsPast o (before ++ text) (before ++ b) kind (line + count_by is_line_feed before) column }
 {}
 
 /// What is written for a plain name or a plain pair, with one line end or two, is read back as it. A pair

@@ -4,7 +4,7 @@ ghost use Rattle.ini_text.specs.Parsing.Parser.{AnswersBorrowed, KeepsRefusal, T
 
 use crate::error::Error;
 use crate::item::BorrowedItem;
-use crate::parser::{Parser, find_item, told};
+use crate::parser::{Parser, find_item, error_at};
 
 impl<'a> Parser<'a> {
     /// The next item, and `None` at the text's end. What stands in the text as it is read is borrowed from it.
@@ -20,13 +20,13 @@ impl<'a> Parser<'a> {
             → AnswersBorrowed self.old.option self.old.text self.old.front self.new.front result }
         ensures ended { self.old.refusal ≡ None → self.old.front ≡ self.old.text → result ≡ Ok None }
 
-        // A refusal is kept, and told again.
+        // A refusal is kept, and reported again.
         ensures refused_again { IfSome self.old.refusal (λ refusal. IsErrAnd result (TellsRefusal refusal)) }
         ensures refusal { KeepsRefusal self.old.refusal self.new.refusal result }
         ensures stays { OnErr result (self.new.front ≡ self.old.front) }
     {
         if let Some(stop) = self.refusal {
-            return Err(told(self.text, stop));
+            return Err(error_at(self.text, stop));
         }
         let found = find_item(
             self.alloc,

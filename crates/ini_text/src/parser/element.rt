@@ -16,7 +16,7 @@ use crate::text::{Class, after_first, is_column_one, is_comment_mark, skip_line,
 use std::alloc::Global;
 
 // element = gap / comment / header / pair / dropped-tail
-/// The element with which a text that begins with `c` goes on behind a front, if it gives an item, and
+/// The element with which a text that begins with `c` goes on after a front, if it gives an item, and
 /// what follows it.
 #[inline(always)]
 #[tactic(auto, unfolding(crate::specs::Inside::ElementReader::element))]

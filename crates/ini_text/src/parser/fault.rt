@@ -15,7 +15,7 @@ pub(crate) struct Fault<'a> {
     ghost is_of_kind: { HasMessage kind message.now } by { HasMessage-prop kind message.now },
 }
 
-/// Why reading stops: for want of memory, or by a fault.
+/// Why reading stops: when out of memory, or by a fault.
 #[derive(Clone, Copy)]
 pub(crate) enum Stop<'a> {
     Memory,

@@ -1,7 +1,7 @@
 //! Headers, with and without brackets in names. This file knows strings, and no element.
 ghost use Rattle.std.specs.Prelude.{◌≡◌, chars, option_map, IfOk};
 ghost use Rattle.ini_text.specs.Grammar.Strings.{bracketed_name_ends};
-ghost use Rattle.ini_text.specs.Inside.ElementReader.{behind_bracket, bracketed_header, given, name_in};
+ghost use Rattle.ini_text.specs.Inside.ElementReader.{after_bracket, bracketed_header, given, name_in};
 ghost use Rattle.ini_text.specs.Inside.PlaceReader.{IsHeader};
 ghost use Rattle.ini_text.specs.Inside.Reading.{Gives};
 ghost use Rattle.ini_text.specs.Inside.StringReader.{string};
@@ -18,14 +18,14 @@ use std::alloc::Global;
 use std::borrow::CowStr;
 
 // header = "[" name "]" / bracketed-header
-/// A header behind its bracket.
+/// A header after its bracket.
 pub(crate) fn read_header<'a>(
     alloc: Global,
     scratch: &mut String,
     text: &'a str,
     read: ParseOption,
 ) -> Result<(Option<BorrowedItem<'a>>, &'a str), Stop<'a>>
-    ensures gives { Gives given result (behind_bracket read (chars text.now)) }
+    ensures gives { Gives given result (after_bracket read (chars text.now)) }
     ensures header { IfOk result (λ p. IsHeader p.0) }
 {
     if read.enabled_brackets_in_section_names {
@@ -43,7 +43,7 @@ pub(crate) fn read_header<'a>(
 }
 
 // bracketed-header = "[" name "]" *blank, up to LF or CR
-/// A header behind its bracket that goes up to its line's end.
+/// A header after its bracket that goes up to its line's end.
 fn read_bracketed_header<'a>(
     alloc: Global,
     text: &'a str,
@@ -71,7 +71,7 @@ fn read_bracketed_header<'a>(
     Ok((Some(BorrowedItem::Header(CowStr::Owned(name))), rest))
 }
 
-/// What stands before the last closing bracket of a text, if blanks alone stand behind that.
+/// What stands before the last closing bracket of a text, if blanks alone stand after that.
 fn before_bracket(text: &str) -> Option<&str>
     ensures { name_in (chars text.now) ≡ option_map (λ name. chars name.now) result }
 {

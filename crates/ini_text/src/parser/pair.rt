@@ -2,7 +2,7 @@
 //! blanks. This file knows strings and values.
 ghost use Rattle.std.specs.Prelude.{◌≡◌, ℕ, chars, drop, IfOk};
 ghost use Rattle.ini_text.specs.Grammar.CharacterKinds.{is_blank};
-ghost use Rattle.ini_text.specs.Inside.ElementReader.{behind_blanks, behind_separator, given};
+ghost use Rattle.ini_text.specs.Inside.ElementReader.{after_blanks, after_separator, given};
 ghost use Rattle.ini_text.specs.Inside.ElementReader.{indented_pair_of_key, kept_blanks, trimmed_key};
 ghost use Rattle.ini_text.specs.Inside.ElementReader.{unindented_pair};
 ghost use Rattle.ini_text.specs.Grammar.Strings.{key_ends};
@@ -63,7 +63,7 @@ pub(crate) fn read_indented<'a>(
 ) -> Result<(Option<BorrowedItem<'a>>, &'a str), Stop<'a>>
     ensures rests { IfOk result (λ p. HasRests read (chars text.now) rests.new p.0 (chars p.1.now)) }
     ensures gives { Gives given result
-        (behind_blanks read (run_of is_blank (chars text.now)) (skipped is_blank (chars text.now))) }
+        (after_blanks read (run_of is_blank (chars text.now)) (skipped is_blank (chars text.now))) }
 {
     let start = skip(text, Class::Blank);
     let Some((c, after)) = split_first(start) else {
@@ -124,7 +124,7 @@ fn drop_tail<'a>(stop: Stop<'a>) -> Result<(Option<BorrowedItem<'a>>, &'a str), 
     }
 }
 
-// separator value, behind a key
+// separator value, after a key
 /// What follows a key, from its separator on.
 #[inline(always)]
 fn read_pair<'a>(
@@ -136,7 +136,7 @@ fn read_pair<'a>(
     read: ParseOption,
 ) -> Result<(Option<BorrowedItem<'a>>, &'a str), Stop<'a>>
     ensures gives { Gives given result
-        (behind_separator read (cow_text key.entry) (drop 1 (chars rest.now))) }
+        (after_separator read (cow_text key.entry) (drop 1 (chars rest.now))) }
     ensures rests { IfOk result (λ p. HasValueRests read (chars rest.now) rests.new p.0 (chars p.1.now)) }
 {
     let after = after_first(rest);
@@ -144,6 +144,6 @@ fn read_pair<'a>(
         return Err(Stop::new(ParseKind::MissingKey, "missing key", after));
     }
     let (value, end) = read_value(alloc, scratch, rests, after, read)?;
-    rests.behind_key = rest;
+    rests.after_key = rest;
     Ok((Some(BorrowedItem::Pair(key, value)), end))
 }

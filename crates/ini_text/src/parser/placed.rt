@@ -17,7 +17,7 @@ use crate::parser::element::read_element;
 use crate::parser::fault::Stop;
 use crate::parser::position::position;
 use crate::parser::rests::Rests;
-use crate::parser::{Parser, told};
+use crate::parser::{Parser, error_at};
 use crate::text::{Class, front_before, split_first, split_last};
 use std::alloc::Global;
 use std::borrow::CowStr;
@@ -56,18 +56,18 @@ pub struct PlacedPair<'a> {
 /// The stretches of a pair's source, in order: put together they are the source.
 #[derive(Debug, Clone, Copy)]
 pub struct PairPlaces<'a> {
-    /// The key as it is written, with the blanks before and behind it.
+    /// The key as it is written, with the blanks before and after it.
     pub key: &'a str,
     /// `=` or `:`.
     pub separator: char,
-    /// The white space behind the separator.
+    /// The white space after the separator.
     pub lead: &'a str,
     /// The value as it is written, with its quotes and escapes: what an edit of the value replaces.
     pub own: &'a str,
-    /// The white space behind the value, up to its line's end. It is the value's own where a backslash
+    /// The white space after the value, up to its line's end. It is the value's own where a backslash
     /// stands before it.
     pub pad: &'a str,
-    /// Where values are multiline, the line end behind the value, and the lines behind it that give nothing;
+    /// Where values are multiline, the line end after the value, and the lines after it that give nothing;
     /// else nothing: the line end is no part of the pair.
     pub tail: &'a str,
 }
@@ -90,7 +90,7 @@ impl<'a> Parser<'a> {
         ensures stays { OnErr result (self.new.front ≡ self.old.front) }
     {
         if let Some(stop) = self.refusal {
-            return Err(told(self.text, stop));
+            return Err(error_at(self.text, stop));
         }
         let found = find_element(
             self.alloc,
@@ -156,15 +156,15 @@ fn place_pair<'a>(
 {
     let _ = value;
     let _ = read;
-    let behind_key = rests.behind_key;
+    let after_key = rests.after_key;
     let start = rests.start;
     let tail = rests.tail;
-    let Some((separator, after)) = split_first(behind_key) else {
+    let Some((separator, after)) = split_first(after_key) else {
         unreachable!()
     };
     let (own, pad) = split_pad(front_before(start, tail));
     PairPlaces {
-        key: front_before(text, behind_key),
+        key: front_before(text, after_key),
         separator,
         lead: front_before(after, start),
         own,

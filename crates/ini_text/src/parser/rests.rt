@@ -5,7 +5,7 @@
 #[derive(Clone, Copy)]
 pub(crate) struct Rests<'a> {
     /// What follows the key, from the separator on.
-    pub(crate) behind_key: &'a str,
+    pub(crate) after_key: &'a str,
     /// What the value's lines begin.
     pub(crate) start: &'a str,
     /// What follows the value's own lines: those up to the last that gives more than line feeds.
@@ -17,7 +17,7 @@ impl<'a> Rests<'a> {
     #[inline(always)]
     pub(crate) fn new(text: &'a str) -> Rests<'a> {
         Rests {
-            behind_key: text,
+            after_key: text,
             start: text,
             tail: text,
         }

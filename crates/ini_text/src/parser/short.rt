@@ -1,4 +1,4 @@
-//! Short pieces of a string: a run of fewer bytes than are tested together, and an escape behind it. This
+//! Short pieces of a string: a run of fewer bytes than are tested together, and an escape after it. This
 //! file knows escapes, and nothing of lines, keys or names.
 ghost use Rattle.std.specs.Prelude.{◌≡◌, ◌∷◌, ◌≤◌, [], true, chars, drop, length, take, IfOk, IfSome};
 ghost use Rattle.std.specs.Str.{IsCharBoundary};
@@ -79,8 +79,8 @@ impl Buffer<BLOCK_LENGTH> {
             };
             place_lanes(&mut self.bytes, len, u8x16::from_slice(rest.as_bytes()));
             len = place_char(&mut self.bytes, len + run_length, value);
-            let (_, behind) = rest.split_at(run_length + taken);
-            rest = behind;
+            let (_, following) = rest.split_at(run_length + taken);
+            rest = following;
             known = bits >> (run_length + taken);
         }
         self.len = len;
@@ -124,12 +124,12 @@ fn split_escape(text: &str) -> Option<(char, usize)>
     if letter != b'x' {
         return None;
     }
-    let (_, behind) = text.split_at(2);
-    let value = coded_value(behind)?;
+    let (_, following) = text.split_at(2);
+    let value = coded_value(following)?;
     Some((value, LONGEST_ESCAPE))
 }
 
-/// The character that the four characters behind `\x` spell, if they are digits, and what follows them.
+/// The character that the four characters after `\x` spell, if they are digits, and what follows them.
 #[inline(always)]
 pub(crate) fn split_coded(text: &str) -> Option<(char, &str)>
     ensures { IfSome result (λ p. coded_character (chars text.now) ≡ found (p.0 ∷ []) (chars p.1.now)) }

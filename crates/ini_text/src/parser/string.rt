@@ -3,7 +3,7 @@ ghost use Rattle.std.specs.Prelude.{◌≡◌, ◌∷◌, ◌++◌, [], chars, u
 ghost use Rattle.ini_text.specs.Inside.Endpoints.{ends_of};
 ghost use Rattle.ini_text.specs.Grammar.EscapeSequences.{control, spelled, spelled_by};
 ghost use Rattle.ini_text.specs.Inside.Reading.{prepend, Appends, Gives};
-ghost use Rattle.ini_text.specs.Inside.StringReader.{ReadsRaw, coded_character, string, unit, value_behind_backslash};
+ghost use Rattle.ini_text.specs.Inside.StringReader.{ReadsRaw, coded_character, string, unit, value_after_backslash};
 ghost use Rattle.ini_text.specs.Parsing.Items.{string_text};
 
 use crate::error::ParseKind;
@@ -59,7 +59,7 @@ pub(crate) fn read_string<'a>(
         if c != '\\' {
             return Ok(next);
         }
-        let Some((d, behind)) = split_first(after) else {
+        let Some((d, following)) = split_first(after) else {
             if !ends.contains_text_end() {
                 return Err(Stop::new(ParseKind::EndOfText, ends.expected(), after));
             }
@@ -67,10 +67,10 @@ pub(crate) fn read_string<'a>(
             return Ok(after);
         };
         rest = if escapes && d == 'x' {
-            read_coded(out, behind, ends)?
+            read_coded(out, following, ends)?
         } else {
             push_escaped(out, d, escapes)?;
-            behind
+            following
         };
         rest = read_short(out, rest, escapes, ends)?;
     }
@@ -79,7 +79,7 @@ pub(crate) fn read_string<'a>(
 /// Appends what a backslash and a character stand for, other than the `x` of a code.
 #[inline(always)]
 fn push_escaped(out: &mut String, c: char, escapes: bool) -> Result<(), AllocError>
-    ensures { OnOk result (string_text out.new ≡ string_text out.old ++ value_behind_backslash escapes c) }
+    ensures { OnOk result (string_text out.new ≡ string_text out.old ++ value_after_backslash escapes c) }
 {
     if c == '\n' {
         return Ok(());
@@ -102,7 +102,7 @@ fn escaped_value(c: char) -> char
 }
 
 // coded = "\x" 4unit
-/// Appends the character that the four units behind `\x` spell.
+/// Appends the character that the four units after `\x` spell.
 #[tactic(auto, unfolding(crate::specs::Inside::StringReader::coded_character))]
 fn read_coded<'a>(out: &mut String, text: &'a str, ends: Endpoints) -> Result<&'a str, Stop<'a>>
     ensures { Appends (string_text out.new) result
@@ -138,16 +138,16 @@ fn read_unit(text: &str, ends: Endpoints) -> Result<(Option<char>, &str), Stop<'
     if c != '\\' {
         return Ok((Some(c), after));
     }
-    let Some((d, behind)) = split_first(after) else {
+    let Some((d, following)) = split_first(after) else {
         return Err(Stop::new(ParseKind::EndOfText, ends.expected(), after));
     };
     if d == '\n' {
-        return Ok((None, behind));
+        return Ok((None, following));
     }
     Err(Stop::new(
         ParseKind::BrokenEscape,
         "expecting \"\\n\" after a backslash in \\xHH form",
-        behind,
+        following,
     ))
 }
 

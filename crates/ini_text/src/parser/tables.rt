@@ -1,4 +1,4 @@
-//! Tables of bytes: the digits of a code, and the letters behind a backslash. This file knows bytes, and no
+//! Tables of bytes: the digits of a code, and the letters after a backslash. This file knows bytes, and no
 //! production.
 ghost use Rattle.std.specs.Prelude.{◌≡◌, ◌≢◌, ◌<◌, IfSome};
 ghost use Rattle.std.specs.Char.{digit_value};
@@ -24,7 +24,7 @@ static DIGITS: [u8; 256] = [
     NO, NO, NO, NO, NO, NO, NO, NO, NO, NO, NO, NO, NO, NO,
 ];
 
-// What each byte stands for behind a backslash; 0xFF for LF, for the `x` of a code and from 0x80 on.
+// What each byte stands for after a backslash; 0xFF for LF, for the `x` of a code and from 0x80 on.
 static LETTERS: [u8; 256] = *b"\
     \x00\x01\x02\x03\x04\x05\x06\x07\x08\x09\xFF\x0B\x0C\x0D\x0E\x0F\
     \x10\x11\x12\x13\x14\x15\x16\x17\x18\x19\x1A\x1B\x1C\x1D\x1E\x1F\

@@ -3,7 +3,7 @@
 ghost use Rattle.std.specs.Prelude.{◌≡◌, chars, option_map};
 ghost use Rattle.ini_text.specs.Parsing.Fronts.{IsRest, front_of};
 ghost use Rattle.ini_text.specs.Parsing.Trivia.{SkipsTrivia};
-ghost use Rattle.ini_text.specs.Inside.TriviaSearch.{behind_first};
+ghost use Rattle.ini_text.specs.Inside.TriviaSearch.{past_first};
 ghost use Rattle.ini_text.specs.declared.option.ParseOption.{ParseOption};
 
 use crate::parser::Parser;
@@ -21,39 +21,39 @@ impl<'a> Parser<'a> {
         ensures refusal { self.new.refusal ≡ self.old.refusal }
         ensures skipped { SkipsTrivia self.old.option self.old.text self.old.front self.new.front }
     {
-        self.rest = behind_trivia(self.text, self.rest);
+        self.rest = after_trivia(self.text, self.rest);
     }
 }
 
 // What follows the trivia that stand before what is left of a text.
-fn behind_trivia<'a>(text: &str, start: &'a str) -> &'a str
+fn after_trivia<'a>(text: &str, start: &'a str) -> &'a str
     requires { IsRest (chars text.now) (chars start.now) }
     ensures is_rest { IsRest (chars text.now) (chars result.now) }
     ensures skipped { (o : ParseOption) → SkipsTrivia o (chars text.now)
         (front_of (chars text.now) (chars start.now)) (front_of (chars text.now) (chars result.now)) }
 {
     let mut rest = start;
-    'trivia: while let Some(after) = behind_first(front_before(text, rest), rest) {
+    'trivia: while let Some(after) = past_first(front_before(text, rest), rest) {
         rest = after;
     }
     rest
 }
 
-// What follows the first of the trivia with which a text begins behind a front.
-fn behind_first<'a>(front: &str, text: &'a str) -> Option<&'a str>
-    ensures { behind_first (chars front.now) (chars text.now) ≡ option_map (λ after. chars after.now) result }
+// What follows the first of the trivia with which a text begins after a front.
+fn past_first<'a>(front: &str, text: &'a str) -> Option<&'a str>
+    ensures { past_first (chars front.now) (chars text.now) ≡ option_map (λ after. chars after.now) result }
 {
     let (c, after) = split_first(text)?;
     if Class::Blank.contains(c) && starts_line(front) {
-        let (end, behind) = split_first(skip(after, Class::Blank))?;
-        return if is_line_end(end) { Some(behind) } else { None };
+        let (end, following) = split_first(skip(after, Class::Blank))?;
+        return if is_line_end(end) { Some(following) } else { None };
     }
     if c.is_whitespace() {
         return Some(after);
     }
     if is_comment_mark(c) && is_column_one(front) {
-        let (_, behind) = split_first(skip_line(after))?;
-        return Some(behind);
+        let (_, following) = split_first(skip_line(after))?;
+        return Some(following);
     }
     None
 }

@@ -21,7 +21,7 @@ use std::alloc::{AllocError, Global};
 use std::borrow::CowStr;
 
 // value = *inline-white line [line-end more-lines]
-/// The value that begins behind a separator, with where its lines stand, and what follows it.
+/// The value that begins after a separator, with where its lines stand, and what follows it.
 #[inline(always)]
 pub(crate) fn read_value<'a>(
     alloc: Global,
@@ -93,7 +93,7 @@ pub(crate) fn after_line_end(text: &str) -> Option<&str>
     Some(after)
 }
 
-/// What follows an empty line behind its CR.
+/// What follows an empty line after its CR.
 pub(crate) fn after_cr(text: &str) -> Result<&str, Stop<'_>>
     ensures { Appends [] result (empty_cr (chars text.now)) }
 {
@@ -106,7 +106,7 @@ pub(crate) fn after_cr(text: &str) -> Result<&str, Stop<'_>>
 }
 
 // more-lines = *(LF / CR LF / blank *inline-white line (line-end / end))
-/// Appends the lines with which a value goes on behind its first line end, and gives what follows the last of
+/// Appends the lines with which a value goes on after its first line end, and gives what follows the last of
 /// them that gives more than line feeds, and what follows all. The value's text and where it starts are named
 /// for the clauses alone.
 fn read_more<'a>(
@@ -155,7 +155,7 @@ fn read_more<'a>(
     Ok((tail, rest))
 }
 
-/// Whether what stands behind so many bytes is more than line feeds.
+/// Whether what stands after so many bytes is more than line feeds.
 fn gives_more(text: &str, len: usize) -> bool
     requires { IsCharBoundary text.now len }
     ensures { result ≡ not (list_all is_line_feed (chars (drop len text.now))) }

@@ -16,7 +16,7 @@ use crate::write::verbatim::{Basics, Reserved, is_verbatim};
 
 mod marked;
 
-/// How many bytes are held back at most.
+/// How many bytes are buffered at most.
 pub(crate) const BUFFER_SIZE: usize = 16384;
 
 impl Buffer<BUFFER_SIZE> {
@@ -28,7 +28,7 @@ impl Buffer<BUFFER_SIZE> {
         self.len = place_escape(&mut self.bytes, self.len, c);
     }
 
-    /// Appends two texts escaped, and behind each another as it is, or nothing: where there is no room, at
+    /// Appends two texts escaped, and after each another as it is, or nothing: where there is no room, at
     /// an escape by digits, and at any escape by a policy that is neither `Basics` nor `Reserved`.
     #[inline(never)]
     pub(crate) fn push_line(
@@ -55,21 +55,21 @@ impl Buffer<BUFFER_SIZE> {
         false
     }
 
-    // Appends a text escaped, and another as it is behind it, or a front of the two.
+    // Appends a text escaped, and another as it is after it, or a front of the two.
     #[inline(always)]
-    fn push_part(&mut self, text: &str, behind: &str, policy: EscapePolicy) -> bool
+    fn push_part(&mut self, text: &str, following: &str, policy: EscapePolicy) -> bool
         ensures all { result ≡ true → buffered self.new
-            ≡ buffered self.old ++ (escaped_bytes policy text.now ++ behind.now) }
+            ≡ buffered self.old ++ (escaped_bytes policy text.now ++ following.now) }
         ensures front { IsFront (buffered self.old) (buffered self.new) }
         ensures grown { length (buffered self.new)
-            ≤ length (buffered self.old) + (LETTER_ROOM * length text.now + length behind.now) }
+            ≤ length (buffered self.old) + (LETTER_ROOM * length text.now + length following.now) }
         ensures whole { HaveShortEscapes policy text.now → length (buffered self.old)
-            + (LETTER_ROOM * (length text.now + LANES) + length behind.now) ≤ BUFFER_SIZE → result ≡ true }
+            + (LETTER_ROOM * (length text.now + LANES) + length following.now) ≤ BUFFER_SIZE → result ≡ true }
     {
-        if !self.push_text(text, policy) || !self.has_room(behind.len()) {
+        if !self.push_text(text, policy) || !self.has_room(following.len()) {
             return false;
         }
-        self.push(behind.as_bytes());
+        self.push(following.as_bytes());
         true
     }
 
@@ -111,7 +111,7 @@ impl Buffer<BUFFER_SIZE> {
         true
     }
 
-    /// Appends a run and the escape of the character behind it, if there is room.
+    /// Appends a run and the escape of the character after it, if there is room.
     #[inline(always)]
     pub(crate) fn push_run(&mut self, run: &str, c: char) -> bool
         ensures pushed { buffered self.new

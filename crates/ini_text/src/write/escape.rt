@@ -1,4 +1,4 @@
-//! The escape of a character, put behind bytes that are there. This file knows one character, and no
+//! The escape of a character, put after bytes that are there. This file knows one character, and no
 //! device.
 ghost use Rattle.std.specs.Prelude.{◌≡◌, ◌+◌, ◌/◌, ◌%◌, ◌<◌, ◌≤◌, ◌++◌, IfSome, None, length, take};
 ghost use Rattle.std.specs.Char.{digit_char};
@@ -20,7 +20,7 @@ static LETTERS: [u8; 128] = *b"\
     \0\0\0\0\0\0\0\0\0\0\0\0\0\0\0\0\0\0\0\0\0\0\0\0\0\0\0\0\\\0\0\0\
     \0\0\0\0\0\0\0\0\0\0\0\0\0\0\0\0\0\0\0\0\0\0\0\0\0\0\0\0\0\0\0\0";
 
-/// Puts the escape of a character behind the first `len` bytes, and answers how many there are then.
+/// Puts the escape of a character after the first `len` bytes, and answers how many there are then.
 #[inline(always)]
 #[tactic(auto, unfolding(crate::specs::Escaping::EscapedTexts::escape))]
 pub(crate) fn place_escape(bytes: &mut [u8], len: usize, c: char) -> usize

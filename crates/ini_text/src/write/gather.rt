@@ -21,8 +21,8 @@ use std::io::Write;
 
 /// Holds bytes back on their way to a device, so that many short texts reach it in one call.
 ///
-/// What is held back goes out by `flush`, or where there is no room left; a gatherer that is dropped
-/// before takes it along. It takes no memory. A refused call leaves unsaid what is held back, and the
+/// What is buffered goes out by `flush`, or where there is no room left; a gatherer that is dropped
+/// before takes it along. It takes no memory. A refused call leaves unsaid what is buffered, and the
 /// device is asked nothing more.
 #[derive(Drop)]
 pub struct Gatherer {
@@ -30,7 +30,7 @@ pub struct Gatherer {
 }
 
 impl Gatherer {
-    /// Nothing is held back.
+    /// Nothing is buffered.
     pub fn new() -> Gatherer
         ensures { held result ≡ [] }
     {
@@ -69,7 +69,7 @@ impl Gatherer {
         }
     }
 
-    /// Sends a line: two texts escaped, and behind each another as it is. The errors are those of `put`.
+    /// Sends a line: two texts escaped, and after each another as it is. The errors are those of `put`.
     #[inline(always)]
     pub fn put_line<W: Write>(
         &mut self,
@@ -92,21 +92,21 @@ impl Gatherer {
         self.put_part(second, end, policy, out)
     }
 
-    // Sends a text escaped, and another as it is behind it.
+    // Sends a text escaped, and another as it is after it.
     #[inline(never)]
     fn put_part<W: Write>(
         &mut self,
         text: &str,
-        behind: &str,
+        following: &str,
         policy: EscapePolicy,
         out: &mut Watched<'_, W>,
     ) -> Result<(), Error>
         requires { IsClear out.old }
         ensures { Sends W.contents out.old out.new self.old self.new result
-            (escaped policy (chars text.now) ++ chars behind.now) }
+            (escaped policy (chars text.now) ++ chars following.now) }
     {
         self.put_escaped(text, policy, out)?;
-        self.put(behind, out)
+        self.put(following, out)
     }
 
     // Sends bytes, each that is marked as the escape of its character.
@@ -180,7 +180,7 @@ impl Gatherer {
         }
     }
 
-    /// Sends all that is held back. The errors are those of `put`.
+    /// Sends all that is buffered. The errors are those of `put`.
     pub fn flush<W: Write>(&mut self, out: &mut Watched<'_, W>) -> Result<(), Error>
         requires { IsClear out.old }
         ensures sends { Sends W.contents out.old out.new self.old self.new result [] }
@@ -191,7 +191,7 @@ impl Gatherer {
         Ok(())
     }
 
-    // Sends bytes: they are held back if they have room, else behind what is held back.
+    // Sends bytes: they are buffered if they have room, else after what is buffered.
     fn put_bytes<W: Write>(&mut self, bytes: &[u8], out: &mut Watched<'_, W>) -> Result<(), Error>
         requires { IsClear out.old }
         ensures { SendsBytes W.contents out.old out.new self.old self.new result bytes.now }
@@ -200,13 +200,13 @@ impl Gatherer {
             self.buffer.push(bytes);
             return Ok(());
         }
-        self.put_through(bytes, out)
+        self.write_large(bytes, out)
     }
 
-    // Sends bytes behind what is held back, which goes out first. They are held back then, or go out in a
+    // Sends bytes after what is buffered, which goes out first. They are buffered then, or go out in a
     // call of their own where they are more than there is room for.
     #[inline(never)]
-    fn put_through<W: Write>(&mut self, bytes: &[u8], out: &mut Watched<'_, W>) -> Result<(), Error>
+    fn write_large<W: Write>(&mut self, bytes: &[u8], out: &mut Watched<'_, W>) -> Result<(), Error>
         requires { IsClear out.old }
         ensures { SendsBytes W.contents out.old out.new self.old self.new result bytes.now }
     {

@@ -160,7 +160,7 @@ fn is_reloaded(alloc: Global, text: &str) -> Result<bool, Error> {
     Ok(back.get_from(Some("a"), "j") == Some("w"))
 }
 
-// Whether a text may stand behind a document.
+// Whether a text may stand after a document.
 fn may_follow(text: &str) -> bool
     ensures { result ≡ true → IsEmptyOrHeader (chars text.now) }
 {
@@ -170,7 +170,7 @@ fn may_follow(text: &str) -> bool
     }
 }
 
-// Whether the document of a text is plain, and is loaded again with a section that stands behind it.
+// Whether the document of a text is plain, and is loaded again with a section that stands after it.
 fn is_reloaded_with(alloc: Global, text: &str, more: &str) -> Result<bool, Error> {
     let (write, read) = (WriteOption::default(), ParseOption::default());
     let document = Ini::load_from_str(alloc, text)?;

@@ -50,7 +50,7 @@ const AFTER_EACH: [&'static str; 9] = [
     "k=v\n",
 ];
 
-// Whether edits made on a document of `PEERS`, and on the text behind one that is kept, give this text.
+// Whether edits made on a document of `PEERS`, and on the text after one that is kept, give this text.
 fn gives(alloc: Global, edits: &[Edit], want: &str) -> Result<bool, Error> {
     let mut document = Ini::load_from_str(alloc, PEERS)?;
     apply(&mut document, edits)?;
@@ -117,8 +117,8 @@ fn refusal_of(alloc: Global, text: &str, edits: &[Edit]) -> Result<Option<String
 fn a_refused_text_writes_nothing(rt: HostRuntime) {
     let edits = each_form(rt.alloc()).expect(&rt, "memory");
     for (refused, want) in [("=v", "1:2 missing key"), ("[p", "1:3 expecting")] {
-        let told = refusal_of(rt.alloc(), refused, edits.as_slice()).expect(&rt, "memory");
-        let told = told.expect(&rt, "no refusal");
-        assert!(rt; told.as_str().starts_with(want));
+        let reported = refusal_of(rt.alloc(), refused, edits.as_slice()).expect(&rt, "memory");
+        let reported = reported.expect(&rt, "no refusal");
+        assert!(rt; reported.as_str().starts_with(want));
     }
 }

@@ -128,7 +128,7 @@ fn set_mode(rt: &impl Files, mode: u32) -> io::Result<()> {
     fs::set_permissions(rt, NAME, Permissions::from_mode(mode))
 }
 
-// One who may open any file, as root may, is told no fault.
+// One who may open any file, as root may, is reported no fault.
 #[test]
 fn files_without_the_right_to_them(rt: HostRuntime) -> Result<(), Fail> {
     let (alloc, path, denied) = (rt.alloc(), Path::new(NAME), ErrorKind::PermissionDenied);

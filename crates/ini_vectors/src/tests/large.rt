@@ -1,4 +1,4 @@
-//! Large documents, names and texts, past the sizes at which a call might stop: none is told to be out of
+//! Large documents, names and texts, past the sizes at which a call might stop: none is reported to be out of
 //! memory.
 use ini::edits::{Edit, apply};
 use ini::{Error, Ini, Properties};
@@ -9,8 +9,8 @@ use std::process::Abort;
 const MANY: usize = 70_000;
 
 /// Asks that this held of the call.
-fn expect(rt: &impl Abort, held: bool, call: &str) {
-    assert!(rt; held, "{call}");
+fn expect(rt: &impl Abort, as_expected: bool, call: &str) {
+    assert!(rt; as_expected, "{call}");
 }
 
 // So many pairs of other keys, the first by insertion.
@@ -95,8 +95,8 @@ fn has_many_sections(alloc: Global) -> Result<bool, Error> {
 
 #[test]
 fn many_sections_are_opened_and_cloned(rt: HostRuntime) {
-    let held = matches!(has_many_sections(rt.alloc()), Ok(true));
-    expect(&rt, held, "set, add, set_to, or_insert, clone");
+    let as_expected = matches!(has_many_sections(rt.alloc()), Ok(true));
+    expect(&rt, as_expected, "set, add, set_to, or_insert, clone");
 }
 
 // Whether a name, a key and a value of so many bytes are set, written and loaded again.

@@ -26,9 +26,9 @@ fn expect_words(
     words: &str,
 ) -> Result<(), Fail> {
     assert!(rt; refused.to_string(rt.alloc())?.as_str() == printed);
-    let told = io::Error::from(refused);
-    assert!(rt; told.kind() == kind, "{words}");
-    assert!(rt; told.to_string(rt.alloc())?.as_str() == words);
+    let reported = io::Error::from(refused);
+    assert!(rt; reported.kind() == kind, "{words}");
+    assert!(rt; reported.to_string(rt.alloc())?.as_str() == words);
     Ok(())
 }
 
@@ -69,9 +69,9 @@ fn other_refusals_are_errors_of_a_device(rt: HostRuntime) -> Result<(), Fail> {
 fn a_fault_of_a_device_stays_as_it_was(rt: HostRuntime) -> Result<(), Fail> {
     let refused = Error::from(io::Error::new(ErrorKind::BrokenPipe, "cut"));
     assert!(rt; refused.to_string(rt.alloc())?.as_str() == "cut");
-    let told = io::Error::from(refused);
-    assert!(rt; told.kind() == ErrorKind::BrokenPipe);
-    assert!(rt; told.to_string(rt.alloc())?.as_str() == "cut");
+    let reported = io::Error::from(refused);
+    assert!(rt; reported.kind() == ErrorKind::BrokenPipe);
+    assert!(rt; reported.to_string(rt.alloc())?.as_str() == "cut");
     Ok(())
 }
 

@@ -2,7 +2,7 @@
 use ini_text::{Error, Item, ParseOption, Parser};
 use std::alloc::Global;
 
-// Whether this is left of the text behind the white space and comments at its front.
+// Whether this is left of the text after the white space and comments at its front.
 fn leaves(alloc: Global, text: &str, left: &str) -> bool {
     let mut parser = Parser::new(alloc, text, ParseOption::default());
     parser.skip_trivia();
@@ -37,7 +37,7 @@ fn trivia_that_may_go_on_stay(rt: HostRuntime) {
     assert!(rt; leaves(rt.alloc(), "\n\r; a\n", "; a\n"));
 }
 
-// Skipped before, between and behind items, it is all the same.
+// Skipped before, between and after items, it is all the same.
 fn keys(alloc: Global) -> Result<bool, Error> {
     let mut parser = Parser::new(alloc, "; a\nk=v\n; b\n\nj=w\n\n", ParseOption::default());
     parser.skip_trivia();

@@ -1,13 +1,13 @@
 use Rattle.std.proofs.Common.{Ok, ap, chars, subst, sym}
 use Rattle.ini_text.specs.Parsing.Fronts.{front_of}
 use Rattle.ini.specs.Documents.{Document}
-use Rattle.ini.specs.Inside.Passing.{Makes}
+use Rattle.ini.specs.Inside.StreamLoader.{Makes}
 use Rattle.ini.proofs.ReadingLemmas.{IsReading-goes_on, Loaded-ends, Loaded-item, Loaded-starts}
 use Rattle.ini.proofs.items.push_items.Goals as goal
 
 pub items-init : goal.items-init
 items-init c =
-    let new = c.behind-parser.ensures in
+    let new = c.resume_at-parser.ensures in
     Loaded-starts (chars c.args.rest.now) c.requires.is_rest
     (record { option = new.option; text = new.text; refusal = new.refusal }) new.front c.requires.some
 

@@ -142,7 +142,7 @@ module _ {M : Type 1} {𝓤 : Ura M} (𝓛 : Logic 𝓤) (at_mem : Memory → SP
   exits r ws =
       suffices ! _ (ends_at 𝓛 F.ended stayed (F.clauses 𝓛 at_mem run) bound (vint w32 r.1) r.1
       (tt, (tt, (tt, (tt, (r.0, tt))))) (tt, (tt, (tt, (tt, (tt, tt)))))) $
-      -- [the place, closed, in two; its token; the status; true; the other tokens; what is told]
+      -- [the place, closed, in two; its token; the status; true; the other tokens; what is reported]
       move ! (5 ∷ []) $ split ! $ move ! (1 ∷ []) $ split ! $ move ! (1 ∷ []) $ split ! $
       move ! (6 ∷ 1 ∷ []) $ join ! $ move ! (1 ∷ 0 ∷ []) $ join ! $ move ! (1 ∷ 0 ∷ []) $ join ! $
       move ! (1 ∷ 0 ∷ []) $ join ! $
@@ -201,7 +201,8 @@ module _ {M : Type 1} {𝓤 : Ura M} (𝓛 : Logic 𝓤) (at_mem : Memory → SP
       let found_typed = (bytes_typed r.0 vss.0 found).0 in
       let status_typed = ((uint_Lawful 𝓛 w32).typed r.1 _ (subst (λ (vs : List Val). Is u32 r.1 vs)
       status_is status)).0 in
-      -- [the status; true; the bytes found; the tokens; what is told; the cell; the open borrow, in three]
+      -- [the status; true; the bytes found; the tokens; what is reported; the cell; the open borrow, in
+      -- three]
       rewrite ! 0 (λ (vs : List Val). ‵ (u32.own_val r.1 vs)) status_is refl $
       rewrite ! 2 (λ (vs : List Val). ‵ (Bytes.own_val r.0 vs)) found_is refl $
       lands_as ! (ap only (eu ∙ (λ i. vstruct (of_list (found_is i ++ (status_is i ++ []))) ∷ []))) refl

@@ -1,6 +1,6 @@
 use Rattle.std.proofs.Common.{arith, chars}
 use Rattle.ini_text.proofs.StringLemmas.PositionLemmas.{characters_fit}
-use Rattle.ini_check.proofs.PositionLemmas.{room_behind}
+use Rattle.ini_check.proofs.PositionLemmas.{room_after}
 use Rattle.ini_check.proofs.WalkLemmas.{checks_start, checks_step, step_some}
 use Rattle.ini_check.proofs.walk.check.Goals as goal
 
@@ -14,7 +14,7 @@ pub warn_element-requires-clause-room : goal.warn_element-requires-clause-room
 warn_element-requires-clause-room c =
     let s = c.elements.invariant in
     let t = step_some s.is_reading c.in_ok-element.ensures.element c.in-Some.is in
-    room_behind (chars c.args.text.now) c.elements.parser.front (chars c.in-Some.element.source.now)
+    room_after (chars c.args.text.now) c.elements.parser.front (chars c.in-Some.element.source.now)
     t.stands.rest c.elements.position (omega (arith, characters_fit c.args.text.now c.utf8.text))
     t.stands.whole s.at
 
@@ -28,7 +28,7 @@ pub over-position-requires : goal.over-position-requires
 over-position-requires c =
     let s = c.elements.invariant in
     let t = step_some s.is_reading c.in_ok-element.ensures.element c.in-Some.is in
-    room_behind (chars c.args.text.now) c.elements.parser.front (chars c.in-Some.element.source.now)
+    room_after (chars c.args.text.now) c.elements.parser.front (chars c.in-Some.element.source.now)
     t.stands.rest c.elements.position (omega (arith, characters_fit c.args.text.now c.utf8.text))
     t.stands.whole s.at
 

@@ -1,6 +1,6 @@
 use Rattle.std.proofs.Common.{◌≡◌, ◌∙◌, ◌∷◌, ◌++◌, [], ap, sym, subst, chars, OnOk}
 use Rattle.std.proofs.lemmas.Str.{chars-nil}
-use Rattle.ini_check.specs.Warnings.{keys_behind, names_behind}
+use Rattle.ini_check.specs.Warnings.{keys_after, names_after}
 use Rattle.ini_check.proofs.walk.note_element.Goals as goal
 
 pub returns-in_ok-append-in-Header-clause-names : goal.returns-in_ok-append-in-Header-clause-names
@@ -9,7 +9,7 @@ returns-in_ok-append-in-Header-clause-names c =
     c.in_ok-append-in-Header.ensures.appended
     ∙ ap (λ v. old ++ (chars c.as_str.result.now, v) ∷ []) chars-nil
     ∙ ap (λ t. old ++ (t, []) ∷ []) (ap chars c.as_str.ensures.value)
-    ∙ sym (ap (names_behind old) c.in-Header.is)
+    ∙ sym (ap (names_after old) c.in-Header.is)
 
 pub returns-in-Pair-clause-keys : goal.returns-in-Pair-clause-keys
 returns-in-Pair-clause-keys c =
@@ -17,5 +17,5 @@ returns-in-Pair-clause-keys c =
     subst (λ x. OnOk c.append-in-Pair.result (c.append-in-Pair.new.self ≡ x))
     (ap (λ v. old ++ (chars c.as_str-in-Pair.result.now, v) ∷ []) chars-nil
     ∙ ap (λ t. old ++ (t, []) ∷ []) (ap chars c.as_str-in-Pair.ensures.value)
-    ∙ sym (ap (keys_behind old) c.in-Pair.is))
+    ∙ sym (ap (keys_after old) c.in-Pair.is))
     c.append-in-Pair.ensures.appended

@@ -4,8 +4,8 @@ use Rattle.ini_check.specs.Inside.Positions.{IsAt}
 use Rattle.ini_check.proofs.PositionLemmas.{room_less, separator_at, value_room}
 use Rattle.ini_check.proofs.warn.value_position.Goals as goal
 
-pub behind_separator-requires : goal.behind_separator-requires
-behind_separator-requires c =
+pub after_separator-requires : goal.after_separator-requires
+after_separator-requires c =
     let p = stretches_of c.args.pair.now.places in
     room_less (omega arith)
     (c.over.ensures.room (1 + length p.lead) (room_less (value_room p) c.requires.room))
@@ -15,8 +15,8 @@ over-requires-2 c =
     let p = stretches_of c.args.pair.now.places in
     let room = c.over.ensures.room (1 + length p.lead) (room_less (value_room p) c.requires.room) in
     record {
-      line = omega (arith, room.line, c.behind_separator.ensures.line);
-      column = omega (arith, room.column, c.behind_separator.ensures.column);
+      line = omega (arith, room.line, c.after_separator.ensures.line);
+      column = omega (arith, room.column, c.after_separator.ensures.column);
     }
 
 pub returns : goal.returns
@@ -24,5 +24,5 @@ returns c b at =
     let p = stretches_of c.args.pair.now.places in
     subst (λ x. IsAt x c.over-2.result) (append_assoc (b ++ p.key) (p.separator ∷ []) p.lead)
     (c.over-2.ensures.at ((b ++ p.key) ++ p.separator ∷ [])
-    (separator_at (b ++ p.key) p.separator c.over.result c.behind_separator.result c.requires.separates
-    c.behind_separator.ensures.line c.behind_separator.ensures.column (c.over.ensures.at b at)))
+    (separator_at (b ++ p.key) p.separator c.over.result c.after_separator.result c.requires.separates
+    c.after_separator.ensures.line c.after_separator.ensures.column (c.over.ensures.at b at)))

@@ -21,7 +21,7 @@ unfolding chars
 returns-then-not-read c =
     cut_one_line (stretches_at (chars c.args.front.now) c.args.places.now (chars c.args.rest.now))
     (not-true _ c.if-not-read.true)
-    c.stays_behind-stays.ensures
+    c.stays_after-stays.ensures
 
 pub last_line_end-kept-requires : goal.last_line_end-kept-requires
 last_line_end-kept-requires c =

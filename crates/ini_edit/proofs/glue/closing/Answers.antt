@@ -9,7 +9,7 @@ returns-in-Inside c = elim c.in-Inside.is [
   | inl x ↦ subst (λ e. Closing c.args.read (ending_of e) (chars [])) (sym x)
       (subst (Closing c.args.read _) (sym chars-none) Closing.within)
   | inr x ↦ subst (λ e. Closing c.args.read (ending_of e) (chars [])) (sym x)
-      (subst (Closing c.args.read _) (sym chars-none) Closing.behind_line)
+      (subst (Closing c.args.read _) (sym chars-none) Closing.after_line)
 ]
 
 pub returns-then-read : goal.returns-then-read

@@ -5,7 +5,7 @@ use Rattle.ini_edit.proofs.place.chosen.Goals as goal
 pub returns-then-is_indented_key : goal.returns-then-is_indented_key
 returns-then-is_indented_key c = record {
   place = Chooses.stays;
-  none = λ is. NoneChosen.behind_key is (c.is_indented_key.ensures.yes c.if-is_indented_key.true);
+  none = λ is. NoneChosen.after_key is (c.is_indented_key.ensures.yes c.if-is_indented_key.true);
 }
 
 pub returns-then-is_nearer : goal.returns-then-is_nearer

@@ -26,13 +26,13 @@ pub returns-in-Header : goal.returns-in-Header
 returns-in-Header c = elim c.in-Header.is [
   | inl x ↦
       record {
-        place = Keeps.behind_item (header_some _ _ (ap gives x.1));
-        none = λ is. NoneKept.behind_item (header_some _ _ (ap gives x.1)) is;
+        place = Keeps.after_item (header_some _ _ (ap gives x.1));
+        none = λ is. NoneKept.after_item (header_some _ _ (ap gives x.1)) is;
       }
   | inr x ↦
       record {
-        place = Keeps.behind_item (pair_some _ _ _ (ap gives x.1));
-        none = λ is. NoneKept.behind_item (pair_some _ _ _ (ap gives x.1)) is;
+        place = Keeps.after_item (pair_some _ _ _ (ap gives x.1));
+        none = λ is. NoneKept.after_item (pair_some _ _ _ (ap gives x.1)) is;
       }
 ]
 
@@ -40,17 +40,17 @@ pub returns-then-is_indented_key : goal.returns-then-is_indented_key
 returns-then-is_indented_key c =
     let given = ap gives c.in-Nothing.is in
     record {
-      place = Keeps.behind_nothing given Chooses.stays;
-      none = λ is. NoneKept.behind_nothing given
-          (NoneChosen.behind_key is (c.is_indented_key.ensures.yes c.if-is_indented_key.true));
+      place = Keeps.after_nothing given Chooses.stays;
+      none = λ is. NoneKept.after_nothing given
+          (NoneChosen.after_key is (c.is_indented_key.ensures.yes c.if-is_indented_key.true));
     }
 
 pub returns-then-is_none : goal.returns-then-is_none
 returns-then-is_none c =
     let given = ap gives c.in-Nothing.is in
     record {
-      place = Keeps.behind_nothing given Chooses.stays;
-      none = λ is. NoneKept.behind_nothing given
+      place = Keeps.after_nothing given Chooses.stays;
+      none = λ is. NoneKept.after_nothing given
           (NoneChosen.neither is (is_none_from c.args.next c.if-is_none.ensures)
           (c.is_indented_key.ensures.no c.if-is_indented_key.false));
     }
@@ -59,7 +59,7 @@ pub returns : goal.returns
 returns c =
     let given = ap gives c.in-Nothing.is in
     record {
-      place = Keeps.behind_nothing given
+      place = Keeps.after_nothing given
           (Chooses.moves (c.is_indented_key.ensures.no c.if-is_indented_key.false));
       none = λ is. absurd (not_none c.args.next c.if-is_none.ensures is);
     }

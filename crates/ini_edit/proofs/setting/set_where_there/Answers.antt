@@ -6,7 +6,7 @@ use Rattle.ini_edit.specs.FirstPairs.{stretches_of}
 use Rattle.ini_edit.specs.Inside.PlaceWalks.{Reaches, ReachesSection}
 use Rattle.ini_edit.specs.Places.{pair_with}
 use Rattle.ini_edit.proofs.FindLemmas.{lacks_told, reached_within}
-use Rattle.ini_edit.proofs.PlaceWalkLemmas.{goes_on_behind, section_ends}
+use Rattle.ini_edit.proofs.PlaceWalkLemmas.{goes_on_after, section_ends}
 use Rattle.ini_edit.proofs.SetThereLemmas.{is_set, own_source, pair_alike, taken_within}
 use Rattle.ini_edit.proofs.setting.set_where_there.Goals as goal
 
@@ -16,7 +16,7 @@ read_on-requires c =
     c.reach_section_or_end.new.parser) c.in_default.is c.in_ok-place.ensures.opening in
     let reached = subst (Reaches c.args.read (chars c.args.text.now) c.reach_section_or_end.new.parser.front
     (chars c.args.key.now) c.reach_pair_or_end.new.parser) c.in-End.is c.in_ok-pair.ensures.reached in
-    goes_on_behind opened reached.1
+    goes_on_after opened reached.1
 
 pub returns-in-End-clause-came : goal.returns-in-End-clause-came
 returns-in-End-clause-came c =

@@ -109,7 +109,7 @@ impl Buffer<BUFFER_SIZE> {
     }
 }
 
-// Puts eight to sixteen bytes behind the first `len`: their first eight, and their last.
+// Puts eight to sixteen bytes after the first `len`: their first eight, and their last.
 #[inline(always)]
 fn place_few(bytes: &mut [u8; BUFFER_SIZE], len: usize, few: &[u8])
     requires long { HALF ≤ length few.now }
@@ -122,7 +122,7 @@ fn place_few(bytes: &mut [u8; BUFFER_SIZE], len: usize, few: &[u8])
     place_half(bytes, len + back, u8x8::from_slice(&few[back..]));
 }
 
-// Puts eight bytes behind the first `len`.
+// Puts eight bytes after the first `len`.
 #[inline(always)]
 fn place_half(bytes: &mut [u8], len: usize, half: u8x8)
     requires { len + HALF ≤ length bytes.old }

@@ -1,4 +1,4 @@
--- Nothing stands behind the document's text.
+-- Nothing stands after the document's text.
 use Rattle.std.proofs.lemmas.Str.{chars-nil}
 use Rattle.ini_vectors.proofs.reloads.reload.Goals as goal
 

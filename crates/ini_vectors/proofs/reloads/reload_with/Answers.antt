@@ -1,4 +1,4 @@
--- The text behind the document's.
+-- The text after the document's.
 use Rattle.std.proofs.Common.{◌≡◌, ◌∙◌, ◌++◌, ap, subst, sym, chars, count_by}
 use Rattle.std.proofs.lemmas.Str.{chars-append, IsUtf8-string_bytes}
 use Rattle.std.specs.Prelude.{string_bytes}

@@ -1,5 +1,5 @@
 //! Lists of edits: the bytes of the new text, which edits found something, and which was refused.
-use super::show::{options_of, told};
+use super::show::{options_of, reported};
 use ini::{Error, WriteOption};
 use ini_edit::{Edit, make_edits};
 use std::alloc::Global;
@@ -25,7 +25,7 @@ fn answer(alloc: Global, text: &str, edits: &[Edit<'_>]) -> Result<String, Error
             Ok(out)
         }
         Err(refused) => {
-            let why = told(alloc, Err(refused.refusal))?;
+            let why = reported(alloc, Err(refused.refusal))?;
             Ok(format!(in alloc; "edit {}: {why}", refused.index)?)
         }
     }
@@ -155,10 +155,10 @@ fn refused_edits(rt: HostRuntime) -> Result<(), Fail> {
     let Err(refused) = make_edits(rt.alloc(), "", read, &write, &[plain, unplain]) else {
         panic!(&rt; "an unplain value was set");
     };
-    let told = format!(in rt.alloc(); "{refused}")?;
+    let reported = format!(in rt.alloc(); "{refused}")?;
     assert!(&rt;
-        told.as_str() == "edit 1: this value can't be written so that it is read back",
-        "{told}"
+        reported.as_str() == "edit 1: this value can't be written so that it is read back",
+        "{reported}"
     );
     Ok(())
 }

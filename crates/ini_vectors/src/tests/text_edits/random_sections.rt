@@ -1,6 +1,6 @@
 //! Sections of random texts by random options: the new text loads as the edited document.
 use super::random::Random;
-use super::show::{loaded, options_of, shown, told};
+use super::show::{loaded, options_of, shown, reported};
 use ini::{Error, Ini};
 use ini_edit::{EditError, delete_section};
 use std::alloc::Global;
@@ -30,8 +30,8 @@ fn answered(
 ) -> Result<String, Error> {
     match answer {
         Ok(Some(new)) => loaded(alloc, letters, new.as_str()),
-        Ok(None) => told(alloc, Ok(None)),
-        Err(refused) => told(alloc, Err(refused)),
+        Ok(None) => reported(alloc, Ok(None)),
+        Err(refused) => reported(alloc, Err(refused)),
     }
 }
 

@@ -42,7 +42,7 @@ pub(crate) fn loaded(alloc: Global, letters: &str, text: &str) -> Result<String,
 }
 
 /// The new text that a call answered; or why there is none.
-pub(crate) fn told(
+pub(crate) fn reported(
     alloc: Global,
     answer: Result<Option<String>, EditError>,
 ) -> Result<String, Error> {

@@ -2,7 +2,7 @@ use Rattle.std.proofs.Common.{◌∙◌, [], ap, chars, refl, subst, sym}
 use Rattle.std.proofs.lemmas.Result.{err_from_is_err_and}
 use Rattle.ini_text.proofs.LawLemmas.ExportedLemmas.{front_is}
 use Rattle.ini.specs.Documents.{HasGeneral}
-use Rattle.ini.specs.Inside.Passing.{with_items}
+use Rattle.ini.specs.Inside.StreamLoader.{with_items}
 use Rattle.ini.proofs.GeneralLemmas.{has_general}
 use Rattle.ini.proofs.ReadingLemmas.{IsStopOf-first}
 use Rattle.ini.proofs.document.Ini.load_from_str_opt.Goals as goal

@@ -5,7 +5,7 @@ use Rattle.ini.proofs.document.Ini.read_watched.Goals as goal
 pub pieces-init : goal.pieces-init
 pieces-init g c =
     let filled = c.in_ok-is_all.ensures in
-    let new = c.in_ok-passing.ensures in
+    let new = c.in_ok-streaming.ensures in
     let last = c.len-last_line.ensures ∙ c.drop_byte_order_mark.new.bytes.ok.0 in
     let lines = ap (λ n. 1 + n) last in (
       search rules,

@@ -7,7 +7,7 @@ abbrev pub invariant-pieces : goal.invariant-pieces
 invariant-pieces g l =
     IsClear l.reader × SameDevice l.fn.reader l.reader
     × IsStreamed l.fn.opt l.fn.drop_mark (g.R.Read.remaining (device_now l.fn.reader))
-    (g.R.Read.remaining (device_now l.reader)) l.bytes.items l.passing l.last_line l.is_all
+    (g.R.Read.remaining (device_now l.reader)) l.bytes.items l.streaming l.last_line l.is_all
     × (l.last_line < 2 ^ 64)
 
 abbrev pub decreases-pieces : goal.decreases-pieces

@@ -1,4 +1,4 @@
--- `kept` reads the pointer out of the handle and lends what lies behind it, and the handle follows that.
+-- `kept` reads the pointer out of the handle and lends what lies after it, and the handle follows that.
 use Rattle.std.proofs.Common.{◌≡◌, ℕ, List, [], ◌∷◌, refl, sym}
 use mathlib.Core.Bool.{Bool, true}
 use seplogic.Ra.Ura.{Ura}

@@ -1,7 +1,7 @@
 use Rattle.std.proofs.Common.{ℕ, subst}
 use Rattle.ini_multimap.specs.Slots.{Columns}
-use Rattle.ini_multimap.specs.Inside.Candidates.{IsBehind, IsCandidate}
-use Rattle.ini_multimap.proofs.WalkLemmas.{chained_behind}
+use Rattle.ini_multimap.specs.Inside.Candidates.{IsAfter, IsCandidate}
+use Rattle.ini_multimap.proofs.WalkLemmas.{chained_after}
 use Rattle.ini_multimap.proofs.slots.Slots.candidate_before.Goals as goal
 
 pub returns-in-Some : goal.returns-in-Some
@@ -10,7 +10,7 @@ returns-in-Some g c =
     let s = c.args.s in
     let code = g.K.MapKey.key_code in
     let P : Columns g.row.K.Denot g.row.V.Denot → Type 0 = λ d. (k : ℕ)
-    → IsCandidate d.is_chained code k d.keys s → IsBehind d.is_chained code k d.keys s c.prev.result in
+    → IsCandidate d.is_chained code k d.keys s → IsAfter d.is_chained code k d.keys s c.prev.result in
     subst P c.self.view_is (λ k here. rw (c.prev.ensures, c.deref.ensures)
-    (chained_behind code m.keys.items m.index c.in-Some.chains c.in-Some.is c.self.invariant.indexed s k
+    (chained_after code m.keys.items m.index c.in-Some.chains c.in-Some.is c.self.invariant.indexed s k
     here))

@@ -5,7 +5,7 @@ use Rattle.ini_text.specs.Inside.LineReader.{line}
 use Rattle.ini_text.specs.Inside.Scans.{trimmed_at}
 use Rattle.ini_text.specs.Parsing.Items.{string_text}
 use Rattle.ini_text.proofs.StringLemmas.PushLemmas.{grown}
-use Rattle.ini_text.proofs.ReaderLemmas.ReaderLemmas.{read_behind, then_stopped, passed}
+use Rattle.ini_text.proofs.ReaderLemmas.ReaderLemmas.{read_after, then_stopped, passed}
 use Rattle.ini_text.proofs.ReaderLemmas.LineReaderLemmas.{one_part, part_stops, part_shortens, line_read, line_stops}
 use Rattle.ini_text.proofs.parser.line.read_line.Goals.{then-is_first, else-is_first}
 use Rattle.ini_text.proofs.parser.line.read_line.Goals as goal
@@ -42,13 +42,13 @@ pub trim_from-requires : goal.trim_from-requires
 trim_from-requires c =
     let g = grown (string_bytes c.parts.out) (string_bytes c.read_string-2.new.out) _
     (IsUtf8-string_bytes c.parts.out) (IsUtf8-string_bytes c.read_string-2.new.out)
-    (read_behind _ _ c.in_ok-end-2.ensures).2 in
+    (read_after _ _ c.in_ok-end-2.ensures).2 in
     subst (IsCharBoundary (string_bytes c.read_string-2.new.out))
     (sym (c.len-start.ensures ∙ c.parts.out.bytes.ok.0)) g.cut
 
 pub returns : goal.returns
 returns c =
-    let read = read_behind _ _ c.in_ok-end-2.ensures in
+    let read = read_after _ _ c.in_ok-end-2.ensures in
     let g = grown (string_bytes c.parts.out) (string_bytes c.read_string-2.new.out) _
     (IsUtf8-string_bytes c.parts.out) (IsUtf8-string_bytes c.read_string-2.new.out) read.2 in
     let both : c.if-is_first.trim_from ≡ (c.args.is_first && not c.parts.is_quoted) =

@@ -1,12 +1,12 @@
 use Rattle.std.proofs.Common.{chars, ap, ◌∙◌, sym, subst}
 use Rattle.ini_text.specs.Grammar.CharacterKinds.{is_blank}
 use Rattle.ini_text.specs.Grammar.Strings.{key_ends}
-use Rattle.ini_text.specs.Inside.ElementReader.{behind_blanks, given, indented_pair_of_key, kept_blanks, trimmed_key}
+use Rattle.ini_text.specs.Inside.ElementReader.{after_blanks, given, indented_pair_of_key, kept_blanks, trimmed_key}
 use Rattle.ini_text.specs.Inside.Reading.{Gives, prepend}
 use Rattle.ini_text.specs.Inside.Scans.{run_of}
 use Rattle.ini_text.specs.Inside.StringReader.{string}
 use Rattle.ini_text.proofs.PlaceLemmas.PairLemmas.{header_rests, unaltered, value_rests}
-use Rattle.ini_text.proofs.ReaderLemmas.ReaderLemmas.{read_behind}
+use Rattle.ini_text.proofs.ReaderLemmas.ReaderLemmas.{read_after}
 use Rattle.ini_text.proofs.ReaderLemmas.ElementReaderLemmas.{blanks_front, key_at}
 use Rattle.ini_text.proofs.parser.pair.read_indented.Goals as goal
 
@@ -25,7 +25,7 @@ returns-in-Ok-clause-gives c =
     (string o.enabled_escape key_ends start))))
     (sym (c.front_before.ensures ∙ (blanks_front c.skip-start.ensures).0))
     ∙ ap (indented_pair_of_key o) c.in-Ok.ensures in
-    subst (Gives given c.read_pair.result) (sym (ap (behind_blanks o w) (sym c.skip-start.ensures) ∙ read))
+    subst (Gives given c.read_pair.result) (sym (ap (after_blanks o w) (sym c.skip-start.ensures) ∙ read))
     c.read_pair.ensures.gives
 
 pub returns-in-Err-clause-gives : goal.returns-in-Err-clause-gives
@@ -39,14 +39,14 @@ returns-in-Err-clause-gives c =
     ∙ ap (λ b. indented_pair_of_key o (trimmed_key o (prepend (kept_blanks o b)
     (string o.enabled_escape key_ends start))))
     (sym (c.front_before.ensures ∙ (blanks_front c.skip-start.ensures).0)) in
-    subst (Gives given c.drop_tail.result) (sym (ap (behind_blanks o w) (sym c.skip-start.ensures) ∙ read))
+    subst (Gives given c.drop_tail.result) (sym (ap (after_blanks o w) (sym c.skip-start.ensures) ∙ read))
     (c.drop_tail.ensures.gives o _ c.in-Err.ensures)
 
 pub returns-in-Ok-clause-rests : goal.returns-in-Ok-clause-rests
 returns-in-Ok-clause-rests c =
     value_rests c.args.read (chars c.args.text.now) c.read_pair.new.rests
     (ap (string c.args.read.enabled_escape key_ends) (sym c.skip-start.ensures)
-    ∙ (read_behind _ _ (unaltered _ _ c.in-Ok.ensures).1).1)
+    ∙ (read_after _ _ (unaltered _ _ c.in-Ok.ensures).1).1)
     c.read_pair.result c.read_pair.ensures.rests
 
 pub returns-in-Err-clause-rests : goal.returns-in-Err-clause-rests

@@ -1,12 +1,12 @@
 use Rattle.std.proofs.Common.{◌≢◌, [], chars, length, ap, refl, sym, ◌∙◌, eqb-true, eq-eqb, subst, true≢false}
 use Rattle.std.specs.Cow.{cow_str_bytes}
 use Rattle.std.specs.Str.{IsUtf8}
-use Rattle.ini_text.specs.Inside.ElementReader.{behind_separator, pair_of_value}
+use Rattle.ini_text.specs.Inside.ElementReader.{after_separator, pair_of_value}
 use Rattle.ini_text.specs.Inside.PlaceReader.{HasTail}
 use Rattle.ini_text.specs.Parsing.Items.{cow_text}
 use Rattle.ini_text.proofs.StringLemmas.PushLemmas.{no_characters, some_characters}
 use Rattle.ini_text.proofs.ReaderLemmas.ReaderLemmas.{passed}
-use Rattle.ini_text.proofs.ReaderLemmas.ElementReaderLemmas.{behind_key}
+use Rattle.ini_text.proofs.ReaderLemmas.ElementReaderLemmas.{after_key}
 use Rattle.ini_text.proofs.parser.pair.read_pair.Goals as goal
 
 pub returns-then-is_empty-clause-gives : goal.returns-then-is_empty-clause-gives
@@ -27,8 +27,8 @@ returns-in_err-value-clause-gives c =
     (sym (eq-eqb _ 0 (ap length c.as_str.ensures.value ∙ none)) ∙ sym c.is_empty.ensures
     ∙ c.if-is_empty.false)) in
     passed _ _ _ c.from_residual.ensures.1 c.in_err-value.ensures λ r k h.
-    ap (behind_separator c.args.read (cow_text c.args.key)) (sym c.after_first-after.ensures)
-    ∙ behind_key c.args.read _ _ some ∙ ap (pair_of_value (cow_text c.args.key)) h
+    ap (after_separator c.args.read (cow_text c.args.key)) (sym c.after_first-after.ensures)
+    ∙ after_key c.args.read _ _ some ∙ ap (pair_of_value (cow_text c.args.key)) h
 
 pub returns-clause-gives : goal.returns-clause-gives
 returns-clause-gives c =
@@ -37,8 +37,8 @@ returns-clause-gives c =
     (λ none. true≢false
     (sym (eq-eqb _ 0 (ap length c.as_str.ensures.value ∙ none)) ∙ sym c.is_empty.ensures
     ∙ c.if-is_empty.false)) in
-    ap (behind_separator c.args.read (cow_text c.args.key)) (sym c.after_first-after.ensures)
-    ∙ behind_key c.args.read _ _ some
+    ap (after_separator c.args.read (cow_text c.args.key)) (sym c.after_first-after.ensures)
+    ∙ after_key c.args.read _ _ some
     ∙ ap (pair_of_value (cow_text c.args.key)) c.in_ok-value.ensures.reads
 
 pub returns-clause-rests : goal.returns-clause-rests

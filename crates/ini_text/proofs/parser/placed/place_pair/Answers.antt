@@ -1,18 +1,18 @@
 use Rattle.std.proofs.Common.{refl, sym, ◌∙◌, chars, drop, subst}
 use Rattle.ini_text.specs.Inside.PlaceReader.{HasTail}
-use Rattle.ini_text.proofs.PlaceLemmas.PairLemmas.{pair_read, behind_key_within, behind_key_some, tail_within, own_within, lead_within, placed}
+use Rattle.ini_text.proofs.PlaceLemmas.PairLemmas.{pair_read, after_key_within, after_key_some, tail_within, own_within, lead_within, placed}
 use Rattle.ini_text.proofs.parser.placed.place_pair.Goals as goal
 
 pub unreachable-requires : goal.unreachable-requires
 unreachable-requires c =
-    behind_key_some (pair_read c.requires.pair refl) c.requires.rests.key_is c.in_default.ensures.characters
+    after_key_some (pair_read c.requires.pair refl) c.requires.rests.key_is c.in_default.ensures.characters
 
 pub front_before-requires : goal.front_before-requires
 front_before-requires c = own_within c.requires.rests.value_is
 
 pub front_before-requires-2 : goal.front_before-requires-2
 front_before-requires-2 c =
-    behind_key_within (pair_read c.requires.pair refl) c.requires.rests.key_is
+    after_key_within (pair_read c.requires.pair refl) c.requires.rests.key_is
 
 pub front_before-requires-3 : goal.front_before-requires-3
 front_before-requires-3 c = lead_within

@@ -8,7 +8,7 @@ use Rattle.ini_text.specs.Grammar.WhiteSpace.{without_outer_line_feeds}
 use Rattle.ini_text.specs.Inside.PlaceReader.{HasTail, TailSoFar}
 use Rattle.ini_text.specs.Parsing.Items.{string_text}
 use Rattle.ini_text.proofs.PlaceLemmas.TailLemmas.{tail_lf, tail_cr_lf, tail_stops, tail_line_stops, tail_other, tail_at_end, last_line-empty, last_line-own, line_shorter, line-empty, line-own}
-use Rattle.ini_text.proofs.ReaderLemmas.ReaderLemmas.{passed, read_behind, stopped_behind}
+use Rattle.ini_text.proofs.ReaderLemmas.ReaderLemmas.{passed, read_after, stopped_after}
 use Rattle.ini_text.proofs.ReaderLemmas.ValueReaderLemmas.{empty_cr_stops}
 use Rattle.ini_text.proofs.StringLemmas.PushLemmas.{grown}
 use Rattle.ini_text.proofs.parser.value.read_more.Goals.{then-gives_more, else-gives_more}
@@ -50,11 +50,11 @@ returns-in_err-end c =
     passed _ _ _ c.from_residual-in_err-end.ensures.1 c.in_err-end.ensures
     (λ r k h. tail_line_stops c.args.read c.requires.starts c.lines.invariant.known
     c.in-Some.ensures.characters (sym c.contains.ensures ∙ c.if-contains.true) c.skip.ensures
-    (stopped_behind _ _ h))
+    (stopped_after _ _ h))
 
 pub gives_more-requires : goal.gives_more-requires
 gives_more-requires c =
-    let read = read_behind _ _ c.in_ok-end.ensures in
+    let read = read_after _ _ c.in_ok-end.ensures in
     let g = grown (string_bytes c.push-then-contains.new.out) (string_bytes c.read_line.new.out) read.0
     (IsUtf8-string_bytes c.push-then-contains.new.out) (IsUtf8-string_bytes c.read_line.new.out) read.2 in
     subst (λ b. IsCharBoundary b c.len-len.result) (sym c.as_str.ensures.value)
@@ -63,7 +63,7 @@ gives_more-requires c =
 
 pub returns-in_default-after_line_end : goal.returns-in_default-after_line_end
 returns-in_default-after_line_end c =
-    let read = read_behind _ _ c.in_ok-end.ensures in
+    let read = read_after _ _ c.in_ok-end.ensures in
     let u = read.0 in
     let old = string_text c.lines.out in
     let g = grown (string_bytes c.push-then-contains.new.out) (string_bytes c.read_line.new.out) read.0
@@ -96,14 +96,14 @@ returns-in_default-after_line_end c =
 
 pub lines-smaller : goal.lines-smaller
 lines-smaller c =
-    let read = read_behind _ _ c.in_ok-end.ensures in
+    let read = read_after _ _ c.in_ok-end.ensures in
     line_shorter c.args.read c.requires.starts c.requires.multiline
     c.lines.invariant.known c.in-Some.ensures.characters
     (sym c.contains.ensures ∙ c.if-contains.true) c.skip.ensures read.1 c.in-Some-after_line_end.ensures
 
 pub lines-preserved : goal.lines-preserved
 lines-preserved c =
-    let read = read_behind _ _ c.in_ok-end.ensures in
+    let read = read_after _ _ c.in_ok-end.ensures in
     let u = read.0 in
     let old = string_text c.lines.out in
     let g = grown (string_bytes c.push-then-contains.new.out) (string_bytes c.read_line.new.out) read.0

@@ -1,7 +1,7 @@
 use Rattle.std.proofs.Common.{ap, arith, length}
 use Rattle.ini_multimap.specs.Slots.{pairs_of}
 use Rattle.ini_multimap.proofs.LengthLemmas.{length-values_at-le}
-use Rattle.ini_multimap.proofs.ValueLemmas.{ahead_candidate, all_from, behind_candidate}
+use Rattle.ini_multimap.proofs.ValueLemmas.{ahead_candidate, all_from, after_candidate}
 use Rattle.ini_multimap.proofs.WalkLemmas.{pairs_le}
 use Rattle.ini_multimap.proofs.iter.values.Values.new.Goals as goal
 
@@ -11,7 +11,7 @@ invariant_of-result g c =
     let k = g.Q.Probe.probe_code c.args.q in (
       ahead_candidate slots.is_chained g.K.MapKey.key_code k slots.keys 0 c.first_candidate.result
           c.first_candidate.ensures,
-      behind_candidate slots.is_chained g.K.MapKey.key_code k slots.keys (length slots.keys)
+      after_candidate slots.is_chained g.K.MapKey.key_code k slots.keys (length slots.keys)
           c.last_candidate.result c.last_candidate.ensures.last,
     )
 

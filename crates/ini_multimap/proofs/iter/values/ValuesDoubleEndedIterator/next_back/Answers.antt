@@ -55,11 +55,11 @@ loop-self-preserved g c =
     let it = c.loop-self.self-inside in
     let inv = c.loop-self.invariant in
     let here = rw c.in-Some.is at inv.slots.1 in
-    let behind = c.candidate_before-self-inside.ensures (g.Q.Probe.probe_code it.q) here in
+    let following = c.candidate_before-self-inside.ensures (g.Q.Probe.probe_code it.q) here in
     record {
-      slots = back_slots _ _ _ _ _ _ _ inv.slots _ behind;
+      slots = back_slots _ _ _ _ _ _ _ inv.slots _ following;
       end = inv.end;
       left = sym (back_misses (g.met.Q.Probe.same_code it.q) it.slots.now.is_chained it.slots.now.keys
-          it.slots.now.values _ _ _ _ inv.slots inv.end c.in-Some.is c.if-s-first.false _ behind
+          it.slots.now.values _ _ _ _ inv.slots inv.end c.in-Some.is c.if-s-first.false _ following
           (sym c.in_default-fitting_value.ensures.fits)) ∙ inv.left;
     }

@@ -2,7 +2,7 @@ use Rattle.std.proofs.Common.{◌∙◌, sym, eqb-true}
 use Rattle.std.proofs.lemmas.List.{nil_from_length}
 use Rattle.ini_text.specs.Buffered.{buffered}
 use Rattle.ini_text.proofs.WriteLemmas.MarkedByteLemmas.{pushed_all}
-use Rattle.ini_text.proofs.WriteLemmas.SendLemmas.{SendsBytes-behind, SendsBytes-held}
+use Rattle.ini_text.proofs.WriteLemmas.SendLemmas.{SendsBytes-after, SendsBytes-held}
 use Rattle.ini_text.proofs.write.gather.Gatherer.put_marked.Goals as goal
 
 pub returns-then-is_empty : goal.returns-then-is_empty
@@ -13,4 +13,4 @@ returns-then-is_empty g c =
     (buffered c.push_marked-rest.new.self) rest none c.push_marked-rest.ensures.pushed)
 
 pub returns : goal.returns
-returns g c = SendsBytes-behind (sym c.push_marked-rest.ensures.pushed) c.put_pieces.ensures
+returns g c = SendsBytes-after (sym c.push_marked-rest.ensures.pushed) c.put_pieces.ensures

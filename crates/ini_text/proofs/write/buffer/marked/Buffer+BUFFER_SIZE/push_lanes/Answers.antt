@@ -4,7 +4,7 @@ use Rattle.std.proofs.lemmas.Option.{MatchOption-at_some}
 use lib.Count.{count_trailing_zeros}
 use Rattle.ini_text.proofs.StringLemmas.LaneLemmas.{Tells-none, Tells-past, stops_at}
 use Rattle.ini_text.proofs.WriteLemmas.BufferLemmas.{placed_none, placed_run}
-use Rattle.ini_text.proofs.WriteLemmas.MarkedByteLemmas.{letters-past, marked_escaped-behind, marked_escaped-run, pushed_more, stopped_at_mark}
+use Rattle.ini_text.proofs.WriteLemmas.MarkedByteLemmas.{letters-past, marked_escaped-after, marked_escaped-run, pushed_more, stopped_at_mark}
 use Rattle.ini_text.specs.Inside.Verbatim.{marked_escaped}
 use Rattle.ini_text.specs.Escaping.EscapedTexts.{escape, letter_of}
 use Rattle.ini_text.proofs.write.buffer.marked.Buffer+BUFFER_SIZE.push_lanes.Goals.{then-lanes-test+else-len, else-lanes-test}
@@ -67,7 +67,7 @@ lanes-preserved g c =
     let left = take_rest rest (run + 1) in
     let placed = MatchOption-at_some _ _ _ c.in-Some.is c.place_letter.ensures.placed in
     let end = MatchOption-at_some _ _ _ c.in-Some.is c.place_letter.ensures.end in
-    let next = marked_escaped-behind p rest run stops
+    let next = marked_escaped-after p rest run stops
     ∙ ap (λ b. (take run rest ++ escape b) ++ marked_escaped p (drop (run + 1) rest)) (sym c.from.ensures) in
     let grown = placed_run c.lanes.len run _ c.lanes.self.bytes rest
     c.place_lanes.new.bytes c.place_letter.new.bytes piece (omega (arith, stops.below))

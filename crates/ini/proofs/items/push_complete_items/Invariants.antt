@@ -2,7 +2,7 @@ use Rattle.std.proofs.Common.{◌-◌, chars, length}
 use denote.Text.{Utf8}
 use denote.Shadow.{shadow}
 use Rattle.ini.proofs.ReadingLemmas.{Settling}
-use Rattle.ini.proofs.items.push_settled.Given as goal
+use Rattle.ini.proofs.items.push_complete_items.Given as goal
 
 abbrev pub invariant-items : goal.invariant-items
 invariant-items l =

@@ -1,8 +1,8 @@
 use Rattle.std.proofs.Common.{ap, arith, length, subst, sym}
 use Rattle.std.specs.Str.{IsUtf8}
 use Rattle.std.proofs.lemmas.Str.{IsCharBoundary-from_take}
-use Rattle.ini.proofs.PassingLemmas.{StopsLater-down, front_cut, line_fits, rest_cut}
-use Rattle.ini.proofs.passing.Passing.finish.Goals as goal
+use Rattle.ini.proofs.StreamLoaderLemmas.{StopsLater-down, front_cut, line_fits, rest_cut}
+use Rattle.ini.proofs.streaming.StreamLoader.finish.Goals as goal
 
 pub split_at-requires : goal.split_at-requires
 split_at-requires c =

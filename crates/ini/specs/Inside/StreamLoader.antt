@@ -9,14 +9,14 @@ use Rattle.ini_text.specs.Grammar.Positions.{is_column_one}
 use Rattle.ini_text.specs.Grammar.Texts.{Reads}
 use Rattle.ini_text.specs.Errors.Messages.{HasMessage}
 use Rattle.ini_text.specs.Parsing.Fronts.{front_of, IsRest}
-use Rattle.ini_text.specs.Parsing.Parser.{StopsBehind}
+use Rattle.ini_text.specs.Parsing.Parser.{StopsPast}
 use Rattle.ini_text.specs.declared.error.Error.{Error}
 use Rattle.ini_text.specs.declared.error.ParseError.{ParseError}
 use Rattle.ini_text.specs.declared.option.ParseOption.{ParseOption}
 use Rattle.ini.specs.Texts.{Text}
 use Rattle.ini.specs.Documents.{Document, document_of, with_item}
 use Rattle.ini.specs.Loading.{IfParse}
-use Rattle.ini.specs.declared.passing.Passing.{Passing}
+use Rattle.ini.specs.declared.streaming.StreamLoader.{StreamLoader}
 
 -- the document with further items
 abbrev pub with_items : Document → List Given → Document
@@ -28,13 +28,13 @@ pub record Makes (o : ParseOption) (T b c : Text) (d e : Document) : Type 0 wher
   pub reads : Reads o T b items c
   pub document : e ≡ with_items d items
 
--- behind the front b, and items, reading stops, at a line that is `gone` lines further down
+-- after the front b, and items, reading stops, at a line that is `gone` lines further down
 pub record StopsLater (o : ParseOption) (T b : Text) (gone : ℕ) (e : ParseError) : Type 0 where
   pub front : Text
   pub items : List Given
   pub line : ℕ
   pub reads : Reads o T b items front
-  pub stop : StopsBehind o T front e.kind line e.col
+  pub stop : StopsPast o T front e.kind line e.col
   pub moved : e.line ≡ line + gone
   pub message : HasMessage e.kind (cow_str_bytes e.msg)
 
@@ -46,12 +46,12 @@ pub record Settles (o : ParseOption) (T rest left : Text) (d e : Document) : Typ
   pub is_rest : IsRest T left
 
 -- the bytes begin with a front, a text, whose items the document has
-pub record HasFront (p : Passing) (bytes : List ℕ) : Type 0 where
+pub record HasFront (p : StreamLoader) (bytes : List ℕ) : Type 0 where
   pub within : p.front ≤ length bytes
   pub utf8 : IsUtf8 (take p.front bytes)
 
 -- of the bytes b only c stay: whole lines went by, and items of what stays made their way into the document
-pub record GoesBy (o : ParseOption) (old new : Passing) (b c : List ℕ) : Type 0 where
+pub record GoesBy (o : ParseOption) (old new : StreamLoader) (b c : List ℕ) : Type 0 where
   pub gone : List ℕ
   pub items : List Given
   pub bytes : b ≡ gone ++ c
@@ -64,7 +64,7 @@ pub record GoesBy (o : ParseOption) (old new : Passing) (b c : List ℕ) : Type 
   pub document : new.document ≡ with_items old.document items
 
 -- what the last bytes make of the document
-pub record Ends (o : ParseOption) (p : Passing) (bytes : List ℕ) (result : Result Document Error)
+pub record Ends (o : ParseOption) (p : StreamLoader) (bytes : List ℕ) (result : Result Document Error)
     : Type 0 where
   pub utf8 : IfOk result (λ d. IsUtf8 bytes)
   pub document : IfOk result
@@ -74,7 +74,7 @@ pub record Ends (o : ParseOption) (p : Passing) (bytes : List ℕ) (result : Res
 
 -- All bytes that were read: those that went by, whole lines, and those that are kept. The document has the
 -- items of all but what follows the front, whatever follows.
-pub record IsPassing (o : ParseOption) (all bytes : List ℕ) (p : Passing) : Type 0 where
+pub record IsStreaming (o : ParseOption) (all bytes : List ℕ) (p : StreamLoader) : Type 0 where
   pub gone : List ℕ
   pub items : List Given
   pub whole : all ≡ gone ++ bytes

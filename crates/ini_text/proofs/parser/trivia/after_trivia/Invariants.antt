@@ -4,7 +4,7 @@ use denote.Shadow.{shadow}
 use Rattle.ini_text.specs.Parsing.Fronts.{front_of, IsRest}
 use Rattle.ini_text.specs.Parsing.Trivia.{AreTrivia}
 use Rattle.ini_text.specs.declared.option.ParseOption.{ParseOption}
-use Rattle.ini_text.proofs.parser.trivia.behind_trivia.Given as goal
+use Rattle.ini_text.proofs.parser.trivia.after_trivia.Given as goal
 
 abbrev pub decreases-trivia : goal.decreases-trivia
 decreases-trivia l = length (chars l.rest)

@@ -1,7 +1,7 @@
 use Rattle.std.proofs.Common.{rules}
 use Rattle.ini_text.specs.Parsing.Trivia.{AreTrivia}
 use Rattle.ini_text.proofs.ReaderLemmas.TriviaLemmas.{skips_all, skips_one}
-use Rattle.ini_text.proofs.parser.trivia.behind_trivia.Goals as goal
+use Rattle.ini_text.proofs.parser.trivia.after_trivia.Goals as goal
 
 pub trivia-init : goal.trivia-init
 trivia-init c = record { text = search rules; within = c.requires; skipped = λ o. AreTrivia.none }

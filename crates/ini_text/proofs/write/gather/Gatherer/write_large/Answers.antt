@@ -1,6 +1,6 @@
 use Rattle.std.proofs.lemmas.Result.{err_from_is_err_and}
 use Rattle.ini_text.proofs.WriteLemmas.SendLemmas.{SendsBytes-cut, SendsBytes-direct, SendsBytes-then}
-use Rattle.ini_text.proofs.write.gather.Gatherer.put_through.Goals as goal
+use Rattle.ini_text.proofs.write.gather.Gatherer.write_large.Goals as goal
 
 pub returns-in_err-flush : goal.returns-in_err-flush
 returns-in_err-flush g c =

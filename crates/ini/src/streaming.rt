@@ -4,31 +4,31 @@ ghost use Rattle.std.specs.Prelude.{◌≡◌, ◌+◌, ◌^◌, ◌<◌, ◌≤
 ghost use Rattle.std.specs.Prelude.{IfErr, IfOk, IsUtf8, OnOk, IsOkUnless, [], ◌∷◌, None};
 ghost use Rattle.ini.specs.Loading.{IsNotUtf8};
 ghost use Rattle.ini.specs.Inside.ReadBytes.{IsMemory, IsTextRefusal};
-ghost use Rattle.ini.specs.Inside.Passing.{Ends, GoesBy, HasFront};
+ghost use Rattle.ini.specs.Inside.StreamLoader.{Ends, GoesBy, HasFront};
 
 use crate::document::Ini;
-use crate::items::{push_items, push_settled};
+use crate::items::{push_items, push_complete_items};
 use ini_text::{Error, ParseError, ParseOption, front_before, whole_lines};
 use std::alloc::Global;
 
 /// What was read of a text of which whole lines went by: the document so far, how many of the bytes that are
 /// kept have their items in it, and the number of the lines.
 #[derive(Drop)]
-pub(crate) struct Passing {
+pub(crate) struct StreamLoader {
     document: Ini,
     front: usize,
     lines: usize,
 }
 
-impl Passing {
+impl StreamLoader {
     /// Nothing was read yet.
-    pub(crate) fn new(alloc: Global) -> Result<Passing, Error>
+    pub(crate) fn new(alloc: Global) -> Result<StreamLoader, Error>
         ensures document { IfOk result (λ p. p.document ≡ (None, []) ∷ []) }
         ensures front { IfOk result (λ p. p.front ≡ 0) }
         ensures lines { IfOk result (λ p. p.lines ≡ 0) }
         ensures only { IsOkUnless result (Error.Memory alloc_error) }
     {
-        Ok(Passing {
+        Ok(StreamLoader {
             document: Ini::new(alloc)?,
             front: 0,
             lines: 0,
@@ -52,7 +52,7 @@ impl Passing {
         let Some(rest) = text.get(self.front..) else {
             return Ok(());
         };
-        let left = push_settled(alloc, &mut self.document, text, rest, opt)?;
+        let left = push_complete_items(alloc, &mut self.document, text, rest, opt)?;
         let front = front_before(text, left);
         let (whole, lines) = whole_lines(front);
         let count = whole.len();
@@ -71,7 +71,7 @@ impl Passing {
         ensures not_utf8 { IsNotUtf8 result → ¬ (IsUtf8 bytes.now) }
         ensures only { IfErr result IsTextRefusal }
     {
-        let Passing {
+        let StreamLoader {
             mut document,
             front,
             lines,

@@ -1,7 +1,7 @@
 use Rattle.std.proofs.Common.{◌-◌, ◌^◌, vec_len}
 use Rattle.ini_text.specs.Device.Watched.{IsClear, SameDevice, device_now}
 use Rattle.ini.specs.Inside.ReadBytes.{HasRead}
-use Rattle.ini_tool.proofs.reading.read_behind.Given as goal
+use Rattle.ini_tool.proofs.reading.read_after.Given as goal
 
 abbrev pub invariant-pieces : goal.invariant-pieces
 invariant-pieces g l =

@@ -1,4 +1,4 @@
--- A text behind another front: it is read as before where the two fronts end alike.
+-- A text after another front: it is read as before where the two fronts end alike.
 use Rattle.std.proofs.Common.{◌≡◌, ℕ, Bool, true, List, [], ◌∷◌, ◌++◌, refl, sym, ap, ◌∙◌, subst}
 use Rattle.std.proofs.Common.{append_assoc, append-nil, length, length-append, arith}
 use Rattle.std.proofs.Common.{not, ◌||◌, eqb}
@@ -16,7 +16,7 @@ use Rattle.ini_text.specs.Grammar.Texts.{Reads}
 use Rattle.ini_edit.specs.Places.{EndsLike}
 use Rattle.ini_text.proofs.GrammarLemmas.ItemLemmas.{element-some}
 use Rattle.ini_text.proofs.GrammarLemmas.KindLemmas.{comment_mark-apart, line_end_no_blank}
-use Rattle.ini_text.proofs.LawLemmas.MovedLemmas.{last_or-behind}
+use Rattle.ini_text.proofs.LawLemmas.MovedLemmas.{last_or-after}
 use Rattle.ini_text.proofs.PlainLemmas.PlainLineLemmas.{line_end_gap}
 use Rattle.ini_text.proofs.PlainLemmas.PlainTrimLemmas.{line_end_is_white}
 
@@ -27,15 +27,15 @@ EndsLike-same b = record { line = refl; column = λ h. h }
 pub EndsLike-one : (b c : List ℕ) (x : ℕ) (s : List ℕ) → EndsLike (b ++ x ∷ s) (c ++ x ∷ s)
 EndsLike-one b c x s =
     let one : last_or line_feed (b ++ x ∷ s) ≡ last_or line_feed (c ++ x ∷ s) =
-    last_or-behind line_feed x b s ∙ sym (last_or-behind line_feed x c s) in
+    last_or-after line_feed x b s ∙ sym (last_or-after line_feed x c s) in
     record { line = ap is_line_end one; column = λ h. ap is_line_feed (sym one) ∙ h }
 
-pub EndsLike-behind : {b c : List ℕ} (s : List ℕ) → EndsLike b c → EndsLike (b ++ s) (c ++ s)
-EndsLike-behind {b} {c} [] like = record {
+pub EndsLike-after : {b c : List ℕ} (s : List ℕ) → EndsLike b c → EndsLike (b ++ s) (c ++ s)
+EndsLike-after {b} {c} [] like = record {
   line = ap starts_line (append-nil b) ∙ like.line ∙ ap starts_line (sym (append-nil c));
   column = λ h. ap is_column_one (append-nil c) ∙ like.column (ap is_column_one (sym (append-nil b)) ∙ h);
 }
-EndsLike-behind {b} {c} (x ∷ s) like = EndsLike-one b c x s
+EndsLike-after {b} {c} (x ∷ s) like = EndsLike-one b c x s
 
 module _ {b c : List ℕ} (like : EndsLike b c) where
   Indentation-like : {w : List ℕ} → Indentation b w → Indentation c w
@@ -67,7 +67,7 @@ module _ {b c : List ℕ} (like : EndsLike b c) where
     Element-like (Element.dropped_key i begins stops) = Element.dropped_key (Indentation-like i) begins stops
 
 module _ (o : ParseOption) {W V : List ℕ} (like : EndsLike W V) (Y : List ℕ) where
-  -- what is read behind the front W
+  -- what is read after the front W
   abbrev ReadsTo : List ℕ → List Given → List ℕ → Type 0
   ReadsTo x items d = (y : List ℕ) × (d ≡ W ++ y) × Reads o (V ++ Y) (V ++ x) items (V ++ y)
 
@@ -84,14 +84,14 @@ module _ (o : ParseOption) {W V : List ℕ} (like : EndsLike W V) (Y : List ℕ)
       (sym whole ∙ h ∙ ap (λ z. z ++ (s ++ r)) at ∙ append_assoc W x (s ++ r)) in
       let more = reads_to (x ++ s) reads whole (ap (λ z. z ++ s) at ∙ append_assoc W x s) in
       let element : Element o (V ++ x) s r gives =
-      Element-like (EndsLike-behind x like) (subst (λ z. Element o z s r gives) at e) in (
+      Element-like (EndsLike-after x like) (subst (λ z. Element o z s r gives) at e) in (
         more.0,
         more.1,
         Reads.step (ap (λ z. V ++ z) rest ∙ sym (append_assoc V x (s ++ r))) element
             (subst (λ z. Reads o (V ++ Y) z items (V ++ more.0)) (sym (append_assoc V x s)) more.2),
       )
 
-  -- the rest of a text behind another front
+  -- the rest of a text after another front
   pub Reads-like : {items : List Given} → Reads o (W ++ Y) W items (W ++ Y)
       → Reads o (V ++ Y) V items (V ++ Y)
   Reads-like {items} reads =
@@ -160,7 +160,7 @@ line_end_element {o = o} {b = b} {s} {r} {Y} c ends e h = at e h
     at {r = r} (Element.dropped_key {w = w} {s = s} i begins stops) h =
         no_blank (s ++ r) i (sym (append_assoc w s r) ∙ h)
 
--- behind any front a rest is read as before that begins with a line end
+-- after any front a rest is read as before that begins with a line end
 pub Reads-line_end : {o : ParseOption} {items : List Given} (W V : List ℕ) (c : ℕ) (Y : List ℕ)
     → is_line_end c ≡ true
     → Reads o (W ++ c ∷ Y) W items (W ++ c ∷ Y) → Reads o (V ++ c ∷ Y) V items (V ++ c ∷ Y)

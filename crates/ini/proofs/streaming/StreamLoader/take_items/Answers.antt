@@ -1,15 +1,15 @@
 use Rattle.std.proofs.Common.{◌∙◌, ◌+◌, ap, arith, length, refl, subst, take}
 use Rattle.std.proofs.lemmas.List.{take_rest}
 use Rattle.std.specs.Str.{IsUtf8}
-use Rattle.ini.proofs.PassingLemmas.{GoesBy-cut, GoesBy-nothing, feeds_fit, front_text, rest_cut, whole_within}
-use Rattle.ini.proofs.passing.Passing.take_items.Goals as goal
+use Rattle.ini.proofs.StreamLoaderLemmas.{GoesBy-cut, GoesBy-nothing, feeds_fit, front_text, rest_cut, whole_within}
+use Rattle.ini.proofs.streaming.StreamLoader.take_items.Goals as goal
 
 pub returns-in_default-clause-goes_by : goal.returns-in_default-clause-goes_by
 returns-in_default-clause-goes_by c =
     GoesBy-nothing c.args.opt c.args.self.now c.args.bytes.now.items c.requires.front
 
-pub push_settled-requires-clause-is_rest : goal.push_settled-requires-clause-is_rest
-push_settled-requires-clause-is_rest c =
+pub push_complete_items-requires-clause-is_rest : goal.push_complete_items-requires-clause-is_rest
+push_complete_items-requires-clause-is_rest c =
     let text = c.text_front-text.result.now in
     let n = c.args.self.now.front in
     let rest = c.in-Some.ensures.cases in

@@ -8,19 +8,19 @@ use Rattle.ini_text.specs.Grammar.CharacterKinds.{is_line_feed}
 use Rattle.ini_text.specs.Grammar.Positions.{is_column_one}
 use Rattle.ini_text.specs.Grammar.Texts.{Reads}
 use Rattle.ini_text.specs.Parsing.Fronts.{front_of, IsRest}
-use Rattle.ini_text.specs.Parsing.Parser.{StopsBehind}
+use Rattle.ini_text.specs.Parsing.Parser.{StopsPast}
 use Rattle.ini_text.specs.declared.error.ParseError.{ParseError}
 use Rattle.ini_text.specs.declared.option.ParseOption.{ParseOption}
-use Rattle.ini_text.proofs.LawLemmas.ExportedLemmas.{Reads-behind, StopsBehind-behind, front_is, is_column_one-behind}
+use Rattle.ini_text.proofs.LawLemmas.ExportedLemmas.{Reads-after, StopsAfter-after, front_is, is_column_one-after}
 use Rattle.ini.specs.Texts.{Text}
 use Rattle.ini.specs.Documents.{Document}
 use Rattle.ini.specs.Loading.{IsDocumentOf, IsStopOf}
-use Rattle.ini.specs.Inside.Passing.{GoesBy, HasFront, IsPassing, Makes, Settles, StopsLater, with_items}
-use Rattle.ini.specs.declared.passing.Passing.{Passing}
-use Rattle.ini.proofs.ReadingLemmas.{IsStopOf-behind, Reads-append, with_items-append}
+use Rattle.ini.specs.Inside.StreamLoader.{GoesBy, HasFront, IsStreaming, Makes, Settles, StopsLater, with_items}
+use Rattle.ini.specs.declared.streaming.StreamLoader.{StreamLoader}
+use Rattle.ini.proofs.ReadingLemmas.{IsStopOf-after, Reads-append, with_items-append}
 use lib.Utf8.{encodes}
 
--- a text that is cut behind n bytes
+-- a text that is cut after n bytes
 pub front_cut : (t : List ℕ) (n : ℕ) → IsUtf8 (take n t)
     → front_of (chars t) (chars (drop n t)) ≡ chars (take n t)
 front_cut t n utf8 = front_is (chars (take n t)) (chars (drop n t)) (chars t)
@@ -30,7 +30,7 @@ pub rest_cut : (t : List ℕ) (n : ℕ) → IsUtf8 (take n t) → IsRest (chars 
 rest_cut t n utf8 = ap (λ f. f ++ chars (drop n t)) (front_cut t n utf8)
     ∙ sym (chars-append (take n t) (drop n t) utf8) ∙ ap chars (take-append-drop n t)
 
--- texts whose characters are those of a third, one behind the other, are its bytes
+-- texts whose characters are those of a third, one after the other, are its bytes
 pub text_parts : (t f r : List ℕ) → IsUtf8 t → IsUtf8 f → IsUtf8 r → chars t ≡ chars f ++ chars r
     → t ≡ f ++ r
 text_parts t f r ut uf ur e =
@@ -38,8 +38,8 @@ text_parts t f r ut uf ur e =
     ∙ ap (λ x. x ++ encodes (chars r)) (encodes-chars f uf) ∙ ap (λ x. f ++ x) (encodes-chars r ur)
 
 -- what follows a text in a text is one
-pub IsUtf8-behind : (x y : List ℕ) → IsUtf8 x → IsUtf8 (x ++ y) → IsUtf8 y
-IsUtf8-behind x y ux u =
+pub IsUtf8-after : (x y : List ℕ) → IsUtf8 x → IsUtf8 (x ++ y) → IsUtf8 y
+IsUtf8-after x y ux u =
     let front : take (length x) (x ++ y) ≡ x = take-append_seam x y in
     let cut =
     IsCharBoundary-from_take (x ++ y) (length x) u (omega (arith, length-append x y))
@@ -74,7 +74,7 @@ line_fits t gone utf8 stops =
       ap length (encodes-chars t utf8),
     )
 
--- a refusal that is told further down
+-- a refusal that is reported further down
 pub StopsLater-down : {o : ParseOption} {T b : Text} {e f : ParseError} (n : ℕ) → StopsLater o T b 0 e
     → f.line ≡ e.line + n → f.col ≡ e.col → f.msg ≡ e.msg → f.kind ≡ e.kind
     → StopsLater o T b n f
@@ -89,7 +89,7 @@ StopsLater-down n stops line column message kind = record {
 }
 
 -- nothing goes by
-pub GoesBy-nothing : (o : ParseOption) (p : Passing) (b : List ℕ) → HasFront p b → GoesBy o p p b b
+pub GoesBy-nothing : (o : ParseOption) (p : StreamLoader) (b : List ℕ) → HasFront p b → GoesBy o p p b b
 GoesBy-nothing o p b has = record {
   gone = [];
   items = [];
@@ -116,7 +116,7 @@ module _ (whole line left tail : List ℕ) (uw : IsUtf8 whole) (ul : IsUtf8 line
   abbrev kept : List ℕ
   kept = line ++ (left ++ tail)
 
-  GoesBy-lines : {o : ParseOption} (old new : Passing) → is_column_one (chars whole) ≡ true
+  GoesBy-lines : {o : ParseOption} (old new : StreamLoader) → is_column_one (chars whole) ≡ true
       → new.lines ≡ old.lines + count_by is_line_feed (chars whole)
       → new.front ≡ length line → IsUtf8 (take old.front text) → old.front ≤ length text
       → Settles o (chars text) (chars (drop old.front text)) (chars left) old.document new.document
@@ -191,7 +191,7 @@ module _ (b text left front whole : List ℕ) (at : text ≡ take (length text) 
   pub whole_within : length whole ≤ length b
   whole_within = omega (arith, ap length kept_are, length-append whole (line ++ (left ++ tail)))
 
-  pub GoesBy-cut : {o : ParseOption} (old new : Passing) → is_column_one (chars whole) ≡ true
+  pub GoesBy-cut : {o : ParseOption} (old new : StreamLoader) → is_column_one (chars whole) ≡ true
       → new.lines ≡ old.lines + count_by is_line_feed (chars whole)
       → new.front ≡ length front - length whole → IsUtf8 (take old.front b) → old.front ≤ length text
       → Settles o (chars text) (chars (drop old.front text)) (chars left) old.document new.document
@@ -205,16 +205,16 @@ module _ (b text left front whole : List ℕ) (at : text ≡ take (length text) 
       let size : new.front ≡ length line =
       omega (arith, new_front, ap length front_is_cut, length-append whole line) in
       let by =
-      GoesBy-lines whole line left tail uw (IsUtf8-behind whole line uw (subst IsUtf8 front_is_cut uf)) ul
+      GoesBy-lines whole line left tail uw (IsUtf8-after whole line uw (subst IsUtf8 front_is_cut uf)) ul
       old new one lines size (subst IsUtf8 begun utf8) (omega (arith, within, ap length text_is_cut))
       (subst (λ t. Settles o (chars t) (chars (drop n t)) (chars left) old.document new.document) text_is_cut
       settles) in
       rw dropped (subst (λ x. GoesBy o old new x (line ++ (left ++ tail))) (sym bytes_are_cut) by)
 
 -- nothing was read yet
-pub IsPassing-starts : (o : ParseOption) (bytes : List ℕ) (p : Passing) → p.document ≡ (None, []) ∷ []
-    → p.front ≡ 0 → p.lines ≡ 0 → IsPassing o bytes bytes p
-IsPassing-starts o bytes p new front lines = record {
+pub IsStreaming-starts : (o : ParseOption) (bytes : List ℕ) (p : StreamLoader) → p.document ≡ (None, []) ∷ []
+    → p.front ≡ 0 → p.lines ≡ 0 → IsStreaming o bytes bytes p
+IsStreaming-starts o bytes p new front lines = record {
   gone = [];
   items = [];
   whole = refl;
@@ -226,47 +226,47 @@ IsPassing-starts o bytes p new front lines = record {
   document = new;
 }
 
-module _ {o : ParseOption} {all b : List ℕ} {p : Passing} (passing : IsPassing o all b p) where
+module _ {o : ParseOption} {all b : List ℕ} {p : StreamLoader} (streaming : IsStreaming o all b p) where
   abbrev gone : List ℕ
-  gone = passing.gone
+  gone = streaming.gone
 
   -- further bytes are read
-  pub IsPassing-reads : (read : List ℕ) → IsPassing o (all ++ read) (b ++ read) p
-  IsPassing-reads read =
+  pub IsStreaming-reads : (read : List ℕ) → IsStreaming o (all ++ read) (b ++ read) p
+  IsStreaming-reads read =
       let same : take p.front (b ++ read) ≡ take p.front b =
-      take-append-le p.front b read passing.front.within in
+      take-append-le p.front b read streaming.front.within in
       record {
         gone = gone;
-        items = passing.items;
-        whole = ap (λ x. x ++ read) passing.whole ∙ append_assoc gone b read;
-        utf8 = passing.utf8;
-        line_start = passing.line_start;
-        lines = passing.lines;
+        items = streaming.items;
+        whole = ap (λ x. x ++ read) streaming.whole ∙ append_assoc gone b read;
+        utf8 = streaming.utf8;
+        line_start = streaming.line_start;
+        lines = streaming.lines;
         front = record {
-          within = omega (arith, passing.front.within, length-append b read);
+          within = omega (arith, streaming.front.within, length-append b read);
           utf8 =
-              subst IsUtf8 (sym same) passing.front.utf8;
+              subst IsUtf8 (sym same) streaming.front.utf8;
         };
-        reads = λ more. rw (same, append_assoc b read more) (passing.reads (read ++ more));
-        document = passing.document;
+        reads = λ more. rw (same, append_assoc b read more) (streaming.reads (read ++ more));
+        document = streaming.document;
       }
 
   -- whole lines go by
-  pub IsPassing-goes_by : {q : Passing} {c : List ℕ} → GoesBy o p q b c → IsPassing o all c q
-  IsPassing-goes_by {q} {c} by =
+  pub IsStreaming-goes_by : {q : StreamLoader} {c : List ℕ} → GoesBy o p q b c → IsStreaming o all c q
+  IsStreaming-goes_by {q} {c} by =
       let both : chars (gone ++ by.gone) ≡ chars gone ++ chars by.gone =
-      chars-append gone by.gone passing.utf8 in
+      chars-append gone by.gone streaming.utf8 in
       record {
         gone = gone ++ by.gone;
-        items = passing.items ++ by.items;
-        whole = passing.whole ∙ ap (λ x. gone ++ x) by.bytes ∙ sym (append_assoc gone by.gone c);
-        utf8 = IsUtf8-append gone by.gone passing.utf8 by.utf8;
+        items = streaming.items ++ by.items;
+        whole = streaming.whole ∙ ap (λ x. gone ++ x) by.bytes ∙ sym (append_assoc gone by.gone c);
+        utf8 = IsUtf8-append gone by.gone streaming.utf8 by.utf8;
         line_start =
-            rw both (is_column_one-behind (chars gone) passing.line_start (chars by.gone) ∙ by.line_start);
+            rw both (is_column_one-after (chars gone) streaming.line_start (chars by.gone) ∙ by.line_start);
         lines = rw both (omega (
           arith,
           by.lines,
-          passing.lines,
+          streaming.lines,
           sum_by-append
               (λ x. cond (is_line_feed x) 1 0) (chars gone) (chars by.gone),
         ));
@@ -283,42 +283,42 @@ module _ {o : ParseOption} {all b : List ℕ} {p : Passing} (passing : IsPassing
             ≡ chars gone ++ (chars by.gone ++ chars (take q.front c)) =
             ap (λ x. x ++ chars (take q.front c)) both
             ∙ append_assoc (chars gone) (chars by.gone) (chars (take q.front c)) in
-            rw (text, end) (Reads-append (passing.reads more)
-            (Reads-behind (chars gone) passing.line_start (by.reads more)));
-        document = by.document ∙ ap (λ d. with_items d by.items) passing.document
-            ∙ sym (with_items-append ((None, []) ∷ []) passing.items by.items);
+            rw (text, end) (Reads-append (streaming.reads more)
+            (Reads-after (chars gone) streaming.line_start (by.reads more)));
+        document = by.document ∙ ap (λ d. with_items d by.items) streaming.document
+            ∙ sym (with_items-append ((None, []) ∷ []) streaming.items by.items);
       }
 
   -- all bytes are read
   all_chars : chars all ≡ chars gone ++ chars b
-  all_chars = ap chars passing.whole ∙ chars-append gone b passing.utf8
+  all_chars = ap chars streaming.whole ∙ chars-append gone b streaming.utf8
 
-  so_far : Reads o (chars gone ++ chars b) [] passing.items (chars gone ++ chars (take p.front b))
-  so_far = subst (λ x. Reads o (chars gone ++ chars x) [] passing.items
-      (chars gone ++ chars (take p.front b))) (append-nil b) (passing.reads [])
+  so_far : Reads o (chars gone ++ chars b) [] streaming.items (chars gone ++ chars (take p.front b))
+  so_far = subst (λ x. Reads o (chars gone ++ chars x) [] streaming.items
+      (chars gone ++ chars (take p.front b))) (append-nil b) (streaming.reads [])
 
   pub IsUtf8-all : IsUtf8 b → IsUtf8 all
-  IsUtf8-all u = subst IsUtf8 (sym passing.whole) (IsUtf8-append gone b passing.utf8 u)
+  IsUtf8-all u = subst IsUtf8 (sym streaming.whole) (IsUtf8-append gone b streaming.utf8 u)
 
   pub IsUtf8-kept : IsUtf8 all → IsUtf8 b
-  IsUtf8-kept u = IsUtf8-behind gone b passing.utf8 (subst IsUtf8 passing.whole u)
+  IsUtf8-kept u = IsUtf8-after gone b streaming.utf8 (subst IsUtf8 streaming.whole u)
 
   pub IsDocumentOf-all : {d : Document} → Makes o (chars b) (chars (take p.front b)) (chars b) p.document d
       → IsDocumentOf o (chars all) d
   IsDocumentOf-all made = record {
-    items = passing.items ++ made.items;
-    derives = rw all_chars (Reads-append so_far (Reads-behind (chars gone) passing.line_start made.reads));
-    document = made.document ∙ ap (λ d. with_items d made.items) passing.document
-        ∙ sym (with_items-append ((None, []) ∷ []) passing.items made.items);
+    items = streaming.items ++ made.items;
+    derives = rw all_chars (Reads-append so_far (Reads-after (chars gone) streaming.line_start made.reads));
+    document = made.document ∙ ap (λ d. with_items d made.items) streaming.document
+        ∙ sym (with_items-append ((None, []) ∷ []) streaming.items made.items);
   }
 
   pub IsStopOf-all : {e : ParseError} → StopsLater o (chars b) (chars (take p.front b)) p.lines e
       → IsStopOf o (chars all) e
   IsStopOf-all {e} stops =
-      let one = passing.line_start in
+      let one = streaming.line_start in
       let line : e.line ≡ stops.line + count_by is_line_feed (chars gone) =
-      stops.moved ∙ ap (λ n. stops.line + n) passing.lines in
-      let stop : StopsBehind o (chars gone ++ chars b) (chars gone ++ stops.front) e.kind e.line e.col =
-      rw line (StopsBehind-behind (chars gone) one stops.stop) in
-      rw all_chars (IsStopOf-behind e (Reads-append so_far (Reads-behind (chars gone) one stops.reads)) stop
+      stops.moved ∙ ap (λ n. stops.line + n) streaming.lines in
+      let stop : StopsPast o (chars gone ++ chars b) (chars gone ++ stops.front) e.kind e.line e.col =
+      rw line (StopsAfter-after (chars gone) one stops.stop) in
+      rw all_chars (IsStopOf-after e (Reads-append so_far (Reads-after (chars gone) one stops.reads)) stop
       stops.message)
