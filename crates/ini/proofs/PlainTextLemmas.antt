@@ -241,7 +241,8 @@ module _ (o : ParseOption) (w : WriteOption) where
         (λ twice _. section_gives twice name ps g.name g.pairs) good in
         let following = written_sections w (earlier || has_pairs ps) d in
         let lines = (gap twice ++ title) ++ written_pairs w ps in
-        let same : (body ++ gap twice) ++ (own ++ following) ≡ body ++ (lines ++ following) = simp append_assoc in
+        let same : (body ++ gap twice) ++ (own ++ following) ≡ body ++ (lines ++ following) =
+        simp append_assoc in
         subst (λ x. GivesBefore IsEmptyOrHeader x (xs ++ items_of ((Some name, ps) ∷ d))) same
         (then_gives Follows IsEmptyOrHeader (body ++ gap twice) (own ++ following)
         (f twice (λ q. (and_parts earlier (has_pairs ps) q).0)) rest (λ r h. FollowsPair.header))

@@ -253,7 +253,8 @@ module _ {o : ParseOption} where
       Reads.step at (t (m.0 ++ r)) (AreTrivia-read r row whole)
 
   pub Settles-trivia : {T rest left following : Text} {d e : Document} → Settles o T rest left d e
-      → SkipsTrivia o T (front_of T left) (front_of T following) → IsRest T following → Settles o T rest following d e
+      → SkipsTrivia o T (front_of T left) (front_of T following) → IsRest T following
+      → Settles o T rest following d e
   Settles-trivia {T} {rest} {left} {following} settles skips is_rest = record {
     items = settles.items;
     reads = λ more.

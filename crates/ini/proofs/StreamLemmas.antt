@@ -96,7 +96,8 @@ IsStreamed-starts {o} {drop_mark} {before} {after} {read} {bytes} {p} {is_all = 
       ended = ended_if wanted read after is_all filled;
     }
 
-module _ {o : ParseOption} {drop_mark : Bool} {before mid : Option (List ℕ)} {bytes : List ℕ} {p : StreamLoader}
+module _ {o : ParseOption} {drop_mark : Bool} {before mid : Option (List ℕ)} {bytes : List ℕ}
+    {p : StreamLoader}
     {last_line : ℕ} {was_all : Bool}
     (streamed : IsStreamed o drop_mark before mid bytes p last_line was_all) where
   -- there are fewer lines than bytes

@@ -203,7 +203,7 @@ fn found(
         Ok(Some(pair)) => Ok(format!(in alloc;
             "{} <{}> <{}>",
             pair.front.len(),
-            pair.places.own,
+            pair.places.raw_value,
             pair.value.as_str()
         )?),
         Ok(None) => Ok(String::from_str(alloc, "none")?),

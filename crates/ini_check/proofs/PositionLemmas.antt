@@ -135,11 +135,11 @@ room_less less room = record {
 }
 
 -- a pair has room for what stands before its value
-pub value_room : (p : Stretches) → length p.key + (1 + length p.lead) ≤ length (pair_source p)
+pub value_room : (p : Stretches) → length p.key + (1 + length p.space_before) ≤ length (pair_source p)
 value_room p = omega (
   arith,
   length-append p.key (p.separator ∷ value_source p),
-  length-append p.lead (p.own ++ (p.pad ++ p.tail)),
+  length-append p.space_before (p.raw_value ++ (p.space_after ++ p.trailing_lines)),
 )
 
 -- in a text that is short enough there is room after a front for what follows it

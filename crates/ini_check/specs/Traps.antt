@@ -22,23 +22,23 @@ has_comment_mark_after_white white [] = false
 has_comment_mark_after_white white (c ∷ cs) =
     (white && is_comment_mark c) || has_comment_mark_after_white (is_whitespace c) cs
 
--- a comment's mark stands in the value's own source, after white space
+-- a comment's mark stands in the raw value, after white space
 abbrev pub has_comment_mark : Text → Bool
-has_comment_mark own = has_comment_mark_after_white false own
+has_comment_mark raw_value = has_comment_mark_after_white false raw_value
 
 abbrev pub is_empty_or_white_first : Text → Bool
 is_empty_or_white_first [] = true
 is_empty_or_white_first (c ∷ cs) = is_whitespace c
 
--- The value's own source begins as a note does: with `;`, or with `#` that stands alone. (`#fff` is a color.)
+-- The raw value begins as a note does: with `;`, or with `#` that stands alone. (`#fff` is a color.)
 abbrev pub begins_like_note : Text → Bool
 begins_like_note [] = false
 begins_like_note (c ∷ cs) = c == 0x3B || (c == 0x23 && is_empty_or_white_first cs)
 
--- a backslash in the value's own source begins an escape, where escapes are read: the value is another text
+-- a backslash in the raw value begins an escape, where escapes are read: the value is another text
 abbrev pub has_escape : ParseOption → Text → Text → Bool
-has_escape o own value =
-    o.enabled_escape && (list_any (λ c. c == backslash) own && not (is_text own value))
+has_escape o raw_value value =
+    o.enabled_escape && (list_any (λ c. c == backslash) raw_value && not (is_text raw_value value))
 
 -- the key, or the name, is one of those before
 abbrev pub is_repeated : Text → Pairs → Bool

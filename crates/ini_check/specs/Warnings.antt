@@ -26,7 +26,7 @@ warned there b trap =
 
 -- the front after which a pair's value begins
 abbrev pub value_front : Text → grammar.Stretches → Text
-value_front b p = (b ++ p.key) ++ p.separator ∷ p.lead
+value_front b p = (b ++ p.key) ++ p.separator ∷ p.space_before
 
 -- of a pair's key after the front b, and after pairs of its section
 abbrev pub key_warnings : Text → Pairs → Text → Text → List Warning
@@ -37,9 +37,9 @@ key_warnings b before source key =
 
 -- of a pair's value after the front b
 abbrev pub value_warnings : ParseOption → Text → Text → Text → List Warning
-value_warnings o b own value =
-    warned (has_escape o own value) b traps.Escape
-    ++ warned (begins_like_note own || has_comment_mark own) b traps.MarkInValue
+value_warnings o b raw_value value =
+    warned (has_escape o raw_value value) b traps.Escape
+    ++ warned (begins_like_note raw_value || has_comment_mark raw_value) b traps.MarkInValue
 
 -- of a header after the front b, and after headers of these names
 pub record HeaderWarns (o : ParseOption) (b : Text) (before : Pairs) (name : Text) (ws : List Warning)
@@ -56,7 +56,7 @@ pub record PairWarns (o : ParseOption) (b : Text) (before : Pairs) (p : PlacedPa
   pub is_plain : IsTrue plain ↔ IsPlainPair o Basics (cow_text p.key) (cow_text p.value)
   pub warnings : ws ≡ key_warnings b before (chars p.places.key.now) (cow_text p.key)
       ++ (warned (not plain) b traps.NotPlain
-      ++ value_warnings o (value_front b (stretches_of p.places)) (chars p.places.own.now)
+      ++ value_warnings o (value_front b (stretches_of p.places)) (chars p.places.raw_value.now)
       (cow_text p.value))
 
 -- of an element; the names of headers before it, and the keys of its section, stand there as keys of pairs

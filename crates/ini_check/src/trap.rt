@@ -29,12 +29,12 @@ pub(crate) fn begins_like_comment(source: &str) -> bool
     false
 }
 
-/// Whether a comment mark stands in a value's own source after white space.
-pub(crate) fn has_comment_mark(own: &str) -> bool
-    ensures { result ≡ has_comment_mark (chars own.now) }
+/// Whether a comment mark stands in a raw value after white space.
+pub(crate) fn has_comment_mark(raw_value: &str) -> bool
+    ensures { result ≡ has_comment_mark (chars raw_value.now) }
 {
     let mut white = false;
-    let mut rest = own;
+    let mut rest = raw_value;
     'characters: while let Some((c, after)) = split_first(rest) {
         if white && is_comment_mark(c) {
             return true;
@@ -45,11 +45,11 @@ pub(crate) fn has_comment_mark(own: &str) -> bool
     false
 }
 
-/// Whether a value's own source begins as a note does: with `;`, or with `#` that stands alone.
-pub(crate) fn begins_like_note(own: &str) -> bool
-    ensures { result ≡ begins_like_note (chars own.now) }
+/// Whether a raw value begins as a note does: with `;`, or with `#` that stands alone.
+pub(crate) fn begins_like_note(raw_value: &str) -> bool
+    ensures { result ≡ begins_like_note (chars raw_value.now) }
 {
-    let Some((c, after)) = split_first(own) else {
+    let Some((c, after)) = split_first(raw_value) else {
         return false;
     };
     c == ';' || (c == '#' && is_empty_or_white_first(after))
@@ -64,17 +64,17 @@ fn is_empty_or_white_first(text: &str) -> bool
     }
 }
 
-/// Whether a backslash begins an escape in a value's own source.
-pub(crate) fn has_escape(own: &str, value: &str, read: ParseOption) -> bool
-    ensures { result ≡ has_escape read (chars own.now) (chars value.now) }
+/// Whether a backslash begins an escape in a raw value.
+pub(crate) fn has_escape(raw_value: &str, value: &str, read: ParseOption) -> bool
+    ensures { result ≡ has_escape read (chars raw_value.now) (chars value.now) }
 {
-    read.enabled_escape && has_backslash(own) && !is_same_text(own, value)
+    read.enabled_escape && has_backslash(raw_value) && !is_same_text(raw_value, value)
 }
 
-fn has_backslash(own: &str) -> bool
-    ensures { result ≡ list_any (λ c. c == backslash) (chars own.now) }
+fn has_backslash(raw_value: &str) -> bool
+    ensures { result ≡ list_any (λ c. c == backslash) (chars raw_value.now) }
 {
-    own.chars().any(|c| c == '\\')
+    raw_value.chars().any(|c| c == '\\')
 }
 
 fn is_blank(c: char) -> bool

@@ -83,7 +83,7 @@ fn warn_pair(
     warn_value(
         warnings,
         value_position(position, pair),
-        pair.places.own,
+        pair.places.raw_value,
         value,
         read,
     )
@@ -98,7 +98,7 @@ fn value_position(position: Position, pair: &PlacedPair) -> Position
     position
         .over(pair.places.key)
         .after_separator()
-        .over(pair.places.lead)
+        .over(pair.places.space_before)
 }
 
 fn warn_key(
@@ -130,21 +130,21 @@ fn warn_key(
 fn warn_value(
     warnings: &mut Vec<Warning>,
     position: Position,
-    own: &str,
+    raw_value: &str,
     value: &str,
     read: ParseOption,
 ) -> Result<(), Error>
     ensures warned { OnOk result ((b : Text) → IsAt b position → warnings.new.items
-        ≡ warnings.old.items ++ value_warnings read b (chars own.now) (chars value.now)) }
+        ≡ warnings.old.items ++ value_warnings read b (chars raw_value.now) (chars value.now)) }
     ensures only { IsOkUnless result (Error.Memory alloc_error) }
 {
     warn_where(
         warnings,
-        has_escape(own, value, read),
+        has_escape(raw_value, value, read),
         position,
         Trap::Escape,
     )?;
-    let is_mark = begins_like_note(own) || has_comment_mark(own);
+    let is_mark = begins_like_note(raw_value) || has_comment_mark(raw_value);
     warn_where(warnings, is_mark, position, Trap::MarkInValue)
 }
 

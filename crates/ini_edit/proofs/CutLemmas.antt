@@ -89,7 +89,7 @@ module _ {o : ParseOption} {T : Text} {p : Stretches} {key value : Text} {before
 
   begins : FollowsFront p.front y
   begins =
-      let v = p.lead ++ (p.own ++ (p.pad ++ p.tail)) in
+      let v = p.space_before ++ (p.raw_value ++ (p.space_after ++ p.trailing_lines)) in
       subst (FollowsFront p.front) (sym (append_assoc p.key (p.separator ∷ v) p.rest))
       (key_follows (p.separator ∷ (v ++ p.rest)) s.key_front)
 

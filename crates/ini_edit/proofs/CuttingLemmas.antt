@@ -5,7 +5,7 @@ use Rattle.std.proofs.lemmas.Bool.{both_ways, false≢true, or_left}
 use Rattle.ini_text.specs.declared.option.ParseOption.{ParseOption}
 use Rattle.ini_text.specs.Grammar.CharacterKinds.{line_feed, carriage_return, is_line_end, is_line_feed}
 use Rattle.ini_text.specs.Grammar.Positions.{is_column_one, starts_line}
-use Rattle.ini_text.specs.Grammar.Places.{Tail}
+use Rattle.ini_text.specs.Grammar.Places.{TrailingLines}
 use Rattle.ini_text.specs.Grammar.Values.{LineEnd}
 use Rattle.ini_text.proofs.LawLemmas.MovedLemmas.{last_or-after}
 use Rattle.ini_edit.specs.Places.{Cut, Follows, Stretches, up_to_end}
@@ -56,11 +56,12 @@ pub last_ends : {text : List ℕ} (V : List ℕ) (c : ℕ) → EndsLine text →
 last_ends V c n h =
     ap is_line_end (sym (last_or-after line_feed c V [])) ∙ ap starts_line (sym h) ∙ ends_line-starts n
 
-tail_follows : {o : ParseOption} {t r : List ℕ} → o.enabled_indented_mutiline_value ≡ true → Tail o t r
+tail_follows : {o : ParseOption} {t r : List ℕ} → o.enabled_indented_mutiline_value ≡ true
+    → TrailingLines o t r
     → Follows o r
-tail_follows {o} on (Tail.line off h) = absurd (both_ways o.enabled_indented_mutiline_value off on)
-tail_follows on (Tail.end _) = record { no_blank = λ _. tt; no_line_end = λ _. tt }
-tail_follows on (Tail.lines _ le more all) = more_follows more
+tail_follows {o} on (TrailingLines.line off h) = absurd (both_ways o.enabled_indented_mutiline_value off on)
+tail_follows on (TrailingLines.end _) = record { no_blank = λ _. tt; no_line_end = λ _. tt }
+tail_follows on (TrailingLines.lines _ le more all) = more_follows more
 
 module _ {o : ParseOption} (p : Stretches) where
   pub cut_end : p.rest ≡ [] → Cut o p [] p.rest
@@ -73,14 +74,14 @@ module _ {o : ParseOption} (p : Stretches) where
       Cut.with_line_end e r off whole all (like (up_to_end p))
 
   module _ (on : o.enabled_indented_mutiline_value ≡ true) (some : p.rest ≢ [])
-      (tail : Tail o p.tail p.rest) where
+      (tail : TrailingLines o p.trailing_lines p.rest) where
     abbrev B : List ℕ
-    B = p.front ++ (p.key ++ p.separator ∷ (p.lead ++ (p.own ++ p.pad)))
+    B = p.front ++ (p.key ++ p.separator ∷ (p.space_before ++ (p.raw_value ++ p.space_after)))
 
-    at_tail : up_to_end p ≡ B ++ p.tail
+    at_tail : up_to_end p ≡ B ++ p.trailing_lines
     at_tail = simp append_assoc
 
-    ends : EndsLine p.tail
+    ends : EndsLine p.trailing_lines
     ends = tail_ends_line on some tail
 
     column_after : {t : List ℕ} (X : List ℕ) → EndsLine t → is_column_one (X ++ t) ≡ is_column_one t
@@ -91,20 +92,23 @@ module _ {o : ParseOption} (p : Stretches) where
         ∙ ap is_line_feed (sym (last_or-after line_feed n.last n.before []))
         ∙ ap is_column_one (sym n.whole)
 
-    column : is_column_one (up_to_end p) ≡ is_column_one p.tail
+    column : is_column_one (up_to_end p) ≡ is_column_one p.trailing_lines
     column = ap is_column_one at_tail ∙ column_after B ends
 
-    pub cut_inside : {e : List ℕ} → HasLastLineEnd p.tail e → starts_line p.front ≡ false → Cut o p e p.rest
+    pub cut_inside : {e : List ℕ} → HasLastLineEnd p.trailing_lines e → starts_line p.front ≡ false
+        → Cut o p e p.rest
     cut_inside {e} n inside =
         Cut.before_last_line_end (B ++ n.before) e on
         (at_tail ∙ ap (λ z. B ++ z) n.whole ∙ sym (append_assoc B n.before e))
         (LineEnd-before [] p.rest [] ((tail_follows on tail).no_line_end on) n.is_line_end) inside
 
-    pub cut_feed : starts_line p.front ≡ true → is_column_one p.front ≡ false → is_column_one p.tail ≡ true
+    pub cut_feed : starts_line p.front ≡ true → is_column_one p.front ≡ false
+        → is_column_one p.trailing_lines ≡ true
         → Cut o p (line_feed ∷ []) p.rest
     cut_feed starts other one = Cut.before_last_line_feed on (column ∙ one) starts other
 
-    pub cut_whole : starts_line p.front ≡ true → (is_column_one p.tail ≡ true → is_column_one p.front ≡ true)
+    pub cut_whole : starts_line p.front ≡ true → (is_column_one p.trailing_lines ≡ true
+        → is_column_one p.front ≡ true)
         → Cut o p [] p.rest
     cut_whole starts like = Cut.whole_lines on (record {
       line = ap starts_line at_tail ∙ ends_line-starts (EndsLine-after B ends) ∙ sym starts;

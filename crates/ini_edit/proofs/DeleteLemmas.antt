@@ -53,7 +53,8 @@ deletes o T p name key old before after s target kept r cut d document =
 -- the text without the pair that was found
 pub is_deleted : {o : ParseOption} {T : Text} {name : Option Text} {key value kept following : Text}
     {p : Stretches}
-    (U : Text) → IsFirstPair o T name key p value → Cut o p kept following → U ≡ p.front ++ (kept ++ following)
+    (U : Text) → IsFirstPair o T name key p value → Cut o p kept following
+    → U ≡ p.front ++ (kept ++ following)
     → IsDeleted o T name key U
 is_deleted {o} {T} {name} {key} {value} {kept} {following} {p} U first cut text =
     let d = document_of (first.before ++ (Pair key value ∷ first.after)) in
@@ -71,6 +72,7 @@ is_deleted {o} {T} {name} {key} {value} {kept} {following} {p} U first cut text 
       was = document;
       is =
           subst (λ z. IsDocumentOf o z (delete_in name key d)) (sym text)
-          (deletes o T p name key value first.before first.after first.stands first.target kept following cut d
+          (deletes o T p name key value first.before first.after first.stands first.target kept following
+          cut d
           document);
     }

@@ -101,7 +101,8 @@ some_element_end : {o : ParseOption} {T b c x : Text} {items : List Given} → x
     → c ≢ []
     → Reads o T b items c → IsElementEnd o T c items
 some_element_end some last first apart (Reads.stay z h) = absurd (apart first)
-some_element_end {o} {T} some last first apart (Reads.step {b = b} {s} {r} {c} {gives} {items} h e following) =
+some_element_end {o} {T} some last first apart
+    (Reads.step {b = b} {s} {r} {c} {gives} {items} h e following) =
     element_end some last (subst (λ z. Reads o T [] [] z) (sym first) (Reads.stay T refl)) h e refl following
 
 -- after an LF no backslash is alone

@@ -9,7 +9,7 @@ use Rattle.std.proofs.lemmas.List.{append_cancel_left}
 use Rattle.std.specs.List.{list_all}
 use Rattle.ini_text.specs.Grammar.CharacterKinds.{is_inline_white}
 use Rattle.ini_text.specs.Grammar.Elements.{Given, Header, Pair, Element}
-use Rattle.ini_text.specs.Grammar.Places.{Padded, pair_source}
+use Rattle.ini_text.specs.Grammar.Places.{SpaceAfter, pair_source}
 use Rattle.ini_text.specs.Grammar.Texts.{Reads}
 use Rattle.ini_text.specs.Laws.PlainLaws.{BeginsWithHeader}
 use Rattle.ini_text.specs.Parsing.Items.{cow_text}
@@ -266,9 +266,10 @@ items_split (Pair key value ∷ items) =
     let more = items_split items in
     ((key, value) ∷ more.0, (more.1.0, (ap (λ l. Pair key value ∷ l) more.1.1.0, more.1.1.1)))
 
-pub white_pad : {own pad : Text} → Padded own pad → list_all is_inline_white pad ≡ true
-white_pad (Padded.bare bare white) = white
-white_pad (Padded.escaped front white all) = refl
+pub white_after : {raw_value space_after : Text} → SpaceAfter raw_value space_after
+    → list_all is_inline_white space_after ≡ true
+white_after (SpaceAfter.bare bare white) = white
+white_after (SpaceAfter.escaped front white all) = refl
 
 pub end_reads : {o : ParseOption} {T c d : Text} → EndsSection o T c d
     → (items : List Given) × Reads o T c items d
@@ -292,9 +293,9 @@ module _ {o : ParseOption} {T : Text} {p : Place} {name : Option Text} (key : Te
       some = reaches.placed.some;
       separates = reaches.placed.separates;
       gives = reaches.placed.gives;
-      white_lead = reaches.placed.lead.white;
-      white_pad = white_pad reaches.placed.pad;
-      is_tail = reaches.placed.tail;
+      white_before = reaches.placed.space_before.white;
+      white_after = white_after reaches.placed.space_after;
+      is_tail = reaches.placed.trailing_lines;
       then = subst (λ c. Reads o T c after T) reaches.front then;
     };
     target = record {

@@ -25,7 +25,7 @@ use Rattle.ini_text.proofs.PlainLemmas.PlainLineLemmas.{gaps_of, gaps_read}
 use Rattle.ini_text.proofs.PlainLemmas.PlainPairLemmas.{bare_begins, no_white_no_line_end, inline_blanks}
 use Rattle.ini_text.proofs.PlainLemmas.PlainPairLemmas.{key_front, key_some, line_end-is, line_starts}
 use Rattle.ini_text.proofs.PlainLemmas.PlainPairLemmas.{source-parts}
-use Rattle.ini_text.specs.Grammar.Places.{Tail}
+use Rattle.ini_text.specs.Grammar.Places.{TrailingLines}
 use Rattle.ini_edit.specs.Places.{EndsLike, Follows, IsLineStart}
 use Rattle.ini_edit.specs.Writable.{IsWritablePair}
 use Rattle.ini_edit.proofs.AfterLemmas.{Reads-like}
@@ -57,7 +57,7 @@ module _ {o : ParseOption} {policy : EscapePolicy} {key value separator : List �
     (sep : IsPlainSeparator separator)
     (writable : IsWritablePair o policy key value) where
   -- a pair as it is written, with a tail
-  pub pair_written : {b t r : List ℕ} → is_column_one b ≡ true → Tail o t r
+  pub pair_written : {b t r : List ℕ} → is_column_one b ≡ true → TrailingLines o t r
       → Element o b (escaped policy key ++ (separator ++ (escaped policy value ++ t))) r
       (Pair key value ∷ [])
   pair_written {b} {t} {r} one tail =
@@ -82,7 +82,8 @@ module _ {o : ParseOption} {policy : EscapePolicy} {key value separator : List �
   line_read s b r one follows = elim (cases_Bool o.enabled_indented_mutiline_value) [
     | inl on ↦
         let more = MoreLines.done (follows.no_blank on) (follows.no_line_end on) in
-        let tail : Tail o (line_end s ++ []) r = Tail.lines on (line_end-is s r) more refl in
+        let tail : TrailingLines o (line_end s ++ []) r =
+        TrailingLines.lines on (line_end-is s r) more refl in
         let element : Element o b (line_of_pair s) r (Pair key value ∷ []) =
         subst (λ z. Element o b (escaped policy key ++ (separator ++ (escaped policy value ++ z))) r
         (Pair key value ∷ []))
@@ -92,7 +93,7 @@ module _ {o : ParseOption} {policy : EscapePolicy} {key value separator : List �
         let e = line_end s in
         let source = escaped policy key ++ (separator ++ (escaped policy value ++ [])) in
         let element : Element o b source (e ++ r) (Pair key value ∷ []) =
-        pair_written one (Tail.line off (line_end-closes s r)) in
+        pair_written one (TrailingLines.line off (line_end-closes s r)) in
         let T = b ++ (line_of_pair s ++ r) in
         let line : source ++ e ≡ line_of_pair s = simp (append_assoc, append-nil) in
         let whole : T ≡ b ++ (source ++ (e ++ r)) =

@@ -9,7 +9,7 @@ use Rattle.ini_text.specs.declared.write.option.LineSeparator.TheVariants.{Syste
 use Rattle.ini_text.specs.Grammar.CharacterKinds.{line_feed, carriage_return, is_line_end}
 use Rattle.ini_text.specs.Grammar.Positions.{is_column_one, starts_line}
 use Rattle.ini_text.specs.Grammar.Values.{LineEnd, MoreLines, Value}
-use Rattle.ini_text.specs.Grammar.Places.{Tail}
+use Rattle.ini_text.specs.Grammar.Places.{TrailingLines}
 use Rattle.ini_text.specs.Grammar.Elements.{Given, Pair, Gap, Element}
 use Rattle.ini_text.specs.Grammar.Texts.{Reads}
 use Rattle.ini_text.proofs.GrammarLemmas.ItemLemmas.{element-some}
@@ -61,10 +61,11 @@ value_ends_line on some (Value.lines {w = w} {l = l} _ lead ln le m) =
     EndsLine-after w (EndsLine-after l (lines_end_line some le m))
 
 pub tail_ends_line : {o : ParseOption} {t y : List ℕ} → o.enabled_indented_mutiline_value ≡ true → y ≢ []
-    → Tail o t y → EndsLine t
-tail_ends_line {o} on some (Tail.line off h) = absurd (both_ways o.enabled_indented_mutiline_value off on)
-tail_ends_line on some (Tail.end _) = absurd (some refl)
-tail_ends_line on some (Tail.lines _ le more all) = lines_end_line some le more
+    → TrailingLines o t y → EndsLine t
+tail_ends_line {o} on some (TrailingLines.line off h) =
+    absurd (both_ways o.enabled_indented_mutiline_value off on)
+tail_ends_line on some (TrailingLines.end _) = absurd (some refl)
+tail_ends_line on some (TrailingLines.lines _ le more all) = lines_end_line some le more
 
 closes_none : {o : ParseOption} (e : Ending) → e ≢ Ending.escape → Closing o e []
 closes_none Ending.inside h = Closing.within

@@ -6,7 +6,7 @@ use Rattle.std.specs.List.{list_all}
 use Rattle.std.proofs.lemmas.Bool.{and_parts}
 use Rattle.ini_text.specs.Grammar.CharacterKinds.{is_line_end}
 use Rattle.ini_text.specs.Grammar.Elements.{Given, Header, Pair, Element}
-use Rattle.ini_text.specs.Grammar.Places.{Tail}
+use Rattle.ini_text.specs.Grammar.Places.{TrailingLines}
 use Rattle.ini_text.specs.Grammar.Values.{LineEnd}
 use Rattle.ini_text.specs.Laws.PlainLaws.{BeginsWithHeader}
 use Rattle.ini_text.specs.Parsing.Items.{cow_text}
@@ -40,7 +40,7 @@ use Rattle.ini_edit.proofs.AfterLemmas.{Element-like, EndsLike-after, EndsLike-o
 use Rattle.ini_edit.proofs.AfterLemmas.{Reads-like, line_end_element}
 use Rattle.ini_edit.proofs.CutLemmas.{CutLeft, cut_left, cut_reads}
 use Rattle.ini_edit.proofs.DocumentLemmas.{pair_items-append}
-use Rattle.ini_edit.proofs.FindLemmas.{found_before, lacks_more, white_pad}
+use Rattle.ini_edit.proofs.FindLemmas.{found_before, lacks_more, white_after}
 use Rattle.ini_edit.proofs.ValueLemmas.{closes_line_end}
 
 -- a character ends alike after any front
@@ -84,7 +84,8 @@ module _ {o : ParseOption} {b c : List ℕ} where
       absurd (let none : Pair key value ∷ [] ≡ [] = (closed_element closes e).0 in cc)
 
 -- nothing was taken out yet
-pub takes_start : {o : ParseOption} {T key b f following : Text} → T ≡ b ++ following → ReadAlike b f following
+pub takes_start : {o : ParseOption} {T key b f following : Text} → T ≡ b ++ following
+    → ReadAlike b f following
     → TakesOut o T key b f following b f following
 takes_start {o} {f = f} {following} whole alike = record {
   later = [];
@@ -199,7 +200,8 @@ pub gaps : {o : ParseOption} {T : Text} (b e r : Text) → list_all is_line_end 
 gaps b e r ends whole = line_ends_first e r ends whole (Reads.stay r (whole ∙ sym (append_assoc b e r)))
 
 -- a pair of the key that goes
-module _ {o : ParseOption} {T key b f following c g rest : Text} (takes : TakesOut o T key b f following c g rest)
+module _ {o : ParseOption} {T key b f following c g rest : Text}
+    (takes : TakesOut o T key b f following c g rest)
     (x : grammar.Stretches) {r old : Text} (is : rest ≡ grammar.pair_source x ++ r)
     (placed : grammar.ArePlaced o c x r key old) {stays left : Text}
     (cut : Cut o (placed_between g x r) stays left) where
@@ -237,9 +239,9 @@ module _ {o : ParseOption} {T key b f following c g rest : Text} (takes : TakesO
     some = placed.some;
     separates = placed.separates;
     gives = placed.gives;
-    white_lead = placed.lead.white;
-    white_pad = white_pad placed.pad;
-    is_tail = placed.tail;
+    white_before = placed.space_before.white;
+    white_after = white_after placed.space_after;
+    is_tail = placed.trailing_lines;
     then =
         subst (λ z. Reads o z (g ++ source) after z) (sym (longer takes is e g))
         (Reads-like o (source_like c g source (some takes is e)) r
@@ -278,27 +280,29 @@ module _ {o : ParseOption} {T key b f following c g rest : Text} (takes : TakesO
   }
 
 -- a tail stands before the same rest, whatever stands before it
-tail_alike : {o : ParseOption} {t r : Text} (x y : Text) → Tail o t r → ReadAlike (x ++ t) (y ++ t) r
-tail_alike x y (Tail.line off closes) = ReadAlike.closes closes
-tail_alike x y (Tail.end on) = ReadAlike.closes refl
-tail_alike x y (Tail.lines {t = t} on LineEnd.lf more all) = ReadAlike.like (EndsLike-one x y _ t)
-tail_alike x y (Tail.lines {t = t} on LineEnd.cr_lf more all) = ReadAlike.like (EndsLike-one x y _ (_ ∷ t))
-tail_alike x y (Tail.lines {t = t} on (LineEnd.cr n) more all) = ReadAlike.like (EndsLike-one x y _ t)
+tail_alike : {o : ParseOption} {t r : Text} (x y : Text) → TrailingLines o t r → ReadAlike (x ++ t) (y ++ t) r
+tail_alike x y (TrailingLines.line off closes) = ReadAlike.closes closes
+tail_alike x y (TrailingLines.end on) = ReadAlike.closes refl
+tail_alike x y (TrailingLines.lines {t = t} on LineEnd.lf more all) = ReadAlike.like (EndsLike-one x y _ t)
+tail_alike x y (TrailingLines.lines {t = t} on LineEnd.cr_lf more all) =
+    ReadAlike.like (EndsLike-one x y _ (_ ∷ t))
+tail_alike x y (TrailingLines.lines {t = t} on (LineEnd.cr n) more all) =
+    ReadAlike.like (EndsLike-one x y _ t)
 
 -- another value in the place of a pair's own
 module _ (x : Stretches) where
   abbrev up_to_tail : Text → Text
-  up_to_tail value = x.front ++ (x.key ++ x.separator ∷ (x.lead ++ (value ++ x.pad)))
+  up_to_tail value = x.front ++ (x.key ++ x.separator ∷ (x.space_before ++ (value ++ x.space_after)))
 
-  to_tail : (value : Text) → x.front ++ pair_with x value ≡ up_to_tail value ++ x.tail
+  to_tail : (value : Text) → x.front ++ pair_with x value ≡ up_to_tail value ++ x.trailing_lines
   to_tail value = simp append_assoc
 
-  pub value_alike : {o : ParseOption} (value : Text) → Tail o x.tail x.rest
+  pub value_alike : {o : ParseOption} (value : Text) → TrailingLines o x.trailing_lines x.rest
       → ReadAlike (up_to_end x) (x.front ++ pair_with x value) x.rest
   value_alike value tail =
-      subst (λ z. ReadAlike z (x.front ++ pair_with x value) x.rest) (sym (to_tail x.own))
-      (subst (λ z. ReadAlike (up_to_tail x.own ++ x.tail) z x.rest) (sym (to_tail value))
-      (tail_alike (up_to_tail x.own) (up_to_tail value) tail))
+      subst (λ z. ReadAlike z (x.front ++ pair_with x value) x.rest) (sym (to_tail x.raw_value))
+      (subst (λ z. ReadAlike (up_to_tail x.raw_value ++ x.trailing_lines) z x.rest) (sym (to_tail value))
+      (tail_alike (up_to_tail x.raw_value) (up_to_tail value) tail))
 
 -- what stands after a section's pairs
 section_ends : {o : ParseOption} {T c d : Text} {items : List Given} → EndsSection o T c d
@@ -315,7 +319,7 @@ pub set_there : {o : ParseOption} {T : Text} {p q r : Place} {name : Option Text
     {policy : EscapePolicy} {value source g : Text} (left : Text) → OpensFirst o T p name
     → ReachesPair o T p.front q key found
     → (writable : IsWritableValue o policy value)
-    → IsPut o policy (stretches_of found).own (cow_text found.value) value source
+    → IsPut o policy (stretches_of found).raw_value (cow_text found.value) value source
     → TakesLaterOut o T key q.front (chars found.front.now ++ pair_with (stretches_of found) source)
     (chars found.rest.now) r g
     → ReadsOn o T r.front → T ≡ r.front ++ left → IsSetThere o policy T name key value (g ++ left)

@@ -89,7 +89,7 @@ module _ {o : ParseOption} {policy : EscapePolicy} {value : Text}
       subst (λ z. IsSourceOf o z value) (sym (append-nil (escaped policy value))) (bare_source writable)
   source_in (IsQuoteFor.mark {m} on mark none) = quoted_source m on mark none
 
-pub quote_for : {o : ParseOption} {own value quote : Text} → KeepsQuote o own value quote
+pub quote_for : {o : ParseOption} {raw_value value quote : Text} → KeepsQuote o raw_value value quote
     → IsQuoteFor o value quote
 quote_for (KeepsQuote.kept stands none) = IsQuoteFor.mark stands.on stands.mark none
 quote_for (KeepsQuote.none all) = IsQuoteFor.empty
@@ -198,27 +198,29 @@ line_part {o} on (Line.line {p = p} (Quoted.part {m = n} {s} {v} {q} _ _ (Str.cl
       whole = sym tails ∙ append_assoc s (n ∷ q) (p ++ z) ∙ ap (λ y. s ++ y ∷ (q ++ (p ++ z))) same;
     }
 
-own_part : {o : ParseOption} {own r : Text} → o.enabled_quote ≡ true → OwnLines o own r → (m : ℕ) (x : Text)
-    → is_quote_mark m ≡ true → own ≡ m ∷ x → BeginsPart o m x
+own_part : {o : ParseOption} {raw_value r : Text} → o.enabled_quote ≡ true → OwnLines o raw_value r
+    → (m : ℕ) (x : Text)
+    → is_quote_mark m ≡ true → raw_value ≡ m ∷ x → BeginsPart o m x
 own_part on (OwnLines.first {l} {r} one) m x mark is =
     line_part on one m x [] r mark (append-nil l ∙ is) refl
 own_part on (OwnLines.more {l} {e} {t} {r} one ends more) m x mark is =
     line_part on one m x (e ++ t) r mark is (sym (append_assoc e t r))
 
 -- a source that stands between two marks is one quoted part, and each such part stands so
-pub part_between : {o : ParseOption} {own : Text} {m : ℕ} → o.enabled_quote ≡ true → IsOwnSource o own
-    → IsBetweenQuoteMarks own m → StandsInQuotes o own m
-part_between {o} {own} {m} on source between =
-    let part = own_part on source.lines m (between.following ++ source.pad) between.mark
-    (ap (λ z. z ++ source.pad) between.whole) in
-    let one = after_more m false between.following [] source.pad between.ends in
-    let other : after_quote_mark m false (between.following ++ source.pad) ≡ Some part.following =
+pub part_between : {o : ParseOption} {raw_value : Text} {m : ℕ} → o.enabled_quote ≡ true
+    → IsOwnSource o raw_value
+    → IsBetweenQuoteMarks raw_value m → StandsInQuotes o raw_value m
+part_between {o} {raw_value} {m} on source between =
+    let part = own_part on source.lines m (between.following ++ source.space_after) between.mark
+    (ap (λ z. z ++ source.space_after) between.whole) in
+    let one = after_more m false between.following [] source.space_after between.ends in
+    let other : after_quote_mark m false (between.following ++ source.space_after) ≡ Some part.following =
     ap (after_quote_mark m false) part.whole ∙ after_row m between.mark part.row part.following in
-    let both : Some source.pad ≡ Some part.following = sym one ∙ other in
-    let same : source.pad ≡ part.following = cc in
-    let whole : between.following ++ source.pad ≡ (part.content ++ m ∷ []) ++ source.pad =
+    let both : Some source.space_after ≡ Some part.following = sym one ∙ other in
+    let same : source.space_after ≡ part.following = cc in
+    let whole : between.following ++ source.space_after ≡ (part.content ++ m ∷ []) ++ source.space_after =
     part.whole ∙ ap (λ z. part.content ++ m ∷ z) (sym same)
-    ∙ sym (append_assoc part.content (m ∷ []) source.pad) in
+    ∙ sym (append_assoc part.content (m ∷ []) source.space_after) in
     record {
       on = on;
       mark = between.mark;
@@ -227,15 +229,16 @@ part_between {o} {own} {m} on source between =
       string = Str.closed part.row (or_left (eqb m m) false (eq-eqb m m refl));
       whole =
           between.whole
-          ∙ ap (λ z. m ∷ z) (append_cancel_right between.following (part.content ++ m ∷ []) source.pad whole);
+          ∙ ap (λ z. m ∷ z)
+          (append_cancel_right between.following (part.content ++ m ∷ []) source.space_after whole);
     }
 
 ends_string : {escapes : Bool} {m : ℕ} {s r v : Text} → is_quote_mark m ≡ true
     → Str escapes (quote_ends m) s (m ∷ r) v → after_quote_mark m false (s ++ m ∷ []) ≡ Some []
 ends_string {m = m} mark (Str.closed row closes) = after_row m mark row []
 
-pub between_part : {o : ParseOption} {own : Text} {m : ℕ} → StandsInQuotes o own m
-    → IsBetweenQuoteMarks own m
+pub between_part : {o : ParseOption} {raw_value : Text} {m : ℕ} → StandsInQuotes o raw_value m
+    → IsBetweenQuoteMarks raw_value m
 between_part {m = m} part = record {
   mark = part.mark;
   following = part.content ++ m ∷ [];
@@ -243,30 +246,31 @@ between_part {m = m} part = record {
   ends = ends_string part.mark part.string;
 }
 
-pub same_mark : {own : Text} {m n : ℕ} → IsBetweenQuoteMarks own m → IsBetweenQuoteMarks own n → m ≡ n
+pub same_mark : {raw_value : Text} {m n : ℕ} → IsBetweenQuoteMarks raw_value m
+    → IsBetweenQuoteMarks raw_value n → m ≡ n
 same_mark {m = m} {n = n} one other =
     let both : m ∷ one.following ≡ n ∷ other.following = sym one.whole ∙ other.whole in
     cc
 
 -- the quote in which a value is written in the place of one whose source stands in no quotes, or in its mark
-module _ {o : ParseOption} {own value : Text} where
-  pub off_none : o.enabled_quote ≡ false → KeepsQuote o own value []
+module _ {o : ParseOption} {raw_value value : Text} where
+  pub off_none : o.enabled_quote ≡ false → KeepsQuote o raw_value value []
   off_none off = KeepsQuote.none (λ m part. absurd (both_ways o.enabled_quote off part.on))
 
-  pub bare_none : ((m : ℕ) → ¬ IsBetweenQuoteMarks own m) → KeepsQuote o own value []
+  pub bare_none : ((m : ℕ) → ¬ IsBetweenQuoteMarks raw_value m) → KeepsQuote o raw_value value []
   bare_none none = KeepsQuote.none (λ m part. absurd (none m (between_part part)))
 
-  pub mark_none : {m : ℕ} → IsBetweenQuoteMarks own m → has_quote_mark value m ≡ true
-      → KeepsQuote o own value []
+  pub mark_none : {m : ℕ} → IsBetweenQuoteMarks raw_value m → has_quote_mark value m ≡ true
+      → KeepsQuote o raw_value value []
   mark_none between has =
       KeepsQuote.none
       (λ n part. subst (λ x. has_quote_mark value x ≡ true) (same_mark between (between_part part)) has)
 
-  pub mark_kept : {m : ℕ} {quote : Text} → o.enabled_quote ≡ true → IsOwnSource o own
-      → IsBetweenQuoteMarks own m
-      → has_quote_mark value m ≡ false → quote ≡ m ∷ [] → KeepsQuote o own value quote
+  pub mark_kept : {m : ℕ} {quote : Text} → o.enabled_quote ≡ true → IsOwnSource o raw_value
+      → IsBetweenQuoteMarks raw_value m
+      → has_quote_mark value m ≡ false → quote ≡ m ∷ [] → KeepsQuote o raw_value value quote
   mark_kept on source between none is =
-      subst (KeepsQuote o own value) (sym is) (KeepsQuote.kept (part_between on source between) none)
+      subst (KeepsQuote o raw_value value) (sym is) (KeepsQuote.kept (part_between on source between) none)
 
 -- a text that goes on with the stretches of a pair, one after the other
 pub put_together : (old f k l w p t : Text) (s : ℕ) {a b c d e g new : Text} → a ≡ old ++ f

@@ -31,41 +31,43 @@ module _ {o : ParseOption} {T : Text} {p : Stretches} {old value : Text} {before
     (plain : IsPlainBareKey o policy new) {indent pad : Text} (edges : HasEdges o p.key indent pad) where
   -- the pair's element with another key's source, and the text
   abbrev element : Text → Text
-  element k = k ++ p.separator ∷ (p.lead ++ (p.own ++ (p.pad ++ p.tail)))
+  element k = k ++ p.separator ∷ (p.space_before ++ (p.raw_value ++ (p.space_after ++ p.trailing_lines)))
 
   abbrev text : Text → Text
   text k = p.front ++ (element k ++ p.rest)
 
   abbrev before_tail : Text → Text
-  before_tail k = p.front ++ (k ++ p.separator ∷ (p.lead ++ (p.own ++ p.pad)))
+  before_tail k = p.front ++ (k ++ p.separator ∷ (p.space_before ++ (p.raw_value ++ p.space_after)))
 
   abbrev source : Text
   source = indent ++ (escaped policy new ++ pad)
 
   following : (k : Text) → element k ++ p.rest ≡ k ++ after_key p
-  following k = append_assoc k (p.separator ∷ (p.lead ++ (p.own ++ (p.pad ++ p.tail)))) p.rest
+  following k =
+      append_assoc k (p.separator ∷ (p.space_before ++ (p.raw_value ++ (p.space_after ++ p.trailing_lines))))
+      p.rest
 
-  to_tail : (k : Text) → p.front ++ element k ≡ before_tail k ++ p.tail
+  to_tail : (k : Text) → p.front ++ element k ≡ before_tail k ++ p.trailing_lines
   to_tail k = simp append_assoc
 
-  whole_text : (k : Text) → text k ≡ (before_tail k ++ p.tail) ++ p.rest
+  whole_text : (k : Text) → text k ≡ (before_tail k ++ p.trailing_lines) ++ p.rest
   whole_text k = simp append_assoc
 
   rest_new : Reads o (text source) (p.front ++ element source) after (text source)
   rest_new =
       let then : Reads o (text p.key) (p.front ++ element p.key) after (text p.key) =
       subst (λ z. Reads o z (p.front ++ element p.key) after z) s.text s.then in
-      let was : RestAfter o p.tail p.rest after (before_tail p.key) =
-      subst (λ z. Reads o z (before_tail p.key ++ p.tail) after z) (whole_text p.key)
+      let was : RestAfter o p.trailing_lines p.rest after (before_tail p.key) =
+      subst (λ z. Reads o z (before_tail p.key ++ p.trailing_lines) after z) (whole_text p.key)
       (subst (λ z. Reads o (text p.key) z after (text p.key)) (to_tail p.key) then) in
       let is = rest_after o (before_tail p.key) (before_tail source) s.is_tail was in
       subst (λ z. Reads o (text source) z after (text source)) (sym (to_tail source))
-      (subst (λ z. Reads o z (before_tail source ++ p.tail) after z) (sym (whole_text source)) is)
+      (subst (λ z. Reads o z (before_tail source ++ p.trailing_lines) after z) (sym (whole_text source)) is)
 
   -- with the new key's source in its place the text gives the same items, but for the pair's key
   renamed_text : Derives o (text source) (before ++ (Pair new value ∷ after))
   renamed_text =
-      let r = (p.lead ++ (p.own ++ (p.pad ++ p.tail))) ++ p.rest in
+      let r = (p.space_before ++ (p.raw_value ++ (p.space_after ++ p.trailing_lines))) ++ p.rest in
       let place = in_place plain pad edges.white_pad p.separator s.separates r indent s.key_front edges in
       let first : Reads o (text p.key) [] before p.front =
       subst (λ z. Reads o z [] before p.front) s.text s.reads in
@@ -85,7 +87,8 @@ module _ {o : ParseOption} {T : Text} {p : Stretches} {old value : Text} {before
 
   pub renamed : Derives o (p.front ++ (source ++ after_key p)) (before ++ (Pair new value ∷ after))
   renamed =
-      subst (λ z. Derives o (p.front ++ z) (before ++ (Pair new value ∷ after))) (following source) renamed_text
+      subst (λ z. Derives o (p.front ++ z) (before ++ (Pair new value ∷ after)))
+      (following source) renamed_text
 
 -- the pairs in which the first of the key is renamed
 renamed_at : (key new v : Text) (qs rs : Pairs) → is_text key key ≡ true → Lacks key qs

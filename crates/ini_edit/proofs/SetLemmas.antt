@@ -100,9 +100,9 @@ sets_value o policy T value writable p name key old before after s target quote 
     sets value s target (replaced s (source_in writable may)) later d document
 
 -- what is put in an old value's place is its source, or the written value
-by_put : {o : ParseOption} {policy : EscapePolicy} {own old value source : Text} (P : Text → Type 0)
-    → IsPut o policy own old value source → (value ≡ old → P own)
-    → ((quote : Text) → KeepsQuote o own value quote → P (written_in policy quote value)) → P source
+by_put : {o : ParseOption} {policy : EscapePolicy} {raw_value old value source : Text} (P : Text → Type 0)
+    → IsPut o policy raw_value old value source → (value ≡ old → P raw_value)
+    → ((quote : Text) → KeepsQuote o raw_value value quote → P (written_in policy quote value)) → P source
 by_put P (IsPut.stays same) stays written = stays same
 by_put P (IsPut.written {quote} apart keeps) stays written = written quote keeps
 
@@ -110,7 +110,7 @@ by_put P (IsPut.written {quote} apart keeps) stays written = written quote keeps
 module _ {o : ParseOption} {policy : EscapePolicy} {T value source : Text}
     (writable : IsWritableValue o policy value) {p : Stretches} {key old : Text} {before after : List Given}
     (s : StandsAt o T p key old before after) where
-  put_derives : IsPut o policy p.own old value source
+  put_derives : IsPut o policy p.raw_value old value source
       → Derives o (text_with p source) (before ++ (Pair key value ∷ after))
   put_derives put =
       by_put (λ z. Derives o (text_with p z) (before ++ (Pair key value ∷ after))) put
@@ -118,7 +118,7 @@ module _ {o : ParseOption} {policy : EscapePolicy} {T value source : Text}
       (subst (λ v. Derives o T (before ++ (Pair key v ∷ after))) (sym same) (stands_derives s)))
       (λ quote keeps. replaced s (source_in writable (quote_for keeps)))
 
-  pub put_front : IsPut o policy p.own old value source
+  pub put_front : IsPut o policy p.raw_value old value source
       → Reads o (text_with p source) [] (before ++ Pair key value ∷ []) (p.front ++ pair_with p source)
   put_front put =
       by_put (λ z. Reads o (text_with p z) [] (before ++ Pair key value ∷ []) (p.front ++ pair_with p z)) put
@@ -127,7 +127,7 @@ module _ {o : ParseOption} {policy : EscapePolicy} {T value source : Text}
       (λ quote keeps. replaced_front s (source_in writable (quote_for keeps)))
 
   pub sets_put : {name : Option Text} (target : IsTarget name key before after)
-      → IsPut o policy p.own old value source → {U : Text}
+      → IsPut o policy p.raw_value old value source → {U : Text}
       → LaterOut o key (before ++ Pair key value ∷ []) target.rest (text_with p source) target.later U
       → (d : Document) → IsDocumentOf o T d → IsDocumentOf o U (set_in name key value d)
   sets_put target put later d document = sets value s target (put_derives put) later d document

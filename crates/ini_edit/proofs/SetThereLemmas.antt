@@ -32,15 +32,19 @@ module _ {o : ParseOption} {T : Text} {p : Place} {name : Option Text} (key : Te
       reaches.whole ∙ sym (append_assoc pair.front (pair_of pair) pair.rest)
       ∙ ap (λ z. z ++ pair.rest) (sym reaches.front)
 
-  pub own_source : IsOwnSource o pair.own
-  own_source = record { pad = pair.pad; rest = pair.tail ++ pair.rest; lines = reaches.placed.own }
+  pub own_source : IsOwnSource o pair.raw_value
+  own_source = record {
+    space_after = pair.space_after;
+    rest = pair.trailing_lines ++ pair.rest;
+    lines = reaches.placed.raw_value;
+  }
 
   -- what follows the pair is read after another value as after its own
   pub pair_alike : (value f : Text) → f ≡ pair.front ++ pair_with pair value → IsAlikeAfter q f
   pair_alike value f written = record {
     following = pair.rest;
     whole = reaches.is_reading.text ∙ text_after;
-    alike = rw (reaches.front, written) (value_alike pair value reaches.placed.tail);
+    alike = rw (reaches.front, written) (value_alike pair value reaches.placed.trailing_lines);
   }
 
   module _ {f g : Text} {r : Place} (taken : TakesLater q.option q.text key q.front f r g) where
@@ -57,7 +61,7 @@ module _ {o : ParseOption} {T : Text} {p : Place} {name : Option Text} (key : Te
 
     -- the text that was read to its end
     pub is_set : {policy : EscapePolicy} {value source : Text} (left new : Text)
-        → IsWritableValue o policy value → IsPut o policy pair.own (cow_text x.value) value source
+        → IsWritableValue o policy value → IsPut o policy pair.raw_value (cow_text x.value) value source
         → f ≡ pair.front ++ pair_with pair source
         → ReadsOn r.option r.text r.front
         → r.front ++ left ≡ r.text → new ≡ g ++ left → IsSetThere o policy T name key value new

@@ -134,8 +134,8 @@ module _ {o : ParseOption} {T key b f g : Text} {p : Place} (t : Taking o T key 
       abbrev old : Text
       old = cow_text pair.value
 
-      pub pair_tail : grammar.Tail o x.tail rest
-      pair_tail = subst (grammar.Tail o x.tail) past_is placed.1.tail
+      pub pair_tail : grammar.TrailingLines o x.trailing_lines rest
+      pair_tail = subst (grammar.TrailingLines o x.trailing_lines) past_is placed.1.trailing_lines
 
       module _ (same : cow_text pair.key ≡ key) {stays left : Text}
           (cut : Cut o (placed_between g x rest) stays left) where

@@ -17,7 +17,7 @@ use Rattle.ini_text.specs.Grammar.Values.{LineEnd, Value}
 use Rattle.ini_text.specs.Escaping.EscapedTexts.{escaped}
 use Rattle.ini_text.proofs.PlainLemmas.PlainPairLemmas.{escaped_begins, line_end_no_mark}
 use Rattle.ini_text.proofs.PlainLemmas.PlainTrimLemmas.{trimmed_begins, without_line_feeds-trimmed}
-use Rattle.ini_text.specs.Grammar.Places.{Tail}
+use Rattle.ini_text.specs.Grammar.Places.{TrailingLines}
 use Rattle.ini_edit.specs.Writable.{IsWritableValue}
 use Rattle.ini_edit.proofs.PadLemmas.{trimmed-white, white_both, white_row}
 use Rattle.ini_edit.proofs.WrittenLemmas.{IsReadAsWritten, read_as_written}
@@ -30,12 +30,12 @@ closes_line_end c h = at (eqb c 0x0A) (eqb c 0x0D) h
     at false true h = h
     at false false h = h
 
-pub tail_closes : {o : ParseOption} {t r : List ℕ} → Tail o t r → Closes plain_ends (t ++ r)
-tail_closes (Tail.line off h) = h
-tail_closes (Tail.end on) = refl
-tail_closes (Tail.lines on LineEnd.lf more all) = refl
-tail_closes (Tail.lines on LineEnd.cr_lf more all) = refl
-tail_closes (Tail.lines on (LineEnd.cr n) more all) = refl
+pub tail_closes : {o : ParseOption} {t r : List ℕ} → TrailingLines o t r → Closes plain_ends (t ++ r)
+tail_closes (TrailingLines.line off h) = h
+tail_closes (TrailingLines.end on) = refl
+tail_closes (TrailingLines.lines on LineEnd.lf more all) = refl
+tail_closes (TrailingLines.lines on LineEnd.cr_lf more all) = refl
+tail_closes (TrailingLines.lines on (LineEnd.cr n) more all) = refl
 
 pub closes_no_mark : (r : List ℕ) → Closes plain_ends r → BeginsWithNo is_quote_mark r
 closes_no_mark [] h = tt
@@ -112,14 +112,14 @@ bare_source {o} {policy} {value} writable =
 module _ {o : ParseOption} (w pad : List ℕ) (white : list_all is_inline_white w ≡ true)
     (white_pad : list_all is_inline_white pad ≡ true) where
   -- a value's source, with what is kept after it
-  pub value_written : {source value t r : List ℕ} → IsSourceOf o source value → Tail o t r
+  pub value_written : {source value t r : List ℕ} → IsSourceOf o source value → TrailingLines o t r
       → Value o (w ++ (source ++ (pad ++ t))) r value
-  value_written {source} {value} {r = r} is (Tail.line off h) =
+  value_written {source} {value} {r = r} is (TrailingLines.line off h) =
       let x = is.line w pad r white white_pad h in
       let whole : x.lead ++ x.line ≡ w ++ (source ++ (pad ++ [])) =
       sym x.whole ∙ ap (λ z. w ++ (source ++ z)) (sym (append-nil pad)) in
       subst (λ s. Value o s r value) whole (Value.one_line off x.is_lead x.is_line)
-  value_written {source} {value} is (Tail.end on) =
+  value_written {source} {value} is (TrailingLines.end on) =
       let x = is.line w pad [] white white_pad refl in
       let whole : x.lead ++ x.line ≡ w ++ (source ++ (pad ++ [])) =
       sym x.whole ∙ ap (λ z. w ++ (source ++ z)) (sym (append-nil pad)) in
@@ -129,8 +129,8 @@ module _ {o : ParseOption} (w pad : List ℕ) (white : list_all is_inline_white 
       ∙ without_line_feeds-trimmed value [] is.is_trimmed refl in
       subst (λ s. Value o s [] value) whole
       (subst (Value o (x.lead ++ x.line) []) same (Value.to_end on lead x.is_line))
-  value_written {source} {value} {r = r} is (Tail.lines {e} {t} {u = u} on le more all) =
-      let h = tail_closes (Tail.lines on le more all) in
+  value_written {source} {value} {r = r} is (TrailingLines.lines {e} {t} {u = u} on le more all) =
+      let h = tail_closes (TrailingLines.lines on le more all) in
       let closes : Closes plain_ends (e ++ (t ++ r)) = subst (Closes plain_ends) (append_assoc e t r) h in
       let x = is.line w pad (e ++ (t ++ r)) white white_pad closes in
       let whole : x.lead ++ (x.line ++ (e ++ t)) ≡ w ++ (source ++ (pad ++ (e ++ t))) =

@@ -32,15 +32,15 @@ pub record IsDeleted (o : ParseOption) (T : Text) (name : Option Text) (key : Te
 
 -- The text U is T with the value in the place of that of the first pair of the key in the first section of
 -- the name, where that is another one: as the policy writes it, in the quotes that the old one stands in
--- where it can be; and without the later pairs of the key in that section; and no other byte than those that go
--- with these is another one: it loads as the document in which the key is set.
+-- where it can be; and without the later pairs of the key in that section; and no other byte than those that
+-- go with these is another one: it loads as the document in which the key is set.
 pub record IsSetThere (o : ParseOption) (policy : EscapePolicy) (T : Text) (name : Option Text)
     (key value U : Text) : Type 0 where
   pub pair : Stretches
   pub old : Text
   pub is_first : IsFirstPair o T name key pair old
   pub source : Text
-  pub is_put : IsPut o policy pair.own old value source
+  pub is_put : IsPut o policy pair.raw_value old value source
   pub without_later : LaterOut o key (is_first.before ++ Pair key value ∷ []) is_first.target.rest
       (text_with pair source) is_first.target.later U
   pub document : Document

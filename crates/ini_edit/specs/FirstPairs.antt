@@ -17,10 +17,10 @@ stretches_at front places rest = record {
   front = front;
   key = chars places.key.now;
   separator = places.separator;
-  lead = chars places.lead.now;
-  own = chars places.own.now;
-  pad = chars places.pad.now;
-  tail = chars places.tail.now;
+  space_before = chars places.space_before.now;
+  raw_value = chars places.raw_value.now;
+  space_after = chars places.space_after.now;
+  trailing_lines = chars places.trailing_lines.now;
   rest = rest;
 }
 
@@ -32,10 +32,10 @@ abbrev pub source_of : Stretches → grammar.Stretches
 source_of p = record {
   key = p.key;
   separator = p.separator;
-  lead = p.lead;
-  own = p.own;
-  pad = p.pad;
-  tail = p.tail;
+  space_before = p.space_before;
+  raw_value = p.raw_value;
+  space_after = p.space_after;
+  trailing_lines = p.trailing_lines;
 }
 
 -- The stretches are those of the first pair of the key in the first section of the name, and the pair has

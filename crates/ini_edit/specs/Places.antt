@@ -5,7 +5,7 @@ use Rattle.ini_text.specs.Grammar.CharacterKinds.{line_feed, is_blank, is_inline
 use Rattle.ini_text.specs.Grammar.CharacterKinds.{is_separator, BeginsWithNo}
 use Rattle.ini_text.specs.Grammar.Positions.{starts_line, is_column_one}
 use Rattle.ini_text.specs.Grammar.Values.{LineEnd, Value}
-use Rattle.ini_text.specs.Grammar.Places.{Tail}
+use Rattle.ini_text.specs.Grammar.Places.{TrailingLines}
 use Rattle.ini_text.specs.Grammar.Keys.{KeyFront}
 use Rattle.ini_text.specs.Grammar.Elements.{Given}
 use Rattle.ini_text.specs.Grammar.Texts.{Reads}
@@ -13,28 +13,28 @@ use Rattle.ini_text.specs.declared.option.ParseOption.{ParseOption}
 use Rattle.ini_edit.specs.Endings.{Ending, IsElementEnd, ending}
 
 -- A pair's stretches in a text: what stands before its element; its key's source, and the separator; white
--- space before the value; the value's own source; white space after it; where values are multiline, the
+-- space before the value; the raw value; white space after it; where values are multiline, the
 -- line end and the lines that add nothing to the value; and what follows the element.
 pub record Stretches : Type 0 where
   pub front : List ℕ
   pub key : List ℕ
   pub separator : ℕ
-  pub lead : List ℕ
-  pub own : List ℕ
-  pub pad : List ℕ
-  pub tail : List ℕ
+  pub space_before : List ℕ
+  pub raw_value : List ℕ
+  pub space_after : List ℕ
+  pub trailing_lines : List ℕ
   pub rest : List ℕ
 
--- the element, and the text, with x in the place of the value's own source
+-- the element, and the text, with x in the place of the raw value
 abbrev pub pair_with : Stretches → List ℕ → List ℕ
-pair_with p x = p.key ++ p.separator ∷ (p.lead ++ (x ++ (p.pad ++ p.tail)))
+pair_with p x = p.key ++ p.separator ∷ (p.space_before ++ (x ++ (p.space_after ++ p.trailing_lines)))
 
 abbrev pub text_with : Stretches → List ℕ → List ℕ
 text_with p x = p.front ++ (pair_with p x ++ p.rest)
 
 -- the element as it is, and the text up to its end
 abbrev pub pair_of : Stretches → List ℕ
-pair_of p = pair_with p p.own
+pair_of p = pair_with p p.raw_value
 
 abbrev pub up_to_end : Stretches → List ℕ
 up_to_end p = p.front ++ pair_of p
@@ -42,16 +42,16 @@ up_to_end p = p.front ++ pair_of p
 -- The stretches are those of a pair of the text, which gives the items before it, and those after it.
 pub record StandsAt (o : ParseOption) (T : List ℕ) (p : Stretches) (key value : List ℕ)
     (before after : List Given) : Type 0 where
-  pub text : T ≡ text_with p p.own
+  pub text : T ≡ text_with p p.raw_value
   pub reads : Reads o T [] before p.front
   pub key_front : KeyFront o p.front p.key
-      (p.separator ∷ ((p.lead ++ (p.own ++ (p.pad ++ p.tail))) ++ p.rest)) key
+      (p.separator ∷ ((p.space_before ++ (p.raw_value ++ (p.space_after ++ p.trailing_lines))) ++ p.rest)) key
   pub some : key ≢ []
   pub separates : is_separator p.separator ≡ true
-  pub gives : Value o (p.lead ++ (p.own ++ (p.pad ++ p.tail))) p.rest value
-  pub white_lead : list_all is_inline_white p.lead ≡ true
-  pub white_pad : list_all is_inline_white p.pad ≡ true
-  pub is_tail : Tail o p.tail p.rest
+  pub gives : Value o (p.space_before ++ (p.raw_value ++ (p.space_after ++ p.trailing_lines))) p.rest value
+  pub white_before : list_all is_inline_white p.space_before ≡ true
+  pub white_after : list_all is_inline_white p.space_after ≡ true
+  pub is_tail : TrailingLines o p.trailing_lines p.rest
   pub then : Reads o T (up_to_end p) after T
 
 -- After the front c all that stands after the front b is read as it is there: a line starts after both or

@@ -24,23 +24,25 @@ pub data IsQuoteFor (o : ParseOption) (value : Text) : Text → Type 0 where
       → IsQuoteFor o value (m ∷ [])
 
 -- a value's source stands in quotes: where these are read, it is one quoted part of this mark
-pub record StandsInQuotes (o : ParseOption) (own : Text) (m : ℕ) : Type 0 where
+pub record StandsInQuotes (o : ParseOption) (raw_value : Text) (m : ℕ) : Type 0 where
   pub on : o.enabled_quote ≡ true
   pub mark : is_quote_mark m ≡ true
   pub content : Text
   pub given : Text
   pub string : Str o.enabled_escape (quote_ends m) content (m ∷ []) given
-  pub whole : own ≡ m ∷ (content ++ m ∷ [])
+  pub whole : raw_value ≡ m ∷ (content ++ m ∷ [])
 
 -- The quote in which a value is written in the place of one whose source is `own`: that in which the old one
 -- stands, where its mark doesn't stand in the value; else an empty one.
-pub data KeepsQuote (o : ParseOption) (own value : Text) : Text → Type 0 where
-  kept : {m : ℕ} → StandsInQuotes o own m → has_quote_mark value m ≡ false → KeepsQuote o own value (m ∷ [])
-  none : ((m : ℕ) → StandsInQuotes o own m → has_quote_mark value m ≡ true) → KeepsQuote o own value []
+pub data KeepsQuote (o : ParseOption) (raw_value value : Text) : Text → Type 0 where
+  kept : {m : ℕ} → StandsInQuotes o raw_value m → has_quote_mark value m ≡ false
+      → KeepsQuote o raw_value value (m ∷ [])
+  none : ((m : ℕ) → StandsInQuotes o raw_value m → has_quote_mark value m ≡ true)
+      → KeepsQuote o raw_value value []
 
 -- What stands in the place of an old value's source, once the value is set: that source, where it gives the
 -- value already; else the value as the policy writes it, in the quote that it keeps.
-pub data IsPut (o : ParseOption) (policy : EscapePolicy) (own old value : Text) : Text → Type 0 where
-  stays : value ≡ old → IsPut o policy own old value own
-  written : {quote : Text} → value ≢ old → KeepsQuote o own value quote
-      → IsPut o policy own old value (written_in policy quote value)
+pub data IsPut (o : ParseOption) (policy : EscapePolicy) (raw_value old value : Text) : Text → Type 0 where
+  stays : value ≡ old → IsPut o policy raw_value old value raw_value
+  written : {quote : Text} → value ≢ old → KeepsQuote o raw_value value quote
+      → IsPut o policy raw_value old value (written_in policy quote value)

@@ -40,7 +40,8 @@ pub record HasEdges (o : ParseOption) (source indent pad : Text) : Type 0 where
 
 -- what follows a pair's key, to the text's end
 abbrev pub after_key : Stretches → Text
-after_key p = p.separator ∷ ((p.lead ++ (p.own ++ (p.pad ++ p.tail))) ++ p.rest)
+after_key p =
+    p.separator ∷ ((p.space_before ++ (p.raw_value ++ (p.space_after ++ p.trailing_lines))) ++ p.rest)
 
 -- The text U is T with the key `new`, as the policy writes it, in the place of that of the first pair of the
 -- key `old` in the first section of the name, and no other byte is another one: it loads as the document in

@@ -1,7 +1,7 @@
 //! What goes with a pair that is taken out of a text, and what stays it. This file knows line ends,
 //! and no value.
 ghost use Rattle.std.specs.Prelude.{chars};
-ghost use Rattle.ini_text.specs.Grammar.Places.{Tail};
+ghost use Rattle.ini_text.specs.Grammar.Places.{TrailingLines};
 ghost use Rattle.ini_edit.specs.FirstPairs.{stretches_at};
 ghost use Rattle.ini_edit.specs.Places.{Cut};
 ghost use Rattle.ini_edit.specs.Inside.Cuts.{StaysAfter};
@@ -27,7 +27,7 @@ pub(crate) fn cut<'a>(
     rest: &'a str,
     read: ParseOption,
 ) -> Cutting<'a>
-    requires { Tail read (chars places.now.tail.now) (chars rest.now) }
+    requires { TrailingLines read (chars places.now.trailing_lines.now) (chars rest.now) }
     ensures { Cut read (stretches_at (chars front.now) places.now (chars rest.now))
         (chars result.kept.now) (chars result.rest.now) }
 {
@@ -41,7 +41,7 @@ pub(crate) fn cut<'a>(
             rest: stays,
         };
     }
-    let tail = places.tail;
+    let tail = places.trailing_lines;
     if !starts_line(front) {
         let kept = last_line_end(tail);
         return Cutting { kept, rest };
@@ -62,7 +62,11 @@ fn stays_after<'a>(front: &str, rest: &'a str) -> &'a str
     match split_first(rest) {
         Some(('\n', after)) if is_column_one(front) => after,
         Some(('\r', after)) => match split_first(after) {
-            Some(('\n', following)) => if is_column_one(front) { following } else { rest },
+            Some(('\n', following)) => if is_column_one(front) {
+                following
+            } else {
+                rest
+            },
             _ => if starts_line(front) { after } else { rest },
         },
         _ => rest,

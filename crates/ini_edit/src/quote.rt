@@ -9,14 +9,14 @@ use ini_text::ParseOption;
 
 /// The quote in which a value is written in another one's place: that in which the old one's source stands,
 /// where its mark doesn't stand in the value; else an empty one.
-pub(crate) fn kept_quote(own: &str, value: &str, read: ParseOption) -> &'static str
-    requires { IsOwnSource read (chars own.now) }
-    ensures { KeepsQuote read (chars own.now) (chars value.now) (chars result.now) }
+pub(crate) fn kept_quote(raw_value: &str, value: &str, read: ParseOption) -> &'static str
+    requires { IsOwnSource read (chars raw_value.now) }
+    ensures { KeepsQuote read (chars raw_value.now) (chars value.now) (chars result.now) }
 {
     if !read.enabled_quote {
         return "";
     }
-    let Some(mark) = quote_mark_around(own) else {
+    let Some(mark) = quote_mark_around(raw_value) else {
         return "";
     };
     if has_quote_mark(value, mark) {

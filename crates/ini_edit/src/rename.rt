@@ -111,10 +111,10 @@ fn push_after_key(out: &mut String, pair: &FoundPair) -> Result<(), Error>
         (string_text out.new ≡ string_text out.old ++ after_key (stretches_of pair.now)) }
 {
     push(out, pair.places.separator)?;
-    push_text(out, pair.places.lead)?;
-    push_text(out, pair.places.own)?;
-    push_text(out, pair.places.pad)?;
-    push_text(out, pair.places.tail)?;
+    push_text(out, pair.places.space_before)?;
+    push_text(out, pair.places.raw_value)?;
+    push_text(out, pair.places.space_after)?;
+    push_text(out, pair.places.trailing_lines)?;
     push_text(out, pair.rest)?;
     Ok(())
 }

@@ -162,7 +162,7 @@ fn set_where_there<'a>(
     Ok(Setting::Made(edited))
 }
 
-// Appends a pair, and what stands before it, with another value in its own's place, and in its quotes.
+// Appends a pair, and what stands before it, with another value in its place, and in its quotes.
 fn push_with(
     alloc: Global,
     out: &mut String,
@@ -171,7 +171,7 @@ fn push_with(
     policy: EscapePolicy,
     read: ParseOption,
 ) -> Result<(), Error>
-    requires own { IsOwnSource read (chars pair.now.places.own.now) }
+    requires raw_value { IsOwnSource read (chars pair.now.places.raw_value.now) }
     ensures only { IsOkUnless result (Memory alloc_error) }
     ensures written { OnOk result (PutsValue read policy (stretches_of pair.now) (cow_text pair.now.value)
         (chars value.now) (string_text out.old) (string_text out.new)) }
@@ -179,10 +179,10 @@ fn push_with(
     push_text(out, pair.front)?;
     push_text(out, pair.places.key)?;
     push(out, pair.places.separator)?;
-    push_text(out, pair.places.lead)?;
+    push_text(out, pair.places.space_before)?;
     push_source(alloc, out, pair, value, policy, read)?;
-    push_text(out, pair.places.pad)?;
-    push_text(out, pair.places.tail)?;
+    push_text(out, pair.places.space_after)?;
+    push_text(out, pair.places.trailing_lines)?;
     Ok(())
 }
 
@@ -195,16 +195,22 @@ fn push_source(
     policy: EscapePolicy,
     read: ParseOption,
 ) -> Result<(), Error>
-    requires own { IsOwnSource read (chars pair.now.places.own.now) }
+    requires raw_value { IsOwnSource read (chars pair.now.places.raw_value.now) }
     ensures only { IsOkUnless result (Memory alloc_error) }
-    ensures put { OnOk result (PutsSource read policy (chars pair.now.places.own.now)
+    ensures put { OnOk result (PutsSource read policy (chars pair.now.places.raw_value.now)
         (cow_text pair.now.value) (chars value.now) (string_text out.old) (string_text out.new)) }
 {
-    let own = pair.places.own;
+    let raw_value = pair.places.raw_value;
     if is_same_text(value, pair.value.as_str()) {
-        return push_text(out, own);
+        return push_text(out, raw_value);
     }
-    push_in_quote(alloc, out, kept_quote(own, value, read), value, policy)
+    push_in_quote(
+        alloc,
+        out,
+        kept_quote(raw_value, value, read),
+        value,
+        policy,
+    )
 }
 
 // Goes on to the section's end, and appends what stands before that, but for the pairs of the key.

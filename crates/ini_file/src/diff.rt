@@ -72,7 +72,14 @@ fn write_hunk(
     ensures only { IsOkUnless result (Memory alloc_error) }
 {
     let mut diff = Vec::new(alloc);
-    let head = head_of(alloc, from, to, first, count_lines(removed), count_lines(added))?;
+    let head = head_of(
+        alloc,
+        from,
+        to,
+        first,
+        count_lines(removed),
+        count_lines(added),
+    )?;
     diff.extend_from_slice(head.as_bytes())?;
     add_signed_lines(&mut diff, b'-', removed)?;
     add_signed_lines(&mut diff, b'+', added)?;
@@ -137,7 +144,9 @@ fn head_of(
 {
     let removed_at = if removed == 0 { first } else { first + 1 };
     let added_at = if added == 0 { first } else { first + 1 };
-    Ok(format!(in alloc; "--- {from}\n+++ {to}\n@@ -{removed_at},{removed} +{added_at},{added} @@\n")?)
+    Ok(format!(in alloc;
+        "--- {from}\n+++ {to}\n@@ -{removed_at},{removed} +{added_at},{added} @@\n"
+    )?)
 }
 
 // Adds lines, each after the sign.

@@ -6,7 +6,7 @@ ghost use Rattle.ini_file.specs.Bytes.{has_byte_order_mark};
 ghost use Rattle.ini_file.specs.Edits.{IsChanged, RefusesEdit};
 ghost use Rattle.ini_file.specs.Writing.{word_of};
 
-use crate::bytes::{has_byte_order_mark, concat};
+use crate::bytes::{concat, has_byte_order_mark};
 use crate::writing::writing;
 use ini_edit::{Edit, EditError, make_edit};
 use ini_options::Options;

@@ -37,7 +37,7 @@ mod writing;
 
 use check_files::check_files;
 use check_words::check_of;
-use files::{write_output, lock_place, print, read_file};
+use files::{lock_place, print, read_file, write_output};
 use ini_options::words_of;
 use merge_files::merge_files;
 use merge_words::merge_of;

@@ -1,7 +1,7 @@
 //! A merge of files that are there: they are read, what they make is handed on, and what is refused is
 //! reported. This file knows the process's streams, and no word of the program.
 
-use crate::files::{write_output, lock_place, read_file, read_input};
+use crate::files::{lock_place, read_file, read_input, write_output};
 use crate::merge::{MergeEnd, load_all, merge};
 use crate::merge_words::Merging;
 use crate::refusals::refuse;

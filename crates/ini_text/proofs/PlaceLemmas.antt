@@ -1,4 +1,4 @@
 -- The places of an element: its stretches, as they are found.
-pub mod PadLemmas
+pub mod SpaceAfterLemmas
 pub mod TailLemmas
 pub mod PairLemmas

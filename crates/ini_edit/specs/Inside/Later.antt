@@ -26,10 +26,10 @@ placed_between front p rest = record {
   front = front;
   key = p.key;
   separator = p.separator;
-  lead = p.lead;
-  own = p.own;
-  pad = p.pad;
-  tail = p.tail;
+  space_before = p.space_before;
+  raw_value = p.raw_value;
+  space_after = p.space_after;
+  trailing_lines = p.trailing_lines;
   rest = rest;
 }
 

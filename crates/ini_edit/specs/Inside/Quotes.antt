@@ -9,11 +9,11 @@ use Rattle.ini.specs.Texts.{Text}
 use Rattle.ini_edit.specs.Places.{Stretches, pair_with}
 use Rattle.ini_edit.specs.Quotes.{IsPut}
 
--- a value's own source: with white space after it, it is the lines of a value
-pub record IsOwnSource (o : ParseOption) (own : Text) : Type 0 where
-  pub pad : Text
+-- a raw value: with white space after it, it is the lines of a value
+pub record IsOwnSource (o : ParseOption) (raw_value : Text) : Type 0 where
+  pub space_after : Text
   pub rest : Text
-  pub lines : OwnLines o (own ++ pad) rest
+  pub lines : OwnLines o (raw_value ++ space_after) rest
 
 -- what follows the first mark that no backslash takes; the text's first character is taken or isn't
 abbrev pub after_quote_mark : ℕ → Bool → Text → Option Text
@@ -29,10 +29,10 @@ pub record IsBetweenQuoteMarks (text : Text) (m : ℕ) : Type 0 where
   pub ends : after_quote_mark m false following ≡ Some []
 
 -- The text `old` goes on with what stands in the place of a value's source.
-pub record PutsSource (o : ParseOption) (policy : EscapePolicy) (own before value old new : Text)
+pub record PutsSource (o : ParseOption) (policy : EscapePolicy) (raw_value before value old new : Text)
     : Type 0 where
   pub source : Text
-  pub is_put : IsPut o policy own before value source
+  pub is_put : IsPut o policy raw_value before value source
   pub is_new : new ≡ old ++ source
 
 -- The text `old` goes on with what stands before a pair, and with the pair, whose value was `before`: there
@@ -40,5 +40,5 @@ pub record PutsSource (o : ParseOption) (policy : EscapePolicy) (own before valu
 pub record PutsValue (o : ParseOption) (policy : EscapePolicy) (p : Stretches) (before value old new : Text)
     : Type 0 where
   pub source : Text
-  pub is_put : IsPut o policy p.own before value source
+  pub is_put : IsPut o policy p.raw_value before value source
   pub is_new : new ≡ old ++ (p.front ++ pair_with p source)

@@ -84,7 +84,7 @@ module _ (o : ParseOption) (T : Text) where
   pub record ReachesPair (b : Text) (q : Place) (key : Text) (pair : FoundPair) : Type 0 where
     pub is_reading : IsReading q
     pub passes : PassesPairs b (chars pair.front.now) key
-    pub whole : T ≡ text_with (stretches_of pair) (stretches_of pair).own
+    pub whole : T ≡ text_with (stretches_of pair) (stretches_of pair).raw_value
     pub front : q.front ≡ up_to_end (stretches_of pair)
     pub placed : ArePlaced o (chars pair.front.now) (source_of (stretches_of pair)) (chars pair.rest.now)
         key (cow_text pair.value)

@@ -35,7 +35,8 @@ pieces_items-append (x ∷ xs) ys = ap (λ t. x.gives ++ t) (pieces_items-append
 -- what follows a list's first part
 rest_of : (xs ys : List Piece) (r : List ℕ)
     → pieces_text (xs ++ ys) ++ r ≡ pieces_text xs ++ (pieces_text ys ++ r)
-rest_of xs ys r = ap (λ t. t ++ r) (pieces_text-append xs ys) ∙ append_assoc (pieces_text xs) (pieces_text ys) r
+rest_of xs ys r =
+    ap (λ t. t ++ r) (pieces_text-append xs ys) ∙ append_assoc (pieces_text xs) (pieces_text ys) r
 
 module _ {o : ParseOption} where
   -- after another character, and before another text
@@ -78,7 +79,8 @@ module _ {o : ParseOption} where
       let rest = pieces_split ys zs front.1 in
       let before : BeginAlike (pieces_text (ys ++ zs) ++ r) (pieces_text (new ++ zs) ++ r) =
       subst (BeginAlike (pieces_text (ys ++ zs) ++ r)) (sym (rest_of new zs r))
-      (subst (λ t. BeginAlike t (pieces_text new ++ (pieces_text zs ++ r))) (sym (rest_of ys zs r)) may.begins) in
+      (subst (λ t. BeginAlike t (pieces_text new ++ (pieces_text zs ++ r)))
+      (sym (rest_of ys zs r)) may.begins) in
       pieces_join xs (new ++ zs) (pieces_before before front.0)
       (pieces_join new zs may.in_place (pieces_like may.ends rest.1))
 

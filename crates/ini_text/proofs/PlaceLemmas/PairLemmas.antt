@@ -19,7 +19,7 @@ use Rattle.ini_text.specs.Errors.Messages.{HasMessage}
 use Rattle.ini_text.specs.Grammar.CharacterKinds.{open_bracket, is_blank, is_line_end, is_comment_mark, is_inline_white, is_separator, BeginsWith, BeginsWithNo}
 use Rattle.ini_text.specs.Grammar.Elements.{Given, Pair, Element, ElementStops}
 use Rattle.ini_text.specs.Grammar.Keys.{begins_key, begins_indented_key, KeyFront}
-use Rattle.ini_text.specs.Grammar.Places.{Stretches, value_source, pair_source, OwnLines, Padded, Tail, ArePlaced}
+use Rattle.ini_text.specs.Grammar.Places.{Stretches, value_source, pair_source, OwnLines, SpaceAfter, TrailingLines, ArePlaced}
 use Rattle.ini_text.specs.Grammar.Positions.{line_of, column_of}
 use Rattle.ini_text.specs.Grammar.Strings.{key_ends}
 use Rattle.ini_text.specs.Grammar.Values.{Value}
@@ -111,7 +111,8 @@ key_read {o} {x = x} {m = m} (KeyFront.indented {w} {s} {v = v} ind begins str) 
     ap (skipped is_blank) (append_assoc w s (m ∷ x))
     ∙ (run-finds is_blank w (s ++ m ∷ x) ind.blank (indented_begins (s ++ m ∷ x) begins)).1 in (
       v,
-      ap (string o.enabled_escape key_ends) following ∙ (string-reads o.enabled_escape key_ends refl).finds str,
+      ap (string o.enabled_escape key_ends) following
+          ∙ (string-reads o.enabled_escape key_ends refl).finds str,
     )
 
 -- what is read of a pair
@@ -190,7 +191,14 @@ lead_within {after = after} {start} h =
 
 abbrev made_of : List ℕ → ℕ → List ℕ → List ℕ → List ℕ → List ℕ → Stretches
 made_of key_s sep lead_s own pad tail_s =
-    record { key = key_s; separator = sep; lead = lead_s; own = own; pad = pad; tail = tail_s }
+    record {
+      key = key_s;
+      separator = sep;
+      space_before = lead_s;
+      raw_value = own;
+      space_after = pad;
+      trailing_lines = tail_s;
+    }
 
 -- the stretches, from the rests at which they end
 module _ {o : ParseOption} (t r : List ℕ)
@@ -199,7 +207,7 @@ module _ {o : ParseOption} (t r : List ℕ)
     (read : string o.enabled_escape key_ends name ≡ found out after_key)
     (splits : after_key ≡ sep ∷ after) (h : HasTail o after start tail gives r)
     (key_cut : key_s ≡ front_of t after_key) (lead_cut : lead_s ≡ front_of after start)
-    (own_cut : front_of start tail ≡ own ++ pad) (padded : Padded own pad)
+    (own_cut : front_of start tail ≡ own ++ pad) (padded : SpaceAfter own pad)
     (tail_cut : tail_s ≡ front_of tail r) where
   own_is : h.own ≡ own ++ pad
   own_is = sym (front_is h.own tail start (sym h.own_is)) ∙ own_cut
@@ -263,7 +271,7 @@ module _ {o : ParseOption} (t r : List ℕ)
         some = p.some;
         separates = subst (λ y. is_separator y ≡ true) sep_is p.separates;
         gives = subst (λ y. Value o y r v) source_is p.given;
-        lead = record {
+        space_before = record {
           white =
               subst (λ y. list_all is_inline_white y ≡ true) (sym lead_is)
               (run-sound is_inline_white after).all;
@@ -271,9 +279,9 @@ module _ {o : ParseOption} (t r : List ℕ)
               subst (BeginsWithNo is_inline_white) (sym h.skips ∙ start_at)
               (run-sound is_inline_white after).ends;
         };
-        own = subst₂ (OwnLines o) own_is tail_at h.own_lines;
-        pad = padded;
-        tail = subst (λ y. Tail o y r) tail_is h.is_tail;
+        raw_value = subst₂ (OwnLines o) own_is tail_at h.own_lines;
+        space_after = padded;
+        trailing_lines = subst (λ y. TrailingLines o y r) tail_is h.is_tail;
       },
     )
 

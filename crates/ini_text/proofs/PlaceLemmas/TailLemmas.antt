@@ -11,7 +11,7 @@ use Rattle.ini_text.specs.Grammar.WhiteSpace.{Lead, without_outer_line_feeds}
 use Rattle.ini_text.specs.Grammar.Strings.{Closes, plain_ends}
 use Rattle.ini_text.specs.Grammar.Lines.{Line, LineStops}
 use Rattle.ini_text.specs.Grammar.Values.{LineEnd, MoreLines}
-use Rattle.ini_text.specs.Grammar.Places.{LastLine, OwnLines, Tail}
+use Rattle.ini_text.specs.Grammar.Places.{LastLine, OwnLines, TrailingLines}
 use Rattle.ini_text.specs.Inside.LineReader.{line}
 use Rattle.ini_text.specs.Inside.PlaceReader.{HasTail, TailSoFar}
 use Rattle.ini_text.specs.Inside.Reading.{found, stopped, prepend, altered_answer}
@@ -152,7 +152,7 @@ module _ (o : ParseOption) {text start : List ℕ} (skips : start ≡ skipped is
         tail_is = refl;
         reads = value_line o text skips off ∙ h;
         own_lines = OwnLines.first ln;
-        is_tail = Tail.line off (Line-closes ln);
+        is_tail = TrailingLines.line off (Line-closes ln);
       }
 
   pub line_to_end : {tail u : List ℕ} → o.enabled_indented_mutiline_value ≡ true
@@ -168,7 +168,7 @@ module _ (o : ParseOption) {text start : List ℕ} (skips : start ≡ skipped is
         tail_is = refl;
         reads = value_ends o text skips on h none refl;
         own_lines = OwnLines.first ln;
-        is_tail = subst (Tail o []) (sym (no_end tail (Line-closes ln) none)) (Tail.end on);
+        is_tail = subst (TrailingLines o []) (sym (no_end tail (Line-closes ln) none)) (TrailingLines.end on);
       }
 
   pub tail_begins : {tail next u : List ℕ} → o.enabled_indented_mutiline_value ≡ true
@@ -260,7 +260,7 @@ module _ (o : ParseOption) {text start : List ℕ} (skips : start ≡ skipped is
         reads = st.reads ∙ ap (λ a. altered_answer without_outer_line_feeds (prepend given a))
             (ap (more_lines o) (sym q) ∙ MoreLines-finds o s r v m);
         own_lines = st.own_lines;
-        is_tail = Tail.lines on (subst (LineEnd st.end) whole st.ends) x.1 x.2;
+        is_tail = TrailingLines.lines on (subst (LineEnd st.end) whole st.ends) x.1 x.2;
       }
 
   tail_ends : {tail rest given : List ℕ} → o.enabled_indented_mutiline_value ≡ true
@@ -294,7 +294,8 @@ module _ (o : ParseOption) {text start : List ℕ} (skips : start ≡ skipped is
 
   -- a line that begins with a blank
   module _ {tail rest cs following end u given : List ℕ} {c : ℕ}
-      (on : o.enabled_indented_mutiline_value ≡ true) (st : TailSoFar o text start tail rest given) (is : rest ≡ c ∷ cs) (b : is_blank c ≡ true)
+      (on : o.enabled_indented_mutiline_value ≡ true) (st : TailSoFar o text start tail rest given)
+      (is : rest ≡ c ∷ cs) (b : is_blank c ≡ true)
       (from : following ≡ skipped is_inline_white rest) (read : line o false following ≡ found u end) where
     here : LineAt o rest end u
     here = line_at o is b from read
@@ -339,7 +340,7 @@ module _ (o : ParseOption) {text start : List ℕ} (skips : start ≡ skipped is
             (sym (prepend-nil (more_lines o rest))
             ∙ line_ends o [] (line_feed ∷ []) is b from refl feed_first none);
         own_lines = own_line some;
-        is_tail = subst (Tail o []) (sym ended) (Tail.end on);
+        is_tail = subst (TrailingLines o []) (sym ended) (TrailingLines.end on);
       }
 
     module _ {next : List ℕ} (some : after_end end ≡ Some next) where

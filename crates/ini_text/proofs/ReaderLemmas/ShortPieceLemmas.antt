@@ -102,8 +102,10 @@ letter_escape two n m is = record {
   shorter = omega (arith, ap length two.read);
 }
 
-pub coded_escape : {t following : List ℕ} {v : ℕ} → BeginsWithTwo t 92 120 → 2 ≤ length t → following ≡ drop 2 t
-    → coded_character (chars following) ≡ found (v ∷ []) (chars (drop 4 following)) → IsCharBoundary following 4
+pub coded_escape : {t following : List ℕ} {v : ℕ} → BeginsWithTwo t 92 120 → 2 ≤ length t
+    → following ≡ drop 2 t
+    → coded_character (chars following) ≡ found (v ∷ []) (chars (drop 4 following))
+    → IsCharBoundary following 4
     → IsEscape t v 6
 coded_escape {t} {following} {v} two long is_after is cut =
     let codes : coded_character (chars (drop 2 t)) ≡ found (v ∷ []) (chars (drop 6 t)) =
@@ -167,7 +169,8 @@ short_piece ends t stop n v k u long within is following escape =
       few = escape.few;
       long = long;
       run = IsUtf8-take t n u cut;
-      cut = IsCharBoundary-from_rest t n k (omega arith) (subst (λ x. IsCharBoundary x k) following escape.cut);
+      cut = IsCharBoundary-from_rest t n k (omega arith)
+          (subst (λ x. IsCharBoundary x k) following escape.cut);
       read =
           string_run true (ends_of ends) (chars run) (chars stop) parts
           (run_chars plain t run n (raw_wide ends) u is refl)

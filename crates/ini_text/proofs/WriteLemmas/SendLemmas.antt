@@ -23,7 +23,8 @@ at_ok (Err e) holds = tt
 
 -- a text escaped, and another as it is after it
 part-bytes : (policy : EscapePolicy) (text following : List ℕ) → IsUtf8 following
-    → encode_utf8_all (escaped policy (chars text) ++ chars following) ≡ escaped_bytes policy text ++ following
+    → encode_utf8_all (escaped policy (chars text) ++ chars following)
+    ≡ escaped_bytes policy text ++ following
 part-bytes policy text following utf8 = rw (encodes-append, encodes-chars following utf8) refl
 
 part-scalars : (policy : EscapePolicy) (text following : List ℕ) → IsUtf8 text → IsUtf8 following

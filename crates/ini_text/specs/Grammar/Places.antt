@@ -17,14 +17,14 @@ use Rattle.ini_text.specs.declared.option.ParseOption.{ParseOption}
 pub record Stretches : Type 0 where
   pub key : List ℕ
   pub separator : ℕ
-  pub lead : List ℕ
-  pub own : List ℕ
-  pub pad : List ℕ
-  pub tail : List ℕ
+  pub space_before : List ℕ
+  pub raw_value : List ℕ
+  pub space_after : List ℕ
+  pub trailing_lines : List ℕ
 
 -- what stands after the separator
 abbrev pub value_source : Stretches → List ℕ
-value_source p = p.lead ++ (p.own ++ (p.pad ++ p.tail))
+value_source p = p.space_before ++ (p.raw_value ++ (p.space_after ++ p.trailing_lines))
 
 abbrev pub pair_source : Stretches → List ℕ
 pair_source p = p.key ++ p.separator ∷ value_source p
@@ -47,22 +47,23 @@ pub data OwnLines (o : ParseOption) : List ℕ → List ℕ → Type 0 where
 
 -- what stands after a value's own lines, before r: nothing; or, where values are multiline, their last line
 -- end and lines that give line feeds alone
-pub data Tail (o : ParseOption) : List ℕ → List ℕ → Type 0 where
-  line : {r : List ℕ} → o.enabled_indented_mutiline_value ≡ false → Closes plain_ends r → Tail o [] r
-  end : o.enabled_indented_mutiline_value ≡ true → Tail o [] []
+pub data TrailingLines (o : ParseOption) : List ℕ → List ℕ → Type 0 where
+  line : {r : List ℕ} → o.enabled_indented_mutiline_value ≡ false → Closes plain_ends r → TrailingLines o [] r
+  end : o.enabled_indented_mutiline_value ≡ true → TrailingLines o [] []
   lines : {e t r u : List ℕ} → o.enabled_indented_mutiline_value ≡ true → LineEnd e (t ++ r)
-      → MoreLines o t r u → list_all is_line_feed u ≡ true → Tail o (e ++ t) r
+      → MoreLines o t r u → list_all is_line_feed u ≡ true → TrailingLines o (e ++ t) r
 
 -- the last character is neither inline white nor a backslash
 abbrev pub ends_bare : List ℕ → Bool
 ends_bare cs = not (is_inline_white (last_or line_feed cs) || last_or line_feed cs == backslash)
 
--- Of a value's own lines the white space at their end is the pad, unless a backslash stands before it: then
--- all is the value's own.
-pub data Padded : List ℕ → List ℕ → Type 0 where
-  bare : {own pad : List ℕ} → ends_bare own ≡ true → list_all is_inline_white pad ≡ true → Padded own pad
+-- Of a value's own lines the white space at their end stands after the value, unless a backslash stands
+-- before it: then all is the value's own.
+pub data SpaceAfter : List ℕ → List ℕ → Type 0 where
+  bare : {raw_value space_after : List ℕ} → ends_bare raw_value ≡ true
+      → list_all is_inline_white space_after ≡ true → SpaceAfter raw_value space_after
   escaped : (front white : List ℕ) → list_all is_inline_white white ≡ true
-      → Padded (front ++ backslash ∷ white) []
+      → SpaceAfter (front ++ backslash ∷ white) []
 
 -- after the front b and before r the stretches are those of a pair of this key and value
 pub record ArePlaced (o : ParseOption) (b : List ℕ) (p : Stretches) (r key value : List ℕ) : Type 0 where
@@ -70,7 +71,7 @@ pub record ArePlaced (o : ParseOption) (b : List ℕ) (p : Stretches) (r key val
   pub some : key ≢ []
   pub separates : is_separator p.separator ≡ true
   pub gives : Value o (value_source p) r value
-  pub lead : Lead p.lead (p.own ++ (p.pad ++ (p.tail ++ r)))
-  pub own : OwnLines o (p.own ++ p.pad) (p.tail ++ r)
-  pub pad : Padded p.own p.pad
-  pub tail : Tail o p.tail r
+  pub space_before : Lead p.space_before (p.raw_value ++ (p.space_after ++ (p.trailing_lines ++ r)))
+  pub raw_value : OwnLines o (p.raw_value ++ p.space_after) (p.trailing_lines ++ r)
+  pub space_after : SpaceAfter p.raw_value p.space_after
+  pub trailing_lines : TrailingLines o p.trailing_lines r

@@ -5,7 +5,7 @@ use Rattle.std.specs.Borrow.{Bor}
 use Rattle.std.specs.List.{list_all}
 use Rattle.ini_text.specs.Grammar.CharacterKinds.{is_blank, is_inline_white, is_line_feed}
 use Rattle.ini_text.specs.Grammar.Elements.{Pair, Element}
-use Rattle.ini_text.specs.Grammar.Places.{LastLine, OwnLines, Padded, Tail, ArePlaced, pair_source}
+use Rattle.ini_text.specs.Grammar.Places.{LastLine, OwnLines, SpaceAfter, TrailingLines, ArePlaced, pair_source}
 use Rattle.ini_text.specs.Grammar.Values.{LineEnd, MoreLines}
 use Rattle.ini_text.specs.Grammar.WhiteSpace.{without_outer_line_feeds}
 use Rattle.ini_text.specs.Grammar.Strings.{key_ends}
@@ -39,7 +39,7 @@ pub record HasTail (o : ParseOption) (text start tail gives rest : List ℕ) : T
   pub tail_is : tail ≡ following ++ rest
   pub reads : value o text ≡ found gives rest
   pub own_lines : OwnLines o own tail
-  pub is_tail : Tail o following rest
+  pub is_tail : TrailingLines o following rest
 
 -- Of a value the own lines are known up to `tail`, and the lines after them, which give nothing, up to
 -- `rest`. So far they give `given`.
@@ -94,9 +94,10 @@ abbrev pub IsHeader : Option BorrowedItem → Type 0
 IsHeader (Some (items.Pair key value)) = ⊥
 IsHeader _ = ⊤
 
--- of lines this part stands before their pad
-abbrev pub IsBeforePad : List ℕ → List ℕ → Type 0
-IsBeforePad lines own = (pad : List ℕ) × (lines ≡ own ++ pad) × Padded own pad
+-- of lines this part stands before the white space at their end
+abbrev pub IsBeforeSpace : List ℕ → List ℕ → Type 0
+IsBeforeSpace lines raw_value =
+    (space_after : List ℕ) × (lines ≡ raw_value ++ space_after) × SpaceAfter raw_value space_after
 
 -- a text goes on with a pair up to the rest r
 abbrev pub BeginsPair : ParseOption → List ℕ → List ℕ → Type 0

@@ -24,10 +24,12 @@ pub record IsInPieces (o : ParseOption) (text : List ℕ) (items : List Given) :
   pub gives : items ≡ pieces_items pieces
   pub are_pieces : ArePieces o line_feed pieces []
 
--- In a list of pieces a part may be exchanged for another: it is in pieces where it stands, what stands before
--- it sees the same first character, and what follows agrees with both fronts.
-pub record MayStandFor (o : ParseOption) (c : ℕ) (before old new rest : List Piece) (r : List ℕ) : Type 0 where
+-- In a list of pieces a part may be exchanged for another: it is in pieces where it stands, what stands
+-- before it sees the same first character, and what follows agrees with both fronts.
+pub record MayStandFor (o : ParseOption) (c : ℕ) (before old new rest : List Piece)
+    (r : List ℕ) : Type 0 where
   pub in_place : ArePieces o (last_or c (pieces_text before)) new (pieces_text rest ++ r)
-  pub begins : BeginAlike (pieces_text old ++ (pieces_text rest ++ r)) (pieces_text new ++ (pieces_text rest ++ r))
+  pub begins : BeginAlike (pieces_text old ++ (pieces_text rest ++ r))
+      (pieces_text new ++ (pieces_text rest ++ r))
   pub ends : Agree (last_or (last_or c (pieces_text before)) (pieces_text old) ∷ [])
       (last_or (last_or c (pieces_text before)) (pieces_text new) ∷ []) (pieces_text rest)

@@ -21,10 +21,10 @@ abbrev pub stretches_of : PairPlaces → Stretches
 stretches_of p = record {
   key = chars p.key.now;
   separator = p.separator;
-  lead = chars p.lead.now;
-  own = chars p.own.now;
-  pad = chars p.pad.now;
-  tail = chars p.tail.now;
+  space_before = chars p.space_before.now;
+  raw_value = chars p.raw_value.now;
+  space_after = chars p.space_after.now;
+  trailing_lines = chars p.trailing_lines.now;
 }
 
 -- what an element gives

@@ -4,10 +4,10 @@ ghost use Rattle.ini_text.specs.Parsing.Parser.{AnswersBorrowed, KeepsRefusal, T
 
 use crate::error::Error;
 use crate::item::BorrowedItem;
-use crate::parser::{Parser, find_item, error_at};
+use crate::parser::{Parser, error_at, find_item};
 
 impl<'a> Parser<'a> {
-    /// The next item, and `None` at the text's end. What stands in the text as it is read is borrowed from it.
+    /// The next item, and `None` at the text's end. What stands there as it is read is borrowed from the text.
     ///
     /// The rest is as `next_item` has it. Owned are names, keys and values with escapes, values with quotes,
     /// and where they are enabled names with brackets, indented keys whose blanks are kept and values that

@@ -2,10 +2,10 @@
 //! This file knows what a pair is made of, and no escape.
 ghost use Rattle.std.specs.Prelude.{◌≡◌, ◌++◌, [], chars, None, Ok, IfSome, IsOkAnd, IsErrAnd};
 ghost use Rattle.std.specs.Prelude.{OnErr};
-ghost use Rattle.ini_text.specs.Grammar.Places.{Padded};
+ghost use Rattle.ini_text.specs.Grammar.Places.{SpaceAfter};
 ghost use Rattle.ini_text.specs.Grammar.Positions.{line_of, column_of};
 ghost use Rattle.ini_text.specs.Inside.PlaceReader.{BeginsPair, FindsElement, HasRestsOf};
-ghost use Rattle.ini_text.specs.Inside.PlaceReader.{IsBeforePad, PlacesPair};
+ghost use Rattle.ini_text.specs.Inside.PlaceReader.{IsBeforeSpace, PlacesPair};
 ghost use Rattle.ini_text.specs.Parsing.Fronts.{IsRest};
 ghost use Rattle.ini_text.specs.Parsing.Parser.{KeepsRefusal, TellsRefusal};
 ghost use Rattle.ini_text.specs.Parsing.Places.{AnswersElement};
@@ -61,15 +61,15 @@ pub struct PairPlaces<'a> {
     /// `=` or `:`.
     pub separator: char,
     /// The white space after the separator.
-    pub lead: &'a str,
+    pub space_before: &'a str,
     /// The value as it is written, with its quotes and escapes: what an edit of the value replaces.
-    pub own: &'a str,
+    pub raw_value: &'a str,
     /// The white space after the value, up to its line's end. It is the value's own where a backslash
     /// stands before it.
-    pub pad: &'a str,
+    pub space_after: &'a str,
     /// Where values are multiline, the line end after the value, and the lines after it that give nothing;
     /// else nothing: the line end is no part of the pair.
-    pub tail: &'a str,
+    pub trailing_lines: &'a str,
 }
 
 impl<'a> Parser<'a> {
@@ -141,8 +141,8 @@ fn find_element<'a>(
     Ok((Some(PlacedElement { source, content }), rest))
 }
 
-/// The places of the pair with which a text begins, and which ends at a rest of it, by the rests that were seen
-/// while it was read.
+/// The places of the pair with which a text begins, and which ends at a rest of it, by the rests that were
+/// seen while it was read.
 fn place_pair<'a>(
     text: &'a str,
     rests: Rests<'a>,
@@ -162,39 +162,39 @@ fn place_pair<'a>(
     let Some((separator, after)) = split_first(after_key) else {
         unreachable!()
     };
-    let (own, pad) = split_pad(front_before(start, tail));
+    let (raw_value, space_after) = split_space_after(front_before(start, tail));
     PairPlaces {
         key: front_before(text, after_key),
         separator,
-        lead: front_before(after, start),
-        own,
-        pad,
-        tail: front_before(tail, end),
+        space_before: front_before(after, start),
+        raw_value,
+        space_after,
+        trailing_lines: front_before(tail, end),
     }
 }
 
 /// A value's own lines without the white space at their end, and that; all of them where a backslash stands
 /// before it.
-fn split_pad(lines: &str) -> (&str, &str)
+fn split_space_after(lines: &str) -> (&str, &str)
     ensures whole { chars lines.now ≡ chars result.0.now ++ chars result.1.now }
-    ensures pad { Padded (chars result.0.now) (chars result.1.now) }
+    ensures space_after { SpaceAfter (chars result.0.now) (chars result.1.now) }
 {
-    lines.split_at(without_pad(lines).len())
+    lines.split_at(without_space_after(lines).len())
 }
 
 /// What stands before the white space at the end of a value's own lines.
-fn without_pad(lines: &str) -> &str
-    ensures { IsBeforePad (chars lines.now) (chars result.now) }
+fn without_space_after(lines: &str) -> &str
+    ensures { IsBeforeSpace (chars lines.now) (chars result.now) }
 {
-    let mut own = lines;
-    'white: while let Some((before, c)) = split_last(own) {
+    let mut raw_value = lines;
+    'white: while let Some((before, c)) = split_last(raw_value) {
         if c == '\\' {
             return lines;
         }
         if !Class::InlineWhite.contains(c) {
-            return own;
+            return raw_value;
         }
-        own = before;
+        raw_value = before;
     }
-    own
+    raw_value
 }

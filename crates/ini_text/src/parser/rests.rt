@@ -1,7 +1,7 @@
 //! Rests of a text that are seen while a pair is read. This file knows no production.
 
-/// Where the parts of a pair stand. They are written while it is read, into a place of the caller's, since what
-/// is answered is moved and grows dear with its size.
+/// Where the parts of a pair stand. They are written while it is read, into a place of the caller's, since
+/// what is answered is moved and grows dear with its size.
 #[derive(Clone, Copy)]
 pub(crate) struct Rests<'a> {
     /// What follows the key, from the separator on.

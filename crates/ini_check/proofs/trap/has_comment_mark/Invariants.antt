@@ -10,5 +10,5 @@ decreases-characters l = length (chars l.rest)
 abbrev pub invariant-characters : goal.invariant-characters
 invariant-characters l = record {
   text : shadow (Utf8 l.rest);
-  mark : has_comment_mark_after_white l.white (chars l.rest) ≡ has_comment_mark (chars l.fn.own);
+  mark : has_comment_mark_after_white l.white (chars l.rest) ≡ has_comment_mark (chars l.fn.raw_value);
 }

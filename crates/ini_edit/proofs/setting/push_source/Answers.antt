@@ -9,7 +9,7 @@ use Rattle.ini_edit.proofs.setting.push_source.Goals as goal
 
 pub returns-then-is_same_text-clause-put : goal.returns-then-is_same_text-clause-put
 returns-then-is_same_text-clause-put c = on_ok_weaker c.push_text.result (λ pushed. record {
-  source = chars c.args.pair.now.places.own.now;
+  source = chars c.args.pair.now.places.raw_value.now;
   is_put =
       IsPut.stays (texts_equal (chars c.args.value.now) (cow_text c.args.pair.now.value)
       (ap (λ t. is_text (chars c.args.value.now) (chars t)) (sym c.as_str.ensures.value)

@@ -33,7 +33,7 @@ push_with-requires c =
     c.reach_section_or_end.new.parser) c.in_default.is c.in_ok-place.ensures.opening in
     let reached = subst (Reaches c.args.read (chars c.args.text.now) c.reach_section_or_end.new.parser.front
     (chars c.args.key.now) c.reach_pair_or_end.new.parser) c.in-Pair.is c.in_ok-pair.ensures.reached in
-    record { own = own_source (chars c.args.key.now) opened reached }
+    record { raw_value = own_source (chars c.args.key.now) opened reached }
 
 pub take_later_out-requires-clause-within : goal.take_later_out-requires-clause-within
 take_later_out-requires-clause-within c =

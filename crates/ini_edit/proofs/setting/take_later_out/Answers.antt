@@ -5,7 +5,7 @@ use Rattle.ini_text.specs.Parsing.Places.{gives, stretches_of}
 use Rattle.ini.specs.Texts.{is_text}
 use Rattle.ini.proofs.KeepingLemmas.{texts_equal}
 use Rattle.ini_edit.specs.Inside.Later.{TakesLater, placed_between}
-use Rattle.ini_text.specs.Grammar.Places.{Tail}
+use Rattle.ini_text.specs.Grammar.Places.{TrailingLines}
 use Rattle.ini_edit.specs.Places.{Cut}
 use Rattle.ini_edit.specs.Inside.Walks.{IsReading}
 use Rattle.ini_edit.proofs.TakingLemmas.{Taking, cut_nearer, left_is_rest, pair_tail, taking_cut, taking_end}
@@ -53,8 +53,10 @@ pub cut-cutting-requires : goal.cut-cutting-requires
 cut-cutting-requires c =
     let t = c.elements.invariant in
     let s = step_some t.is_reading c.in_ok-element.ensures.element c.in-Some.is in
-    subst (λ p. Tail c.args.read (chars p.places.tail.now) (chars c.rest.result.now)) (sym c.in-Pair.pair-is)
-    (subst (λ o. Tail o (chars c.in-Pair.pair.places.tail.now) (chars c.rest.result.now)) c.requires.option
+    subst (λ p. TrailingLines c.args.read (chars p.places.trailing_lines.now) (chars c.rest.result.now))
+    (sym c.in-Pair.pair-is)
+    (subst (λ o. TrailingLines o (chars c.in-Pair.pair.places.trailing_lines.now) (chars c.rest.result.now))
+    c.requires.option
     (pair_tail t s _ c.in-Pair.is (chars c.rest.result.now) c.rest.ensures))
 
 pub following-requires : goal.following-requires

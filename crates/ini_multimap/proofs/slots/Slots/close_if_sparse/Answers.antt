@@ -42,7 +42,8 @@ invariant_of-self g c =
       tagged = rw (← c.as_slice-then-len-self-3.ensures.value) c.of_keys-self-inside.ensures;
       counted = counted;
       leads = no_leading ks;
-      paired = OnTrue_from _ _ (λ e. let same = (Decides-eqb pairs (c.len-then-len-self.result - holes)).0 e in
+      paired =
+          OnTrue_from _ _ (λ e. let same = (Decides-eqb pairs (c.len-then-len-self.result - holes)).0 e in
           omega (
             arith,
             same,

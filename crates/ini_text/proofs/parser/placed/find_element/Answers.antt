@@ -50,7 +50,8 @@ returns-clause-element c =
           (ap given w.in-Some-Header.is ∙ ap (λ i. borrowed_item_of i ∷ []) w.in-Some-Header.field-0-is)
           (λ s holds whole. tt))
       | in-Some-Pair w ↦
-          let given_is = ap given w.in-Some-Pair.is ∙ ap (λ i. borrowed_item_of i ∷ []) w.in-Some-Pair.field-0-is
+          let given_is = ap given w.in-Some-Pair.is
+          ∙ ap (λ i. borrowed_item_of i ∷ []) w.in-Some-Pair.field-0-is
           in rw w.content-is (stands o c.requires c.in-Some.ensures.characters c.front_before-front.ensures
           c.in_ok-given.ensures.gives _ c.front_before-source.ensures given_is
           (λ s holds whole. w.place_pair-places.ensures b s _ _

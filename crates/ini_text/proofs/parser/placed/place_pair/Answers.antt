@@ -30,5 +30,6 @@ returns c = λ b s key value holds whole.
     (chars c.args.rests.tail.now) (chars c.args.value.now) (chars c.args.end.now))
     c.in-Some.ensures.characters c.requires.rests.value_is)
     c.front_before-2.ensures c.front_before-3.ensures
-    (sym c.front_before.ensures ∙ c.split_pad.ensures.whole) c.split_pad.ensures.pad c.front_before-4.ensures
+    (sym c.front_before.ensures ∙ c.split_space_after.ensures.whole) c.split_space_after.ensures.space_after
+    c.front_before-4.ensures
     holds whole

@@ -6,48 +6,60 @@ use Rattle.std.proofs.Math.Seq.{take-append_seam, drop-append_seam}
 use Rattle.std.specs.List.{list_all}
 use Rattle.ini_text.specs.Grammar.CharacterKinds.{backslash, line_feed, is_inline_white}
 use Rattle.ini_text.specs.Grammar.Positions.{last_or}
-use Rattle.ini_text.specs.Grammar.Places.{Padded, ends_bare}
-use Rattle.ini_text.specs.Inside.PlaceReader.{IsBeforePad}
+use Rattle.ini_text.specs.Grammar.Places.{SpaceAfter, ends_bare}
+use Rattle.ini_text.specs.Inside.PlaceReader.{IsBeforeSpace}
 use Rattle.ini_text.proofs.StringLemmas.ScanLemmas.{last_or_append}
 
 -- after `own` white space alone is left of the lines
-pub record PadSoFar (lines own : List ℕ) : Type 0 where
+pub record SpaceSoFar (lines raw_value : List ℕ) : Type 0 where
   pub white : List ℕ
-  pub whole : lines ≡ own ++ white
+  pub whole : lines ≡ raw_value ++ white
   pub all : list_all is_inline_white white ≡ true
 
-pub pad_none : (lines : List ℕ) → PadSoFar lines lines
-pad_none lines = record { white = []; whole = sym (append-nil lines); all = refl }
+pub space_none : (lines : List ℕ) → SpaceSoFar lines lines
+space_none lines = record { white = []; whole = sym (append-nil lines); all = refl }
 
-pub pad_more : {lines own before : List ℕ} (c : ℕ) → PadSoFar lines own → own ≡ before ++ c ∷ []
-    → is_inline_white c ≡ true → PadSoFar lines before
-pad_more {before = before} c p is white = record {
+pub space_more : {lines raw_value before : List ℕ} (c : ℕ) → SpaceSoFar lines raw_value
+    → raw_value ≡ before ++ c ∷ []
+    → is_inline_white c ≡ true → SpaceSoFar lines before
+space_more {before = before} c p is white = record {
   white = c ∷ p.white;
   whole = p.whole ∙ ap (λ x. x ++ p.white) is ∙ append_assoc before (c ∷ []) p.white;
   all = rw (white, p.all) refl;
 }
 
-pub pad_escaped : {lines own : List ℕ} (before : List ℕ) (c : ℕ) → PadSoFar lines own
-    → own ≡ before ++ c ∷ [] → c ≡ backslash → IsBeforePad lines lines
-pad_escaped {lines} before c p is slash =
+pub space_escaped : {lines raw_value : List ℕ} (before : List ℕ) (c : ℕ) → SpaceSoFar lines raw_value
+    → raw_value ≡ before ++ c ∷ [] → c ≡ backslash → IsBeforeSpace lines lines
+space_escaped {lines} before c p is slash =
     let whole =
     p.whole ∙ ap (λ x. x ++ p.white) is ∙ append_assoc before (c ∷ []) p.white
-    ∙ ap (λ x. before ++ x ∷ p.white) slash in
-    ([], sym (append-nil lines), subst (λ x. Padded x []) (sym whole) (Padded.escaped before p.white p.all))
+    ∙ ap (λ x. before ++ x ∷ p.white) slash in (
+      [],
+      sym (append-nil lines),
+      subst (λ x. SpaceAfter x []) (sym whole)
+          (SpaceAfter.escaped before p.white p.all),
+    )
 
-pub pad_bare : {lines own : List ℕ} (before : List ℕ) (c : ℕ) → PadSoFar lines own → own ≡ before ++ c ∷ []
-    → c ≢ backslash → is_inline_white c ≡ false → IsBeforePad lines own
-pad_bare before c p is other ink =
+pub space_bare : {lines raw_value : List ℕ} (before : List ℕ) (c : ℕ) → SpaceSoFar lines raw_value
+    → raw_value ≡ before ++ c ∷ []
+    → c ≢ backslash → is_inline_white c ≡ false → IsBeforeSpace lines raw_value
+space_bare before c p is other ink =
     let last : last_or line_feed (before ++ c ∷ []) ≡ c = last_or_append line_feed c before in
     let bare : ends_bare (before ++ c ∷ []) ≡ true = rw (last, ink, ne_eqb c 92 other) refl in
-    (p.white, p.whole, subst (λ x. Padded x p.white) (sym is) (Padded.bare bare p.all))
+    (p.white, p.whole, subst (λ x. SpaceAfter x p.white) (sym is) (SpaceAfter.bare bare p.all))
 
 -- all lines are white space
-pub pad_all : {lines own : List ℕ} → PadSoFar lines own → own ≡ [] → IsBeforePad lines own
-pad_all p is = (p.white, p.whole, subst (λ x. Padded x p.white) (sym is) (Padded.bare {own = []} refl p.all))
+pub space_all : {lines raw_value : List ℕ} → SpaceSoFar lines raw_value → raw_value ≡ []
+    → IsBeforeSpace lines raw_value
+space_all p is = (
+  p.white,
+  p.whole,
+  subst (λ x. SpaceAfter x p.white) (sym is)
+      (SpaceAfter.bare {raw_value = []} refl p.all),
+)
 
-pub shorter_before : {own : List ℕ} (before : List ℕ) (c : ℕ) → own ≡ before ++ c ∷ []
-    → length before < length own
+pub shorter_before : {raw_value : List ℕ} (before : List ℕ) (c : ℕ) → raw_value ≡ before ++ c ∷ []
+    → length before < length raw_value
 shorter_before before c is = omega (arith, ap length is, length-append before (c ∷ []))
 
 -- the bytes of a text after a front of it
@@ -56,20 +68,20 @@ after_bytes t f w u v h =
     sym (encodes-chars t u) ∙ ap encode_utf8_all h ∙ encodes-append (chars f) w
     ∙ ap (λ x. x ++ encode_utf8_all w) (encodes-chars f v)
 
-module _ (t f : List ℕ) (u : IsUtf8 t) (v : IsUtf8 f) (before : IsBeforePad (chars t) (chars f)) where
+module _ (t f : List ℕ) (u : IsUtf8 t) (v : IsUtf8 f) (before : IsBeforeSpace (chars t) (chars f)) where
   bytes : t ≡ f ++ encode_utf8_all before.0
   bytes = after_bytes t f before.0 u v before.1
 
   front_bytes : take (length f) t ≡ f
   front_bytes = ap (take (length f)) bytes ∙ take-append_seam f (encode_utf8_all before.0)
 
-  pub pad_boundary : IsCharBoundary t (length f)
-  pad_boundary =
+  pub space_boundary : IsCharBoundary t (length f)
+  space_boundary =
       IsCharBoundary-from_take t (length f) u
       (omega (arith, ap length bytes, length-append f (encode_utf8_all before.0)))
       (subst IsUtf8 (sym front_bytes) v)
 
-module _ (t f a b : List ℕ) (u : IsUtf8 t) (v : IsUtf8 f) (before : IsBeforePad (chars t) (chars f))
+module _ (t f a b : List ℕ) (u : IsUtf8 t) (v : IsUtf8 f) (before : IsBeforeSpace (chars t) (chars f))
     (front : a ≡ take (length f) t) (back : b ≡ drop (length f) t) where
   front_is : a ≡ f
   front_is = front ∙ front_bytes t f u v before
@@ -78,14 +90,14 @@ module _ (t f a b : List ℕ) (u : IsUtf8 t) (v : IsUtf8 f) (before : IsBeforePa
   back_is =
       back ∙ ap (drop (length f)) (bytes t f u v before) ∙ drop-append_seam f (encode_utf8_all before.0)
 
-  pub pad_whole : chars t ≡ chars a ++ chars b
-  pad_whole =
+  pub space_whole : chars t ≡ chars a ++ chars b
+  space_whole =
       ap chars (bytes t f u v before) ∙ chars-append f (encode_utf8_all before.0) v
       ∙ ap (λ x. chars f ++ chars x) (sym back_is) ∙ ap (λ x. chars x ++ chars b) (sym front_is)
 
-  pub padded_parts : Padded (chars a) (chars b)
-  padded_parts =
+  pub space_parts : SpaceAfter (chars a) (chars b)
+  space_parts =
       let following : chars b ≡ before.0 =
       append_cancel_left (chars f) (chars b) before.0 (ap (λ x. chars x ++ chars b) (sym front_is)
-      ∙ sym pad_whole ∙ before.1) in
-      subst₂ (λ x y. Padded (chars x) y) (sym front_is) (sym following) before.2
+      ∙ sym space_whole ∙ before.1) in
+      subst₂ (λ x y. SpaceAfter (chars x) y) (sym front_is) (sym following) before.2
