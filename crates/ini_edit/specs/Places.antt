@@ -13,8 +13,8 @@ use Rattle.ini_text.specs.declared.option.ParseOption.{ParseOption}
 use Rattle.ini_edit.specs.Endings.{Ending, IsElementEnd, ending}
 
 -- A pair's stretches in a text: what stands before its element; its key's source, and the separator; white
--- space before the value; the raw value; white space after it; where values are multiline, the
--- line end and the lines that add nothing to the value; and what follows the element.
+-- space before the value; the raw value; white space after it; where values are multiline, the line end and
+-- the lines that add nothing to the value; and what follows the element.
 pub record Stretches : Type 0 where
   pub front : List ℕ
   pub key : List ℕ

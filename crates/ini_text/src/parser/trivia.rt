@@ -45,12 +45,8 @@ fn past_first<'a>(front: &str, text: &'a str) -> Option<&'a str>
 {
     let (c, after) = split_first(text)?;
     if Class::Blank.contains(c) && starts_line(front) {
-        let (end, following) = split_first(skip(after, Class::Blank))?;
-        return if is_line_end(end) {
-            Some(following)
-        } else {
-            None
-        };
+        let (end, next) = split_first(skip(after, Class::Blank))?;
+        return if is_line_end(end) { Some(next) } else { None };
     }
     if c.is_whitespace() {
         return Some(after);
