@@ -9,7 +9,6 @@ pub mod InversionLemmas
 pub mod KeepingLemmas
 pub mod LastSectionLemmas
 pub mod ListLemmas
-pub mod ByteOrderMarkLemmas
 pub mod StreamLoaderLemmas
 pub mod PlainPartLemmas
 pub mod PlainSamples

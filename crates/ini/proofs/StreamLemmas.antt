@@ -3,11 +3,12 @@ use Rattle.std.proofs.Common.{◌≡◌, ◌∙◌, ◌≤◌, ◌<◌, ◌+◌,
 use Rattle.std.proofs.lemmas.Bool.{false≢true}
 use Rattle.std.specs.List.{starts_with}
 use Rattle.std.specs.Io.KnownBytes.{Consumes, IsAtEnd}
+use Rattle.ini_text.specs.Parsing.ByteOrderMarks.{byte_order_mark, text_bytes}
 use Rattle.ini_text.specs.declared.error.Error.{Error}
 use Rattle.ini_text.specs.declared.error.Error.TheVariants.{Io, Memory, NoProgress, NotUtf8, Parse}
 use Rattle.ini_text.specs.declared.option.ParseOption.{ParseOption}
 use Rattle.ini.specs.Documents.{Document, HasGeneral}
-use Rattle.ini.specs.Loading.{IsDocumentOf, IsNotUtf8, IsStopOf, IsTextWith, ReadsDocument, byte_order_mark, text_bytes}
+use Rattle.ini.specs.Loading.{IsDocumentOf, IsNotUtf8, IsStopOf, IsTextWith, ReadsDocument}
 use Rattle.ini.specs.Inside.StreamLoader.{Ends, GoesBy, IsStreaming}
 use Rattle.ini.specs.Inside.ReadBytes.{HasRead, IsFilled, IsTextRefusal}
 use Rattle.ini.specs.declared.streaming.StreamLoader.{StreamLoader}

@@ -1,7 +1,6 @@
 -- What loading a text or bytes answers.
-use Rattle.std.specs.Prelude.{◌≡◌, ◌==◌, ℕ, Bool, if◌then◌else◌, nat_eq, List, [], ◌∷◌, drop, length, Option}
+use Rattle.std.specs.Prelude.{◌≡◌, ℕ, Bool, List, Option}
 use Rattle.std.specs.Prelude.{IfSome, Result, Err, IfErr, IfOk, ⊤}
-use Rattle.std.specs.List.{starts_with}
 use Rattle.std.specs.Str.{IsUtf8, chars}
 use Rattle.std.specs.Cow.{cow_str_bytes}
 use Rattle.std.specs.Io.KnownBytes.{IsAtEnd}
@@ -9,6 +8,7 @@ use Rattle.ini_text.specs.Grammar.Elements.{Given}
 use Rattle.ini_text.specs.Errors.Messages.{HasMessage}
 use Rattle.ini_text.specs.Grammar.Positions.{column_of, line_of}
 use Rattle.ini_text.specs.Grammar.Texts.{Derives, Stops}
+use Rattle.ini_text.specs.Parsing.ByteOrderMarks.{text_bytes}
 use Rattle.ini_text.specs.declared.error.Error.{Error}
 use Rattle.ini_text.specs.declared.error.Error.TheVariants.{Io, Memory, NoProgress, NotUtf8, Parse}
 use Rattle.ini_text.specs.declared.error.ParseError.{ParseError}
@@ -40,24 +40,6 @@ abbrev pub IsParseOrMemory : Error → Type 0
 IsParseOrMemory (Parse _) = ⊤
 IsParseOrMemory (Memory _) = ⊤
 IsParseOrMemory _ = ⊥
-
--- the byte order mark: the bytes EF BB BF
-abbrev pub byte_order_mark : List ℕ
-byte_order_mark = 0xEF ∷ 0xBB ∷ 0xBF ∷ []
-
--- the bytes without one mark at their front
-abbrev pub without_byte_order_mark : List ℕ → List ℕ
-without_byte_order_mark bytes =
-    if starts_with nat_eq bytes byte_order_mark then drop (length byte_order_mark) bytes else bytes
-
--- the bytes that are read as a text
-abbrev pub text_bytes : Bool → List ℕ → List ℕ
-text_bytes drop_mark bytes = if drop_mark then without_byte_order_mark bytes else bytes
-
--- the same of a text: a mark is the character U+FEFF
-abbrev pub unmarked : Text → Text
-unmarked [] = []
-unmarked (c ∷ T) = if c == 0xFEFF then T else c ∷ T
 
 -- the bytes are UTF-8, and P holds of their text
 abbrev pub IsTextWith : (Text → Type 0) → List ℕ → Type 0

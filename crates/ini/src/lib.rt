@@ -16,11 +16,11 @@ mod iter;
 pub mod laws;
 mod load;
 mod name;
-mod streaming;
 mod plain;
 mod properties;
 mod rename;
 mod setter;
+mod streaming;
 mod write;
 
 pub use document::Ini;

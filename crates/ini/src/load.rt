@@ -1,19 +1,21 @@
-//! Documents from texts, and from the bytes of a reader, which is read piece by piece. Of characters this
-//! file knows the byte order mark alone that may stand before a text.
+//! Documents from texts, and from the bytes of a reader, which is read piece by piece. This file knows no
+//! character.
 ghost use Rattle.std.specs.Prelude.{◌≡◌, ◌<◌, ◌↔◌, length, chars, false, true, alloc_error};
 ghost use Rattle.std.specs.Prelude.{IfOk, IfErr, IfSome, IsOkUnless, OnOk};
 ghost use Rattle.ini_text.specs.Device.DeviceRefusals.{IsIo, failures_in};
 ghost use Rattle.ini_text.specs.Options.ReadOptions.{default_parse_option, without_escapes};
 ghost use Rattle.ini_text.specs.Device.Watched.{IsClear, SameDevice, device_now, failure_count, stall_count};
+ghost use Rattle.ini_text.specs.Parsing.ByteOrderMarks.{text_bytes, unmarked};
 ghost use Rattle.ini.specs.Documents.{HasGeneral};
 ghost use Rattle.ini.specs.Loading.{IfParse, IsDocumentOf, IsParseOrMemory, IsStopOf, ReadsDocument};
-ghost use Rattle.ini.specs.Loading.{text_bytes, unmarked};
 ghost use Rattle.ini.specs.Inside.ReadBytes.{HasRead, IsFilled, IsIoOrMemory};
 
 use crate::document::Ini;
 use crate::items::push_items;
 use crate::streaming::{StreamLoader, drop_front};
-use ini_text::{Error, ParseOption, Watched};
+use ini_text::{
+    BYTE_ORDER_MARK, Error, ParseOption, Watched, has_byte_order_mark, without_byte_order_mark,
+};
 use std::alloc::{AllocError, Global};
 use std::io::Read;
 
@@ -171,19 +173,6 @@ pub(crate) fn without_escapes() -> ParseOption
     }
 }
 
-// A mark at a text's front: the character U+FEFF.
-const BYTE_ORDER_MARK: [u8; 3] = [0xEF, 0xBB, 0xBF];
-
-// The text without one mark at its front.
-fn without_byte_order_mark(text: &str) -> &str
-    ensures { chars result.now ≡ unmarked (chars text.now) }
-{
-    match text.strip_prefix('\u{FEFF}') {
-        Some(rest) => rest,
-        None => text,
-    }
-}
-
 // How many bytes are asked for at a time.
 const PIECE: usize = 0x1_0000;
 
@@ -218,7 +207,7 @@ fn fill<R: Read>(
 fn drop_byte_order_mark(bytes: &mut Vec<u8>, drop_mark: bool)
     ensures { bytes.new.items ≡ text_bytes drop_mark bytes.old.items }
 {
-    if drop_mark && bytes.starts_with(&BYTE_ORDER_MARK) {
+    if drop_mark && has_byte_order_mark(bytes.as_slice()) {
         drop_front(bytes, BYTE_ORDER_MARK.len());
     }
 }

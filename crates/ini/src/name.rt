@@ -1,10 +1,10 @@
 //! Names of sections: owned, lent, copied, and what stands for one in a setter. This file knows no document.
-ghost use Rattle.std.specs.Prelude.{◌≡◌, IfOk, Option, chars};
-ghost use Rattle.ini.specs.Texts.{Text, is_name, is_text, name_of, str_name};
+ghost use Rattle.std.specs.Prelude.{◌≡◌, IfOk, Option};
+ghost use Rattle.ini.specs.Texts.{Text, is_name, name_of, str_name};
 ghost use Rattle.ini.specs.Setter.{lent_name};
 ghost use Rattle.ini.specs.Inside.LentNames.{IsTextName};
 
-use crate::laws::same_characters;
+use ini_text::is_same_text;
 use std::alloc::{AllocError, Global};
 
 /// The name of a section; `None` is the general section's.
@@ -36,14 +36,6 @@ pub(crate) fn name_is_text(name: Option<&str>)
     ensures { IsTextName name.entry }
 {
     let _ = name;
-}
-
-// Whether two texts are the same.
-pub(crate) fn is_same_text(one: &str, other: &str) -> bool
-    ensures { result ≡ is_text (chars one.now) (chars other.now) }
-{
-    same_characters(one, other);
-    one == other
 }
 
 // Whether two names are the same.

@@ -8,9 +8,9 @@ ghost use Rattle.ini.specs.Edits.{key_renamed, rename_key_in, section_renamed};
 
 use crate::document::Ini;
 use crate::iter::{PropertyIter, SectionIter};
-use crate::name::{is_same_name, is_same_text};
+use crate::name::is_same_name;
 use crate::properties::Properties;
-use ini_text::Error;
+use ini_text::{Error, is_same_text};
 use std::alloc::Global;
 
 impl Ini {

@@ -7,7 +7,7 @@ ghost use Rattle.ini.specs.Inside.ReadBytes.{IsMemory, IsTextRefusal};
 ghost use Rattle.ini.specs.Inside.StreamLoader.{Ends, GoesBy, HasFront};
 
 use crate::document::Ini;
-use crate::items::{push_items, push_complete_items};
+use crate::items::{push_complete_items, push_items};
 use ini_text::{Error, ParseError, ParseOption, front_before, whole_lines};
 use std::alloc::Global;
 

@@ -8,9 +8,10 @@ ghost use Rattle.std.specs.Prelude.{◌≡◌, ◌∷◌, [], ◌≤◌, ◌↔�
 ghost use Rattle.std.specs.Prelude.{Some, false, slice_get};
 ghost use Rattle.std.specs.Option.{option_map};
 ghost use Rattle.std.specs.Str.{IsUtf8, chars};
+ghost use Rattle.ini_text.specs.Parsing.ByteOrderMarks.{text_bytes};
 ghost use Rattle.ini.specs.Documents.{section_removed};
 ghost use Rattle.ini.specs.Edits.{add_in, delete_in, set_in};
-ghost use Rattle.ini.specs.Loading.{IsDocumentOf, text_bytes};
+ghost use Rattle.ini.specs.Loading.{IsDocumentOf};
 ghost use Rattle.ini_c.specs.Choices.{IsCountOf, IsTextOf, TellsPlain, parse_option};
 ghost use Rattle.ini_c.specs.Faults.{IsStopAt};
 ghost use Rattle.ini_c.specs.Held.{document_in};
@@ -47,6 +48,7 @@ pub use crate::options::{ReadChoice, WriteChoice};
 pub use crate::text_edits::{bigrosk_ini_edit_add, bigrosk_ini_edit_delete, bigrosk_ini_edit_set};
 pub use crate::text_renames::{bigrosk_ini_edit_rename_key, bigrosk_ini_edit_rename_section};
 pub use crate::text_sections::bigrosk_ini_edit_delete_section;
+use ini_text::text_bytes;
 use std::alloc::Global;
 
 /// Done, or there.
@@ -103,7 +105,7 @@ pub extern "C" fn bigrosk_ini_load(
     ensures unchanged { ¬ (result ≡ ok) → document_in document.new ≡ document_in document.old }
     ensures fault_stays { ¬ (result ≡ broken) → fault.new ≡ fault.old }
 {
-    let bytes = loading::text_of(drop_mark, text);
+    let bytes = text_bytes(text, drop_mark);
     loading::load_into(alloc, bytes, option.to_option(), document, fault)
 }
 

@@ -1,8 +1,7 @@
-//! Loading: bytes in, a document kept, or a fault reported. Of characters this file knows the mark alone that
-//! may stand before a text.
+//! Loading: bytes in, a document kept, or a fault reported. This file knows no character.
 ghost use Rattle.std.specs.Prelude.{◌≡◌, ◌∷◌, [], ◌↔◌, IsTrue, IsSomeAnd, IfOk};
 ghost use Rattle.std.specs.Str.{IsUtf8, chars};
-ghost use Rattle.ini.specs.Loading.{IsDocumentOf, IsStopOf, IfParse, IsNotUtf8, text_bytes};
+ghost use Rattle.ini.specs.Loading.{IsDocumentOf, IsStopOf, IfParse, IsNotUtf8};
 ghost use Rattle.ini_c.specs.Faults.{IsStopAt};
 ghost use Rattle.ini_c.specs.Held.{document_in};
 ghost use Rattle.ini_c.specs.Statuses.{broken, is_among, no_memory, not_utf8, ok};
@@ -12,18 +11,6 @@ use crate::fault::{Fault, tell};
 use crate::{BROKEN, NO_MEMORY, NOT_UTF8, OK};
 use ini::{Error, Ini, ParseOption};
 use std::alloc::Global;
-
-const BYTE_ORDER_MARK: [u8; 3] = [0xEF, 0xBB, 0xBF];
-
-// The bytes, without one mark at their front if it is dropped.
-pub(crate) fn text_of(drop_mark: bool, bytes: &[u8]) -> &[u8]
-    ensures { result.now ≡ text_bytes drop_mark bytes.now }
-{
-    if drop_mark && bytes.starts_with(&BYTE_ORDER_MARK) {
-        return &bytes[3..];
-    }
-    bytes
-}
 
 // The document of bytes, in a box.
 fn load(alloc: Global, bytes: &[u8], read: ParseOption) -> Result<Box<Kept>, Error>

@@ -3,7 +3,6 @@
 #![tactic(auto)]
 
 mod position;
-mod text;
 mod trap;
 mod walk;
 mod warn;

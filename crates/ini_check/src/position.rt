@@ -3,7 +3,7 @@ ghost use Rattle.std.specs.Prelude.{◌≡◌, ◌+◌, ◌++◌, [], ℕ, chars
 ghost use Rattle.ini.specs.Texts.{Text};
 ghost use Rattle.ini_check.specs.Inside.Positions.{HasRoom, IsAt};
 
-use crate::text::split_first;
+use ini_text::split_first;
 
 /// A place of a text: its line and its column, counted from one, the column in characters.
 #[derive(Clone, Copy)]

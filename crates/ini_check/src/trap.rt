@@ -5,8 +5,7 @@ ghost use Rattle.ini_text.specs.Grammar.CharacterKinds.{backslash, is_blank, is_
 ghost use Rattle.ini_check.specs.Traps.{begins_like_comment, begins_like_note, has_comment_mark};
 ghost use Rattle.ini_check.specs.Traps.{has_escape, is_empty_or_white_first, runs_on};
 
-use crate::text::{is_same_text, split_first};
-use ini_text::ParseOption;
+use ini_text::{ParseOption, is_same_text, split_first};
 
 /// Whether a key's line runs on into the next one.
 pub(crate) fn runs_on(source: &str) -> bool

@@ -6,8 +6,8 @@ ghost use Rattle.ini_edit.specs.FirstPairs.{stretches_at};
 ghost use Rattle.ini_edit.specs.Places.{Cut};
 ghost use Rattle.ini_edit.specs.Inside.Cuts.{StaysAfter};
 
-use crate::text::{is_column_one, last_line_end, split_first, starts_line};
-use ini_text::{PairPlaces, ParseOption};
+use crate::text::last_line_end;
+use ini_text::{PairPlaces, ParseOption, is_column_one, split_first, starts_line};
 
 /// What stands after the front once a pair is taken out: `kept`, then `rest`.
 #[derive(Debug, Clone, Copy)]

@@ -10,8 +10,10 @@ ghost use Rattle.ini_text.specs.Parsing.Places.{gives};
 ghost use Rattle.ini_edit.specs.FirstPairs.{IsFirstPair, LacksPair, LacksSection, stretches_of};
 ghost use Rattle.ini_edit.specs.Inside.Walks.{OpensFirst, OpensNone, ReachesEnd, ReachesPair, StandsWithin};
 
-use crate::walk::{is_same_text, read_on, step};
-use ini_text::{Content, Error, PairPlaces, ParseOption, Parser, PlacedElement, front_before};
+use crate::walk::{read_on, step};
+use ini_text::{
+    Content, Error, PairPlaces, ParseOption, Parser, PlacedElement, front_before, is_same_text,
+};
 use std::alloc::Global;
 use std::borrow::CowStr;
 

@@ -6,8 +6,7 @@ ghost use Rattle.ini_edit.specs.Endings.{Closing, ending, front_ending, next_end
 ghost use Rattle.ini_edit.specs.Inside.Lines.{PushesGlue, ending_of};
 
 use crate::append::push_text;
-use crate::text::{is_column_one, split_first};
-use ini_text::{Error, ParseOption, WriteOption};
+use ini_text::{Error, ParseOption, WriteOption, is_column_one, split_first};
 
 // How a text ends: within a line, after a backslash that takes what follows, or after an LF that ends a
 // line.

@@ -6,8 +6,7 @@ ghost use Rattle.ini_text.specs.Inside.PlainTests.{begins};
 ghost use Rattle.ini_edit.specs.Inside.KeyEdges.{IsKeyStart, IsSkipped, IsWhiteEnd};
 ghost use Rattle.ini_edit.specs.Renamed.{HasEdges, IsPlainBareKey};
 
-use crate::text::split_first;
-use ini_text::{EscapePolicy, ParseOption, front_before, is_plain_pair};
+use ini_text::{EscapePolicy, ParseOption, front_before, is_plain_pair, split_first};
 
 /// The white space around a key in its source.
 #[derive(Debug, Clone, Copy)]

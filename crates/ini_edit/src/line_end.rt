@@ -6,8 +6,7 @@ ghost use Rattle.ini_text.specs.Inside.PlainTests.{begins};
 ghost use Rattle.ini_edit.specs.NewLines.{like_lines_of, line_end_of};
 ghost use Rattle.ini_edit.specs.NewSections.{EmptyLine, EndsEmpty};
 
-use crate::text::{is_column_one, split_first, split_last};
-use ini_text::{LineSeparator, WriteOption};
+use ini_text::{LineSeparator, WriteOption, is_column_one, split_first, split_last};
 
 /// The options, with CR LF or LF at line ends, whichever is the first in the text.
 pub(crate) fn like_lines_of(text: &str, write: &WriteOption) -> WriteOption

@@ -15,9 +15,12 @@ ghost use Rattle.ini_edit.specs.Inside.NoPlaceWalks.{IsTaken, IsTakenAt, LooksIn
 ghost use Rattle.ini_edit.specs.Inside.Walks.{StandsWithin};
 
 use crate::find::{FoundPair, opens};
-use crate::text::{begins_with_comment, is_column_one, split_first, starts_line};
-use crate::walk::{is_same_text, read_on, step};
-use ini_text::{Content, Error, ParseOption, Parser, PlacedElement, front_before};
+use crate::text::begins_with_comment;
+use crate::walk::{read_on, step};
+use ini_text::{
+    Content, Error, ParseOption, Parser, PlacedElement, front_before, is_column_one, is_same_text,
+    split_first, starts_line,
+};
 use std::alloc::Global;
 
 /// A place in a text.

@@ -4,8 +4,7 @@ ghost use Rattle.ini_text.specs.Grammar.CharacterKinds.{is_quote_mark};
 ghost use Rattle.ini_edit.specs.Inside.Quotes.{IsOwnSource, IsBetweenQuoteMarks, after_quote_mark};
 ghost use Rattle.ini_edit.specs.Quotes.{KeepsQuote, has_quote_mark};
 
-use crate::text::split_first;
-use ini_text::ParseOption;
+use ini_text::{ParseOption, split_first};
 
 /// The quote in which a value is written in another one's place: that in which the old one's source stands,
 /// where its mark doesn't stand in the value; else an empty one.

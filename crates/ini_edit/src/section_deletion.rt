@@ -9,9 +9,8 @@ ghost use Rattle.ini.specs.Loading.{IfParse, IsParseOrMemory, IsStopOf};
 use crate::append::push_text;
 use crate::error::EditError;
 use crate::section::{find_header, reach_rest};
-use crate::text::is_column_one;
 use crate::walk::read_on;
-use ini_text::{Error, ParseOption, Parser};
+use ini_text::{Error, ParseOption, Parser, is_column_one};
 use std::alloc::Global;
 
 // What stands before a section, and what stays it.

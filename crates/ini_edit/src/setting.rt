@@ -26,9 +26,9 @@ use crate::escape::push_in_quote;
 use crate::find::FoundPair;
 use crate::place::{Opening, Reached, SectionEnd, reach_pair_or_end, reach_section_or_end};
 use crate::quote::kept_quote;
-use crate::walk::{is_same_text, read_on, step};
+use crate::walk::{read_on, step};
 use crate::writable::is_writable_value;
-use ini_text::{Content, Error, EscapePolicy, ParseOption, Parser, WriteOption};
+use ini_text::{Content, Error, EscapePolicy, ParseOption, Parser, WriteOption, is_same_text};
 use std::alloc::Global;
 
 /// Sets the value of a key in a text where the key is there: `None` where it isn't. The value stands in the

@@ -1,19 +1,9 @@
 //! One element of a text after another. This file knows parsers alone.
 ghost use Rattle.std.specs.Prelude.{◌≡◌, chars, IfOk, IfErr, MatchOption, OnOk};
-ghost use Rattle.ini.specs.Texts.{is_text};
 ghost use Rattle.ini.specs.Loading.{IfParse, IsParseOrMemory, IsStopOf};
 ghost use Rattle.ini_edit.specs.Inside.Walks.{IsPastLast, ReadsOn, StandsWithin, Steps};
 
-use ini::laws::same_characters;
 use ini_text::{Error, Parser, PlacedElement};
-
-/// Whether two texts are the same.
-pub(crate) fn is_same_text(one: &str, other: &str) -> bool
-    ensures { result ≡ is_text (chars one.now) (chars other.now) }
-{
-    same_characters(one, other);
-    one == other
-}
 
 /// The next element, and `None` at the text's end.
 pub(crate) fn step<'a>(parser: &mut Parser<'a>) -> Result<Option<PlacedElement<'a>>, Error>

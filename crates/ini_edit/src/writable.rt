@@ -8,8 +8,7 @@ ghost use Rattle.ini_edit.specs.Inside.RawTests.{is_closed, is_one_line, is_raw_
 ghost use Rattle.ini_edit.specs.Writable.{IsWritablePair, IsWritableValue};
 
 use crate::glue::{TextEnd, text_end};
-use crate::text::split_first;
-use ini_text::{EscapePolicy, ParseOption, is_plain_pair, is_plain_value};
+use ini_text::{EscapePolicy, ParseOption, is_plain_pair, is_plain_value, split_first};
 
 /// Whether a value can be written so that it is read back: it is plain; or escapes are neither read nor
 /// written, and it is trimmed, without a quote's mark at its front where quotes are read, without LF and CR,

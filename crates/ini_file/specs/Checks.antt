@@ -6,10 +6,11 @@ use Rattle.std.specs.Option.{option_map}
 use Rattle.std.specs.Str.{IsUtf8, bytes_eq}
 use Rattle.std.specs.declared.alloc.Global.{Global}
 use Rattle.std.specs.declared.vec.Vec.{Vec}
+use Rattle.ini_text.specs.Parsing.ByteOrderMarks.{without_byte_order_mark}
 use Rattle.ini_text.specs.declared.error.Error.{Error}
 use Rattle.ini_text.specs.declared.error.Error.TheVariants.{Memory, NotUtf8, Parse}
 use Rattle.ini_text.specs.declared.option.ParseOption.{ParseOption}
-use Rattle.ini.specs.Loading.{IsStopOf, IsTextWith, without_byte_order_mark}
+use Rattle.ini.specs.Loading.{IsStopOf, IsTextWith}
 use Rattle.ini.specs.Texts.{Text}
 use Rattle.ini_check.specs.Messages.{message}
 use Rattle.ini_check.specs.Warnings.{AreWarningsOf}

@@ -1,6 +1,7 @@
 -- What an edit makes of a file's bytes, and what it is refused with, in the words of `ini_edit`.
 use Rattle.std.specs.Prelude.{◌≡◌, ◌⊎◌, ◌++◌, ⊤, ℕ, true, false, List, [], Option, chars}
 use Rattle.std.specs.Str.{IsUtf8}
+use Rattle.ini_text.specs.Parsing.ByteOrderMarks.{has_byte_order_mark}
 use Rattle.ini_text.specs.declared.error.Error.TheVariants.{Memory}
 use Rattle.ini_text.specs.declared.write.option.WriteOption.{WriteOption}
 use Rattle.ini.specs.Texts.{Text}
@@ -10,7 +11,6 @@ use Rattle.ini_edit.specs.declared.error.EditError.{EditError}
 use Rattle.ini_edit.specs.declared.error.EditError.TheVariants.{Key, Text as TextError}
 use Rattle.ini_options.specs.Words.{Word}
 use Rattle.ini_options.specs.declared.options.Options.{Options}
-use Rattle.ini_file.specs.Bytes.{has_byte_order_mark}
 use Rattle.ini_file.specs.Writing.{IsWriting}
 
 -- the bytes are the mark, and after it, in UTF-8, the text T with the edit made in it, written as the options

@@ -4,10 +4,11 @@ use Rattle.std.specs.Prelude.{◌++◌, codes, encode_utf8_all, map, string_byte
 use Rattle.std.specs.Str.{IsUtf8}
 use Rattle.std.specs.declared.alloc.Global.{Global}
 use Rattle.std.specs.declared.vec.Vec.{Vec}
+use Rattle.ini_text.specs.Parsing.ByteOrderMarks.{without_byte_order_mark}
 use Rattle.ini_text.specs.declared.error.Error.TheVariants.{Io, Parse, Memory, NotUtf8, NoProgress}
 use Rattle.ini_text.specs.declared.write.option.WriteOption.{WriteOption}
 use Rattle.ini.specs.Documents.{Document}
-use Rattle.ini.specs.Loading.{IsDocumentOf, IsStopOf, IsTextWith, without_byte_order_mark}
+use Rattle.ini.specs.Loading.{IsDocumentOf, IsStopOf, IsTextWith}
 use Rattle.ini.specs.Texts.{Text}
 use Rattle.ini_edit.specs.Made.{HasNothing, HasUnwritableWord}
 use Rattle.ini_edit.specs.declared.error.EditError.{EditError}

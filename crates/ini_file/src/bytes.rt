@@ -1,22 +1,13 @@
 //! The text of a file's bytes, and bytes of a text. This file knows no document and no edit.
 ghost use Rattle.std.specs.Prelude.{◌≡◌, ◌++◌, Err, IfErr, IfOk, IsOkUnless, OnErr, OnOk, alloc_error};
 ghost use Rattle.std.specs.Str.{IsUtf8};
-ghost use Rattle.ini.specs.Loading.{without_byte_order_mark};
-ghost use Rattle.ini_file.specs.Bytes.{byte_order_mark_of, has_byte_order_mark};
+ghost use Rattle.ini_text.specs.Parsing.ByteOrderMarks.{has_byte_order_mark, without_byte_order_mark};
+ghost use Rattle.ini_file.specs.Bytes.{byte_order_mark_of};
 ghost use Rattle.ini_text.specs.declared.error.Error.TheVariants.{Memory, NotUtf8};
 
 use ini::Error;
+use ini_text::{BYTE_ORDER_MARK, has_byte_order_mark};
 use std::alloc::Global;
-
-// The byte order mark, EF BB BF.
-const BYTE_ORDER_MARK: [u8; 3] = [0xEF, 0xBB, 0xBF];
-
-/// Whether a byte order mark is at the front of bytes.
-pub fn has_byte_order_mark(bytes: &[u8]) -> bool
-    ensures { result ≡ has_byte_order_mark bytes.now }
-{
-    bytes.starts_with(&BYTE_ORDER_MARK)
-}
 
 /// The byte order mark at the front of a file's bytes, if there is one, and the text after it.
 ///

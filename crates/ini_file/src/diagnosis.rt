@@ -1,6 +1,7 @@
 //! The lines of a text at which a fault is shown. This file knows no grammar and no device.
 use crate::shown::{Shown, shown_line};
 use ini::{ParseError, ParseKind, ParseOption, Parser};
+use ini_text::without_byte_order_mark;
 use std::alloc::Global;
 use std::io::Write;
 
@@ -21,7 +22,7 @@ pub fn point_at<W: Write>(
     let Ok(text) = str::from_utf8(input) else {
         return;
     };
-    let text = text.strip_prefix('\u{feff}').unwrap_or(text);
+    let text = without_byte_order_mark(text);
     show(alloc, text, fault.line, fault.col.saturating_sub(1), err);
     if matches!(&fault.kind, ParseKind::EndOfText) {
         let (line, column) = beginning(alloc, text, read);

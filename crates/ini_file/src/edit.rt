@@ -1,15 +1,16 @@
 //! A file's bytes with an edit made in their text. This file knows no word of the program.
 ghost use Rattle.std.specs.Prelude.{◌≡◌, IfErr, IfOk, MatchOption, OnOk, [], chars, false, true};
+ghost use Rattle.ini_text.specs.Parsing.ByteOrderMarks.{has_byte_order_mark};
 ghost use Rattle.ini_edit.specs.Editings.{editing_of};
 ghost use Rattle.ini_edit.specs.Made.{HasNothing, HasUnwritableWord};
-ghost use Rattle.ini_file.specs.Bytes.{has_byte_order_mark};
 ghost use Rattle.ini_file.specs.Edits.{IsChanged, RefusesEdit};
 ghost use Rattle.ini_file.specs.Writing.{word_of};
 
-use crate::bytes::{concat, has_byte_order_mark};
+use crate::bytes::concat;
 use crate::writing::writing;
 use ini_edit::{Edit, EditError, make_edit};
 use ini_options::Options;
+use ini_text::has_byte_order_mark;
 use std::alloc::Global;
 
 /// The bytes of a mark and of the text with the edit made in it; `None` where what it is about isn't there.

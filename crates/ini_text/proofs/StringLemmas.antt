@@ -11,4 +11,5 @@ pub mod LineFeedLemmas
 pub mod LineCountLemmas
 pub mod PositionLemmas
 pub mod SameTextLemmas
+pub mod ByteOrderMarkLemmas
 pub mod VisibleEndLemmas

@@ -2,6 +2,7 @@
 #![tactic(auto)]
 
 mod buffer;
+mod byte_order_mark;
 mod device;
 mod error;
 mod item;
@@ -14,6 +15,9 @@ mod plain;
 mod text;
 mod write;
 
+pub use byte_order_mark::{
+    BYTE_ORDER_MARK, has_byte_order_mark, text_bytes, without_byte_order_mark,
+};
 pub use device::Watched;
 pub use error::{Error, ParseError, ParseKind};
 pub use item::{BorrowedItem, Item};
@@ -22,7 +26,7 @@ pub use option::ParseOption;
 pub use parser::Parser;
 pub use parser::placed::{Content, PairPlaces, PlacedElement, PlacedPair};
 pub use plain::{is_plain_name, is_plain_pair, is_plain_separator, is_plain_value};
-pub use text::front_before;
+pub use text::{front_before, is_column_one, is_same_text, split_first, split_last, starts_line};
 pub use write::gather::Gatherer;
 pub use write::option::{LineSeparator, WriteOption};
 pub use write::policy::EscapePolicy;

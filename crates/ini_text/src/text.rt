@@ -2,7 +2,7 @@
 //! production.
 ghost use Rattle.std.specs.Prelude.{◌≡◌, ◌∷◌, ◌++◌, ◌<◌, [], Bool, true, false, not, chars};
 ghost use Rattle.std.specs.Prelude.{take, drop, length, IfOk, IfSome, MatchOption, OnOk, string_bytes};
-ghost use Rattle.std.specs.Str.{IsCharBoundary};
+ghost use Rattle.std.specs.Str.{IsCharBoundary, bytes_eq};
 ghost use Rattle.ini_text.specs.Grammar.CharacterKinds.{line_feed, is_line_end, is_line_feed};
 ghost use Rattle.ini_text.specs.Grammar.CharacterKinds.{is_comment_mark};
 ghost use Rattle.ini_text.specs.Grammar.Positions.{last_or, starts_line, is_column_one};
@@ -50,7 +50,7 @@ pub(crate) fn is_comment_mark(c: char) -> bool
 }
 
 /// The first character of a text, and what follows it.
-pub(crate) fn split_first(text: &str) -> Option<(char, &str)>
+pub fn split_first(text: &str) -> Option<(char, &str)>
     ensures characters { MatchOption result
         (chars text.now ≡ []) (λ p. chars text.now ≡ p.0 ∷ chars p.1.now) }
     ensures shorter { IfSome result (λ p. length p.1.now < length text.now) }
@@ -61,12 +61,20 @@ pub(crate) fn split_first(text: &str) -> Option<(char, &str)>
 }
 
 /// The last character of a text, and what stands before it.
-pub(crate) fn split_last(text: &str) -> Option<(&str, char)>
+pub fn split_last(text: &str) -> Option<(&str, char)>
     ensures { MatchOption result (chars text.now ≡ []) (λ p. chars text.now ≡ chars p.0.now ++ p.1 ∷ []) }
 {
     let mut characters = text.chars();
     let last = characters.next_back()?;
     Some((characters.as_str(), last))
+}
+
+/// Whether two texts are the same.
+#[tactic(auto, using(crate::proofs::StringLemmas::SameTextLemmas::same_text))]
+pub fn is_same_text(one: &str, other: &str) -> bool
+    ensures { result ≡ bytes_eq (chars one.now) (chars other.now) }
+{
+    one == other
 }
 
 /// What follows the first character.
@@ -145,14 +153,14 @@ fn last_or_line_feed(front: &str) -> char
 }
 
 /// Whether a line starts after a front.
-pub(crate) fn starts_line(front: &str) -> bool
+pub fn starts_line(front: &str) -> bool
     ensures { result ≡ starts_line (chars front.now) }
 {
     is_line_end(last_or_line_feed(front))
 }
 
 /// Whether column one is after a front.
-pub(crate) fn is_column_one(front: &str) -> bool
+pub fn is_column_one(front: &str) -> bool
     ensures { result ≡ is_column_one (chars front.now) }
 {
     last_or_line_feed(front) == '\n'

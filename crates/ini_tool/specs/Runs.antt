@@ -4,13 +4,14 @@ use Rattle.std.specs.Prelude.{◌++◌, codes, encode_utf8_all, map, string_byte
 use Rattle.std.specs.Str.{IsUtf8}
 use Rattle.std.specs.declared.alloc.Global.{Global}
 use Rattle.ini_text.specs.Device.Watched.{WritesAll, WritesFront}
+use Rattle.ini_text.specs.Parsing.ByteOrderMarks.{text_bytes}
 use Rattle.ini_text.specs.declared.device.Watched.{Watched}
 use Rattle.ini_text.specs.declared.error.Error.{Error}
 use Rattle.ini_text.specs.declared.error.Error.TheVariants.{Io, Parse, Memory, NotUtf8, NoProgress}
 use Rattle.ini_text.specs.declared.error.ParseError.{ParseError}
 use Rattle.ini_text.specs.declared.write.option.WriteOption.{WriteOption}
 use Rattle.ini.specs.Documents.{Document}
-use Rattle.ini.specs.Loading.{IsDocumentOf, IsStopOf, IsTextWith, text_bytes}
+use Rattle.ini.specs.Loading.{IsDocumentOf, IsStopOf, IsTextWith}
 use Rattle.ini.specs.Texts.{Text}
 use Rattle.ini_options.specs.Words.{IsWriteOption, default_options}
 use Rattle.ini_options.specs.declared.options.Options.{Options}

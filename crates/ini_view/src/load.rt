@@ -3,10 +3,11 @@ ghost use Rattle.std.specs.Prelude.{◌≡◌, [], ◌∷◌, ◌++◌, None, So
 ghost use Rattle.std.specs.Prelude.{IsOkUnless, OnOk};
 ghost use Rattle.std.specs.Str.{IsUtf8};
 ghost use Rattle.ini_text.specs.Options.ReadOptions.{default_parse_option};
+ghost use Rattle.ini_text.specs.Parsing.ByteOrderMarks.{text_bytes};
 ghost use Rattle.ini_text.specs.Parsing.Items.{borrowed_item_of, cow_text};
 ghost use Rattle.ini.specs.Documents.{HasGeneral, with_item};
 ghost use Rattle.ini.specs.Loading.{IfParse, IsDocumentOf, IsNotUtf8, IsParseOrMemory, IsStopOf};
-ghost use Rattle.ini.specs.Loading.{IsTextWith, text_bytes};
+ghost use Rattle.ini.specs.Loading.{IsTextWith};
 ghost use Rattle.ini.specs.Inside.ReadBytes.{IsTextRefusal};
 
 use crate::section::ViewSection;
@@ -14,7 +15,7 @@ use crate::text::ViewName;
 use crate::view::View;
 use ini::{Error, ParseOption, Parser};
 use ini_multimap::Multimap;
-use ini_text::BorrowedItem;
+use ini_text::{BorrowedItem, text_bytes};
 use std::alloc::{AllocError, Global};
 use std::borrow::CowStr;
 use std::marker::Model;
@@ -79,20 +80,12 @@ impl<'a> View<'a> {
         ensures not_utf8 { IsNotUtf8 result → ¬ (IsUtf8 (text_bytes drop_mark bytes.now)) }
         ensures only { IfErr result IsTextRefusal }
     {
-        let (_, following) = if drop_mark && bytes.starts_with(&BYTE_ORDER_MARK) {
-            bytes.split_at(BYTE_ORDER_MARK.len())
-        } else {
-            bytes.split_at(0)
-        };
-        match str::from_utf8(following) {
+        match str::from_utf8(text_bytes(bytes, drop_mark)) {
             Ok(text) => View::load_from_str_opt(alloc, text, opt),
             Err(_) => Err(Error::NotUtf8),
         }
     }
 }
-
-// The byte order mark.
-const BYTE_ORDER_MARK: [u8; 3] = [0xEF, 0xBB, 0xBF];
 
 // A document that has some of its items.
 #[derive(Drop)]

@@ -14,7 +14,7 @@ pub returns-in_default : goal.returns-in_default
 unfolding chars
 returns-in_default c =
     cut_end (stretches_at (chars c.args.front.now) c.args.places.now (chars c.args.rest.now))
-    c.in_default.ensures
+    c.in_default.ensures.characters
 
 pub returns-then-not-read : goal.returns-then-not-read
 unfolding chars
@@ -25,14 +25,14 @@ returns-then-not-read c =
 
 pub last_line_end-kept-requires : goal.last_line_end-kept-requires
 last_line_end-kept-requires c =
-    tail_ends_line (on_of _ c.if-not-read.false) (some_of _ _ c.in-Some.ensures) c.requires
+    tail_ends_line (on_of _ c.if-not-read.false) (some_of _ _ c.in-Some.ensures.characters) c.requires
 
 pub returns-then-not-starts_line : goal.returns-then-not-starts_line
 unfolding chars
 returns-then-not-starts_line c =
     cut_inside (stretches_at (chars c.args.front.now) c.args.places.now (chars c.args.rest.now))
     (on_of _ c.if-not-read.false)
-    (some_of _ _ c.in-Some.ensures) c.requires c.last_line_end-kept.ensures
+    (some_of _ _ c.in-Some.ensures.characters) c.requires c.last_line_end-kept.ensures
     (sym c.starts_line.ensures ∙ c.if-not-starts_line.true)
 
 pub returns-then-is_column_one : goal.returns-then-is_column_one
@@ -40,7 +40,7 @@ unfolding chars
 returns-then-is_column_one c =
     cut_whole (stretches_at (chars c.args.front.now) c.args.places.now (chars c.args.rest.now))
     (on_of _ c.if-not-read.false)
-    (some_of _ _ c.in-Some.ensures) c.requires (sym c.starts_line.ensures ∙ c.if-not-starts_line.false)
+    (some_of _ _ c.in-Some.ensures.characters) c.requires (sym c.starts_line.ensures ∙ c.if-not-starts_line.false)
     (λ _. sym c.is_column_one.ensures ∙ c.if-is_column_one.true)
 
 pub returns-then-is_column_one-2 : goal.returns-then-is_column_one-2
@@ -48,7 +48,7 @@ unfolding chars
 returns-then-is_column_one-2 c =
     cut_feed (stretches_at (chars c.args.front.now) c.args.places.now (chars c.args.rest.now))
     (on_of _ c.if-not-read.false)
-    (some_of _ _ c.in-Some.ensures) c.requires (sym c.starts_line.ensures ∙ c.if-not-starts_line.false)
+    (some_of _ _ c.in-Some.ensures.characters) c.requires (sym c.starts_line.ensures ∙ c.if-not-starts_line.false)
     (sym c.is_column_one.ensures ∙ c.if-is_column_one.false)
     (sym c.is_column_one-2.ensures ∙ c.if-is_column_one-2.true)
 
@@ -57,5 +57,5 @@ unfolding chars
 returns c =
     cut_whole (stretches_at (chars c.args.front.now) c.args.places.now (chars c.args.rest.now))
     (on_of _ c.if-not-read.false)
-    (some_of _ _ c.in-Some.ensures) c.requires (sym c.starts_line.ensures ∙ c.if-not-starts_line.false)
+    (some_of _ _ c.in-Some.ensures.characters) c.requires (sym c.starts_line.ensures ∙ c.if-not-starts_line.false)
     (λ one. absurd (both_ways _ (sym c.is_column_one-2.ensures ∙ c.if-is_column_one-2.false) one))

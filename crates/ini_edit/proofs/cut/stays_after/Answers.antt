@@ -5,13 +5,13 @@ use Rattle.ini_edit.proofs.cut.stays_after.Goals as goal
 
 pub returns-in-Some-eq10-default : goal.returns-in-Some-eq10-default
 returns-in-Some-eq10-default c =
-    goes_lf _ _ c.in-Some-eq10-default.ensures c.in-Some-eq10-default.field-0-0-test
+    goes_lf _ _ c.in-Some-eq10-default.ensures.characters c.in-Some-eq10-default.field-0-0-test
     (sym c.is_column_one.ensures ∙ c.if-is_column_one.true)
 
 pub returns-then-is_column_one-2 : goal.returns-then-is_column_one-2
 returns-then-is_column_one-2 c =
-    goes_cr_lf _ _ _ _ c.in-Some-eq13-default.ensures c.in-Some-eq13-default.field-0-0-test
-    c.in-Some-eq10-default-split_first.ensures c.in-Some-eq10-default-split_first.field-0-0-test
+    goes_cr_lf _ _ _ _ c.in-Some-eq13-default.ensures.characters c.in-Some-eq13-default.field-0-0-test
+    c.in-Some-eq10-default-split_first.ensures.characters c.in-Some-eq10-default-split_first.field-0-0-test
     (sym c.is_column_one-in-Some-eq10-default-split_first.ensures ∙ c.if-is_column_one-2.true)
 
 pub returns-else-is_column_one-2 : goal.returns-else-is_column_one-2
@@ -19,7 +19,7 @@ returns-else-is_column_one-2 c = StaysAfter.whole
 
 pub returns-then-starts_line : goal.returns-then-starts_line
 returns-then-starts_line c =
-    goes_cr _ _ c.in-Some-eq13-default.ensures c.in-Some-eq13-default.field-0-0-test
+    goes_cr _ _ c.in-Some-eq13-default.ensures.characters c.in-Some-eq13-default.field-0-0-test
     (sym c.starts_line.ensures ∙ c.if-starts_line.true)
 
 pub returns-else-starts_line : goal.returns-else-starts_line

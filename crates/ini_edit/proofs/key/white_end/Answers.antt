@@ -6,7 +6,7 @@ pub characters-preserved-then-not-is_whitespace : goal.characters-preserved-then
 characters-preserved-then-not-is_whitespace c = record {
   white = search rules;
   rest = search rules;
-  so_far = so_far_other c.in-Some.c c.characters.invariant.so_far c.in-Some.ensures
+  so_far = so_far_other c.in-Some.c c.characters.invariant.so_far c.in-Some.ensures.characters
       (sym c.is_whitespace.ensures ∙ c.if-not-is_whitespace.true);
 }
 
@@ -14,6 +14,6 @@ pub characters-preserved : goal.characters-preserved
 characters-preserved c = record {
   white = search rules;
   rest = search rules;
-  so_far = so_far_white c.in-Some.c c.characters.invariant.so_far c.in-Some.ensures
+  so_far = so_far_white c.in-Some.c c.characters.invariant.so_far c.in-Some.ensures.characters
       (sym c.is_whitespace.ensures ∙ c.if-not-is_whitespace.false);
 }

@@ -1,7 +1,7 @@
 use Rattle.std.proofs.Common.{◌∙◌, ◌++◌, ap, sym}
 use lib.Utf8.{encode}
-use Rattle.ini.proofs.ByteOrderMarkLemmas.{unmarked-mark, unmarked-none}
-use Rattle.ini.proofs.load.without_byte_order_mark.Goals as goal
+use Rattle.ini_text.proofs.StringLemmas.ByteOrderMarkLemmas.{unmarked-mark, unmarked-none}
+use Rattle.ini_text.proofs.byte_order_mark.without_byte_order_mark.Goals as goal
 
 pub returns-in-Some : goal.returns-in-Some
 returns-in-Some c =
