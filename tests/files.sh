@@ -238,7 +238,7 @@ adding() {
         '; a server\nname = one\n[server]\nport = 443\nhost = a\\tb\n[client]\n[server]\nlast = 1\n' \
         set settings.ini port 443 server
     fresh
-    edit 'set: a new line behind the last pair of the first section of the name' \
+    edit 'set: a new line after the last pair of the first section of the name' \
         '; a server\nname = one\n[server]\nport = 8080\nhost = a\\tb\nport = 9090\nlast=2\n[client]\n[server]\nlast = 1\n' \
         set settings.ini last 2 server
     fresh
@@ -314,7 +314,7 @@ renaming() {
     edit 'delete-section: the first of the name' '; a server\nname = one\n[client]\n[server]\nlast = 1\n' \
         delete-section settings.ini server
     printf '# top\n[a]\nk = 1\n# about b\n[b]\nj = 2\n' >settings.ini
-    edit 'delete-section: comments behind the last pair stay' '# top\n# about b\n[b]\nj = 2\n' \
+    edit 'delete-section: comments after the last pair stay' '# top\n# about b\n[b]\nj = 2\n' \
         delete-section settings.ini a
     refused 'delete-section of a section that is not there' 1 '' delete-section settings.ini nowhere
     refused 'delete-section without a section' 2 "$usage" delete-section settings.ini
@@ -371,9 +371,9 @@ marks() {
     case_of 'set of a key that begins with a mark' 2 '' "ini_file: -: $unread" set - "${mark}k" v </dev/null
     case_of 'add of a key that begins with a mark' 2 '' "ini_file: -: $unread" add - "${mark}k" v </dev/null
     printf '\357\273\277' >settings.ini
-    edit 'the same behind the mark of the file' '\357\273\277\357\273\277k=v\n' set settings.ini "${mark}k" v
+    edit 'the same after the mark of the file' '\357\273\277\357\273\277k=v\n' set settings.ini "${mark}k" v
     printf 'a=1\n' >settings.ini
-    edit 'the same behind another key' 'a=1\n\357\273\277k=v\n' set settings.ini "${mark}k" v
+    edit 'the same after another key' 'a=1\n\357\273\277k=v\n' set settings.ini "${mark}k" v
     printf '\357\273\277\357\273\277k=v\n' >../mark.ini
     case_of 'merge of a key that begins with a mark' 2 '' "ini_file: -: $unread" merge - ../mark.ini </dev/null
     printf '# c\n[a]\n' >settings.ini
@@ -410,7 +410,7 @@ placing() {
     case_of 'an option that is none' 2 '' "$usage" get --frob settings.ini name
     printf 'k = v\n' >--odd.ini
     case_of '-- ends the options' 0 'v\n' '' get -- --odd.ini k
-    case_of 'arguments may begin with -- behind --' 1 '' '' get -- settings.ini --existing
+    case_of 'arguments may begin with -- after --' 1 '' '' get -- settings.ini --existing
     fresh
     printf 'name = two\n' >../one.ini
     for words in 'get settings.ini --existing' 'get settings.ini name --all' 'keys settings.ini --null' \
@@ -420,7 +420,7 @@ placing() {
         'merge settings.ini ../one.ini --dry-run' 'merge settings.ini -- ../one.ini'
     do
         # shellcheck disable=SC2086
-        refused "$words: no choice behind the file" 2 "$usage" $words
+        refused "$words: no choice after the file" 2 "$usage" $words
     done
     edit 'set: a value that begins with --' "$(printf '%s' "$source" | sed 's/one/--dry-run/')" \
         set -- settings.ini name --dry-run
@@ -781,7 +781,7 @@ traps.ini:8:1: warning: a section of this name was there before
     case_of 'check: options of reading apply' 1 \
         'path.ini:1:1: warning: this may not be read back once it is written\n' '' --noescape check path.ini
     printf '\357\273\277path = C:\\temp\n' >mark.ini
-    case_of 'check: columns count from behind a mark' 1 "mark.ini:1:8: warning: $escape\n" '' check mark.ini
+    case_of 'check: columns count from after a mark' 1 "mark.ini:1:8: warning: $escape\n" '' check mark.ini
     printf '; clean\na = 1\n[b]\na = 2\n' >clean.ini
     : >empty.ini
     case_of 'check: clean files' 0 '' '' check clean.ini empty.ini
@@ -807,12 +807,12 @@ k=1
 k=2
 END
     printf 'k=1\nk=2\n' >--odd.ini
-    case_of 'check: a file behind --' 1 "\055-odd.ini:2:1: warning: $repeated\n" '' check -- --odd.ini
-    case_of 'check: later files may begin with -- behind --' 1 "\055-odd.ini:2:1: warning: $repeated\n" '' \
+    case_of 'check: a file after --' 1 "\055-odd.ini:2:1: warning: $repeated\n" '' check -- --odd.ini
+    case_of 'check: later files may begin with -- after --' 1 "\055-odd.ini:2:1: warning: $repeated\n" '' \
         check -- clean.ini --odd.ini
-    case_of 'check: no choice behind a file' 2 '' "$usage" check clean.ini --odd.ini
+    case_of 'check: no choice after a file' 2 '' "$usage" check clean.ini --odd.ini
     case_of 'check: no file' 2 '' "$usage" check
-    case_of 'check: no file behind --' 2 '' "$usage" check --
+    case_of 'check: no file after --' 2 '' "$usage" check --
     case_of 'check: no choice' 2 '' "$usage" check --output clean.ini path.ini
     "$program" check path.ini >/dev/full 2>"$room/have"
     echo "status $?" >>"$room/have"

@@ -103,7 +103,7 @@ steps() {
 grows() {
     made=$(steps "$2 $3 1")
     own=$(steps "$2 $4 1")
-    at_most "$3 behind '$2', requests" "$1" "${made:+$((made - ${own:-0}))}"
+    at_most "$3 after '$2', requests" "$1" "${made:+$((made - ${own:-0}))}"
 }
 
 # kept NAME COMMAND ..: a command over the file `in` keeps no block
@@ -373,7 +373,7 @@ sized 2200000 items 2200000 "$calls" items
 sized 4400000 elements 4400000 "$calls" elements
 is 'ini_file get --all of them' "$(yes v | head -n 2200000 | cksum)" "$(sum_of "$file" get --all - k <"$room/in")"
 { printf '\357\273\277'; cat "$room/in"; } >"$room/marked"
-is '2,200,000 pairs behind a mark' "$(sums "$room/in")" "$(sum_of "$tool" fmt <"$room/marked")"
+is '2,200,000 pairs after a mark' "$(sums "$room/in")" "$(sum_of "$tool" fmt <"$room/marked")"
 is 'load_from_file of them' "load_from_file 1 $room/marked: 1" \
     "$(echo "load_from_file 1 $room/marked" | bounded "$calls" files 2>&1)"
 awk 'BEGIN { for (i = 0; i < 150000; i++) print i "="; for (i = 0; i < 150000; i++) print "[" i "]" }' >"$room/numbers"

@@ -109,7 +109,7 @@ done | short 'comments of a megabyte' 0 '' ''
 {
     lines 4000000 '; no'
     printf 'k=v\n\r; no\n'
-} | short 'a comment behind CR' 3 '' "ini_tool: 4000002:3 doesn't support inline comment"
+} | short 'a comment after CR' 3 '' "ini_tool: 4000002:3 doesn't support inline comment"
 {
     lines 4000000 '; no'
     printf 'k=\303'

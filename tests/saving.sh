@@ -849,7 +849,7 @@ locks() {
         ls -A; } >"$room/have"
     { echo ' 50 0'; cat "$room/front"; n=0; while [ "$n" -lt 50 ]; do n=$((n + 1)); echo "key$n=$n"; done | sort
         printf '%s\n' other.ini settings.ini; } >"$room/want"
-    count 'fifty edits at once: all land, one behind the other, and no other file is left'
+    count 'fifty edits at once: all land, one after the other, and no other file is left'
     if ! command -v flock >/dev/null; then
         skipped=$((skipped + 8))
         return

@@ -74,7 +74,7 @@ told 'ini_tool, a folder as input, output closed' $? 4 "ini_tool: standard input
 "$merge" pair folder >out 2>err
 told 'ini_merge, a folder as file' $? 4 "ini_merge: folder: $folder"
 "$merge" --crlf pair folder >out 2>err
-told 'ini_merge, a folder as file behind an option' $? 4 "ini_merge: folder: $folder"
+told 'ini_merge, a folder as file after an option' $? 4 "ini_merge: folder: $folder"
 "$merge" pair none >out 2>err
 told 'ini_merge, a file that is not there' $? 4 'ini_merge: none: No such file or directory (os error 2)'
 "$tool" get "$(printf '\303')" <pair >out 2>err

@@ -78,7 +78,7 @@ lines 100000 "key%d = value %d $blanks\n" >"$room/text"
 lines 100000 ";$blanks\nkey%d = value %d\n" >"$room/commented"
 (
     ulimit -v 48000 || exit
-    gives '100,000 values in 40 MB, behind them blanks' 0 "$room/lined" "$room/text" "$program" fmt
+    gives '100,000 values in 40 MB, after them blanks' 0 "$room/lined" "$room/text" "$program" fmt
     gives '100,000 values in 40 MB, comments between them' 0 "$room/lined" "$room/commented" "$program" fmt
     echo "passed=$passed failed=$failed" >"$room/counts"
 )

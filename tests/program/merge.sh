@@ -81,9 +81,9 @@ ROWS
 echo 'k=1' >"$here/in"
 echo 'k=3' >"$here/--crlf"
 echo 'k=3' >"$room/merged"
-merges 'a file named as an option, behind --' 0 "$room/merged" -- --crlf
+merges 'a file named as an option, after --' 0 "$room/merged" -- --crlf
 refuses 'a file named as an option, which is not there' 4 '--none.ini: No such file or directory (os error 2)' --crlf -- --none.ini
-merges 'a file named as an option, behind another' 0 "$room/merged" in --crlf
+merges 'a file named as an option, after another' 0 "$room/merged" in --crlf
 while read -r words; do
     eval "set -- $words"
     (cd "$here" && "$merge" "$@" </dev/null >"$room/out" 2>"$room/err")

@@ -119,7 +119,7 @@ module _ {o : ParseOption} {drop_mark : Bool} {before mid : Option (List ℕ)} {
   IsStreamed-some = subst (λ d. 0 < length d) (sym streamed.streaming.document)
       (with_items-some ((None, []) ∷ []) streamed.streaming.items (omega arith))
 
-  -- lines go by, and further bytes are read
+  -- lines are dropped, and further bytes are read
   pub IsStreamed-goes_on : {after : Option (List ℕ)} {c new : List ℕ} {q : StreamLoader} {next_line : ℕ}
       {is_all : Bool} (wanted : ℕ) → GoesBy o p q bytes c
       → HasRead mid after c new → IsFilled wanted new after is_all

@@ -1,4 +1,4 @@
--- Bytes of which whole lines went by, and what reading the others makes of the document.
+-- Bytes of which whole lines were dropped, and what reading the others makes of the document.
 use Rattle.std.proofs.Common.{◌≡◌, ◌∙◌, ◌≤◌, ◌+◌, ◌-◌, ℕ, true, cond, List, [], ◌∷◌, ◌++◌, length, take, drop, chars, count_by, IsUtf8, ap, sym, subst, refl, None, arith, append_assoc, append-nil, length-append}
 use Rattle.std.proofs.lemmas.List.{take-append-drop, take-append-le}
 use Rattle.std.proofs.lemmas.List.Sums.{count_by-le-length, sum_by-append}
@@ -88,7 +88,7 @@ StopsLater-down n stops line column message kind = record {
   message = rw (kind, message) stops.message;
 }
 
--- nothing goes by
+-- nothing is dropped
 pub GoesBy-nothing : (o : ParseOption) (p : StreamLoader) (b : List ℕ) → HasFront p b → GoesBy o p p b b
 GoesBy-nothing o p b has = record {
   gone = [];
@@ -108,7 +108,7 @@ GoesBy-nothing o p b has = record {
   document = refl;
 }
 
--- The lines `whole` go by. The text `line` is the front of what stays, and `left` and `tail` follow it.
+-- The lines `whole` are dropped. The text `line` is the front of what stays, and `left` and `tail` follow it.
 module _ (whole line left tail : List ℕ) (uw : IsUtf8 whole) (ul : IsUtf8 line) (ur : IsUtf8 left) where
   abbrev text : List ℕ
   text = (whole ++ line) ++ left
@@ -164,7 +164,7 @@ front_text b text n at within =
     ap (take n) (sym (take-append-drop (length text) b) ∙ ap (λ x. x ++ drop (length text) b) (sym at))
     ∙ take-append-le n text (drop (length text) b) within
 
--- the front of the bytes b that is a text is read up to its front `front`, whose lines `whole` go by
+-- the front of the bytes b that is a text is read up to its front `front`, whose lines `whole` are dropped
 module _ (b text left front whole : List ℕ) (at : text ≡ take (length text) b) (ut : IsUtf8 text)
     (ul : IsUtf8 left) (uf : IsUtf8 front) (uw : IsUtf8 whole)
     (begins : whole ≡ take (length whole) front) (is_rest : IsRest (chars text) (chars left))
@@ -251,7 +251,7 @@ module _ {o : ParseOption} {all b : List ℕ} {p : StreamLoader} (streaming : Is
         document = streaming.document;
       }
 
-  -- whole lines go by
+  -- whole lines are dropped
   pub IsStreaming-goes_by : {q : StreamLoader} {c : List ℕ} → GoesBy o p q b c → IsStreaming o all c q
   IsStreaming-goes_by {q} {c} by =
       let both : chars (gone ++ by.gone) ≡ chars gone ++ chars by.gone =

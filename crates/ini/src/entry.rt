@@ -19,7 +19,7 @@ pub struct NoRoom {
     pub value: Properties,
 }
 
-/// What was refused is given up, when out of memory.
+/// Out of memory: what was refused is given up.
 impl From<NoRoom> for Error {
     ghost use Rattle.std.specs.Prelude.{alloc_error};
     ghost use Rattle.ini_text.specs.declared.error.Error.TheVariants.{Memory};

@@ -127,8 +127,8 @@ impl Ini {
     /// the bytes are not UTF-8; `Parse` where reading their text stops; `Memory` where memory is
     /// refused. All bytes are read before `NotUtf8` or `Parse` is reported, and `NotUtf8` goes before
     /// `Parse`, whichever comes first in the bytes. `Io` and `Memory` are reported where they are met: since
-    /// the text goes by, `Memory` may be reported before bytes further on that are not UTF-8, or a fault of
-    /// the reader.
+    /// the text is read in parts, `Memory` may be reported before bytes further on that are not UTF-8, or a
+    /// fault of the reader.
     pub fn read_watched<R: Read>(
         alloc: Global,
         reader: &mut Watched<'_, R>,
@@ -148,7 +148,7 @@ impl Ini {
         let mut is_all = fill(reader, &mut piece, &mut bytes, PIECE)?;
         drop_byte_order_mark(&mut bytes, drop_mark);
         let mut streaming = StreamLoader::new(alloc)?;
-        // No line is greater.
+        // No line number can exceed this.
         let mut last_line = 1 + bytes.len();
         'pieces: while !is_all {
             streaming.take_items(alloc, &mut bytes, opt)?;
@@ -176,7 +176,8 @@ pub(crate) fn without_escapes() -> ParseOption
 // How many bytes are asked for at a time.
 const PIECE: usize = 0x1_0000;
 
-// Reads after the bytes until they are as many as are wanted, or the reader is at its end, and tells which.
+// Appends what is read to the bytes until they are as many as are wanted, or the reader is at its end, and
+// tells which.
 fn fill<R: Read>(
     reader: &mut Watched<'_, R>,
     piece: &mut [u8; PIECE],

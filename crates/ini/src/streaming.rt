@@ -1,4 +1,4 @@
-//! A text that goes by while it is read: of its bytes only those are kept that reading may still look at.
+//! A text that is streamed: of its bytes only those are kept that reading may still look at.
 //! This file knows bytes, whole lines and where items end, and no reader.
 ghost use Rattle.std.specs.Prelude.{◌≡◌, ◌+◌, ◌^◌, ◌<◌, ◌≤◌, length, take, drop, vec_len, alloc_error};
 ghost use Rattle.std.specs.Prelude.{IfErr, IfOk, IsUtf8, OnOk, IsOkUnless, [], ◌∷◌, None};
@@ -11,8 +11,8 @@ use crate::items::{push_complete_items, push_items};
 use ini_text::{Error, ParseError, ParseOption, front_before, whole_lines};
 use std::alloc::Global;
 
-/// What was read of a text of which whole lines went by: the document so far, how many of the bytes that are
-/// kept have their items in it, and the number of the lines.
+/// What was read of a text of which whole lines were dropped: the document so far, how many of the bytes that
+/// are kept have their items in it, and the number of the lines.
 #[derive(Drop)]
 pub(crate) struct StreamLoader {
     document: Ini,

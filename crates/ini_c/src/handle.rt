@@ -68,7 +68,7 @@ impl Handle {
 
     // What it keeps, lent.
     #[inline(always)]
-    pub(crate) fn kept(&mut self) -> &mut Kept
+    pub(crate) fn kept_mut(&mut self) -> &mut Kept
         requires { self.old.is_open ≡ true }
         ensures* writes_back { sem 𝓛 (lends_kept self.entry result) }
         ensures value { result.now ≡ self.old.value }

@@ -21,7 +21,7 @@ impl Document {
         ensures document { option_copied result ≡ document_in self.old }
     {
         if self.is_open {
-            Some(&self.handle.kept().document)
+            Some(&self.handle.kept_mut().document)
         } else {
             None
         }
@@ -34,7 +34,7 @@ impl Document {
         ensures document { option_map (λ document. document.now) result ≡ document_in self.old }
     {
         if self.is_open {
-            Some(&mut self.handle.kept().document)
+            Some(&mut self.handle.kept_mut().document)
         } else {
             None
         }

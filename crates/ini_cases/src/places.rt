@@ -1,7 +1,7 @@
 //! Questions about the elements of a text: where each stands, and the parts of its pairs.
 //!
-//! A pair is shown as `<key|separator|space_before|raw_value|space_after|trailing_lines>`, a header as its source
-//! in braces, and what gives nothing as its source in parentheses.
+//! A pair is shown as `<key|separator|space_before|raw_value|space_after|trailing_lines>`, a header as its
+//! source in braces, and what gives nothing as its source in parentheses.
 use ini::{Error, ParseOption};
 use ini_text::{Content, PairPlaces, Parser, PlacedElement};
 use std::alloc::Global;

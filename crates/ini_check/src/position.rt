@@ -21,7 +21,7 @@ impl Position {
     }
 
     /// The place after a stretch that begins here.
-    pub(crate) fn over(self, passed: &str) -> Position
+    pub(crate) fn advance(self, passed: &str) -> Position
         requires { HasRoom (length (chars passed.now)) self }
         ensures room { (n : ℕ) → HasRoom (length (chars passed.now) + n) self → HasRoom n result }
         ensures at { (b : Text) → IsAt b self → IsAt (b ++ chars passed.now) result }

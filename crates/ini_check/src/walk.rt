@@ -31,7 +31,7 @@ pub fn check(alloc: Global, text: &str, read: ParseOption) -> Result<Vec<Warning
     'elements: while let Some(element) = step(&mut parser)? {
         warn_element(&mut warnings, position, &element, &names, &keys, read)?;
         note_element(alloc, &mut names, &mut keys, &element.content)?;
-        position = position.over(element.source);
+        position = position.advance(element.source);
         drop(element);
     }
     Ok(warnings)

@@ -96,9 +96,9 @@ fn value_position(position: Position, pair: &PlacedPair) -> Position
     ensures { (b : Text) → IsAt b position → IsAt (value_front b (stretches_of pair.now.places)) result }
 {
     position
-        .over(pair.places.key)
+        .advance(pair.places.key)
         .after_separator()
-        .over(pair.places.space_before)
+        .advance(pair.places.space_before)
 }
 
 fn warn_key(

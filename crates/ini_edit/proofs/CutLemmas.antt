@@ -37,7 +37,7 @@ line_end_like b c LineEnd.lf = EndsLike-one b c line_feed []
 line_end_like b c LineEnd.cr_lf = EndsLike-one b c carriage_return (line_feed ∷ [])
 line_end_like b c (LineEnd.cr n) = EndsLike-one b c carriage_return []
 
--- what stays a pair that is taken out, perhaps without its line end, is read after what is kept as
+-- what stays after a pair that is taken out, perhaps without its line end, is read after what is kept as
 -- it was
 pub record CutLeft (p : Stretches) (k r : Text) : Type 0 where
   pub line_end : Text

@@ -98,7 +98,7 @@ not_line ends.Inside apart is = absurd (let no : Ending.inside ≡ Ending.line =
 not_line ends.Escape apart is = absurd (let no : Ending.escape ≡ Ending.line = is in cc)
 not_line ends.Line apart is = apart refl
 
--- nothing was put after a text; or a line end, with what goes before it
+-- nothing was appended to a text; or a line end, with what goes before it
 pub glue_none : {o : ParseOption} (end : LineSeparator) {f : Ending} (old : Text) (e : TextEnd)
     → ending_of e ≡ f
     → e ≡ ends.Line → PushesGlue o end f old old

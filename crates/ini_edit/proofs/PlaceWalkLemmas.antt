@@ -279,6 +279,6 @@ module _ {o : ParseOption} {T : Text} {p : Place} {name : Option Text} (opens : 
       }
 
   pub section_ends : {q : Place} (found : Option TextPlace) → ReachesSectionEnd o T p.front q found
-      → ReadsOn q.option q.text q.front → AnswersEnd o T name (ends.There found)
+      → ReadsOn q.option q.text q.front → AnswersEnd o T name (ends.Found found)
   section_ends None h on = finds_no_place h
   section_ends (Some place) h on = finds_end h on

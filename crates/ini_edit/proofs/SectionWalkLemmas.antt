@@ -1,4 +1,4 @@
--- The walk to a section's header, and to what stays the section.
+-- The walk to a section's header, and to what stays after the section.
 use Rattle.std.proofs.Common.{◌≡◌, ◌∙◌, ◌&&◌, ◌==◌, not, ℕ, Bool, true, false, List, [], ◌∷◌, ◌++◌, ap, sym}
 use Rattle.std.proofs.Common.{refl, subst, inl, inr, append_assoc, append-nil, chars, Some}
 use Rattle.std.proofs.lemmas.Bool.{both_ways, false≢true, and_from, and_parts}

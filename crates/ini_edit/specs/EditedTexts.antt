@@ -76,7 +76,7 @@ Inserts o w key value =
     (W r : Text) (name : Option Text) (d : Document) → (at : EndsAt o W r name d) → Lacks key at.end.pairs
     → IsDocumentOf o (W ++ (written_pair w (key, value) ++ r)) (set_in name key value d)
 
--- A section's header and a pair's line put after a text that has no section of the name.
+-- A section's header and a pair's line appended to a text that has no section of the name.
 abbrev pub Appends : ParseOption → WriteOption → Text → Text → Text → Type 0
 Appends o w name key value =
     (T : Text) (items : List Given) → IsLineStart o T [] items → (d : Document) → IsDocumentOf o T d

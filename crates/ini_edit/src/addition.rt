@@ -82,7 +82,7 @@ pub(crate) fn with_pair(
 {
     let write = &like_lines_of(text, write);
     match end {
-        SectionEnd::There(place) => {
+        SectionEnd::Found(place) => {
             let place = place.ok_or(EditError::NoPlace)?;
             Ok(with_line(alloc, place, key, value, read, write)?)
         }

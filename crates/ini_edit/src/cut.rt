@@ -1,5 +1,5 @@
-//! What goes with a pair that is taken out of a text, and what stays it. This file knows line ends,
-//! and no value.
+//! What goes with a pair that is taken out of a text, and what stays after it. This file knows line ends, and
+//! no value.
 ghost use Rattle.std.specs.Prelude.{chars};
 ghost use Rattle.ini_text.specs.Grammar.Places.{TrailingLines};
 ghost use Rattle.ini_edit.specs.FirstPairs.{stretches_at};

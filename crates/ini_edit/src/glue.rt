@@ -17,7 +17,7 @@ pub(crate) enum TextEnd {
     Line,
 }
 
-/// Puts after a text what goes before a line that is put in after the front, whose last element is a
+/// Appends to a text what goes before a line that is put in after the front, whose last element is a
 /// comment or isn't.
 pub(crate) fn push_glue(
     text: &mut String,

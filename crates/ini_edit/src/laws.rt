@@ -41,7 +41,7 @@ pub fn pair_inserted(key: &str, value: &str, write: &WriteOption, read: ParseOpt
     ensures set { Inserts read write.now (chars key.now) (chars value.now) }
 {}
 
-/// A plain section with one writable pair put after a text that has no section of the name: the text loads
+/// A plain section with one writable pair appended to a text that has no section of its name: the text loads
 /// as the document in which the key is set.
 pub fn section_appended(name: &str, key: &str, value: &str, write: &WriteOption, read: ParseOption)
     requires separator { IsPlainSeparator (chars write.now.kv_separator.now) }

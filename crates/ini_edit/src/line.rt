@@ -1,4 +1,4 @@
-//! Lines as they are written, put after a text in memory. This file knows what is written, and no place.
+//! Lines as they are written, appended to a text in memory. This file knows what is written, and no place.
 ghost use Rattle.std.specs.Prelude.{◌≡◌, ◌++◌, chars, OnOk, IsOkUnless, Some, alloc_error};
 ghost use Rattle.ini.specs.Texts.{text_of};
 ghost use Rattle.ini.specs.Written.{written_name, written_pair};
@@ -8,7 +8,7 @@ use crate::escape::push_escaped;
 use ini_text::{Error, WriteOption};
 use std::alloc::Global;
 
-/// Puts a header's line after a text.
+/// Appends a header's line to a text.
 pub(crate) fn push_header(
     alloc: Global,
     text: &mut String,
@@ -25,7 +25,7 @@ pub(crate) fn push_header(
     push_text(text, write.line_separator.as_str())
 }
 
-/// Puts a pair's line after a text.
+/// Appends a pair's line to a text.
 pub(crate) fn push_pair(
     alloc: Global,
     text: &mut String,

@@ -40,21 +40,21 @@ pub(crate) enum SectionEnd<'a> {
     /// There is no such section. The place is the text's last one, after all that the text gives.
     Absent(Option<TextPlace<'a>>),
     /// The place is after the section's last item.
-    There(Option<TextPlace<'a>>),
+    Found(Option<TextPlace<'a>>),
 }
 
-/// What a walk to the first section of a name came to.
+/// The result of looking for the first section of a name.
 #[derive(Clone, Copy, Debug)]
-pub(crate) enum Opening<'a> {
+pub(crate) enum SectionSearch<'a> {
     /// The text's end, since there is no such section; and the last place there where a line may be put in.
     Absent(Option<TextPlace<'a>>),
     /// What follows the section's header.
-    There,
+    Found,
 }
 
-/// What a walk to the first pair of a key in a section came to.
+/// The result of looking for the first pair of a key in a section.
 #[derive(Debug, Drop)]
-pub(crate) enum Reached<'a> {
+pub(crate) enum PairSearch<'a> {
     /// What follows the pair.
     Pair(FoundPair<'a>),
     /// What ends the section, which has no such pair; and the place where a line may be put in, if there is
@@ -74,12 +74,12 @@ pub(crate) fn find_section_end<'a>(
     ensures only { IfErr result IsParseOrMemory }
 {
     let mut parser = Parser::new(alloc, text, read);
-    if let Opening::Absent(place) = reach_section_or_end(&mut parser, text, read, name)? {
+    if let SectionSearch::Absent(place) = reach_section_or_end(&mut parser, text, read, name)? {
         return Ok(SectionEnd::Absent(place));
     }
     let place = reach_section_end(&mut parser, text, read)?;
     read_on(&mut parser)?;
-    Ok(SectionEnd::There(place))
+    Ok(SectionEnd::Found(place))
 }
 
 /// Goes past the header of the first section of the name; where there is none, to the text's end.
@@ -88,7 +88,7 @@ pub(crate) fn reach_section_or_end<'a>(
     text: &'a str,
     read: ParseOption,
     name: Option<&str>,
-) -> Result<Opening<'a>, Error>
+) -> Result<SectionSearch<'a>, Error>
     requires text { parser.old.text ≡ chars text.now }
     requires option { parser.old.option ≡ read }
     requires refusal { parser.old.refusal ≡ None }
@@ -99,17 +99,17 @@ pub(crate) fn reach_section_or_end<'a>(
     ensures only { IfErr result IsParseOrMemory }
 {
     let Some(name) = name else {
-        return Ok(Opening::There);
+        return Ok(SectionSearch::Found);
     };
     let mut place = free_place(text, "", parser.rest(), read);
     'elements: while let Some(element) = step(parser)? {
         if opens(&element, name) {
-            return Ok(Opening::There);
+            return Ok(SectionSearch::Found);
         }
         let next = free_place(text, element.source, parser.rest(), read);
         place = last_place(element, place, next);
     }
-    Ok(Opening::Absent(place))
+    Ok(SectionSearch::Absent(place))
 }
 
 /// Goes over a section's pairs to the first of the key, and over that; or to the section's end.
@@ -118,7 +118,7 @@ pub(crate) fn reach_pair_or_end<'a>(
     text: &'a str,
     read: ParseOption,
     key: &str,
-) -> Result<Reached<'a>, Error>
+) -> Result<PairSearch<'a>, Error>
     requires text { parser.old.text ≡ chars text.now }
     requires option { parser.old.option ≡ read }
     requires within { StandsWithin parser.old }
@@ -131,16 +131,16 @@ pub(crate) fn reach_pair_or_end<'a>(
     'elements: loop {
         let start = parser.rest();
         let Some(element) = step(parser)? else {
-            return Ok(Reached::End(place));
+            return Ok(PairSearch::End(place));
         };
         let source = element.source;
         let rest = parser.rest();
         let next = free_place(text, source, rest, read);
         match element.content {
-            Content::Header(_) => return Ok(Reached::End(place)),
+            Content::Header(_) => return Ok(PairSearch::End(place)),
             Content::Pair(pair) => {
                 if is_same_text(key, pair.key.as_str()) {
-                    return Ok(Reached::Pair(FoundPair {
+                    return Ok(PairSearch::Pair(FoundPair {
                         front: front_before(text, start),
                         value: pair.value,
                         places: pair.places,
@@ -150,7 +150,7 @@ pub(crate) fn reach_pair_or_end<'a>(
                 drop(pair);
                 place = next;
             }
-            Content::Nothing => place = chosen(source, place, next),
+            Content::Nothing => place = better_place(source, place, next),
         }
     }
 }
@@ -183,7 +183,7 @@ fn reach_section_end<'a>(
                 drop(pair);
                 place = next;
             }
-            Content::Nothing => place = chosen(source, place, next),
+            Content::Nothing => place = better_place(source, place, next),
         }
     }
 }
@@ -223,9 +223,9 @@ fn is_free(front: &str, rest: &str, read: ParseOption) -> bool
     !blank || starts_line(front)
 }
 
-// Of two places on the way to a section's end the one that a line goes to: the later one up to the next
-// line, and from there on the earlier one.
-fn chosen<'a>(
+// The better of two places where a line may be put in, on the way to a section's end: the later one up to
+// the next line, and from there on the earlier one.
+fn better_place<'a>(
     source: &str,
     place: Option<TextPlace<'a>>,
     next: Option<TextPlace<'a>>,

@@ -13,7 +13,7 @@ use crate::walk::read_on;
 use ini_text::{Error, ParseOption, Parser, is_column_one};
 use std::alloc::Global;
 
-// What stands before a section, and what stays it.
+// What stands before a section, and what stays after it.
 #[derive(Clone, Copy, Debug)]
 pub(crate) struct SectionPlace<'a> {
     pub(crate) front: &'a str,

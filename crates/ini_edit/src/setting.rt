@@ -24,7 +24,9 @@ use crate::cut::cut;
 use crate::error::EditError;
 use crate::escape::push_in_quote;
 use crate::find::FoundPair;
-use crate::place::{Opening, Reached, SectionEnd, reach_pair_or_end, reach_section_or_end};
+use crate::place::{
+    PairSearch, SectionEnd, SectionSearch, reach_pair_or_end, reach_section_or_end,
+};
 use crate::quote::kept_quote;
 use crate::walk::{read_on, step};
 use crate::writable::is_writable_value;
@@ -70,8 +72,8 @@ pub fn set_existing(
         return Err(EditError::Value);
     }
     match set_where_there(alloc, text, read, policy, name, key, value)? {
-        Setting::Made(new) => Ok(Some(new)),
-        Setting::Missing(_) => Ok(None),
+        Setting::Done(new) => Ok(Some(new)),
+        Setting::NotFound(_) => Ok(None),
     }
 }
 
@@ -109,21 +111,21 @@ pub fn set(
         return Err(EditError::Value);
     }
     match set_where_there(alloc, text, read, write.escape_policy, name, key, value)? {
-        Setting::Made(new) => Ok(new),
-        Setting::Missing(end) => {
+        Setting::Done(new) => Ok(new),
+        Setting::NotFound(end) => {
             check_pair(key, value, read, write)?;
             with_pair(alloc, text, end, read, write, name, key, value)
         }
     }
 }
 
-// What setting a value where its key is there came to.
+// The result of setting a value where its key is there.
 #[derive(Debug, Drop)]
 enum Setting<'a> {
     // The text in which it is set.
-    Made(String),
+    Done(String),
     // The key isn't there, and the first section of the name ends so.
-    Missing(SectionEnd<'a>),
+    NotFound(SectionEnd<'a>),
 }
 
 // Sets a writable value where its key is there, in one walk over the text.
@@ -143,14 +145,14 @@ fn set_where_there<'a>(
     ensures only { IfErr result IsParseOrMemory }
 {
     let mut parser = Parser::new(alloc, text, read);
-    if let Opening::Absent(place) = reach_section_or_end(&mut parser, text, read, name)? {
-        return Ok(Setting::Missing(SectionEnd::Absent(place)));
+    if let SectionSearch::Absent(place) = reach_section_or_end(&mut parser, text, read, name)? {
+        return Ok(Setting::NotFound(SectionEnd::Absent(place)));
     }
     let pair = match reach_pair_or_end(&mut parser, text, read, key)? {
-        Reached::Pair(pair) => pair,
-        Reached::End(place) => {
+        PairSearch::Pair(pair) => pair,
+        PairSearch::End(place) => {
             read_on(&mut parser)?;
-            return Ok(Setting::Missing(SectionEnd::There(place)));
+            return Ok(Setting::NotFound(SectionEnd::Found(place)));
         }
     };
     let mut edited = String::with_capacity(alloc, text.len())?;
@@ -159,7 +161,7 @@ fn set_where_there<'a>(
     let rest = parser.rest();
     read_on(&mut parser)?;
     push_text(&mut edited, rest)?;
-    Ok(Setting::Made(edited))
+    Ok(Setting::Done(edited))
 }
 
 // Appends a pair, and what stands before it, with another value in its place, and in its quotes.

@@ -37,8 +37,8 @@ place_asked a = place_of a.choices a.file (is_of_file a.request)
 
 -- the file that a fault of writing is reported of: the one that is written; of standard output the one that
 -- is read
-abbrev pub told : Word → Word → Word
-told file place = if bytes_eq place (codes "-") then file else place
+abbrev pub reported : Word → Word → Word
+reported file place = if bytes_eq place (codes "-") then file else place
 
 -- the text of an edit goes to standard output
 abbrev pub is_filter : Asks → Bool

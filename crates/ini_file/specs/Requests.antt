@@ -5,7 +5,7 @@ use Rattle.ini_edit.specs.Editings.{Editing, editing_of}
 use Rattle.ini_options.specs.Words.{Word}
 use Rattle.ini_options.specs.declared.options.Options.{Options}
 use Rattle.ini_file.specs.Choices.{Chosen, chosen_of}
-use Rattle.ini_file.specs.declared.words.Asked.{Asked}
+use Rattle.ini_file.specs.declared.words.Invocation.{Invocation}
 use Rattle.ini_file.specs.declared.words.Command.{Command}
 use Rattle.ini_file.specs.declared.words.Command.TheVariants as command
 use Rattle.ini_file.specs.declared.words.Question.{Question}
@@ -45,7 +45,7 @@ pub record Asks : Type 0 where
   pub file : Word
   pub request : Request
 
-abbrev pub asks_of : Asked → Asks
+abbrev pub asks_of : Invocation → Asks
 asks_of a = record {
   options = a.options;
   choices = chosen_of a.choices;

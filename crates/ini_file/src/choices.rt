@@ -22,7 +22,7 @@ pub struct Switches {
     pub in_place: bool,
     /// A write-protected file is written too.
     pub force: bool,
-    /// Whether the file is changed is reported.
+    /// Reports whether the file is changed.
     pub verbose: bool,
 }
 

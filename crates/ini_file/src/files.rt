@@ -9,7 +9,7 @@ use crate::notes::tell_change;
 use crate::save::{find_room, save};
 use crate::target::Target;
 use ini::Error;
-use ini_options::named;
+use ini_options::with_name;
 use std::fs::{self, OpenOptions};
 use std::io::{self, Read, Write};
 
@@ -65,7 +65,7 @@ fn is_missing(fault: &io::Error) -> bool {
 pub(crate) fn print(rt: &HostRuntime, output: &[u8]) -> Result<(), Error> {
     match rt.stdout().write_all(output) {
         Ok(()) => Ok(()),
-        Err(fault) => Err(Error::Io(named(rt.alloc(), "standard output", fault))),
+        Err(fault) => Err(Error::Io(with_name(rt.alloc(), "standard output", fault))),
     }
 }
 

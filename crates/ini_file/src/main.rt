@@ -46,27 +46,27 @@ use refusals::refuse;
 use run::{Outcome, run, status, tell};
 use std::process::ExitCode;
 use target::{Target, handed_on};
-use words::{Asked, parse};
+use words::{Invocation, parse};
 
 /// How a run over a file ended, and the file that it is reported of.
 #[derive(Drop)]
 struct End<'a> {
     outcome: Outcome,
-    told: &'a str,
+    reported: &'a str,
 }
 
 /// Runs over a file and the process's own streams, and keeps the bytes that were read.
 fn run_here<'a>(
     rt: &HostRuntime,
     words: &[String],
-    asked: Asked<'a>,
+    asked: Invocation<'a>,
     input: &mut Vec<u8>,
 ) -> End<'a> {
     let target = Target::of_asked(asked);
     let file = asked.file;
     let _lock = match lock_place(rt, target) {
         Ok(lock) => lock,
-        Err(refusal) => return ended(Outcome::from(refusal), target.told()),
+        Err(refusal) => return ended(Outcome::from(refusal), target.reported()),
     };
     let is_there = match read_file(rt, target) {
         Ok(Some(bytes)) => {
@@ -83,13 +83,13 @@ fn run_here<'a>(
     let old = is_there.then_some(input.as_slice());
     match write_output(rt, target, old, output) {
         Ok(()) => ended(outcome, file),
-        Err(refusal) => ended(Outcome::from(refusal), target.told()),
+        Err(refusal) => ended(Outcome::from(refusal), target.reported()),
     }
 }
 
 // A run over a file has ended so.
-fn ended(outcome: Outcome, told: &str) -> End<'_> {
-    End { outcome, told }
+fn ended(outcome: Outcome, reported: &str) -> End<'_> {
+    End { outcome, reported }
 }
 
 // Runs over what the words name, and answers the exit status.
@@ -110,8 +110,14 @@ fn run_words(rt: &HostRuntime, words: &[String]) -> u8 {
         return tell_alone(rt, &Outcome::Usage);
     };
     let mut input = Vec::new(rt.alloc());
-    let End { outcome, told } = run_here(rt, words, asked, &mut input);
-    refuse(rt, asked.options.reading, told, input.as_slice(), outcome)
+    let End { outcome, reported } = run_here(rt, words, asked, &mut input);
+    refuse(
+        rt,
+        asked.options.reading,
+        reported,
+        input.as_slice(),
+        outcome,
+    )
 }
 
 // Tells how a run ended that is about no file, and answers its status.

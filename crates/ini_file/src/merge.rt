@@ -20,7 +20,7 @@ pub enum MergeEnd {
     Done(Vec<u8>),
     /// Of the other files the one with this number, counted from 0, was refused.
     Other(usize, Error),
-    /// The file's bytes are no text, or one that is refused where nothing is set in it; or there was no memory.
+    /// The file's bytes are no text, or one that is refused where nothing is set in it; or memory was scarce.
     File(Error),
     /// An edit of the file's text was refused, or the text was.
     Edit(RefusedEdit),

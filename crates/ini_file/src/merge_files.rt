@@ -34,7 +34,7 @@ pub fn merge_files(rt: &HostRuntime, merging: &Merging<'_>) -> u8 {
     let target = Target::of_merging(*merging);
     let _lock = match lock_place(rt, target) {
         Ok(lock) => lock,
-        Err(refusal) => return refuse(rt, read, target.told(), &[], Outcome::from(refusal)),
+        Err(refusal) => return refuse(rt, read, target.reported(), &[], Outcome::from(refusal)),
     };
     match read_file(rt, target) {
         Ok(Some(input)) => merge_read(rt, merging, Some(input.as_slice()), others.as_slice()),
@@ -57,7 +57,7 @@ fn merge_read(
             let target = Target::of_merging(*merging);
             match write_output(rt, target, old, bytes.as_slice()) {
                 Ok(()) => 0,
-                Err(refusal) => refuse(rt, read, target.told(), &[], Outcome::from(refusal)),
+                Err(refusal) => refuse(rt, read, target.reported(), &[], Outcome::from(refusal)),
             }
         }
         MergeEnd::Other(index, refusal) => {

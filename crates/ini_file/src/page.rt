@@ -65,7 +65,7 @@ Choices:
   --all            of get: each value of the key, not the first alone
   --default VALUE  of get: the value where the key isn't there
   --null           of get, keys, sections and list: names, keys and values as they
-                   stand, each with NUL behind it
+                   stand, each with NUL after it
   --separator TEXT of set, add and format: what stands between key and value of
                    new lines; one = or : with spaces and tabs alone around it
   --dry-run        of what writes a file: shows the change, and writes none

@@ -1,5 +1,5 @@
 //! The program as a function of its words and of a file's bytes. This file knows how a run ends, and what is
-//! told of it; of files it knows their names alone.
+//! reported of it; of files it knows their names alone.
 ghost use Rattle.std.specs.Prelude.{◌≡◌, ◌++◌, ◌↔◌, ◌⊎◌, IfErr, IfOk, None, OnOk};
 ghost use Rattle.std.specs.Prelude.{[], chars, is_some, unwrap_or};
 ghost use Rattle.ini_text.specs.Device.Watched.{AppendsFront};

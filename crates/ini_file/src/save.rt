@@ -8,7 +8,7 @@ use crate::notes::note;
 use crate::over::{refuse_changed, write_over};
 use crate::rights::{Kept, give_rights};
 use ini::Error;
-use ini_options::named;
+use ini_options::with_name;
 use std::alloc::Global;
 use std::fs::{self, File, Metadata, OpenOptions};
 use std::io::{self, Write};
@@ -280,5 +280,5 @@ fn finish(rt: &HostRuntime, path: &str, target: &str) -> Result<(), Error> {
         return Ok(());
     }
     let words = "written, but not on the disk yet";
-    Err(Error::Io(named(rt.alloc(), words, fault)))
+    Err(Error::Io(with_name(rt.alloc(), words, fault)))
 }

@@ -3,13 +3,13 @@ ghost use Rattle.std.specs.Prelude.{◌≡◌, true};
 ghost use Rattle.std.specs.Option.{option_map};
 ghost use Rattle.ini_file.specs.Choices.{chosen_of};
 ghost use Rattle.ini_file.specs.Places.{handed_on, is_filter, is_of_file, makes_file};
-ghost use Rattle.ini_file.specs.Places.{place_asked, place_of, told};
+ghost use Rattle.ini_file.specs.Places.{place_asked, place_of, reported};
 ghost use Rattle.ini_file.specs.Requests.{asks_of, request_of};
 
 use crate::choices::{Choices, Switches};
 use crate::merge_words::Merging;
 use crate::run::Outcome;
-use crate::words::{Asked, Command};
+use crate::words::{Command, Invocation};
 use ini_edit::Edit;
 
 /// The file that a command reads, and where what it makes goes.
@@ -31,7 +31,7 @@ pub struct Target<'a> {
 
 impl<'a> Target<'a> {
     /// The target of a command over one file.
-    pub fn of_asked(asked: Asked<'a>) -> Target<'a>
+    pub fn of_asked(asked: Invocation<'a>) -> Target<'a>
         ensures file { result.file.now ≡ asked.entry.file.now }
         ensures place { result.place.now ≡ place_asked (asks_of asked.entry) }
         ensures shows_change { result.shows_change ≡ asked.entry.choices.switches.dry_run }
@@ -69,10 +69,10 @@ impl<'a> Target<'a> {
         }
     }
 
-    /// The file that a fault is reported of which arises where its bytes go: the one that is written; where
-    /// that is standard output, the one that is read.
-    pub fn told(self) -> &'a str
-        ensures { result.now ≡ told self.entry.file.now self.entry.place.now }
+    /// The file that is named with a fault of writing: the one that is written; where that is standard
+    /// output, the one that is read.
+    pub fn reported(self) -> &'a str
+        ensures { result.now ≡ reported self.entry.file.now self.entry.place.now }
     {
         if self.place == "-" {
             self.file
@@ -84,7 +84,11 @@ impl<'a> Target<'a> {
 
 /// The bytes that are handed on once a run over a file's bytes has ended: those that it made; or the file's
 /// own, where an edit whose text goes to standard output finds nothing.
-pub fn handed_on<'a>(asked: Asked<'_>, outcome: &'a Outcome, input: &'a [u8]) -> Option<&'a [u8]>
+pub fn handed_on<'a>(
+    asked: Invocation<'_>,
+    outcome: &'a Outcome,
+    input: &'a [u8],
+) -> Option<&'a [u8]>
     ensures { option_map (λ bytes. bytes.now) result
         ≡ handed_on (asks_of asked.entry) outcome.now input.now }
 {
@@ -104,7 +108,7 @@ fn place_of<'a>(choices: Choices<'a>, file: &'a str, into_file: bool) -> &'a str
 }
 
 // Whether an edit's text goes to standard output.
-fn is_filter(asked: Asked<'_>) -> bool
+fn is_filter(asked: Invocation<'_>) -> bool
     ensures { result ≡ is_filter (asks_of asked.entry) }
 {
     matches!(asked.command, Command::Change(_)) && Target::of_asked(asked).place == "-"

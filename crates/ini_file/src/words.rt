@@ -64,7 +64,7 @@ pub enum Command<'a> {
 
 /// What the words of the program are.
 #[derive(Clone, Copy)]
-pub struct Asked<'a> {
+pub struct Invocation<'a> {
     /// How the file is read and written.
     pub options: Options,
     /// The options after the command.
@@ -230,7 +230,7 @@ fn set_of<'a>(
 /// as one likes, of which the last `--policy` holds; then a command, and options of the program's own up to
 /// the first word that is none, or up to `--`; then the name of a file, and the command's arguments, whatever
 /// they begin with. Takes no memory.
-pub fn parse(words: &[String]) -> Option<Asked<'_>>
+pub fn parse(words: &[String]) -> Option<Invocation<'_>>
     ensures { option_map asks_of result ≡ asks_of_words (map string_bytes words.now) }
 {
     let (options, following) = Options::of_words(words)?;
@@ -241,7 +241,7 @@ pub fn parse(words: &[String]) -> Option<Asked<'_>>
         return None;
     }
     let command = command_of(word.as_str(), choices, arguments)?;
-    Some(Asked {
+    Some(Invocation {
         options,
         choices,
         file: file.as_str(),

@@ -1,4 +1,4 @@
-//! Many calls in a heap of few bytes: what is dropped is given back, and what goes by isn't kept.
+//! Many calls in a heap of few bytes: what is dropped is given back, and what is streamed isn't kept.
 use crate::devices::StepReader;
 use crate::scarce::Famine;
 use ini::{Error, Ini, ParseOption, Properties, Watched};
@@ -94,7 +94,7 @@ fn holes_take_no_more_memory_than_pairs(rt: HostRuntime) {
     }
 }
 
-/// How many bytes there are for a text that goes by.
+/// How many bytes there are for a text that is streamed.
 const ROOM: usize = 3_000_000;
 
 // So many pairs, each on a line of 10,000 bytes.

@@ -148,7 +148,7 @@ fn is_reported(rt: &(impl Abort + AllocGlobal), famine: &mut Famine, steps: usiz
 }
 
 #[test]
-fn a_refused_text_is_told_where_memory_is_enough(rt: HostRuntime) {
+fn a_refused_text_is_reported_where_memory_is_enough(rt: HostRuntime) {
     let mut famine = Famine::new(&rt);
     for steps in 0..CALLS {
         if is_reported(&rt, &mut famine, steps) {
@@ -156,7 +156,7 @@ fn a_refused_text_is_told_where_memory_is_enough(rt: HostRuntime) {
             return;
         }
     }
-    panic!(rt; "never told")
+    panic!(rt; "never reported")
 }
 
 // Whether the next item is refused when out of memory.
@@ -165,7 +165,7 @@ fn wants_memory(parser: &mut Parser<'_>) -> bool {
 }
 
 #[test]
-fn want_of_memory_is_told_from_then_on(rt: HostRuntime) {
+fn out_of_memory_is_reported_from_then_on(rt: HostRuntime) {
     let famine = Famine::leaving(&rt, 0);
     let mut parser = Parser::new(rt.alloc(), "key=value\n", ParseOption::default());
     assert!(rt; wants_memory(&mut parser));

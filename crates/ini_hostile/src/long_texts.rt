@@ -249,7 +249,7 @@ const REFUSED: [(&'static str, usize, ParseKind); 3] = [
 const PAIRS: [(&'static str, usize); 2] = [("key=value\n", 1), ("key=\"a\nb\"\r\n", 2)];
 
 #[test]
-fn a_refusal_after_two_reads_is_told_at_its_place(rt: HostRuntime) {
+fn a_refusal_after_two_reads_is_reported_at_its_place(rt: HostRuntime) {
     let following = repeated(&rt, "key=value\n", 7_000);
     for (pair, lines) in PAIRS {
         let front = repeated(&rt, pair, 15_000);
@@ -264,7 +264,7 @@ fn a_refusal_after_two_reads_is_told_at_its_place(rt: HostRuntime) {
 }
 
 #[test]
-fn a_column_longer_than_two_reads_is_told(rt: HostRuntime) {
+fn a_column_longer_than_two_reads_is_reported(rt: HostRuntime) {
     let name = repeated(&rt, "é", 75_000);
     let text = joined(&rt, "\n[", &name, "]=v\n");
     expect_refusal(&rt, "name", &text, (2, 75_004, ParseKind::MissingKey));
@@ -294,7 +294,7 @@ fn is_no_text(alloc: Global, bytes: &[u8]) -> bool {
 }
 
 #[test]
-fn bytes_that_are_no_text_are_told_before_a_refusal(rt: HostRuntime) {
+fn bytes_that_are_no_text_are_reported_before_a_refusal(rt: HostRuntime) {
     for beginning in BEGINNINGS {
         let ends: [&'static [u8]; 4] = [b"\xFF", b"\xC3", b"\xE2\x82\nk=v\n", b"k=\xF0\x9F\x90"];
         for end in ends {
@@ -306,7 +306,12 @@ fn bytes_that_are_no_text_are_told_before_a_refusal(rt: HostRuntime) {
 }
 
 // Whether a fault at the call is reported as it is, counted once, and no call follows it.
-fn is_reported(alloc: Global, bytes: &[u8], (step, call): (usize, usize), fault: ErrorKind) -> bool {
+fn is_reported(
+    alloc: Global,
+    bytes: &[u8],
+    (step, call): (usize, usize),
+    fault: ErrorKind,
+) -> bool {
     let mut device = StepReader::failing(bytes, step, call, fault);
     let mut reader = Watched::new(&mut device);
     let answer = Ini::read_watched(alloc, &mut reader, ParseOption::default(), false);
@@ -327,7 +332,7 @@ const LATE_CALLS: [(usize, usize); 4] = [
 ];
 
 #[test]
-fn a_fault_after_two_reads_is_told_and_ends_reading(rt: HostRuntime) {
+fn a_fault_after_two_reads_is_reported_and_ends_reading(rt: HostRuntime) {
     for beginning in BEGINNINGS {
         let bytes = long_bytes(&rt, beginning, b"\xFF");
         for late in LATE_CALLS {

@@ -100,7 +100,7 @@ fn each_form_fails_at_each_call(rt: HostRuntime) {
 }
 
 #[test]
-fn a_fault_is_told_before_what_was_read(rt: HostRuntime) {
+fn a_fault_is_reported_before_what_was_read(rt: HostRuntime) {
     let rows: [&'static [u8]; 5] = [b"\xC3", b"\xEF\xBB", b"=v", b"[p", b""];
     for bytes in rows {
         let call = bytes.len().saturating_add(1);

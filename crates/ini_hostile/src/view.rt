@@ -79,7 +79,7 @@ fn is_reported(rt: &(impl Abort + AllocGlobal), famine: &mut Famine, steps: usiz
 }
 
 #[test]
-fn a_view_of_a_refused_text_is_told_where_memory_is_enough(rt: HostRuntime) {
+fn a_view_of_a_refused_text_is_reported_where_memory_is_enough(rt: HostRuntime) {
     let mut famine = Famine::new(&rt);
     for steps in 0..CALLS {
         if is_reported(&rt, &mut famine, steps) {
@@ -87,7 +87,7 @@ fn a_view_of_a_refused_text_is_told_where_memory_is_enough(rt: HostRuntime) {
             return;
         }
     }
-    panic!(rt; "never told")
+    panic!(rt; "never reported")
 }
 
 /// The text of a view that the calls are made on.

@@ -21,7 +21,7 @@ ghost use Rattle.ini_merge.specs.Runs.{failures_of, merged_bytes, refusal_status
 use crate::words::{USAGE, parse};
 use ini::{Error, Ini, ParseOption, Watched, WriteOption, write_raw};
 use ini_layers::{Layers, NoLayer};
-use ini_options::{named, words_of};
+use ini_options::{with_name, words_of};
 use std::alloc::{AllocError, Global};
 use std::io::Write;
 use std::path::Path;
@@ -187,7 +187,7 @@ fn run_here(rt: &HostRuntime, words: &[String]) -> Outcome {
     let mut output = rt.stdout();
     match run(rt, rt.alloc(), words, &mut Watched::new(&mut output)) {
         Outcome::Refused(Error::Io(fault)) => {
-            let fault = named(rt.alloc(), "standard output", fault);
+            let fault = with_name(rt.alloc(), "standard output", fault);
             Outcome::Refused(Error::Io(fault))
         }
         outcome => outcome,

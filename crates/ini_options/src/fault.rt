@@ -7,7 +7,7 @@ use std::io;
 
 /// The fault with a name before its words, as that of the stream where it arose: its kind stays. Where
 /// there is no memory to write the words, it is the fault as it was.
-pub fn named(alloc: Global, name: &str, fault: io::Error) -> io::Error
+pub fn with_name(alloc: Global, name: &str, fault: io::Error) -> io::Error
     ensures { error_kind result ≡ error_kind fault }
 {
     match format!(in alloc; "{name}: {fault}") {

@@ -7,6 +7,6 @@ mod options;
 mod usage;
 mod words;
 
-pub use fault::named;
+pub use fault::with_name;
 pub use options::Options;
 pub use words::words_of;

@@ -1,4 +1,4 @@
-//! Bytes in a row, which more are put after. This file knows bytes and characters, and no device and no
+//! Bytes in a row, to which more are appended. This file knows bytes and characters, and no device and no
 //! text.
 ghost use Rattle.std.specs.Prelude.{◌≡◌, ◌+◌, ◌≤◌, ◌↔◌, [], ◌++◌, length, take, IsTrue};
 ghost use Rattle.std.specs.Char.{encode_utf8};

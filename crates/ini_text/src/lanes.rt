@@ -62,7 +62,7 @@ pub(crate) fn run_before<M: Marks>(bytes: &[u8], marks: &M) -> usize
     at + few_before(&bytes[at..], marks)
 }
 
-// The same of fewer bytes than are tested together.
+// As `run_before`, for fewer bytes than are tested together.
 #[inline(always)]
 fn few_before<M: Marks>(bytes: &[u8], marks: &M) -> usize
     requires { length bytes.now < LANES }

@@ -8,7 +8,7 @@ use std::simd::prelude::*;
 
 /// The lines of a text that LF ends, and how many they are.
 ///
-/// It is public since `ini` drops such lines of a text that goes by: what one other crate may call, all may.
+/// It is public since `ini` drops such lines of a streamed text: what one other crate may call, all may.
 pub fn whole_lines(text: &str) -> (&str, usize)
     ensures front { result.0.now ≡ take (length result.0.now) text.now }
     ensures utf8 { IsUtf8 result.0.now }

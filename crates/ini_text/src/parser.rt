@@ -85,7 +85,7 @@ impl<'a> Parser<'a> {
 
     /// A parser at the rest of a text, which must be one. It takes no memory.
     ///
-    /// It is public since `ini` goes on so in a text that goes by: what one other crate may call, all may.
+    /// It is public since `ini` goes on so in a streamed text: what one other crate may call, all may.
     pub fn resume_at(alloc: Global, text: &'a str, rest: &'a str, opt: ParseOption) -> Self
         requires { IsRest (chars text.now) (chars rest.now) }
         ensures option { result.option ≡ opt }
@@ -141,7 +141,7 @@ impl<'a> Parser<'a> {
         self.answer(found)
     }
 
-    /// Goes after what was found and answers it; or stays, keeps why reading stopped, and answers that.
+    /// Moves past what was found and answers it; or stays, keeps why reading stopped, and answers that.
     #[inline(always)]
     fn answer<T>(&mut self, found: Result<(T, &'a str), Stop<'a>>) -> Result<T, Error>
         requires { IsWithin self.now.text found }

@@ -132,7 +132,7 @@ pub(crate) fn push_text(out: &mut String, text: &str) -> Result<(), AllocError>
 
 /// The part of a text before the rest of it, which must be one.
 ///
-/// It is public since `ini` calls it for a text that goes by: what one other crate may call, all may.
+/// It is public since `ini` calls it for a streamed text: what one other crate may call, all may.
 pub fn front_before<'a>(text: &'a str, rest: &str) -> &'a str
     requires { IsRest (chars text.now) (chars rest.now) }
     ensures { chars result.now ≡ front_of (chars text.now) (chars rest.now) }

@@ -10,7 +10,7 @@ mod run;
 mod words;
 
 use ini::{Error, Watched};
-use ini_options::{named, words_of};
+use ini_options::{with_name, words_of};
 use run::{Outcome, run, status, tell};
 use std::process::ExitCode;
 
@@ -28,7 +28,7 @@ fn run_here(rt: &HostRuntime) -> Result<Outcome, Error> {
         "standard output"
     };
     match outcome {
-        Outcome::Refused(Error::Io(fault)) => Err(Error::Io(named(rt.alloc(), stream, fault))),
+        Outcome::Refused(Error::Io(fault)) => Err(Error::Io(with_name(rt.alloc(), stream, fault))),
         outcome => Ok(outcome),
     }
 }

@@ -28,7 +28,7 @@ pub fn read_all<R: Read>(alloc: Global, reader: &mut Watched<'_, R>) -> Result<V
     Ok(bytes)
 }
 
-// Reads after the bytes, to the reader's end.
+// Appends what is read to the bytes, to the reader's end.
 fn read_after<R: Read>(reader: &mut Watched<'_, R>, bytes: &mut Vec<u8>) -> Result<(), Error>
     requires { IsClear reader.old }
     ensures same_device { SameDevice reader.old reader.new }

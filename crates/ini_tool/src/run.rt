@@ -47,7 +47,7 @@ pub fn status(outcome: &Outcome) -> u8
 /// at the front of the input is dropped.
 ///
 /// Words that are none of the program's are `Usage`, before anything is read. `Usage`, `NotFound`, a
-/// refused text, a reader that failed and out of memory have written nothing; where the writer failed, a
+/// refused text, a reader that failed and a lack of memory have written nothing; where the writer failed, a
 /// front of what is asked for was written.
 pub fn run<R: Read, W: Write>(
     alloc: Global,

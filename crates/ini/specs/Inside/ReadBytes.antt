@@ -21,7 +21,7 @@ IsTextRefusal (Io _) = ⊥
 IsTextRefusal NoProgress = ⊥
 IsTextRefusal _ = ⊤
 
--- the known bytes of a device that are no longer left were put after the bytes old
+-- the known bytes of a device that are no longer left were appended to the bytes old
 pub record HasRead (before after : Option (List ℕ)) (old new : List ℕ) : Type 0 where
   pub read : List ℕ
   pub consumed : Consumes before after read

@@ -1,4 +1,4 @@
--- A text that goes by while it is read: of its bytes only those are kept that reading may still look at.
+-- A text that is streamed: of its bytes only those are kept that reading may still look at.
 use Rattle.std.specs.Prelude.{◌≡◌, ℕ, ◌+◌, ◌≤◌, true, List, [], ◌++◌, fold, length, take, chars, count_by}
 use Rattle.std.specs.Prelude.{Result, IfOk}
 use Rattle.std.specs.Str.{IsUtf8}
@@ -50,7 +50,7 @@ pub record HasFront (p : StreamLoader) (bytes : List ℕ) : Type 0 where
   pub within : p.front ≤ length bytes
   pub utf8 : IsUtf8 (take p.front bytes)
 
--- of the bytes b only c stay: whole lines went by, and items of what stays made their way into the document
+-- of the bytes b only c stay: whole lines were dropped, and items of what stays got into the document
 pub record GoesBy (o : ParseOption) (old new : StreamLoader) (b c : List ℕ) : Type 0 where
   pub gone : List ℕ
   pub items : List Given
@@ -72,8 +72,8 @@ pub record Ends (o : ParseOption) (p : StreamLoader) (bytes : List ℕ) (result 
   pub fault : IfParse result
       (λ e. IsUtf8 bytes × StopsLater o (chars bytes) (chars (take p.front bytes)) p.lines e)
 
--- All bytes that were read: those that went by, whole lines, and those that are kept. The document has the
--- items of all but what follows the front, whatever follows.
+-- All bytes that were read: those that were dropped, whole lines, and those that are kept. The document has
+-- the items of all but what follows the front, whatever follows.
 pub record IsStreaming (o : ParseOption) (all bytes : List ℕ) (p : StreamLoader) : Type 0 where
   pub gone : List ℕ
   pub items : List Given

@@ -27,8 +27,7 @@ pub fn set_is_there()
         → value_in name key (set_in name key value d) ≡ Some value }
 {}
 
-/// What was left after a reference into a section, after an entry, or after a reference to a value, is
-/// there.
+/// What was written through a reference into a section, an entry, or a reference to a value, is there.
 #[tactic(auto, using(crate::proofs::EditLawLemmas::there))]
 pub fn lent_is_there()
     ensures section { (name : Option Text) (pairs : Pairs) (d : Document)

@@ -1,4 +1,4 @@
--- Ends of texts, and what stays a pair in one line.
+-- Ends of texts, and what stays after a pair in one line.
 use Rattle.std.specs.Prelude.{◌≡◌, ℕ, true, [], ◌∷◌, ◌++◌}
 use Rattle.std.specs.List.{list_all}
 use Rattle.ini_text.specs.Grammar.CharacterKinds.{is_line_end}

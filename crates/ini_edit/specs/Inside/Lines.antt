@@ -17,7 +17,7 @@ ending_of ends.Inside = Ending.inside
 ending_of ends.Escape = Ending.escape
 ending_of ends.Line = Ending.line
 
--- the glue after a front that ends so was put after a text
+-- the glue after a front that ends so was appended to a text
 pub record PushesGlue (o : ParseOption) (end : LineSeparator) (e : Ending) (old new : Text) : Type 0 where
   pub glue : Text
   pub is_glue : Glue o end e glue

@@ -19,10 +19,10 @@ use Rattle.ini_edit.specs.Inside.Walks.{Boundary, EndsSection, IsReading, OpensF
 use Rattle.ini_edit.specs.FirstPairs.{LacksSection}
 use Rattle.ini_edit.specs.Targets.{IsSectionEnd}
 use Rattle.ini_edit.specs.declared.place.TextPlace.{TextPlace}
-use Rattle.ini_edit.specs.declared.place.Opening.{Opening}
-use Rattle.ini_edit.specs.declared.place.Opening.TheVariants as openings
-use Rattle.ini_edit.specs.declared.place.Reached.{Reached}
-use Rattle.ini_edit.specs.declared.place.Reached.TheVariants as reached
+use Rattle.ini_edit.specs.declared.place.SectionSearch.{SectionSearch}
+use Rattle.ini_edit.specs.declared.place.SectionSearch.TheVariants as openings
+use Rattle.ini_edit.specs.declared.place.PairSearch.{PairSearch}
+use Rattle.ini_edit.specs.declared.place.PairSearch.TheVariants as reached
 use Rattle.ini_edit.specs.declared.place.SectionEnd.{SectionEnd}
 use Rattle.ini_edit.specs.declared.place.SectionEnd.TheVariants as ends
 
@@ -97,15 +97,15 @@ AnswersTextEnd o T found = MatchOption found (HasNoEnd o T) (IsTextEnd o T)
 -- where the first section of the name ends, or the text where there is none
 abbrev pub AnswersEnd : ParseOption → Text → Option Text → SectionEnd → Type 0
 AnswersEnd o T name (ends.Absent place) = LacksSection o T name × AnswersTextEnd o T place
-AnswersEnd o T name (ends.There place) = MatchOption place (HasNoPlace o T name) (IsFirstSectionEnd o T name)
+AnswersEnd o T name (ends.Found place) = MatchOption place (HasNoPlace o T name) (IsFirstSectionEnd o T name)
 
 -- the first section of the name opened before where the parser stands; or there is none, and the text ended
-abbrev pub ReachesSection : ParseOption → Text → Option Text → Place → Opening → Type 0
-ReachesSection o T name q openings.There = OpensFirst o T q name
+abbrev pub ReachesSection : ParseOption → Text → Option Text → Place → SectionSearch → Type 0
+ReachesSection o T name q openings.Found = OpensFirst o T q name
 ReachesSection o T name q (openings.Absent place) = LacksSection o T name × AnswersTextEnd o T place
 
 -- after the front b a section's first pair of the key stood before where the parser stands; or the section
 -- ended there without one
-abbrev pub Reaches : ParseOption → Text → Text → Text → Place → Reached → Type 0
+abbrev pub Reaches : ParseOption → Text → Text → Text → Place → PairSearch → Type 0
 Reaches o T b key q (reached.Pair pair) = ReachesPair o T b q key pair
 Reaches o T b key q (reached.End place) = ReachesEnd o T b q key × ReachesSectionEnd o T b q place

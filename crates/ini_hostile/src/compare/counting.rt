@@ -254,7 +254,7 @@ fn an_index_that_is_made_once_asks_few_keys(rt: HostRuntime) {
     assert!(rt; map.make_index().is_ok());
     expect_at_most(&rt, &calls, 0, "make_index again");
     each(&rt, &calls, &mut map, Call::AppendUnindexed, 1000, 1000);
-    expect_at_most(&rt, &calls, FEW * 1000, "append_unindexed behind an index");
+    expect_at_most(&rt, &calls, FEW * 1000, "append_unindexed after an index");
     expect_few_for_looks(&rt, &calls, &mut map);
     expect_few_for_keys(&rt, &calls, &map, PAIRS);
 }

@@ -1,11 +1,11 @@
--- Bytes that are put after those of a buffer.
+-- Bytes that are appended to those of a buffer.
 use Rattle.std.proofs.Common.{◌≡◌, ℕ, ◌+◌, ◌≤◌, List, [], ◌++◌, length, take, drop, ap, ap₂, ◌∙◌, sym, arith, append_assoc, append-nil}
 use lib.Lanes.{chunk}
 use Rattle.std.proofs.Math.Seq.{take-append_seam}
 use Rattle.std.proofs.lemmas.List.{length-drop, length-take, take-append-drop, take-append-le, take-take, take_all}
 use Rattle.ini_text.specs.Buffered.{IsFront}
 
--- a run and a piece, put after the first bytes
+-- a run and a piece, appended to the first bytes
 pub placed_run : (len run end : ℕ) (before bytes lanes after piece : List ℕ) → run ≤ 16
     → take (len + run) lanes ≡ take len before ++ take run (chunk 0 16 bytes)
     → take end after ≡ take (len + run) lanes ++ piece

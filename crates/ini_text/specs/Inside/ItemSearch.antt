@@ -47,7 +47,7 @@ pub record StandsIn (T rest : List ℕ) (stop : Option Stop) : Type 0 where
 abbrev pub IsWithin : {X : Type 0} → List ℕ → Result (X × Bor (List ℕ)) Stop → Type 0
 IsWithin T r = MatchResult r (λ p. IsRest T (chars p.1.now)) (StopIsWithin T)
 
--- a parser goes after what was found and answers it; or it stays, keeps the refusal, and answers that
+-- a parser moves past what was found and answers it; or it stays, keeps the refusal, and answers that
 abbrev pub AnswersFound : {X : Type 0} → Place → Place → Result (X × Bor (List ℕ)) Stop → Result X Error
     → Type 0
 AnswersFound old new (Ok p) r = (r ≡ Ok p.0) × (new.front ≡ front_of old.text (chars p.1.now))

@@ -7,7 +7,7 @@ use crate::item::BorrowedItem;
 use crate::parser::{Parser, error_at, find_item};
 
 impl<'a> Parser<'a> {
-    /// The next item, and `None` at the text's end. What stands there as it is read is borrowed from the text.
+    /// The next item, and `None` at the text's end. What stands there as it is read is borrowed.
     ///
     /// The rest is as `next_item` has it. Owned are names, keys and values with escapes, values with quotes,
     /// and where they are enabled names with brackets, indented keys whose blanks are kept and values that

@@ -15,7 +15,7 @@ pub(crate) struct Fault<'a> {
     ghost is_of_kind: { HasMessage kind message.now } by { HasMessage-prop kind message.now },
 }
 
-/// Why reading stops: when out of memory, or by a fault.
+/// Why reading stops: out of memory, or at a fault.
 #[derive(Clone, Copy)]
 pub(crate) enum Stop<'a> {
     Memory,

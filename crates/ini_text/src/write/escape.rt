@@ -1,4 +1,4 @@
-//! The escape of a character, put after bytes that are there. This file knows one character, and no
+//! The escape of a character, appended to bytes that are there. This file knows one character, and no
 //! device.
 ghost use Rattle.std.specs.Prelude.{◌≡◌, ◌+◌, ◌/◌, ◌%◌, ◌<◌, ◌≤◌, ◌++◌, IfSome, None, length, take};
 ghost use Rattle.std.specs.Char.{digit_char};

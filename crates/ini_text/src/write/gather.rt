@@ -19,11 +19,11 @@ use crate::write::verbatim::{Basics, Reserved, split_verbatim};
 use crate::write::write_bytes;
 use std::io::Write;
 
-/// Holds bytes back on their way to a device, so that many short texts reach it in one call.
+/// Buffers bytes on their way to a device, so that many short texts reach it in one call.
 ///
 /// What is buffered goes out by `flush`, or where there is no room left; a gatherer that is dropped
-/// before takes it along. It takes no memory. A refused call leaves unsaid what is buffered, and the
-/// device is asked nothing more.
+/// before takes it along. It takes no memory. After an error what is buffered is unspecified, and the device
+/// is called no more.
 #[derive(Drop)]
 pub struct Gatherer {
     buffer: Buffer<BUFFER_SIZE>,

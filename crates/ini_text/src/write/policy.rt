@@ -51,7 +51,7 @@ impl EscapePolicy {
     pub(crate) fn begins_escaped(self, byte: u8) -> bool
         ensures { result ≡ begins_escaped self byte }
     {
-        // most bytes of most texts are small letters, so they are told by a test of their own
+        // most bytes of most texts are small letters, so they are recognized by a test of their own
         if byte > b'\\' && byte < 0x7F {
             return false;
         }

@@ -128,7 +128,7 @@ fn set_mode(rt: &impl Files, mode: u32) -> io::Result<()> {
     fs::set_permissions(rt, NAME, Permissions::from_mode(mode))
 }
 
-// One who may open any file, as root may, is reported no fault.
+// One who may open any file, as root may, gets no fault.
 #[test]
 fn files_without_the_right_to_them(rt: HostRuntime) -> Result<(), Fail> {
     let (alloc, path, denied) = (rt.alloc(), Path::new(NAME), ErrorKind::PermissionDenied);
@@ -153,7 +153,7 @@ fn files_without_the_right_to_them(rt: HostRuntime) -> Result<(), Fail> {
 
 // A device that takes no byte, where the system has one. A text without bytes needs no room.
 #[test]
-fn a_full_device_is_told(rt: HostRuntime) -> Result<(), Fail> {
+fn a_full_device_is_reported(rt: HostRuntime) -> Result<(), Fail> {
     let path = Path::new("/dev/full");
     if !fs::exists(&rt, path)? {
         return Ok(());

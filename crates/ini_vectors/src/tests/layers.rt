@@ -71,7 +71,7 @@ fn the_last_layer_that_has_the_key_counts(rt: HostRuntime) {
 }
 
 #[test]
-fn the_origin_of_a_value_is_told(rt: HostRuntime) {
+fn the_origin_of_a_value_is_reported(rt: HostRuntime) {
     let layers = layers_of(
         &rt,
         &["k=1\n[a]\nx=1\n", "[a]\nx=2\ny=3\n[a]\nz=9\n", "[b]\nx=4\n"],

@@ -24,8 +24,8 @@ warn_element-requires-clause-places c =
     let t = step_some s.is_reading c.in_ok-element.ensures.element c.in-Some.is in
     (c.elements.parser.front, (t.stands.rest, t.stands.places))
 
-pub over-position-requires : goal.over-position-requires
-over-position-requires c =
+pub advance-position-requires : goal.advance-position-requires
+advance-position-requires c =
     let s = c.elements.invariant in
     let t = step_some s.is_reading c.in_ok-element.ensures.element c.in-Some.is in
     room_after (chars c.args.text.now) c.elements.parser.front (chars c.in-Some.element.source.now)
@@ -38,4 +38,4 @@ elements-preserved c =
     let noted = c.in_ok-note_element.ensures in
     checks_step s (step_some s.is_reading c.in_ok-element.ensures.element c.in-Some.is)
     (c.in_ok-warn_element.ensures.warned c.elements.parser.front s.at) noted.names noted.keys
-    (c.over-position.ensures.at c.elements.parser.front s.at)
+    (c.advance-position.ensures.at c.elements.parser.front s.at)

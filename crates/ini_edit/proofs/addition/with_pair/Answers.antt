@@ -8,15 +8,15 @@ use Rattle.ini_edit.specs.declared.place.SectionEnd.TheVariants as ends
 use Rattle.ini_edit.proofs.AddedLemmas.{added_at}
 use Rattle.ini_edit.proofs.addition.with_pair.Goals as goal
 
-pub returns-in_ok-with_line-in-There-clause-added : goal.returns-in_ok-with_line-in-There-clause-added
-returns-in_ok-with_line-in-There-clause-added c =
+pub returns-in_ok-with_line-in-Found-clause-added : goal.returns-in_ok-with_line-in-Found-clause-added
+returns-in_ok-with_line-in-Found-clause-added c =
     subst (λ w. IsAdded c.args.read w (chars c.args.text.now) (chars c.args.key.now) (chars c.args.value.now)
-    (text_of c.in_ok-with_line-in-There.field-0) (str_name c.args.name)) c.like_lines_of.ensures
+    (text_of c.in_ok-with_line-in-Found.field-0) (str_name c.args.name)) c.like_lines_of.ensures
     (IsAdded.in_section
     (added_at (subst (λ place. AnswersEnd c.args.read (chars c.args.text.now) (str_name c.args.name)
-    (ends.There place)) c.in_ok-place-in-There.ensures.ok_part
-    (subst (AnswersEnd c.args.read (chars c.args.text.now) (str_name c.args.name)) c.in-There.is
-    c.requires.end)) c.in_ok-with_line-in-There.ensures.new
+    (ends.Found place)) c.in_ok-place-in-Found.ensures.ok_part
+    (subst (AnswersEnd c.args.read (chars c.args.text.now) (str_name c.args.name)) c.in-Found.is
+    c.requires.end)) c.in_ok-with_line-in-Found.ensures.new
     (subst (λ w. IsWritable c.args.read w (chars c.args.key.now) (chars c.args.value.now))
     (sym c.like_lines_of.ensures)
     (record { separator = c.requires.writable.separator; pair = c.requires.writable.pair }))))

@@ -40,7 +40,8 @@ unfolding chars
 returns-then-is_column_one c =
     cut_whole (stretches_at (chars c.args.front.now) c.args.places.now (chars c.args.rest.now))
     (on_of _ c.if-not-read.false)
-    (some_of _ _ c.in-Some.ensures.characters) c.requires (sym c.starts_line.ensures ∙ c.if-not-starts_line.false)
+    (some_of _ _ c.in-Some.ensures.characters) c.requires
+    (sym c.starts_line.ensures ∙ c.if-not-starts_line.false)
     (λ _. sym c.is_column_one.ensures ∙ c.if-is_column_one.true)
 
 pub returns-then-is_column_one-2 : goal.returns-then-is_column_one-2
@@ -48,7 +49,8 @@ unfolding chars
 returns-then-is_column_one-2 c =
     cut_feed (stretches_at (chars c.args.front.now) c.args.places.now (chars c.args.rest.now))
     (on_of _ c.if-not-read.false)
-    (some_of _ _ c.in-Some.ensures.characters) c.requires (sym c.starts_line.ensures ∙ c.if-not-starts_line.false)
+    (some_of _ _ c.in-Some.ensures.characters) c.requires
+    (sym c.starts_line.ensures ∙ c.if-not-starts_line.false)
     (sym c.is_column_one.ensures ∙ c.if-is_column_one.false)
     (sym c.is_column_one-2.ensures ∙ c.if-is_column_one-2.true)
 
@@ -57,5 +59,6 @@ unfolding chars
 returns c =
     cut_whole (stretches_at (chars c.args.front.now) c.args.places.now (chars c.args.rest.now))
     (on_of _ c.if-not-read.false)
-    (some_of _ _ c.in-Some.ensures.characters) c.requires (sym c.starts_line.ensures ∙ c.if-not-starts_line.false)
+    (some_of _ _ c.in-Some.ensures.characters) c.requires
+    (sym c.starts_line.ensures ∙ c.if-not-starts_line.false)
     (λ one. absurd (both_ways _ (sym c.is_column_one-2.ensures ∙ c.if-is_column_one-2.false) one))

@@ -72,7 +72,8 @@ elements-preserved c =
       search_step s.0 t
           (subst (λ x. PairsWithout (chars c.args.key.now) (gives x))
           (sym c.in-Nothing.is) PairsWithout.nothing),
-      nears_nothing s.1 t (chars c.rest-rest.result.now) c.free_place-next.result c.chosen-place.result
+      nears_nothing s.1 t (chars c.rest-rest.result.now) c.free_place-next.result c.better_place-place.result
           (ap gives c.in-Nothing.is) c.free_place-next.ensures.free c.free_place-next.ensures.taken
-          (c.rest-rest.ensures ∙ t.is_reading.text) c.chosen-place.ensures.place c.chosen-place.ensures.none,
+          (c.rest-rest.ensures ∙ t.is_reading.text) c.better_place-place.ensures.place
+          c.better_place-place.ensures.none,
     )

@@ -39,6 +39,8 @@ pub elements-preserved : goal.elements-preserved
 elements-preserved c =
     let s = c.elements.invariant in
     let t = step_some s.walked.is_reading c.in_ok-element.ensures.element c.in-Some.is in
-    nears_nothing s t (chars c.rest-in-elements.result.now) c.free_place-next.result c.chosen-place.result
+    nears_nothing s t (chars c.rest-in-elements.result.now) c.free_place-next.result
+    c.better_place-place.result
     (ap gives c.in-Nothing.is) c.free_place-next.ensures.free c.free_place-next.ensures.taken
-    (c.rest-in-elements.ensures ∙ t.is_reading.text) c.chosen-place.ensures.place c.chosen-place.ensures.none
+    (c.rest-in-elements.ensures ∙ t.is_reading.text) c.better_place-place.ensures.place
+    c.better_place-place.ensures.none

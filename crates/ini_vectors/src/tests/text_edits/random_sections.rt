@@ -1,6 +1,6 @@
 //! Sections of random texts by random options: the new text loads as the edited document.
 use super::random::Random;
-use super::show::{loaded, options_of, shown, reported};
+use super::show::{loaded, options_of, reported, shown};
 use ini::{Error, Ini};
 use ini_edit::{EditError, delete_section};
 use std::alloc::Global;

@@ -3,7 +3,7 @@ use denote.Text.{Utf8}
 use denote.Shadow.{shadow}
 use Rattle.ini_text.specs.Grammar.CharacterKinds.{is_line_feed}
 use Rattle.ini_text.proofs.StringLemmas.PositionLemmas.{column_from}
-use Rattle.ini_check.proofs.position.Position.over.Given as goal
+use Rattle.ini_check.proofs.position.Position.advance.Given as goal
 
 abbrev pub decreases-characters : goal.decreases-characters
 decreases-characters l = length (chars l.rest)

@@ -1,4 +1,4 @@
--- `kept` reads the pointer out of the handle and lends what lies after it, and the handle follows that.
+-- `kept_mut` reads the pointer out of the handle and lends what lies after it, and the handle follows that.
 use Rattle.std.proofs.Common.{◌≡◌, ℕ, List, [], ◌∷◌, refl, sym}
 use mathlib.Core.Bool.{Bool, true}
 use seplogic.Ra.Ura.{Ura}
@@ -38,10 +38,10 @@ use Rattle.std_alloc.proofs.BoxSteps.Form.{τ, word, handle}
 use Rattle.ini_c.specs.Inside.Ownership.{held_or_closed}
 use Rattle.ini_c.proofs.Steps.{E, Kept-handle, handle_in, handle_open}
 use Rattle.ini_c.specs.contracts.document.Kept as Kept
-use Rattle.ini_c.specs.contracts.handle.Handle.kept as F
-use Rattle.ini_c.specs.contracts.handle.Handle.kept.Key.{name as #self}
-use Rattle.ini_c.proofs.handle.Handle.kept.Statement as stated
-use Rattle.ini_c.proofs.handle.Handle.kept.Code as code
+use Rattle.ini_c.specs.contracts.handle.Handle.kept_mut as F
+use Rattle.ini_c.specs.contracts.handle.Handle.kept_mut.Key.{name as #self}
+use Rattle.ini_c.proofs.handle.Handle.kept_mut.Statement as stated
+use Rattle.ini_c.proofs.handle.Handle.kept_mut.Code as code
 
 -- what is left once the reference is made
 abbrev answering : Body
@@ -134,9 +134,9 @@ module _ {M : Type 1} {𝓤 : Ura M} (𝓛 : Logic 𝓤) (at_mem : Memory → SP
       await ! tt $ pick ! (λ γ'. returns ! (look_at ! 0 refl) $ free_all ! refl $
       keep ! (0 ∷ []) $ by ! (exits b o hv γ')))))
 
-pub kept_spec : {M : Type 1} → stated.statement M
+pub kept_mut_spec : {M : Type 1} → stated.statement M
 unfolding tables_of
-kept_spec 𝓤 𝓛 𝓜 𝓡 wired =
+kept_mut_spec 𝓤 𝓛 𝓜 𝓡 wired =
     let 𝓣 : Tables 𝓤 𝓛.H = tables_of 𝓤 𝓛.H 𝓜 (tables 𝓤 𝓛.H 𝓜 𝓡 𝓡.env) in
     let told = F.clauses 𝓛 𝓜.mem 𝓡.returns in
     entered 𝓤 𝓛.H (triple_of 𝓛 F.signature (F.spec 𝓛 𝓜.mem 𝓡.returns)) 𝓣.C 𝓣.Λ #self code.function

@@ -1,19 +1,21 @@
 use Rattle.std.proofs.Common.{length, chars, ap, ◌∙◌, sym, rules, arith}
 use Rattle.ini_text.proofs.StringLemmas.PositionLemmas.{column-feed, line-feed}
 use Rattle.ini_check.proofs.PositionLemmas.{over_at, over_room}
-use Rattle.ini_check.proofs.position.Position.over.Goals as goal
+use Rattle.ini_check.proofs.position.Position.advance.Goals as goal
 
 pub returns-clause-room : goal.returns-clause-room
 returns-clause-room c =
     let i = c.characters.invariant in
     over_room (chars c.args.passed.now) (chars c.characters.rest.now) c.args.self
-    record { line = c.characters.line; column = c.characters.column } c.in_default.ensures.characters i.line i.column
+    record { line = c.characters.line; column = c.characters.column } c.in_default.ensures.characters
+    i.line i.column
 
 pub returns-clause-at : goal.returns-clause-at
 returns-clause-at c =
     let i = c.characters.invariant in
     over_at (chars c.args.passed.now) (chars c.characters.rest.now) c.args.self
-    record { line = c.characters.line; column = c.characters.column } c.in_default.ensures.characters i.line i.column
+    record { line = c.characters.line; column = c.characters.column } c.in_default.ensures.characters
+    i.line i.column
 
 pub characters-preserved-then-c-eq10 : goal.characters-preserved-then-c-eq10
 characters-preserved-then-c-eq10 c = record {

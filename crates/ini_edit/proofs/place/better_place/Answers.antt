@@ -1,6 +1,6 @@
 use Rattle.ini_edit.specs.Inside.NoPlaceWalks.{NoneChosen}
 use Rattle.ini_edit.specs.Inside.PlaceWalks.{Chooses}
-use Rattle.ini_edit.proofs.place.chosen.Goals as goal
+use Rattle.ini_edit.proofs.place.better_place.Goals as goal
 
 pub returns-then-is_indented_key : goal.returns-then-is_indented_key
 returns-then-is_indented_key c = record {
