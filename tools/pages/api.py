@@ -3,7 +3,7 @@
 
     tools/pages/api.py > docs/API.md
 
-Each public function and method has a line: its signature, and the first sentence of its doc comment. A type or a function is
+Each public function, method and constant has a line: its signature, and the first sentence of its doc comment. A type or a function is
 public where its crate's lib.rt hands it out by `pub use`, or where it stands in a module that is `pub mod`. It reads the
 layout that `rt fmt` writes, and ends with status 1 and a line on standard error where it meets something that it does not
 know, such as a public function without a doc comment, or a name that is handed out and found nowhere.
@@ -15,13 +15,15 @@ from pathlib import Path
 TOP = Path(__file__).resolve().parents[2]
 CRATES = ("ini", "ini_view", "ini_text", "ini_multimap", "ini_layers", "ini_edit", "ini_check")
 FUNCTION = re.compile(r"(pub )?(?:const |unsafe )*fn (\w+)")
+CONSTANT = re.compile(r"pub (const (\w+): [^=]+?) =")
 ITEM = re.compile(r"pub (struct|enum|trait|type|fn|const fn) (\w+)")
 # what may follow a signature
-BEHIND = re.compile(r"\s*(requires|ensures|decreases|where|\{|;|$)")
+AFTER = re.compile(r"\s*(requires|ensures|decreases|where|\{|;|$)")
 HEAD = """# Public calls
 
-Every public function and method of the libraries, with the first sentence of its comment. The contracts, which say the rest,
-stand below the signatures in the sources. `tools/pages/api.py` makes this page, and `tests/pages.sh` compares it.
+Every public function, method and constant of the libraries, with the first sentence of its comment. The contracts, which
+say the rest, stand below the signatures in the sources. `tools/pages/api.py` makes this page, and `tests/pages.sh` compares
+it.
 """
 
 
@@ -83,7 +85,7 @@ def signature(lines, at, where):
         if end == len(lines) or end > at + 20:
             raise Unknown(f"{where}: a signature without an end")
     body = re.search(r"\s*(\{\}?|;)$", text)
-    if not body and not BEHIND.match(lines[end + 1]):
+    if not body and not AFTER.match(lines[end + 1]):
         raise Unknown(f"{where}: a signature that goes on: {lines[end + 1].strip()}")
     text = text[: body.start()] if body else text
     text = re.sub(r"\(\s+", "(", re.sub(r",?\s+\)", ")", text.strip()))
@@ -156,6 +158,10 @@ def calls(crate):
                 seen.add(item[2])
                 name = file.removesuffix(".rt").replace("/", "::") if module in modules else ""
                 given.setdefault(name, []).append((signature(lines, at, where), sentence(lines, at, where)))
+            constant = CONSTANT.match(line)
+            if constant and constant[2] in own:
+                seen.add(constant[2])
+                given.setdefault("", []).append((constant[1], sentence(lines, at, where)))
             method = FUNCTION.match(line.strip())
             if line.startswith("    ") and not line.startswith("     ") and method:
                 if (method[1] and inside in own) or (in_trait and inside in own):
