@@ -6,7 +6,7 @@ use Rattle.std.proofs.lemmas.Result.{on_ok_weaker}
 use Rattle.std.proofs.lemmas.Str.{encodes-append, encodes-chars, scalars-chars}
 use Rattle.std.specs.Str.{IsUtf8, all_scalars}
 use Rattle.ini_text.specs.Device.Gathering.{Sends, SendsBytes}
-use Rattle.ini_text.specs.Device.HeldBack.{held}
+use Rattle.ini_text.specs.Device.Unsent.{unsent}
 use Rattle.ini_text.specs.Device.Watched.{IsClear, WritesBytes}
 use Rattle.ini_text.specs.Escaping.EscapedTexts.{escaped, escaped_bytes}
 use Rattle.ini_text.specs.declared.device.Watched.{Watched}
@@ -83,37 +83,37 @@ module _ {W : Type 0} {contents : W → Option (List ℕ)} where
       }
 
   -- bytes that are buffered
-  pub SendsBytes-held : {a : Watched W} {g h : Gatherer} {xs : List ℕ} → IsClear a
-      → held h ≡ held g ++ xs → SendsBytes contents a a g h (Ok (tt {0})) xs
-  SendsBytes-held {g = g} {xs = xs} clear is = record {
+  pub SendsBytes-unsent : {a : Watched W} {g h : Gatherer} {xs : List ℕ} → IsClear a
+      → unsent h ≡ unsent g ++ xs → SendsBytes contents a a g h (Ok (tt {0})) xs
+  SendsBytes-unsent {g = g} {xs = xs} clear is = record {
     done = [];
-    rest = held g ++ xs;
+    rest = unsent g ++ xs;
     parts = refl;
     written = WritesBytes-nil clear;
-    held_back = is;
+    rest_unsent = is;
   }
 
   -- what is buffered already, and the bytes that are left
   pub SendsBytes-after : {a b : Watched W} {g h i : Gatherer} {xs ys : List ℕ}
-      {r : Result (Unit {0}) Error} → held g ++ xs ≡ held h ++ ys → SendsBytes contents a b h i r ys
+      {r : Result (Unit {0}) Error} → unsent g ++ xs ≡ unsent h ++ ys → SendsBytes contents a b h i r ys
       → SendsBytes contents a b g i r xs
   SendsBytes-after same sent = record {
     done = sent.done;
     rest = sent.rest;
     parts = same ∙ sent.parts;
     written = sent.written;
-    held_back = sent.held_back;
+    rest_unsent = sent.rest_unsent;
   }
 
   -- bytes that go out while nothing is buffered
   pub SendsBytes-direct : {a b : Watched W} {g : Gatherer} {xs : List ℕ} {r : Result (Unit {0}) Error}
-      → held g ≡ [] → WritesBytes contents a b r xs → SendsBytes contents a b g g r xs
+      → unsent g ≡ [] → WritesBytes contents a b r xs → SendsBytes contents a b g g r xs
   SendsBytes-direct {xs = xs} {r = r} none all = record {
     done = xs;
     rest = [];
     parts = ap (λ l. l ++ xs) none ∙ sym (append-nil xs);
     written = all;
-    held_back = at_ok r none;
+    rest_unsent = at_ok r none;
   }
 
   -- the second bytes after the first
@@ -123,11 +123,11 @@ module _ {W : Type 0} {contents : W → Option (List ℕ)} where
   SendsBytes-then {g = g} {xs = xs} {ys = ys} clear first second = record {
     done = first.done ++ second.done;
     rest = second.rest;
-    parts = sym (append_assoc (held g) xs ys) ∙ ap (λ l. l ++ ys) first.parts
-        ∙ append_assoc first.done first.rest ys ∙ ap (λ l. first.done ++ (l ++ ys)) (sym first.held_back)
+    parts = sym (append_assoc (unsent g) xs ys) ∙ ap (λ l. l ++ ys) first.parts
+        ∙ append_assoc first.done first.rest ys ∙ ap (λ l. first.done ++ (l ++ ys)) (sym first.rest_unsent)
         ∙ ap (λ l. first.done ++ l) second.parts ∙ sym (append_assoc first.done second.done second.rest);
     written = WritesBytes-then clear first.written second.written;
-    held_back = second.held_back;
+    rest_unsent = second.rest_unsent;
   }
 
   -- bytes that were cut short, and what should have followed
@@ -136,19 +136,19 @@ module _ {W : Type 0} {contents : W → Option (List ℕ)} where
   SendsBytes-cut {g = g} {xs = xs} ys cut = record {
     done = cut.done;
     rest = cut.rest ++ ys;
-    parts = sym (append_assoc (held g) xs ys) ∙ ap (λ l. l ++ ys) cut.parts
+    parts = sym (append_assoc (unsent g) xs ys) ∙ ap (λ l. l ++ ys) cut.parts
         ∙ append_assoc cut.done cut.rest ys;
     written = cut.written;
-    held_back = tt;
+    rest_unsent = tt;
   }
 
-  -- all that was sent was written, where nothing was held before, and nothing is held after
+  -- all that was sent was written, where nothing was unsent before, and nothing is after
   SendsBytes-all : {a b : Watched W} {g h : Gatherer} {xs : List ℕ} (r : Result (Unit {0}) Error)
-      → held g ≡ [] → SendsBytes contents a b g h r xs → OnOk r (held h ≡ [])
+      → unsent g ≡ [] → SendsBytes contents a b g h r xs → OnOk r (unsent h ≡ [])
       → WritesBytes contents a b r xs
   SendsBytes-all {a} {b} {xs = xs} (Ok x) none sent empty =
       subst (WritesBytes contents a b (Ok x))
-      (sym (append-nil sent.done) ∙ ap (λ l. sent.done ++ l) (sym empty ∙ sent.held_back)
+      (sym (append-nil sent.done) ∙ ap (λ l. sent.done ++ l) (sym empty ∙ sent.rest_unsent)
       ∙ sym sent.parts ∙ ap (λ l. l ++ xs) none) sent.written
   SendsBytes-all {a} {b} {xs = xs} (Err e) none sent empty =
       subst (WritesBytes contents a b (Err e)) (sym sent.parts ∙ ap (λ l. l ++ xs) none)
@@ -185,9 +185,9 @@ module _ {W : Type 0} {contents : W → Option (List ℕ)} where
   }
 
   -- nothing is sent
-  pub Sends-nil : {a : Watched W} {g h : Gatherer} → IsClear a → held h ≡ held g ++ []
+  pub Sends-nil : {a : Watched W} {g h : Gatherer} → IsClear a → unsent h ≡ unsent g ++ []
       → Sends contents a a g h (Ok (tt {0})) []
-  Sends-nil clear is = record { bytes = SendsBytes-held clear is; characters = refl }
+  Sends-nil clear is = record { bytes = SendsBytes-unsent clear is; characters = refl }
 
   -- the second text after the first
   pub Sends-then : {a b c : Watched W} {g h i : Gatherer} {xs ys : List ℕ} {r : Result (Unit {0}) Error}
@@ -207,14 +207,14 @@ module _ {W : Type 0} {contents : W → Option (List ℕ)} where
   }
 
   -- a text that is sent from an empty gatherer, up to a refusal
-  pub Sends-refused : {a b : Watched W} {g h : Gatherer} {xs : List ℕ} {e : Error} → held g ≡ []
+  pub Sends-refused : {a b : Watched W} {g h : Gatherer} {xs : List ℕ} {e : Error} → unsent g ≡ []
       → Sends contents a b g h (Err e) xs → WritesBytes contents a b (Err e) (encode_utf8_all xs)
   Sends-refused {e = e} none sent = SendsBytes-all (Err e) none sent.bytes tt
 
   -- the same, once it is flushed
   pub Sends-flushed : {a b c : Watched W} {g h i : Gatherer} {xs : List ℕ} {r : Result (Unit {0}) Error}
-      → IsClear a → held g ≡ [] → Sends contents a b g h (Ok (tt {0})) xs → Sends contents b c h i r []
-      → OnOk r (held i ≡ []) → WritesBytes contents a c r (encode_utf8_all xs)
+      → IsClear a → unsent g ≡ [] → Sends contents a b g h (Ok (tt {0})) xs → Sends contents b c h i r []
+      → OnOk r (unsent i ≡ []) → WritesBytes contents a c r (encode_utf8_all xs)
   Sends-flushed {a} {c = c} {xs = xs} {r = r} clear none first second empty =
       subst (WritesBytes contents a c r) (append-nil (encode_utf8_all xs))
       (SendsBytes-all r none (SendsBytes-then clear first.bytes second.bytes) empty)
@@ -231,40 +231,40 @@ module _ {W : Type 0} {contents : W → Option (List ℕ)} where
   Leaving-starts whole clear = record { done = []; parts = refl; written = WritesBytes-nil clear }
 
   pub Leaving-ends : {a b : Watched W} {g h : Gatherer} (xs : List ℕ)
-      → Leaving contents a b (held g ++ xs) (held h) → SendsBytes contents a b g h (Ok (tt {0})) xs
+      → Leaving contents a b (unsent g ++ xs) (unsent h) → SendsBytes contents a b g h (Ok (tt {0})) xs
   Leaving-ends {h = h} xs all = record {
     done = all.done;
-    rest = held h;
+    rest = unsent h;
     parts = all.parts;
     written = all.written;
-    held_back = refl;
+    rest_unsent = refl;
   }
 
   module _ {a b c : Watched W} {h i : Gatherer} {whole left : List ℕ} (clear : IsClear a) (xs : List ℕ)
       (so_far : Leaving contents a b whole left) where
-    -- a call that was to send the bytes xs after what is held
-    pub Leaving-goes_on : (more : List ℕ) → left ≡ held h ++ (xs ++ more)
-        → SendsBytes contents b c h i (Ok (tt {0})) xs → Leaving contents a c whole (held i ++ more)
+    -- a call that was to send the bytes xs after what is unsent
+    pub Leaving-goes_on : (more : List ℕ) → left ≡ unsent h ++ (xs ++ more)
+        → SendsBytes contents b c h i (Ok (tt {0})) xs → Leaving contents a c whole (unsent i ++ more)
     Leaving-goes_on more front step = record {
       done = so_far.done ++ step.done;
       parts = so_far.parts
-          ∙ ap (λ l. so_far.done ++ l) (front ∙ sym (append_assoc (held h) xs more)
+          ∙ ap (λ l. so_far.done ++ l) (front ∙ sym (append_assoc (unsent h) xs more)
           ∙ ap (λ l. l ++ more) step.parts ∙ append_assoc step.done step.rest more
-          ∙ ap (λ l. step.done ++ (l ++ more)) (sym step.held_back))
-          ∙ sym (append_assoc so_far.done step.done (held i ++ more));
+          ∙ ap (λ l. step.done ++ (l ++ more)) (sym step.rest_unsent))
+          ∙ sym (append_assoc so_far.done step.done (unsent i ++ more));
       written = WritesBytes-then clear so_far.written step.written;
     }
 
     -- and one that was to send all that is left
-    pub Leaving-last : {g : Gatherer} {r : Result (Unit {0}) Error} (ys : List ℕ) → held g ++ ys ≡ whole
-        → left ≡ held h ++ xs → SendsBytes contents b c h i r xs → SendsBytes contents a c g i r ys
+    pub Leaving-last : {g : Gatherer} {r : Result (Unit {0}) Error} (ys : List ℕ) → unsent g ++ ys ≡ whole
+        → left ≡ unsent h ++ xs → SendsBytes contents b c h i r xs → SendsBytes contents a c g i r ys
     Leaving-last ys all front step = record {
       done = so_far.done ++ step.done;
       rest = step.rest;
       parts = all ∙ so_far.parts ∙ ap (λ l. so_far.done ++ l) (front ∙ step.parts)
           ∙ sym (append_assoc so_far.done step.done step.rest);
       written = WritesBytes-then clear so_far.written step.written;
-      held_back = step.held_back;
+      rest_unsent = step.rest_unsent;
     }
 
 -- a part of a whole text was sent, and the rest is left
@@ -282,7 +282,7 @@ module _ {W : Type 0} {contents : W → Option (List ℕ)} where
     so_far = [];
     joined = refl;
     clear = clear;
-    sent = Sends-nil clear (sym (append-nil (held g)));
+    sent = Sends-nil clear (sym (append-nil (unsent g)));
   }
 
   -- a call that was to send the front xs of the rest

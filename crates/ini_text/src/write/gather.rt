@@ -4,7 +4,7 @@ ghost use Rattle.std.specs.Prelude.{◌≡◌, OnOk, [], ◌++◌, chars};
 ghost use Rattle.ini_text.specs.Escaping.EscapedTexts.{escape, escaped, escaped_bytes};
 ghost use Rattle.ini_text.specs.Inside.Verbatim.{marked_escaped};
 ghost use Rattle.ini_text.specs.Device.Gathering.{Sends, SendsBytes};
-ghost use Rattle.ini_text.specs.Device.HeldBack.{held};
+ghost use Rattle.ini_text.specs.Device.Unsent.{unsent};
 ghost use Rattle.ini_text.specs.Device.Watched.{IsClear};
 
 use crate::buffer::Buffer;
@@ -32,7 +32,7 @@ pub struct Gatherer {
 impl Gatherer {
     /// Nothing is buffered.
     pub fn new() -> Gatherer
-        ensures { held result ≡ [] }
+        ensures { unsent result ≡ [] }
     {
         Gatherer {
             buffer: Buffer::new(),
@@ -184,7 +184,7 @@ impl Gatherer {
     pub fn flush<W: Write>(&mut self, out: &mut Watched<'_, W>) -> Result<(), Error>
         requires { IsClear out.old }
         ensures sends { Sends W.contents out.old out.new self.old self.new result [] }
-        ensures empty { OnOk result (held self.new ≡ []) }
+        ensures empty { OnOk result (unsent self.new ≡ []) }
     {
         write_bytes(self.buffer.as_bytes(), out)?;
         self.buffer.truncate(0);

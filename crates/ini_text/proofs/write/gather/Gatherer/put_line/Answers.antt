@@ -1,12 +1,12 @@
 use Rattle.std.proofs.lemmas.Result.{err_from_is_err_and}
-use Rattle.ini_text.proofs.WriteLemmas.SendLemmas.{Sends-cut, Sends-line, Sends-nil, Sends-then, SendsBytes-held}
+use Rattle.ini_text.proofs.WriteLemmas.SendLemmas.{Sends-cut, Sends-line, Sends-nil, Sends-then, SendsBytes-unsent}
 use Rattle.ini_text.proofs.write.gather.Gatherer.put_line.Goals as goal
 
 pub returns-then-push_line : goal.returns-then-push_line
 returns-then-push_line g c =
     Sends-line c.args.policy c.args.first.now c.args.between.now c.args.second.now c.args.end.now
     c.utf8.first c.utf8.between c.utf8.second c.utf8.end
-    (SendsBytes-held c.requires (rw c.if-push_line.true at c.push_line.ensures.pushed))
+    (SendsBytes-unsent c.requires (rw c.if-push_line.true at c.push_line.ensures.pushed))
 
 pub returns-in_err-put_part : goal.returns-in_err-put_part
 returns-in_err-put_part g c =

@@ -1,7 +1,7 @@
--- What a gatherer holds back.
+-- What a gatherer has been given and hasn't sent yet.
 use Rattle.std.specs.Prelude.{ℕ, List}
 use Rattle.ini_text.specs.Buffered.{buffered}
 use Rattle.ini_text.specs.declared.write.gather.Gatherer.{Gatherer}
 
-abbrev pub held : Gatherer → List ℕ
-held gatherer = buffered gatherer.buffer
+abbrev pub unsent : Gatherer → List ℕ
+unsent gatherer = buffered gatherer.buffer
