@@ -10,7 +10,7 @@ use Rattle.ini_text.proofs.write.gather.Gatherer.put_runs.Given as given
 use Rattle.ini_text.proofs.write.gather.Gatherer.put_runs.Goals as goal
 use Rattle.ini_text.proofs.write.gather.Gatherer.put_runs.Goals.{In_ok-put_bytes}
 
--- where nothing more is held, the run is in front of what is left
+-- where nothing more is buffered, the run is in front of what is left
 in_front : (before now run after : List ℕ) {left : List ℕ} → now ≡ before ++ [] → left ≡ run ++ after
     → before ++ left ≡ now ++ (run ++ after)
 in_front before now run after {left} same parts =
