@@ -1,5 +1,5 @@
 //! One element of a text after another. This file knows parsers alone.
-ghost use Rattle.std.specs.Prelude.{◌≡◌, chars, IfOk, IfErr, MatchOption, OnOk};
+ghost use Rattle.std.specs.Prelude.{IfOk, IfErr, MatchOption, OnOk};
 ghost use Rattle.ini.specs.Loading.{IfParse, IsParseOrMemory, IsStopOf};
 ghost use Rattle.ini_edit.specs.Inside.Walks.{IsPastLast, ReadsOn, StandsWithin, Steps};
 

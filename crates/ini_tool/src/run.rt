@@ -1,5 +1,5 @@
 //! The program as a function of its words and of two devices. This file knows how a run ends, and what is
-//! told of it.
+//! reported of it.
 ghost use Rattle.std.specs.Prelude.{◌≡◌, ◌+◌, ◌↔◌, ◌⊎◌, IfSome, None};
 ghost use Rattle.ini_text.specs.Device.Watched.{AppendsFront, IsClear, SameDevice};
 ghost use Rattle.ini_text.specs.Device.Watched.{device_now, failure_count, stall_count};
