@@ -6,6 +6,10 @@ use crate::reloads::{reload, reload_with};
 use ini::{
     Error, EscapePolicy, Ini, LineSeparator, ParseOption, Properties, SectionSetter, WriteOption,
 };
+use ini_text::{
+    has_byte_order_mark, is_column_one, is_same_text, split_first, split_last, starts_line,
+    text_bytes, without_byte_order_mark,
+};
 use std::alloc::Global;
 use std::test::Fail;
 
@@ -120,6 +124,44 @@ fn look_ups_by_bytes(rt: HostRuntime) -> Result<(), Fail> {
     assert!(rt; document.section_by_bytes(Some(cut)).is_none());
     assert!(rt; document.section_by_bytes(Some(key)).is_none());
     Ok(())
+}
+
+// Whether texts are split at their first and their last character.
+fn splits_texts() -> bool {
+    matches!(split_first("äb"), Some(('ä', "b")))
+        && matches!(split_last("bä"), Some(("b", 'ä')))
+        && split_first("").is_none()
+        && split_last("").is_none()
+}
+
+// Whether it is seen where lines begin, and which texts are the same.
+fn knows_lines() -> bool {
+    starts_line("")
+        && starts_line("a\r")
+        && !starts_line("a")
+        && is_column_one("a\n")
+        && !is_column_one("a\r")
+        && is_same_text("k", "k")
+        && !is_same_text("k", "K")
+}
+
+// Whether a byte order mark is seen, and left out.
+fn drops_marks() -> bool {
+    let text = "\u{FEFF}k";
+    let bytes = text.as_bytes();
+    has_byte_order_mark(bytes)
+        && !has_byte_order_mark(b"\xEF\xBB".as_slice())
+        && text_bytes(bytes, true) == b"k".as_slice()
+        && text_bytes(bytes, false) == bytes
+        && without_byte_order_mark(text) == "k"
+        && without_byte_order_mark("k") == "k"
+}
+
+#[test]
+fn helpers_of_texts(rt: HostRuntime) {
+    assert!(rt; splits_texts());
+    assert!(rt; knows_lines());
+    assert!(rt; drops_marks());
 }
 
 #[test]
