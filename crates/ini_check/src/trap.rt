@@ -5,7 +5,7 @@ ghost use Rattle.ini_text.specs.Grammar.CharacterKinds.{backslash, is_blank, is_
 ghost use Rattle.ini_check.specs.Traps.{begins_like_comment, begins_like_note, has_comment_mark};
 ghost use Rattle.ini_check.specs.Traps.{has_escape, is_empty_or_white_first, runs_on};
 
-use ini_text::{ParseOption, is_same_text, split_first};
+use ini_text::{ParseOption, is_blank, is_comment_mark, is_line_end, is_same_text, split_first};
 
 /// Whether a key's line runs on into the next one.
 pub(crate) fn runs_on(source: &str) -> bool
@@ -74,22 +74,4 @@ fn has_backslash(raw_value: &str) -> bool
     ensures { result ≡ list_any (λ c. c == backslash) (chars raw_value.now) }
 {
     raw_value.chars().any(|c| c == '\\')
-}
-
-fn is_blank(c: char) -> bool
-    ensures { result ≡ is_blank c }
-{
-    c == ' ' || c == '\t'
-}
-
-fn is_line_end(c: char) -> bool
-    ensures { result ≡ is_line_end c }
-{
-    c == '\n' || c == '\r'
-}
-
-fn is_comment_mark(c: char) -> bool
-    ensures { result ≡ is_comment_mark c }
-{
-    c == ';' || c == '#'
 }

@@ -1,5 +1,5 @@
--- What is written of a value, read as it: of a plain one by its escapes or for want of them, of a raw one as
--- it stands.
+-- What is written of a value, read as it: of a plain one by its escapes or without any, of a raw one as it
+-- stands.
 use Rattle.std.proofs.Common.{◌≡◌, ◌≢◌, ◌∙◌, inl, inr, ℕ, true, false, not, ◌||◌, eqb, eqb-true}
 use Rattle.std.proofs.Common.{List, [], ◌∷◌, ◌++◌, append-nil, refl, sym, ap, subst}
 use Rattle.std.proofs.lemmas.Bool.{and_from, and_parts, cases_Bool, cond-false, cond-true, eqb-false}

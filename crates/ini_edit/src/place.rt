@@ -18,8 +18,8 @@ use crate::find::{FoundPair, opens};
 use crate::text::begins_with_comment;
 use crate::walk::{read_on, step};
 use ini_text::{
-    Content, Error, ParseOption, Parser, PlacedElement, front_before, is_column_one, is_same_text,
-    split_first, starts_line,
+    Content, Error, ParseOption, Parser, PlacedElement, front_before, is_blank, is_column_one,
+    is_line_end, is_same_text, split_first, starts_line,
 };
 use std::alloc::Global;
 
@@ -297,18 +297,6 @@ fn is_blank_or_line_ends(text: &str) -> bool
     ensures { result ≡ list_all (λ c. is_blank c || is_line_end c) (chars text.now) }
 {
     text.chars().all(|c| is_blank(c) || is_line_end(c))
-}
-
-fn is_blank(c: char) -> bool
-    ensures { result ≡ is_blank c }
-{
-    c == ' ' || c == '\t'
-}
-
-fn is_line_end(c: char) -> bool
-    ensures { result ≡ is_line_end c }
-{
-    c == '\n' || c == '\r'
 }
 
 fn begins_with_blank(text: &str) -> bool

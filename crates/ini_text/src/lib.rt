@@ -26,7 +26,10 @@ pub use option::ParseOption;
 pub use parser::Parser;
 pub use parser::placed::{Content, PairPlaces, PlacedElement, PlacedPair};
 pub use plain::{is_plain_name, is_plain_pair, is_plain_separator, is_plain_value};
-pub use text::{front_before, is_column_one, is_same_text, split_first, split_last, starts_line};
+pub use text::{
+    front_before, is_blank, is_column_one, is_comment_mark, is_line_end, is_same_text, split_first,
+    split_last, starts_line,
+};
 pub use write::gather::Gatherer;
 pub use write::option::{LineSeparator, WriteOption};
 pub use write::policy::EscapePolicy;

@@ -113,7 +113,7 @@ impl<'a> Parser<'a> {
 
     /// The next item, and `None` at the text's end.
     ///
-    /// The text is refused by `Error::Parse` where reading it stops, and by `Error::Memory` for want of
+    /// The text is refused by `Error::Parse` where reading it stops, and by `Error::Memory` when out of
     /// memory. After a refusal the parser stays where it was, and answers the same refusal from then on.
     #[inline(always)]
     pub fn next_item(&mut self) -> Result<Option<Item>, Error>

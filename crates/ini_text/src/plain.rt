@@ -24,7 +24,7 @@ pub fn is_plain_separator(text: &str) -> bool
     ensures { IsTrue result ↔ IsPlainSeparator (chars text.now) }
 {
     match split_first(skip(text, Class::Blank)) {
-        Some((c, after)) => is_separator(c) && is_blank(after),
+        Some((c, after)) => is_separator(c) && is_blank_text(after),
         None => false,
     }
 }
@@ -78,7 +78,7 @@ fn is_quote_mark(c: char) -> bool
 }
 
 // Whether blanks are all of the text.
-fn is_blank(text: &str) -> bool
+fn is_blank_text(text: &str) -> bool
     ensures { result ≡ list_all is_blank (chars text.now) }
 {
     text.chars().all(|c| Class::Blank.contains(c))
@@ -96,7 +96,7 @@ fn is_end_trimmed(text: &str) -> bool
     text.trim_end() == text
 }
 
-// Whether what is written for each character is read as that character, by escapes or for want of them.
+// Whether what is written for each character is read as that character, by escapes or without any.
 fn is_read_back(text: &str, policy: EscapePolicy, read: ParseOption) -> bool
     ensures { result ≡ is_read_back read policy (chars text.now) }
 {

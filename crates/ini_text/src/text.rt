@@ -4,7 +4,7 @@ ghost use Rattle.std.specs.Prelude.{◌≡◌, ◌∷◌, ◌++◌, ◌<◌, [],
 ghost use Rattle.std.specs.Prelude.{take, drop, length, IfOk, IfSome, MatchOption, OnOk, string_bytes};
 ghost use Rattle.std.specs.Str.{IsCharBoundary, bytes_eq};
 ghost use Rattle.ini_text.specs.Grammar.CharacterKinds.{line_feed, is_line_end, is_line_feed};
-ghost use Rattle.ini_text.specs.Grammar.CharacterKinds.{is_comment_mark};
+ghost use Rattle.ini_text.specs.Grammar.CharacterKinds.{is_blank, is_comment_mark};
 ghost use Rattle.ini_text.specs.Grammar.Positions.{last_or, starts_line, is_column_one};
 ghost use Rattle.ini_text.specs.Parsing.Fronts.{IsRest, front_of};
 ghost use Rattle.ini_text.specs.Inside.Scans.{begins_white, is_in, is_visible, skipped, trimmed_at};
@@ -28,22 +28,29 @@ impl Class {
     {
         match self {
             Class::Space => c == ' ',
-            Class::Blank => c == ' ' || c == '\t',
+            Class::Blank => is_blank(c),
             Class::InlineWhite => c.is_whitespace() && !is_line_end(c),
             Class::LineFeed => c == '\n',
         }
     }
 }
 
+/// Whether a character is a space or a tab.
+pub fn is_blank(c: char) -> bool
+    ensures { result ≡ is_blank c }
+{
+    c == ' ' || c == '\t'
+}
+
 /// Whether a character ends a line.
-pub(crate) fn is_line_end(c: char) -> bool
+pub fn is_line_end(c: char) -> bool
     ensures { result ≡ is_line_end c }
 {
     c == '\n' || c == '\r'
 }
 
 /// Whether a character begins a comment.
-pub(crate) fn is_comment_mark(c: char) -> bool
+pub fn is_comment_mark(c: char) -> bool
     ensures { result ≡ is_comment_mark c }
 {
     c == ';' || c == '#'

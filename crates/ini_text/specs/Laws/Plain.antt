@@ -48,7 +48,7 @@ pub record HasNoEscapes (policy : EscapePolicy) (text : List ℕ) : Type 0 where
   pub no_backslash : list_all (λ c. not (c == backslash || is_line_end c)) text ≡ true
 
 -- The characters of the text are read back, each as itself. (Of two texts the one may be so by its escapes
--- and the other for want of them; but where escapes are on and the policy isn't `Nothing`, a text that
+-- and the other without any; but where escapes are on and the policy isn't `Nothing`, a text that
 -- needs no escapes has none that isn't read.)
 pub record IsReadBack (o : ParseOption) (policy : EscapePolicy) (text : List ℕ) : Type 0 where
   -- it is made of characters, as each text that a program holds is: it has no surrogates

@@ -7,8 +7,8 @@ use ini::{
     Error, EscapePolicy, Ini, LineSeparator, ParseOption, Properties, SectionSetter, WriteOption,
 };
 use ini_text::{
-    has_byte_order_mark, is_column_one, is_same_text, split_first, split_last, starts_line,
-    text_bytes, without_byte_order_mark,
+    has_byte_order_mark, is_blank, is_column_one, is_comment_mark, is_line_end, is_same_text,
+    split_first, split_last, starts_line, text_bytes, without_byte_order_mark,
 };
 use std::alloc::Global;
 use std::test::Fail;
@@ -134,7 +134,7 @@ fn splits_texts() -> bool {
         && split_last("").is_none()
 }
 
-// Whether it is seen where lines begin, and which texts are the same.
+// Whether it is seen where lines begin, which texts are the same, and of which kind characters are.
 fn knows_lines() -> bool {
     starts_line("")
         && starts_line("a\r")
@@ -143,6 +143,12 @@ fn knows_lines() -> bool {
         && !is_column_one("a\r")
         && is_same_text("k", "k")
         && !is_same_text("k", "K")
+        && is_blank('\t')
+        && is_line_end('\r')
+        && is_comment_mark(';')
+        && !is_blank('\n')
+        && !is_line_end(' ')
+        && !is_comment_mark('k')
 }
 
 // Whether a byte order mark is seen, and left out.

@@ -7,7 +7,7 @@ use Rattle.ini_text.proofs.plain.is_plain_separator.Goals as goal
 
 pub returns-then-is_separator : goal.returns-then-is_separator
 returns-then-is_separator c =
-    let tested : c.is_blank.result ≡ is_plain_separator (chars c.args.text.now) =
+    let tested : c.is_blank_text.result ≡ is_plain_separator (chars c.args.text.now) =
     grind (arith, common_steps) in
     Decides-at _ _ tested (separator_decides (chars c.args.text.now))
 

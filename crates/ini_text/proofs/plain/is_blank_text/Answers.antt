@@ -1,7 +1,7 @@
 use Rattle.std.proofs.Common.{rules, tests}
 use Rattle.std.proofs.lemmas.Iterator.{YieldsList-from_chars}
 use Rattle.std.proofs.lemmas.Iterator.Search.{all_from_yields_List}
-use Rattle.ini_text.proofs.plain.is_blank.Goals as goal
+use Rattle.ini_text.proofs.plain.is_blank_text.Goals as goal
 
 pub returns : goal.returns
 returns c = all_from_yields_List _ _ _ _ c.all.ensures.ran
