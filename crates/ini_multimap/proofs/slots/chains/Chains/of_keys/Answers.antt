@@ -18,8 +18,8 @@ loop-s-preserved g c =
     let next : take (n + 1) ks ≡ all =
     rw add-one (take-suc ks n slot c.loop-s-test.true
     ∙ ap (λ x. take n ks ++ x ∷ []) (sym c.index-keys-s.is)) in
-    let pushed = c.push_slot-is_told.ensures in
-    let P : List (Option g.row.K.Denot) → Type 0 = λ l. AreChained code l c.push_slot-is_told.new.self in
+    let pushed = c.push_slot-is_reported.ensures in
+    let P : List (Option g.row.K.Denot) → Type 0 = λ l. AreChained code l c.push_slot-is_reported.new.self in
     let Q : List (Option g.row.K.Denot) → Type 0 = IsInjective g.K.PartialEq.eq code in
     let told : c.if-is_injective.is_injective ≡ true → Q all = λ e. elim c.if-is_injective.branch [
       | then-is_injective w ↦ OnTrue_at (sym w.is_injective-is ∙ e) pushed.same
