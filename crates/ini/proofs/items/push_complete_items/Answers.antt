@@ -19,11 +19,11 @@ items-preserved c =
     let goes_on =
     IsReading-goes_on reading c.next_item.new.self _ next.item next.option next.text next.refusal is in
     let some =
-    chars-some c.rest-after.result.now c.rest-after.utf8
+    chars-some c.rest-following.result.now c.rest-following.utf8
     (grind (arith, c.is_empty.ensures, c.if-is_empty.false)) in (
-      c.rest-after.utf8,
+      c.rest-following.utf8,
       Settling-item reading c.next_item.new.self _ next.item settling goes_on is some
-          (c.rest-after.ensures ∙ goes_on.text) c.in_ok-push_item.ensures.pushed,
+          (c.rest-following.ensures ∙ goes_on.text) c.in_ok-push_item.ensures.pushed,
     )
 
 pub returns-in-Ok-None-clause-settled : goal.returns-in-Ok-None-clause-settled

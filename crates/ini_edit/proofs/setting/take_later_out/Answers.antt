@@ -59,8 +59,8 @@ cut-cutting-requires c =
     c.requires.option
     (pair_tail t s _ c.in-Pair.is (chars c.rest.result.now) c.rest.ensures))
 
-pub following-requires : goal.following-requires
-following-requires c =
+pub resume_at-requires : goal.resume_at-requires
+resume_at-requires c =
     let t = c.elements.invariant in
     let s = step_some t.is_reading c.in_ok-element.ensures.element c.in-Some.is in
     let same = texts_equal (chars c.args.key.now) (cow_text c.in-Pair.pair.key)
@@ -90,8 +90,8 @@ elements-smaller c =
     (chars c.cut-cutting.result.kept.now) (chars c.cut-cutting.result.rest.now) =
     rw (c.requires.option, sym (ap chars c.as_str-in-Pair.ensures.value), sym c.in-Pair.pair-is)
     c.cut-cutting.ensures in
-    cut_nearer t s _ c.in-Pair.is (chars c.rest.result.now) c.rest.ensures (sym same) cut c.following.result
-    (c.following.ensures.front ∙ ap (λ T. front_of T (chars c.cut-cutting.result.rest.now))
+    cut_nearer t s _ c.in-Pair.is (chars c.rest.result.now) c.rest.ensures (sym same) cut c.resume_at.result
+    (c.resume_at.ensures.front ∙ ap (λ T. front_of T (chars c.cut-cutting.result.rest.now))
     (sym c.requires.text))
 
 pub elements-preserved : goal.elements-preserved
@@ -108,13 +108,13 @@ elements-preserved c =
     (chars c.cut-cutting.result.kept.now) (chars c.cut-cutting.result.rest.now) =
     rw (c.requires.option, sym (ap chars c.as_str-in-Pair.ensures.value), sym c.in-Pair.pair-is)
     c.cut-cutting.ensures in
-    let reading : IsReading c.args.parser.now.option c.args.parser.now.text c.following.result = record {
-      option = c.following.ensures.option ∙ sym c.requires.option;
-      text = c.following.ensures.text ∙ sym c.requires.text;
-      refusal = c.following.ensures.refusal;
+    let reading : IsReading c.args.parser.now.option c.args.parser.now.text c.resume_at.result = record {
+      option = c.resume_at.ensures.option ∙ sym c.requires.option;
+      text = c.resume_at.ensures.text ∙ sym c.requires.text;
+      refusal = c.resume_at.ensures.refusal;
     } in
     subst (Taking _ _ _ _ _ _) (sym c.in_ok-push_text-in-Pair-2.ensures.pushed)
     (taking_cut t s _ c.in-Pair.is (chars c.rest.result.now) c.rest.ensures
-    (sym same) cut c.following.result reading
-    (c.following.ensures.front ∙ ap (λ T. front_of T (chars c.cut-cutting.result.rest.now))
+    (sym same) cut c.resume_at.result reading
+    (c.resume_at.ensures.front ∙ ap (λ T. front_of T (chars c.cut-cutting.result.rest.now))
     (sym c.requires.text)))
