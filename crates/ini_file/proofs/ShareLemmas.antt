@@ -6,11 +6,11 @@ use Rattle.std.specs.Str.{bytes_eq}
 use Rattle.ini_file.specs.Diffs.{DifferFirst, DifferLast, IsDiffBetween, Line, hunk_where, lines_of}
 use Rattle.ini_file.specs.Inside.Shared.{IsFirstLine, IsLastLine, ShareFirst, ShareLast}
 
-pub ShareFirst-more : {old new gone come one other more rest : List ℕ} {count : ℕ}
-    → ShareFirst old new count gone come → IsFirstLine gone one more → IsFirstLine come other rest
+pub ShareFirst-more : {old new removed added one other more rest : List ℕ} {count : ℕ}
+    → ShareFirst old new count removed added → IsFirstLine removed one more → IsFirstLine added other rest
     → one ≡ other
     → ShareFirst old new (count + 1) more rest
-ShareFirst-more {old} {new} {gone} {come} {one} {other} {more} {rest} {count} s a b e = record {
+ShareFirst-more {old} {new} {removed} {added} {one} {other} {more} {rest} {count} s a b e = record {
   first = s.first ++ one ∷ [];
   counted = omega (arith, s.counted, length-append s.first (one ∷ []));
   old_lines = s.old_lines ∙ ap (λ ls. s.first ++ ls) a.lines
@@ -20,10 +20,11 @@ ShareFirst-more {old} {new} {gone} {come} {one} {other} {more} {rest} {count} s 
       ∙ sym (append_assoc s.first (one ∷ []) (lines_of rest));
 }
 
-pub ShareLast-more : {old new gone come one other more rest : List ℕ}
-    → ShareLast old new gone come → IsLastLine gone more one → IsLastLine come rest other → one ≡ other
+pub ShareLast-more : {old new removed added one other more rest : List ℕ}
+    → ShareLast old new removed added → IsLastLine removed more one → IsLastLine added rest other
+    → one ≡ other
     → ShareLast old new more rest
-ShareLast-more {old} {new} {gone} {come} {one} {other} {more} {rest} s a b e = record {
+ShareLast-more {old} {new} {removed} {added} {one} {other} {more} {rest} s a b e = record {
   last = one ∷ s.last;
   old_lines = s.old_lines ∙ ap (λ ls. ls ++ s.last) a.lines ∙ append_assoc (lines_of more) (one ∷ []) s.last;
   new_lines =
@@ -32,9 +33,9 @@ ShareLast-more {old} {new} {gone} {come} {one} {other} {more} {rest} s a b e = r
 }
 
 -- texts whose last lines differ share none
-pub DifferLast-lines : {gone come one other more rest : List ℕ} → IsLastLine gone more one
-    → IsLastLine come rest other → (one ≡ other → ⊥) → DifferLast (lines_of gone) (lines_of come)
-DifferLast-lines {gone} {come} {one} {other} {more} {rest} a b ne line xs ys e f =
+pub DifferLast-lines : {removed added one other more rest : List ℕ} → IsLastLine removed more one
+    → IsLastLine added rest other → (one ≡ other → ⊥) → DifferLast (lines_of removed) (lines_of added)
+DifferLast-lines {removed} {added} {one} {other} {more} {rest} a b ne line xs ys e f =
     let p = same_from_push (lines_of more) xs one line (sym a.lines ∙ e) in
     let q = same_from_push (lines_of rest) ys other line (sym b.lines ∙ f) in
     ne (p.1 ∙ sym q.1)
@@ -62,15 +63,17 @@ other_line one other differ e t same =
     cc
 
 -- what goes and what comes between the lines that are shared
-pub IsDiffBetween-hunk : {from to old new gone come goes comes diff : List ℕ} {count : ℕ}
-    → ShareFirst old new count gone come → DifferFirst (lines_of gone) (lines_of come)
-    → ShareLast gone come goes comes → DifferLast (lines_of goes) (lines_of comes)
-    → diff ≡ hunk_where from to count (lines_of goes) (lines_of comes) → IsDiffBetween from to old new diff
-IsDiffBetween-hunk {from} {to} {old} {new} {gone} {come} {goes} {comes} {diff} {count} s differ t last e =
+pub IsDiffBetween-hunk : {from to old new removed added removals additions diff : List ℕ} {count : ℕ}
+    → ShareFirst old new count removed added → DifferFirst (lines_of removed) (lines_of added)
+    → ShareLast removed added removals additions → DifferLast (lines_of removals) (lines_of additions)
+    → diff ≡ hunk_where from to count (lines_of removals) (lines_of additions)
+    → IsDiffBetween from to old new diff
+IsDiffBetween-hunk {from} {to} {old} {new} {removed} {added} {removals} {additions} {diff} {count}
+    s differ t last e =
     record {
       first = s.first;
-      gone = lines_of goes;
-      come = lines_of comes;
+      removed = lines_of removals;
+      added = lines_of additions;
       is_change = record {
         last = t.last;
         old_lines = s.old_lines ∙ ap (λ ls. s.first ++ ls) t.old_lines;
@@ -78,5 +81,5 @@ IsDiffBetween-hunk {from} {to} {old} {new} {gone} {come} {goes} {comes} {diff} {
         longest_first = λ line more rest p q. differ line more rest (t.old_lines ∙ p) (t.new_lines ∙ q);
         longest_last = last;
       };
-      is_hunk = e ∙ ap (λ n. hunk_where from to n (lines_of goes) (lines_of comes)) (sym s.counted);
+      is_hunk = e ∙ ap (λ n. hunk_where from to n (lines_of removals) (lines_of additions)) (sym s.counted);
     }

@@ -13,14 +13,14 @@ pub record IsLastLine (bytes rest line : List ℕ) : Type 0 where
   pub shorter : length rest < length bytes
 
 -- so many first lines are the same, and these bytes are left
-pub record ShareFirst (old new : List ℕ) (count : ℕ) (gone come : List ℕ) : Type 0 where
+pub record ShareFirst (old new : List ℕ) (count : ℕ) (removed added : List ℕ) : Type 0 where
   pub first : List Line
   pub counted : length first ≡ count
-  pub old_lines : lines_of old ≡ first ++ lines_of gone
-  pub new_lines : lines_of new ≡ first ++ lines_of come
+  pub old_lines : lines_of old ≡ first ++ lines_of removed
+  pub new_lines : lines_of new ≡ first ++ lines_of added
 
 -- last lines are the same, and these bytes are left
-pub record ShareLast (old new : List ℕ) (gone come : List ℕ) : Type 0 where
+pub record ShareLast (old new : List ℕ) (removed added : List ℕ) : Type 0 where
   pub last : List Line
-  pub old_lines : lines_of old ≡ lines_of gone ++ last
-  pub new_lines : lines_of new ≡ lines_of come ++ last
+  pub old_lines : lines_of old ≡ lines_of removed ++ last
+  pub new_lines : lines_of new ≡ lines_of added ++ last
