@@ -95,6 +95,7 @@ pub(crate) fn after_first(text: &str) -> &str
 }
 
 /// What follows the characters of a class that begin a text.
+#[inline(always)]
 pub(crate) fn skip(text: &str, class: Class) -> &str
     ensures { chars result.now ≡ skipped (is_in class) (chars text.now) }
 {
