@@ -7,8 +7,7 @@
 ghost use Rattle.std.specs.Prelude.{◌≡◌, ◌++◌, chars, [], None, Some, Ok, IfSome, IsOkAnd, IsErrAnd, OnErr};
 ghost use Rattle.ini_text.specs.Parsing.Fronts.{IsRest, front_of};
 ghost use Rattle.ini_text.specs.Parsing.Parser.{AnswersItem, KeepsRefusal, TellsRefusal, refusal_of};
-ghost use Rattle.ini_text.specs.Inside.ItemSearch.{AnswersFound, FindsBorrowed, FindsItem};
-ghost use Rattle.ini_text.specs.Inside.ItemSearch.{IsWithin, StopIsWithin};
+ghost use Rattle.ini_text.specs.Inside.ItemSearch.{FindsBorrowed, FindsItem, StopIsWithin};
 
 use crate::error::{Error, ParseError};
 use crate::item::{BorrowedItem, Item};
@@ -51,6 +50,7 @@ pub struct Parser<'a> {
     option: ParseOption,
     refusal: Option<Stop<'a>>,
     scratch: String,
+    rests: Rests<'a>,
 }
 
 impl<'a> Model for Parser<'a> {
@@ -100,6 +100,7 @@ impl<'a> Parser<'a> {
             option: opt,
             refusal: None,
             scratch: String::new(alloc),
+            rests: Rests::new(rest),
         }
     }
 
@@ -131,34 +132,33 @@ impl<'a> Parser<'a> {
         if let Some(stop) = self.refusal {
             return Err(error_at(self.text, stop));
         }
-        let found = find_owned(
+        match find_owned(
             self.alloc,
             &mut self.scratch,
+            &mut self.rests,
             self.text,
             self.rest,
             self.option,
-        );
-        self.answer(found)
-    }
-
-    /// Moves past what was found and answers it; or stays, keeps why reading stopped, and answers that.
-    #[inline(always)]
-    fn answer<T>(&mut self, found: Result<(T, &'a str), Stop<'a>>) -> Result<T, Error>
-        requires { IsWithin self.now.text found }
-        ensures option { self.new.option ≡ self.old.option }
-        ensures text { self.new.text ≡ self.old.text }
-        ensures found { AnswersFound self.old self.new found.entry result }
-    {
-        match found {
+        ) {
             Ok((item, rest)) => {
                 self.rest = rest;
                 Ok(item)
             }
-            Err(stop) => {
-                self.refusal = Some(stop);
-                Err(error_at(self.text, stop))
-            }
+            Err(stop) => Err(self.refuse(stop)),
         }
+    }
+
+    /// Stays, keeps why reading stopped, and gives the error that says so.
+    fn refuse(&mut self, stop: Stop<'a>) -> Error
+        requires { StopIsWithin self.now.text stop }
+        ensures option { self.new.option ≡ self.old.option }
+        ensures text { self.new.text ≡ self.old.text }
+        ensures front { self.new.front ≡ self.old.front }
+        ensures refusal { self.new.refusal ≡ Some (refusal_of self.old.text stop.entry) }
+        ensures error { TellsRefusal (refusal_of self.old.text stop.entry) result }
+    {
+        self.refusal = Some(stop);
+        error_at(self.text, stop)
     }
 }
 
@@ -167,6 +167,7 @@ impl<'a> Parser<'a> {
 fn find_owned<'a>(
     alloc: Global,
     scratch: &mut String,
+    rests: &mut Rests<'a>,
     text: &'a str,
     start: &'a str,
     read: ParseOption,
@@ -175,7 +176,7 @@ fn find_owned<'a>(
     ensures item { FindsItem read (chars text.now) (chars start.now) result }
     ensures ended { chars start.now ≡ [] → IsOkAnd result (λ p. p.0 ≡ None) }
 {
-    let (found, rest) = find_item(alloc, scratch, text, start, read)?;
+    let (found, rest) = find_item(alloc, scratch, rests, text, start, read)?;
     let Some(item) = found else {
         return Ok((None, rest));
     };
@@ -188,6 +189,7 @@ fn find_owned<'a>(
 fn find_item<'a>(
     alloc: Global,
     scratch: &mut String,
+    rests: &mut Rests<'a>,
     text: &'a str,
     start: &'a str,
     read: ParseOption,
@@ -196,11 +198,10 @@ fn find_item<'a>(
     ensures item { FindsBorrowed read (chars text.now) (chars start.now) result }
     ensures ended { chars start.now ≡ [] → IsOkAnd result (λ p. p.0 ≡ None) }
 {
-    let mut rests = Rests::new(start);
     let mut rest = start;
     'elements: while let Some((c, after)) = split_first(rest) {
         let front = front_before(text, rest);
-        let (given, end) = read_element(alloc, scratch, &mut rests, front, rest, c, after, read)?;
+        let (given, end) = read_element(alloc, scratch, rests, false, front, rest, c, after, read)?;
         if let Some(item) = given {
             return Ok((Some(item), end));
         }

@@ -1,5 +1,6 @@
 //! Tests over the public calls of the other crates that take code: chains of calls, devices, files, edits
 //! as values. What a row can ask stands in the case files of `ini_cases`.
+mod borrowed;
 mod calls;
 mod edits;
 mod files;

@@ -1,11 +1,12 @@
 -- A value's own lines and what stands after them, line by line.
-use Rattle.std.proofs.Common.{◌≡◌, ◌≢◌, ◌<◌, ℕ, true, false, ◌==◌, List, [], ◌∷◌, ◌++◌, length, Some, None, inl, inr, refl, sym, ap, ◌∙◌, subst, append_assoc, append-nil, eqb-true, ne_eqb}
+use Rattle.std.proofs.Common.{◌≡◌, ◌≢◌, ◌<◌, ℕ, true, false, ◌==◌, List, [], ◌∷◌, ◌++◌, length, Some, None, inl, inr, refl, sym, ap, ◌∙◌, subst, append_assoc, append-nil, chars, eqb-true, ne_eqb}
 use Rattle.std.proofs.Math.Bool.{or-false}
 use Rattle.std.proofs.lemmas.Bool.{cases_Bool}
 use Rattle.std.proofs.lemmas.List.Folds.{list_all-append}
 use Rattle.std.specs.List.{list_all}
 use Rattle.ini_text.specs.declared.option.ParseOption.{ParseOption}
 use Rattle.ini_text.specs.declared.error.ParseKind.{ParseKind}
+use Rattle.ini_text.specs.declared.parser.rests.Rests.{Rests}
 use Rattle.ini_text.specs.Grammar.CharacterKinds.{line_feed, carriage_return, is_blank, is_line_end, is_line_feed, is_inline_white, BeginsWith, BeginsWithNo}
 use Rattle.ini_text.specs.Grammar.WhiteSpace.{Lead, without_outer_line_feeds}
 use Rattle.ini_text.specs.Grammar.Strings.{Closes, plain_ends}
@@ -72,6 +73,12 @@ record LineAt (o : ParseOption) (t end u : List ℕ) : Type 0 where
   pub lead : Lead w (l ++ end)
   pub ln : Line o false l end u
   pub whole : (w ++ l) ++ end ≡ t
+
+-- the same where these are the rests that were kept
+pub at_rests : {o : ParseOption} {text s t gives rest : List ℕ} (rests : Rests) → rests.start.now ≡ s
+    → rests.tail.now ≡ t → HasTail o text (chars s) (chars t) gives rest
+    → HasTail o text (chars rests.start.now) (chars rests.tail.now) gives rest
+at_rests rests p q h = rw (p, q) h
 
 module _ (o : ParseOption) where
   line_at : {t cs start end u : List ℕ} {c : ℕ} → t ≡ c ∷ cs → is_blank c ≡ true
@@ -263,7 +270,7 @@ module _ (o : ParseOption) {text start : List ℕ} (skips : start ≡ skipped is
         is_tail = TrailingLines.lines on (subst (LineEnd st.end) whole st.ends) x.1 x.2;
       }
 
-  tail_ends : {tail rest given : List ℕ} → o.enabled_indented_mutiline_value ≡ true
+  pub tail_ends : {tail rest given : List ℕ} → o.enabled_indented_mutiline_value ≡ true
       → TailSoFar o text start tail rest given → BeginsWithNo is_blank rest → BeginsWithNo is_line_end rest
       → HasTail o text start tail (without_outer_line_feeds given) rest
   tail_ends {tail} {rest} {given} on st n m =

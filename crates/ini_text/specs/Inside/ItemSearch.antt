@@ -1,6 +1,6 @@
 -- How a parser looks for its next item.
-use Rattle.std.specs.Prelude.{◌≡◌, ℕ, ◌<◌, List, [], ◌∷◌, length, ⊤, chars, Option, Some, Result, Ok, Err, IfSome}
-use Rattle.std.specs.Prelude.{IsErrAnd, MatchOption, MatchResult}
+use Rattle.std.specs.Prelude.{◌≡◌, ℕ, ◌<◌, List, [], ◌∷◌, length, ⊤, chars, Option, Result, IfSome}
+use Rattle.std.specs.Prelude.{MatchOption, MatchResult}
 use Rattle.std.specs.Borrow.{Bor}
 use Rattle.ini_text.specs.Parsing.Fronts.{front_of, IsRest}
 use Rattle.ini_text.specs.Parsing.Items.{borrowed_item_of, item_of}
@@ -12,7 +12,7 @@ use Rattle.ini_text.specs.declared.item.Item.{Item}
 use Rattle.ini_text.specs.declared.option.ParseOption.{ParseOption}
 use Rattle.ini_text.specs.declared.parser.fault.Stop.{Stop}
 use Rattle.ini_text.specs.declared.parser.fault.Stop.TheVariants as stops
-use Rattle.ini_text.specs.Parsing.Parser.{Place, TellsRefusal, Refuses, refusal_of}
+use Rattle.ini_text.specs.Parsing.Parser.{TellsRefusal, Refuses, refusal_of}
 
 -- the stop is before a rest of the text
 abbrev pub StopIsWithin : List ℕ → Stop → Type 0
@@ -42,15 +42,3 @@ FindsBorrowed o T start r = Finds borrowed_item_of o T start r
 pub record StandsIn (T rest : List ℕ) (stop : Option Stop) : Type 0 where
   pub left : IsRest T rest
   pub stopped : IfSome stop (StopIsWithin T)
-
--- what was found reaches a rest of the text, or stops before one
-abbrev pub IsWithin : {X : Type 0} → List ℕ → Result (X × Bor (List ℕ)) Stop → Type 0
-IsWithin T r = MatchResult r (λ p. IsRest T (chars p.1.now)) (StopIsWithin T)
-
--- a parser moves past what was found and answers it; or it stays, keeps the refusal, and answers that
-abbrev pub AnswersFound : {X : Type 0} → Place → Place → Result (X × Bor (List ℕ)) Stop → Result X Error
-    → Type 0
-AnswersFound old new (Ok p) r = (r ≡ Ok p.0) × (new.front ≡ front_of old.text (chars p.1.now))
-    × (new.refusal ≡ old.refusal)
-AnswersFound old new (Err stop) r = IsErrAnd r (TellsRefusal (refusal_of old.text stop))
-    × (new.front ≡ old.front) × (new.refusal ≡ Some (refusal_of old.text stop))

@@ -1,6 +1,6 @@
 -- How the places of a pair are found in a text of which it is known what it gives.
 use Rattle.std.specs.Prelude.{◌≡◌, ℕ, true, List, [], ◌∷◌, ◌++◌, drop, ⊤, chars, Option, Some, Result, MatchOption}
-use Rattle.std.specs.Prelude.{MatchResult}
+use Rattle.std.specs.Prelude.{IfOk, MatchResult}
 use Rattle.std.specs.Borrow.{Bor}
 use Rattle.std.specs.List.{list_all}
 use Rattle.ini_text.specs.Grammar.CharacterKinds.{is_blank, is_inline_white, is_line_feed}
@@ -10,7 +10,7 @@ use Rattle.ini_text.specs.Grammar.Values.{LineEnd, MoreLines}
 use Rattle.ini_text.specs.Grammar.WhiteSpace.{without_outer_line_feeds}
 use Rattle.ini_text.specs.Grammar.Strings.{key_ends}
 use Rattle.ini_text.specs.Inside.ItemSearch.{StopIsWithin}
-use Rattle.ini_text.specs.Inside.Reading.{found, prepend, altered_answer, StopsBy}
+use Rattle.ini_text.specs.Inside.Reading.{found, prepend, altered_answer}
 use Rattle.ini_text.specs.Inside.Scans.{skipped}
 use Rattle.ini_text.specs.Inside.StringReader.{string}
 use Rattle.ini_text.specs.Inside.ValueReader.{more_lines, value}
@@ -58,12 +58,11 @@ pub record TailSoFar (o : ParseOption) (text start tail rest given : List ℕ) :
       → (u : List ℕ) × MoreLines o (lines ++ s) r u × (list_all is_line_feed u ≡ true)
   pub grows : (s r : List ℕ) → s ++ r ≡ rest → LastLine o s r → OwnLines o (before ++ s) r
 
--- what reading a value answers, with where its lines stand
-abbrev pub ReadsValue : ParseOption → List ℕ → Rests → Result (CowStr Global × Bor (List ℕ)) Stop → Type 0
-ReadsValue o text rests r =
-    MatchResult r
-    (λ p. HasTail o text (chars rests.start.now) (chars rests.tail.now) (cow_text p.0) (chars p.1.now))
-    (StopsBy (value o text))
+-- where the lines stand of a value that was read
+abbrev pub HasLines : ParseOption → List ℕ → Rests → Result (CowStr Global × Bor (List ℕ)) Stop → Type 0
+HasLines o text rests r =
+    IfOk r (λ p. HasTail o text (chars rests.start.now) (chars rests.tail.now) (cow_text p.0)
+    (chars p.1.now))
 
 -- a pair was read at the front of a text: after the blanks of its key a string ends before `after_key`, and
 -- the value's own lines stand between `start` and `tail`

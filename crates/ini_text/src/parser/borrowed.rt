@@ -10,8 +10,8 @@ impl<'a> Parser<'a> {
     /// The next item, and `None` at the text's end. What stands there as it is read is borrowed.
     ///
     /// The rest is as `next_item` has it. Owned are names, keys and values with escapes, values with quotes,
-    /// and where they are enabled names with brackets, indented keys whose blanks are kept and values that
-    /// a line end follows which may go on; nothing else takes memory.
+    /// and where they are enabled indented keys whose blanks are kept and values whose next line is empty or
+    /// begins with a blank; nothing else takes memory.
     #[inline(always)]
     pub fn next_borrowed(&mut self) -> Result<Option<BorrowedItem<'a>>, Error>
         ensures option { self.new.option ≡ self.old.option }
@@ -28,13 +28,19 @@ impl<'a> Parser<'a> {
         if let Some(stop) = self.refusal {
             return Err(error_at(self.text, stop));
         }
-        let found = find_item(
+        match find_item(
             self.alloc,
             &mut self.scratch,
+            &mut self.rests,
             self.text,
             self.rest,
             self.option,
-        );
-        self.answer(found)
+        ) {
+            Ok((item, rest)) => {
+                self.rest = rest;
+                Ok(item)
+            }
+            Err(stop) => Err(self.refuse(stop)),
+        }
     }
 }

@@ -1,6 +1,6 @@
 //! Elements: white space, comments, and where a header or a pair begins. This file knows headers and
 //! pairs, and no string.
-ghost use Rattle.std.specs.Prelude.{◌≡◌, ◌∷◌, chars, IfOk};
+ghost use Rattle.std.specs.Prelude.{◌≡◌, ◌∷◌, true, chars, IfOk};
 ghost use Rattle.ini_text.specs.Inside.ElementReader.{element, given};
 ghost use Rattle.ini_text.specs.Inside.PlaceReader.{HasRests};
 ghost use Rattle.ini_text.specs.Inside.Reading.{Gives};
@@ -17,13 +17,14 @@ use std::alloc::Global;
 
 // element = gap / comment / header / pair / dropped-tail
 /// The element with which a text that begins with `c` goes on after a front, if it gives an item, and
-/// what follows it.
+/// what follows it. With `places` the rests of a pair are kept.
 #[inline(always)]
 #[tactic(auto, unfolding(crate::specs::Inside::ElementReader::element))]
 pub(crate) fn read_element<'a>(
     alloc: Global,
     scratch: &mut String,
     rests: &mut Rests<'a>,
+    places: bool,
     front: &str,
     text: &'a str,
     c: char,
@@ -32,15 +33,12 @@ pub(crate) fn read_element<'a>(
 ) -> Result<(Option<BorrowedItem<'a>>, &'a str), Stop<'a>>
     requires { chars text.now ≡ c ∷ chars after.now }
     ensures gives { Gives given result (element read (chars front.now) (chars text.now)) }
-    ensures rests { IfOk result (λ p. HasRests read (chars text.now) rests.new p.0 (chars p.1.now)) }
+    ensures rests { places ≡ true
+        → IfOk result (λ p. HasRests read (chars text.now) rests.new p.0 (chars p.1.now)) }
 {
     if Class::Blank.contains(c) {
         if starts_line(front) {
-            // a call that isn't inlined gets a place of its own, so that the caller's stays in registers
-            let mut seen = *rests;
-            let given = read_indented(alloc, scratch, &mut seen, text, read);
-            *rests = seen;
-            return given;
+            return read_indented(alloc, scratch, rests, places, text, read);
         }
         return Ok((None, after));
     }
@@ -60,5 +58,5 @@ pub(crate) fn read_element<'a>(
     if c == '[' {
         return read_header(alloc, scratch, after, read);
     }
-    read_unindented(alloc, scratch, rests, text, read)
+    read_unindented(alloc, scratch, rests, places, text, read)
 }

@@ -1,6 +1,6 @@
 //! Pairs: keys, indented or not, and what follows them; and what else a line may give that begins with
 //! blanks. This file knows strings and values.
-ghost use Rattle.std.specs.Prelude.{◌≡◌, ℕ, chars, drop, IfOk};
+ghost use Rattle.std.specs.Prelude.{◌≡◌, ℕ, true, chars, drop, IfOk};
 ghost use Rattle.ini_text.specs.Grammar.CharacterKinds.{is_blank};
 ghost use Rattle.ini_text.specs.Inside.ElementReader.{after_blanks, after_separator, given};
 ghost use Rattle.ini_text.specs.Inside.ElementReader.{indented_pair_of_key, kept_blanks, trimmed_key};
@@ -33,12 +33,14 @@ pub(crate) fn read_unindented<'a>(
     alloc: Global,
     scratch: &mut String,
     rests: &mut Rests<'a>,
+    places: bool,
     text: &'a str,
     read: ParseOption,
 ) -> Result<(Option<BorrowedItem<'a>>, &'a str), Stop<'a>>
     requires { skipped is_blank (chars text.now) ≡ chars text.now }
     ensures gives { Gives given result (unindented_pair read (chars text.now)) }
-    ensures rests { IfOk result (λ p. HasRests read (chars text.now) rests.new p.0 (chars p.1.now)) }
+    ensures rests { places ≡ true
+        → IfOk result (λ p. HasRests read (chars text.now) rests.new p.0 (chars p.1.now)) }
 {
     let both = !read.enabled_preserve_key_leading_whitespace;
     let (key, rest) = read_trimmed(
@@ -49,7 +51,7 @@ pub(crate) fn read_unindented<'a>(
         Endpoints::Key,
         both,
     )?;
-    read_pair(alloc, scratch, rests, key, rest, read)
+    read_pair(alloc, scratch, rests, places, key, rest, read)
 }
 
 // gap / 1*blank key separator value / dropped-tail, where blanks begin a line
@@ -58,10 +60,12 @@ pub(crate) fn read_indented<'a>(
     alloc: Global,
     scratch: &mut String,
     rests: &mut Rests<'a>,
+    places: bool,
     text: &'a str,
     read: ParseOption,
 ) -> Result<(Option<BorrowedItem<'a>>, &'a str), Stop<'a>>
-    ensures rests { IfOk result (λ p. HasRests read (chars text.now) rests.new p.0 (chars p.1.now)) }
+    ensures rests { places ≡ true
+        → IfOk result (λ p. HasRests read (chars text.now) rests.new p.0 (chars p.1.now)) }
     ensures gives { Gives given result
         (after_blanks read (run_of is_blank (chars text.now)) (skipped is_blank (chars text.now))) }
 {
@@ -76,7 +80,7 @@ pub(crate) fn read_indented<'a>(
         return Ok((None, start));
     }
     match read_indented_key(alloc, scratch, front_before(text, start), start, read) {
-        Ok((key, rest)) => read_pair(alloc, scratch, rests, key, rest, read),
+        Ok((key, rest)) => read_pair(alloc, scratch, rests, places, key, rest, read),
         Err(stop) => drop_tail(stop),
     }
 }
@@ -131,19 +135,21 @@ fn read_pair<'a>(
     alloc: Global,
     scratch: &mut String,
     rests: &mut Rests<'a>,
+    places: bool,
     key: CowStr<'a>,
     rest: &'a str,
     read: ParseOption,
 ) -> Result<(Option<BorrowedItem<'a>>, &'a str), Stop<'a>>
     ensures gives { Gives given result
         (after_separator read (cow_text key.entry) (drop 1 (chars rest.now))) }
-    ensures rests { IfOk result (λ p. HasValueRests read (chars rest.now) rests.new p.0 (chars p.1.now)) }
+    ensures rests { places ≡ true
+        → IfOk result (λ p. HasValueRests read (chars rest.now) rests.new p.0 (chars p.1.now)) }
 {
     let after = after_first(rest);
     if key.as_str().is_empty() {
         return Err(Stop::new(ParseKind::MissingKey, "missing key", after));
     }
-    let (value, end) = read_value(alloc, scratch, rests, after, read)?;
-    rests.after_key = rest;
+    let (value, end) = read_value(alloc, scratch, rests, places, after, read)?;
+    rests.keep_key(places, rest);
     Ok((Some(BorrowedItem::Pair(key, value)), end))
 }

@@ -92,14 +92,20 @@ impl<'a> Parser<'a> {
         if let Some(stop) = self.refusal {
             return Err(error_at(self.text, stop));
         }
-        let found = find_element(
+        match find_element(
             self.alloc,
             &mut self.scratch,
+            &mut self.rests,
             self.text,
             self.rest,
             self.option,
-        );
-        self.answer(found)
+        ) {
+            Ok((element, rest)) => {
+                self.rest = rest;
+                Ok(element)
+            }
+            Err(stop) => Err(self.refuse(stop)),
+        }
     }
 
     /// The line and the column where the parser stands, each counted from one, the column in characters.
@@ -115,6 +121,7 @@ impl<'a> Parser<'a> {
 fn find_element<'a>(
     alloc: Global,
     scratch: &mut String,
+    rests: &mut Rests<'a>,
     text: &'a str,
     start: &'a str,
     read: ParseOption,
@@ -127,14 +134,13 @@ fn find_element<'a>(
         return Ok((None, start));
     };
     let front = front_before(text, start);
-    let mut rests = Rests::new(start);
-    let (given, rest) = read_element(alloc, scratch, &mut rests, front, start, c, after, read)?;
+    let (given, rest) = read_element(alloc, scratch, rests, true, front, start, c, after, read)?;
     let source = front_before(start, rest);
     let content = match given {
         None => Content::Nothing,
         Some(BorrowedItem::Header(name)) => Content::Header(name),
         Some(BorrowedItem::Pair(key, value)) => {
-            let places = place_pair(start, rests, value.as_str(), rest, read);
+            let places = place_pair(start, *rests, value.as_str(), rest, read);
             Content::Pair(PlacedPair { key, value, places })
         }
     };

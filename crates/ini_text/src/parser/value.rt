@@ -3,10 +3,11 @@
 ghost use Rattle.std.specs.Prelude.{◌≡◌, [], true, not, chars, drop, option_map, IfOk, MatchResult};
 ghost use Rattle.std.specs.List.{list_all};
 ghost use Rattle.std.specs.Str.{IsCharBoundary};
-ghost use Rattle.ini_text.specs.Grammar.CharacterKinds.{is_inline_white, is_line_feed};
+ghost use Rattle.ini_text.specs.Grammar.CharacterKinds.{BeginsWithNo, is_blank, is_inline_white};
+ghost use Rattle.ini_text.specs.Grammar.CharacterKinds.{is_line_end, is_line_feed};
 ghost use Rattle.ini_text.specs.Grammar.WhiteSpace.{without_outer_line_feeds};
-ghost use Rattle.ini_text.specs.Inside.PlaceReader.{HasTail, ReadsValue, TailSoFar};
-ghost use Rattle.ini_text.specs.Inside.Reading.{Appends, StopsBy};
+ghost use Rattle.ini_text.specs.Inside.PlaceReader.{HasLines, HasTail, TailSoFar};
+ghost use Rattle.ini_text.specs.Inside.Reading.{Appends, Gives, StopsBy};
 ghost use Rattle.ini_text.specs.Inside.Scans.{skipped};
 ghost use Rattle.ini_text.specs.Inside.ValueReader.{after_end, empty_cr, value};
 ghost use Rattle.ini_text.specs.Parsing.Items.{cow_text, string_text};
@@ -16,33 +17,30 @@ use crate::option::ParseOption;
 use crate::parser::fault::Stop;
 use crate::parser::line::{read_first_line, read_line};
 use crate::parser::rests::Rests;
-use crate::text::{Class, push, skip, split_first, split_last};
+use crate::text::{Class, is_line_end, push, skip, split_first, split_last};
 use std::alloc::{AllocError, Global};
 use std::borrow::CowStr;
 
 // value = *inline-white line [line-end more-lines]
-/// The value that begins after a separator, with where its lines stand, and what follows it.
+/// The value that begins after a separator, and what follows it. With `places` its lines' rests are kept.
 #[inline(always)]
 pub(crate) fn read_value<'a>(
     alloc: Global,
     scratch: &mut String,
     rests: &mut Rests<'a>,
+    places: bool,
     text: &'a str,
     read: ParseOption,
 ) -> Result<(CowStr<'a>, &'a str), Stop<'a>>
-    ensures { ReadsValue read (chars text.now) rests.new result }
+    ensures gives { Gives cow_text result (value read (chars text.now)) }
+    ensures rests { places ≡ true → HasLines read (chars text.now) rests.new result }
 {
     if read.enabled_indented_mutiline_value {
-        // a call that isn't inlined gets a place of its own, so that the caller's stays in registers
-        let mut seen = *rests;
-        let value = read_multiline(alloc, scratch, &mut seen, text, read);
-        *rests = seen;
-        return value;
+        return read_multiline(alloc, scratch, rests, places, text, read);
     }
     let start = skip(text, Class::InlineWhite);
     let (value, end) = read_first_line(alloc, scratch, start, read)?;
-    rests.start = start;
-    rests.tail = end;
+    rests.keep_lines(places, start, end);
     Ok((value, end))
 }
 
@@ -51,26 +49,45 @@ fn read_multiline<'a>(
     alloc: Global,
     scratch: &mut String,
     rests: &mut Rests<'a>,
+    places: bool,
     text: &'a str,
     read: ParseOption,
 ) -> Result<(CowStr<'a>, &'a str), Stop<'a>>
     requires { read.enabled_indented_mutiline_value ≡ true }
-    ensures { ReadsValue read (chars text.now) rests.new result }
+    ensures gives { Gives cow_text result (value read (chars text.now)) }
+    ensures rests { places ≡ true → HasLines read (chars text.now) rests.new result }
 {
     let start = skip(text, Class::InlineWhite);
     let (first, end) = read_first_line(alloc, scratch, start, read)?;
     let Some(next) = after_line_end(end) else {
         let value = trim_line_feeds(alloc, first)?;
-        rests.start = start;
-        rests.tail = end;
+        rests.keep_lines(places, start, end);
         return Ok((value, end));
     };
+    if ends_before(next) {
+        let value = trim_line_feeds(alloc, first)?;
+        rests.keep_lines(places, start, end);
+        return Ok((value, next));
+    }
     let mut lines = first.into_owned(alloc)?;
     let (tail, rest) = read_more(alloc, &mut lines, text, start, end, next, read)?;
     let value = trim_line_feeds(alloc, CowStr::Owned(lines))?;
-    rests.start = start;
-    rests.tail = tail;
+    rests.keep_lines(places, start, tail);
     Ok((value, rest))
+}
+
+/// Whether a value ends before what follows its line end: none of its lines begins there.
+fn ends_before(text: &str) -> bool
+    ensures blank { result ≡ true → BeginsWithNo is_blank (chars text.now) }
+    ensures line_end { result ≡ true → BeginsWithNo is_line_end (chars text.now) }
+{
+    let Some((c, _)) = split_first(text) else {
+        return true;
+    };
+    if Class::Blank.contains(c) {
+        return false;
+    }
+    !is_line_end(c)
 }
 
 /// What follows a line end, if the text begins with one.

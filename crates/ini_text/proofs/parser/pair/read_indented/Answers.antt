@@ -44,12 +44,12 @@ returns-in-Err-clause-gives c =
 
 pub returns-in-Ok-clause-rests : goal.returns-in-Ok-clause-rests
 returns-in-Ok-clause-rests c =
-    value_rests c.args.read (chars c.args.text.now) c.read_pair.new.rests
+    λ places. value_rests c.args.read (chars c.args.text.now) c.read_pair.new.rests
     (ap (string c.args.read.enabled_escape key_ends) (sym c.skip-start.ensures)
     ∙ (read_after _ _ (unaltered _ _ c.in-Ok.ensures).1).1)
-    c.read_pair.result c.read_pair.ensures.rests
+    c.read_pair.result (c.read_pair.ensures.rests places)
 
 pub returns-in-Err-clause-rests : goal.returns-in-Err-clause-rests
 returns-in-Err-clause-rests c =
-    header_rests c.args.read (chars c.args.text.now) c.args.rests.now c.drop_tail.result
+    λ _. header_rests c.args.read (chars c.args.text.now) c.args.rests.now c.drop_tail.result
     c.drop_tail.ensures.nothing

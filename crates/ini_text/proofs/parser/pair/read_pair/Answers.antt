@@ -1,4 +1,4 @@
-use Rattle.std.proofs.Common.{◌≢◌, [], chars, length, ap, refl, sym, ◌∙◌, eqb-true, eq-eqb, subst, true≢false}
+use Rattle.std.proofs.Common.{◌≢◌, [], chars, length, ap, sym, ◌∙◌, eqb-true, eq-eqb, subst, true≢false}
 use Rattle.std.specs.Cow.{cow_str_bytes}
 use Rattle.std.specs.Str.{IsUtf8}
 use Rattle.ini_text.specs.Inside.ElementReader.{after_separator, pair_of_value}
@@ -26,7 +26,7 @@ returns-in_err-value-clause-gives c =
     (λ none. true≢false
     (sym (eq-eqb _ 0 (ap length c.as_str.ensures.value ∙ none)) ∙ sym c.is_empty.ensures
     ∙ c.if-is_empty.false)) in
-    passed _ _ _ c.from_residual.ensures.1 c.in_err-value.ensures λ r k h.
+    passed _ _ _ c.from_residual.ensures.1 c.in_err-value.ensures.gives λ r k h.
     ap (after_separator c.args.read (cow_text c.args.key)) (sym c.after_first-after.ensures)
     ∙ after_key c.args.read _ _ some ∙ ap (pair_of_value (cow_text c.args.key)) h
 
@@ -39,12 +39,13 @@ returns-clause-gives c =
     ∙ c.if-is_empty.false)) in
     ap (after_separator c.args.read (cow_text c.args.key)) (sym c.after_first-after.ensures)
     ∙ after_key c.args.read _ _ some
-    ∙ ap (pair_of_value (cow_text c.args.key)) c.in_ok-value.ensures.reads
+    ∙ ap (pair_of_value (cow_text c.args.key)) c.in_ok-value.ensures.gives
 
 pub returns-clause-rests : goal.returns-clause-rests
-returns-clause-rests c = (
-  refl,
-  subst (λ t. HasTail c.args.read t (chars c.read_value.new.rests.start.now)
+returns-clause-rests c = λ places. (
+  ap chars (c.keep_key.ensures.key places),
+  rw (c.keep_key.ensures.start, c.keep_key.ensures.tail)
+      (subst (λ t. HasTail c.args.read t (chars c.read_value.new.rests.start.now)
       (chars c.read_value.new.rests.tail.now) (cow_text c.in_ok-value.value) (chars c.in_ok-value.end.now))
-      c.after_first-after.ensures c.in_ok-value.ensures,
+      c.after_first-after.ensures (c.in_ok-value.ensures.rests places)),
 )

@@ -12,6 +12,6 @@ returns-in_err-key-clause-gives c =
 
 pub returns-clause-rests : goal.returns-clause-rests
 returns-clause-rests c =
-    value_rests c.args.read (chars c.args.text.now) c.read_pair.new.rests
+    λ places. value_rests c.args.read (chars c.args.text.now) c.read_pair.new.rests
     (ap (string c.args.read.enabled_escape key_ends) c.requires ∙ (unaltered _ _ c.in_ok-key.ensures).1)
-    c.read_pair.result c.read_pair.ensures.rests
+    c.read_pair.result (c.read_pair.ensures.rests places)

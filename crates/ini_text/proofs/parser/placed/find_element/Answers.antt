@@ -1,9 +1,9 @@
-use Rattle.std.proofs.Common.{[], ◌∷◌, ◌∙◌, ap, subst, sym, chars}
+use Rattle.std.proofs.Common.{[], ◌∷◌, ◌∙◌, ap, subst, chars}
 use Rattle.std.proofs.lemmas.Result.{err_from_is_err_and}
-use Rattle.ini_text.specs.Grammar.Elements.{Element, Header, Pair}
+use Rattle.ini_text.specs.Grammar.Elements.{Element}
 use Rattle.ini_text.specs.Inside.ElementReader.{given}
 use Rattle.ini_text.specs.Parsing.Fronts.{front_of}
-use Rattle.ini_text.specs.Parsing.Items.{borrowed_item_of, cow_text, string_text}
+use Rattle.ini_text.specs.Parsing.Items.{borrowed_item_of}
 use Rattle.ini_text.proofs.PlaceLemmas.PairLemmas.{front_all, refuses_element, source_within, begins_pair, stands}
 use Rattle.ini_text.proofs.parser.placed.find_element.Goals.{in-None, in-Some-Header, in-Some-Pair}
 use Rattle.ini_text.proofs.parser.placed.find_element.Goals as goal
