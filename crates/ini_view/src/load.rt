@@ -78,6 +78,7 @@ impl<'a> View<'a> {
         ensures fault { IfParse result
             (λ stop. IsTextWith (λ T. IsStopOf opt T stop) (text_bytes drop_mark bytes.now)) }
         ensures not_utf8 { IsNotUtf8 result → ¬ (IsUtf8 (text_bytes drop_mark bytes.now)) }
+        ensures no_text { ¬ (IsUtf8 (text_bytes drop_mark bytes.now)) → IsNotUtf8 result }
         ensures only { IfErr result IsTextRefusal }
     {
         match str::from_utf8(text_bytes(bytes, drop_mark)) {
