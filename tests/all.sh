@@ -1,7 +1,7 @@
 #!/bin/sh
 # Every proof and every test: `rt ci`, and then the programs that it built, over real streams, files and long texts
-# (tests/program.sh, tests/files.sh, tests/saving.sh, tests/long.sh, tests/streams.sh, tests/passing.sh), the scripts that build
-# and run them (tests/scripts.sh), what the programs cost (tests/costs.sh) and ask of memory (tests/memory.sh),
+# (tests/program.sh, tests/files.sh, tests/saving.sh, tests/words.sh, tests/long.sh, tests/streams.sh, tests/passing.sh), the
+# scripts that build and run them (tests/scripts.sh), what the programs cost (tests/costs.sh) and ask of memory (tests/memory.sh),
 # the pages that are made by scripts and the edits that the gate leaves out (tests/pages.sh), pages of the manual, completions
 # and installing (tests/habits.sh), ini_file beside its peers (tests/peers.sh), and clients of the C library
 # (tests/c_library.sh). Each step ends with the time that it took. The last line is 'N passed, M failed' over all, and the
@@ -40,6 +40,7 @@ fi
 run tests/program.sh
 run tests/files.sh
 run tests/saving.sh
+run tests/words.sh
 run tests/long.sh
 run tests/streams.sh
 run tests/passing.sh

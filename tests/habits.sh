@@ -1,5 +1,5 @@
 #!/bin/sh
-# What a program's surroundings are used to: the pages of the manual, the completions of bash, and the script
+# What a program's surroundings are used to: the pages of the manual, the completions of bash, zsh and fish, and the script
 # that installs them. Pages are read by man and mandoc, completions are asked of bash, and options, commands
 # and statuses are compared wherever they are documented; what has no such tool here is skipped and reported. Each
 # case that fails is reported. The last line is 'N passed, M failed', and the status is 1 if a case failed.
@@ -75,10 +75,10 @@ if has bash completions; then
     offered '--existing ' ini_file set --e
     offered '--dry-run ' ini_file delete --d
     offered '-- ' ini_file check --
-    offered '-- --all --default --force --in-place --null --output --verbose --wait ' ini_file get --
+    offered '-- --all --default --force --in-place --null --output --section --verbose --wait ' ini_file get --
     offered '--null ' ini_file --crlf list --n
     offered '-- --dry-run --force --in-place --output --separator --verbose --wait ' ini_file format --
-    offered '-- --dry-run --force --in-place --output --verbose --wait ' ini_file delete --
+    offered '-- --dry-run --force --in-place --output --section --verbose --wait ' ini_file delete --
     offered ' ' ini_file set --wait ''
     offered ' ' ini_file get --default ''
     offered 'one.ini ' ini_file set --existing --output one.
@@ -120,6 +120,58 @@ if has bash 'completions at a terminal' && has python3 'completions at a termina
     )"
 fi
 
+# The sections and keys of the file that is named, and what else depends on where a word stands: the same in each shell. Each
+# row is words, and what is offered for the next one.
+cat >"$room/rows" <<'ROWS'
+ini_file get x.ini |last two keys|one|top
+ini_file get -s c x.ini |last two keys
+ini_file get x.ini -s |a b|c
+ini_file get x.ini one |a b|c
+ini_file keys x.ini |a b|c
+ini_file delete-section x.ini |a b|c
+ini_file rename-key x.ini one two |a b|c
+ini_file rename-key x.ini one |
+ini_file set x.ini |last two keys|one|top
+ini_file set x.ini one |
+ini_file set x.ini one 1 |a b|c
+ini_file get none.ini |
+ini_file list x.ini |
+ini_file get |x.ini
+ini_file merge x.ini |x.ini
+ini_file get x.ini --output |x.ini
+ini_file set x.ini --wait |
+ini_file check --policy |Basics|BasicsUnicode|BasicsUnicodeExtended|Everything|Nothing|Reserved|ReservedUnicode|ReservedUnicodeExtended
+ini_tool |del|fmt|get|list|set
+ini_tool get |
+ini_merge |x.ini
+ROWS
+mkdir "$room/asked" "$room/bin"
+printf 'top = 1\n[a b]\none = 1\n[c]\nlast two keys = 3\n' >"$room/asked/x.ini"
+
+# asked SHELL WORDS: what the shell offers after these words
+asked() {
+    # shellcheck disable=SC2086
+    set -- "$1" $2
+    shell=$1
+    shift
+    cd "$room/asked" || exit
+    case $shell in
+        bash) PATH=$room/bin:$PATH bash -c '. "$0"; COMP_WORDS=("$@" "") COMP_CWORD=$#; _bigrosk
+            for word in "${COMPREPLY[@]}"; do eval "echo $word"; done' "$top/completions/bigrosk" "$@" ;;
+        zsh) PATH=$room/bin:$PATH zsh -f -c 'compadd() { shift; print -l -- $@ }; _files() { print x.ini }; fpath=(${0:h} $fpath)
+            words=("$@" ""); CURRENT=$#words; autoload -U _bigrosk; _bigrosk' "$top/completions/_bigrosk" "$@" ;;
+        fish) PATH=$room/bin:$PATH fish --no-config -c "source $top/completions/bigrosk.fish; complete -C '$* '" | cut -f 1 ;;
+    esac | sort -u | tr '\n' '|' | sed 's/^|*//; s/|*$//'
+}
+"$top/tools/run.sh" --build ini_file || exit 1
+ln -s "$top/crates/ini_file/out/ini_file" "$room/bin/ini_file"
+for shell in bash zsh fish; do
+    has "$shell" "sections and keys in $shell" || continue
+    while IFS= read -r row; do
+        is "$shell: '${row%%|*}'" "${row#*|}" "$(asked "$shell" "${row%%|*}")"
+    done <"$room/rows"
+done
+
 # What is documented of the programs, beside what they do.
 if has bash 'what is documented of the programs' && has python3 'what is documented of the programs'; then
     for name in $programs; do
@@ -148,9 +200,13 @@ for name in $programs; do
     cmp -s "$top/man/$name.1" "$room/a place/share/man/man1/$name.1"
     is "the page of $name" 0 $?
     cmp -s "$top/completions/bigrosk" "$room/a place/share/bash-completion/completions/$name"
-    is "the completions of $name" 0 $?
+    is "the completions of $name for bash" 0 $?
+    cmp -s "$top/completions/bigrosk.fish" "$room/a place/share/fish/vendor_completions.d/$name.fish"
+    is "the completions of $name for fish" 0 $?
 done
-is 'nothing else is installed' 9 "$(find "$room/a place" -type f | wc -l | tr -d ' ')"
+cmp -s "$top/completions/_bigrosk" "$room/a place/share/zsh/site-functions/_bigrosk"
+is 'the completions for zsh' 0 $?
+is 'nothing else is installed' 13 "$(find "$room/a place" -type f | wc -l | tr -d ' ')"
 for mask in 000 077; do
     (umask "$mask" && "$copy/tools/install.sh" "$room/under $mask" 2>/dev/null)
     wanted=$(printf '644 file in share\n755 file in bin\n755 folder')

@@ -310,7 +310,7 @@ for words in 'get it.ini name' 'keys it.ini' 'list it.ini' 'set it.ini name v' '
     # shellcheck disable=SC2086
     writes 3 empty $words
     head -n 1 err >told
-    echo "it.ini:$((10 * n + 4)):2: missing key" >fault
+    echo "it.ini:$((10 * n + 4)):1: no key stands before this" >fault
     count "$label, refused at its end: $words" 3 3 fault told
 done
 count "$label, refused at its end: it stands" 0 0 many.refused it.ini

@@ -330,6 +330,20 @@ told 'usage, output closed, a folder as input' $? 2 "$usage"
 told 'not found, output closed' $? 1 ''
 "$program" frob <"$room/pair" >"$room/out" 2>&-
 wrote 'usage, standard error closed' $? 2 "$room/nothing"
+# --help and --version as the first word: nothing is read, and a fault of the output is one
+echo "$usage" >"$room/page"
+echo 'ini_tool 0.3.0' >"$room/version"
+for words in --help '--help fmt'; do
+    # shellcheck disable=SC2086
+    "$program" $words <"$room/folder" >"$room/out" 2>"$room/err"
+    wrote "$words" $? 0 "$room/page"
+done
+"$program" --version <"$room/folder" >"$room/out" 2>"$room/err"
+wrote --version $? 0 "$room/version"
+"$program" --crlf --help <"$room/pair" >"$room/out" 2>"$room/err"
+told '--help after an option' $? 2 "$usage"
+"$program" --help >&- 2>"$room/err"
+told '--help, output closed' $? 4 "$out_fault$closed"
 "$program" get "$(printf '\303')" <"$room/pair" >"$room/out" 2>"$room/err"
 told 'a word that is no text' $? 4 'ini_tool: word 2 is not UTF-8'
 "$program" set k v "$(printf 'a\377')" <"$room/folder" >"$room/out" 2>"$room/err"

@@ -28,7 +28,8 @@ passed=0
 failed=0
 skipped=0
 source='; a server\nname=one\n[server]\nport=8080\n[client]\nid=7\n'
-unwritable="this value can't be written so that it is read back"
+unwritable="this value can't be written so that it is read back
+note: white space begins or ends it"
 
 # says what a case wants and what it has, where these differ
 count() {
@@ -181,27 +182,29 @@ refusals() {
         merge settings.ini section.ini
     printf '[a]\n  junk' >no_place.ini
     ends 'a name that can not be written is told before a place that is not there' 2 '' \
-        "ini_file: no_place.ini: this name can't be written so that it is read back" --multiline set no_place.ini k v 'a]b'
+        "ini_file: no_place.ini: this name can't be written so that it is read back
+note: it has ]: use --brackets" --multiline set no_place.ini k v 'a]b'
     printf 'a=1\r\n  =v\r\n' >refused.ini
-    ends 'a refused line is shown without its CR' 3 '' 'refused.ini:2:4: missing key
+    ends 'a refused line is shown without its CR' 3 '' 'refused.ini:2:3: no key stands before this
   =v
   ^' list refused.ini
     printf '\357\273\277  =v\n' >refused.ini
-    ends 'a refused line is shown without the mark' 3 '' 'refused.ini:1:4: missing key
+    ends 'a refused line is shown without the mark' 3 '' 'refused.ini:1:3: no key stands before this
   =v
   ^' list refused.ini
     printf '\357\273\277k = "v\r\nw' >refused.ini
-    "$program" list refused.ini 2>&1 | tail -n 3 >"$room/have"
-    printf 'refused.ini:1:1: what has no end begins here\nk = "v\n^\n' >"$room/want"
+    "$program" list refused.ini 2>&1 | head -n 3 >"$room/have"
+    printf "refused.ini:1:5: this quote isn't closed\nk = \"v\n    ^\n" >"$room/want"
     count 'what has no end is looked for and shown without the mark and the CR'
     printf 'a = 1\nb = "c\n[d\n' >refused.ini
-    for words in '--noquote|3:1|[d' '|2:1|b = "c' '--multiline|2:1|b = "c' '--multiline --noquote|3:1|[d'; do
+    for words in "--noquote|3:1: this bracket isn't closed|[d|^" "|2:5: this quote isn't closed|b = \"c|    ^" \
+        "--multiline|2:5: this quote isn't closed|b = \"c|    ^" "--multiline --noquote|3:1: this bracket isn't closed|[d|^"; do
         options=${words%%|*}
         rest=${words#*|}
         # shellcheck disable=SC2086
         "$program" $options list refused.ini 2>"$room/err"
-        tail -n 3 "$room/err" >"$room/have"
-        printf 'refused.ini:%s: what has no end begins here\n%s\n^\n' "${rest%|*}" "${rest#*|}" >"$room/want"
+        head -n 3 "$room/err" >"$room/have"
+        printf 'refused.ini:'"$(echo "$rest" | sed 's/|/\\n/g')"'\n' >"$room/want"
         count "what has no end is looked for by the options given: '$options'"
     done
     # the page's statuses are those of runs
@@ -756,13 +759,12 @@ advice='--in-place writes the file itself'
 
 # what the options of a save are asked with
 wanted() {
-    usage='usage: ini_file [--noescape] [--noquote] [--multiline] [--indent] [--brackets] [--crlf] [--policy NAME] COMMAND [CHOICE].. [--] FILE [ARGUMENT]..'
     for words in 'get --wait 5 settings.ini name' 'get --force settings.ini name' 'list --in-place settings.ini' \
         'keys --verbose settings.ini' 'check --force settings.ini' 'set --wait settings.ini' 'set --wait x settings.ini k v' \
         'set --wait 1s settings.ini k v' 'set --wait -1 settings.ini k v' 'set --wait 1234567890 settings.ini k v'; do
         fresh
         # shellcheck disable=SC2086
-        ends "$words: a choice that the command has not" 2 '' "$usage" $words
+        ended "$words: a choice that the command has not" 2 $words
         there "$words: nothing is written" settings.ini "$source" other.ini "$other"
     done
     for words in 'get --wait 5 --verbose --force --in-place --output new.ini settings.ini name' \

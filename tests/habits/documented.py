@@ -50,7 +50,8 @@ def offered(*words):
 
 
 def options_in(text):
-    return set(re.findall(r"(?<![\w-])--[a-z][a-z-]*", text))
+    """The long names of options, but for those of pages."""
+    return set(re.findall(r"(?<![\w-])--[a-z][a-z-]*", text)) - {"--help", "--version"}
 
 
 def page(program):
@@ -100,7 +101,7 @@ def commands():
             # what is about the file that is written is taken with --output too
             for written in [], ["--output", "nowhere/k"]:
                 status, _, errors = run("ini_file", command, *chosen, *written, *("k" for _ in names))
-                if status != 2 or not errors.startswith("usage: "):
+                if status != 2 or not re.search("doesn't take|has no section", errors):
                     taken.add(choice)
         same(f"choices of {command}", program=taken | {"--"}, completions=offered("ini_file", command, "--"))
 
@@ -109,10 +110,10 @@ def options():
     """The options of each program."""
     shown = run("ini_file", "--help")[1]
     before = options_in(shown.split("\nChoices:\n")[0])
-    for program in PROGRAMS:
+    same("options of ini_file", help=before, completions=offered("ini_file", "-"))
+    for program in ("ini_tool", "ini_merge"):
         usage = options_in(run(program)[2])
         same(f"options of {program}", usage=usage, help=before, completions=offered(program, "-"))
-    for program in ("ini_tool", "ini_merge"):
         same(f"options on the page of {program}", help=before, page=options_in(page(program)))
     by_commands = set()
     for command in offered("ini_file", ""):

@@ -53,7 +53,7 @@ done <<'ROWS'
 |path = C:\\temp|1:8 Escape;
 --noescape|path = C:\\temp|1:1 NotPlain;
 |\0303\0251 =\0302\0240\\\0303\0251|1:5 Escape;
-|one\ntwo = 2\n= 3|refused at 3:2
-|k = "v|refused at 1:7
-|[a|refused at 1:3
+|one\ntwo = 2\n= 3|refused at 3:1
+|k = "v|refused at 1:5
+|[a|refused at 1:1
 ROWS

@@ -1,5 +1,5 @@
 -- What the program may be asked to do with a file.
-use Rattle.std.specs.Prelude.{Bool, Option}
+use Rattle.std.specs.Prelude.{Bool, Option, None, Some}
 use Rattle.ini.specs.Texts.{Text, str_name, str_text}
 use Rattle.ini_edit.specs.Editings.{Editing, editing_of}
 use Rattle.ini_options.specs.Words.{Word}
@@ -37,6 +37,11 @@ abbrev pub request_of : Command → Request
 request_of command.Format = Ask Format
 request_of (command.Ask q) = Ask (asking_of q)
 request_of (command.Change e) = Change (editing_of e)
+
+-- the change that is asked for, if one is
+abbrev pub edit_asked : Request → Option Editing
+edit_asked (Ask q) = None
+edit_asked (Change e) = Some e
 
 -- what the words of the program ask for
 pub record Asks : Type 0 where

@@ -32,7 +32,7 @@ pub fn check_files(rt: &HostRuntime, check: &Check<'_>) -> u8 {
                     check.reading,
                     "standard output",
                     &[],
-                    Outcome::from(refusal),
+                    &Outcome::from(refusal),
                 ),
             )
         }
@@ -43,7 +43,7 @@ pub fn check_files(rt: &HostRuntime, check: &Check<'_>) -> u8 {
 fn check_one(rt: &HostRuntime, read: ParseOption, file: &str, lines: &mut Vec<u8>) -> u8 {
     let input = match read_input(rt, file) {
         Ok(input) => input,
-        Err(refusal) => return refuse(rt, read, file, &[], Outcome::from(refusal)),
+        Err(refusal) => return refuse(rt, read, file, &[], &Outcome::from(refusal)),
     };
     let checked = check_file(rt.alloc(), read, file, input.as_slice());
     let found = status_of_check(&checked);
@@ -54,5 +54,5 @@ fn check_one(rt: &HostRuntime, read: ParseOption, file: &str, lines: &mut Vec<u8
         },
         Err(refusal) => refusal,
     };
-    refuse(rt, read, file, input.as_slice(), Outcome::from(refusal))
+    refuse(rt, read, file, input.as_slice(), &Outcome::from(refusal))
 }

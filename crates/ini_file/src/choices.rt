@@ -187,8 +187,8 @@ fn are_seconds(wait: Option<&str>) -> bool
     }
 }
 
-// Whether the word is one to nine decimal digits.
-fn is_short_number(word: &str) -> bool
+/// Whether the word is one to nine decimal digits.
+pub(crate) fn is_short_number(word: &str) -> bool
     ensures { result ≡ is_short_number word.now }
 {
     0 < word.len() && word.len() < 10 && has_digits_alone(word.as_bytes())
@@ -226,15 +226,15 @@ fn may_separate(command: &str, existing: bool) -> bool
     writes_pairs(command) && !existing
 }
 
-// Whether the command writes new lines of pairs.
-fn writes_pairs(command: &str) -> bool
+/// Whether the command writes new lines of pairs.
+pub(crate) fn writes_pairs(command: &str) -> bool
     ensures { result ≡ writes_pairs command.now }
 {
     matches!(command, "set" | "add" | "format")
 }
 
-// Whether the command writes names, keys or values of the document.
-fn writes_texts(command: &str) -> bool
+/// Whether the command writes names, keys or values of the document.
+pub(crate) fn writes_texts(command: &str) -> bool
     ensures { result ≡ writes_texts command.now }
 {
     matches!(command, "get" | "keys" | "sections" | "list")

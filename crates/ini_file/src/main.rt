@@ -12,40 +12,58 @@ mod check_files;
 mod check_words;
 mod choices;
 mod command;
+mod commands;
 mod diagnosis;
 mod diff;
 mod edit;
+mod fault_words;
 mod files;
+mod hints;
 mod lines;
 mod lock;
+mod looks;
 mod lookup;
 mod merge;
 mod merge_files;
 mod merge_words;
 mod notes;
+mod order;
 mod over;
 mod page;
+mod reasons;
 mod refusals;
 mod rights;
 mod run;
 mod save;
 mod settings;
 mod shown;
+mod spelling;
 mod target;
+mod unclosed;
+mod unwritable;
+mod usage_error;
 mod words;
 mod writing;
 
+use bytes::text_of;
 use check_files::check_files;
 use check_words::check_of;
+use commands::shape_of;
 use files::{lock_place, print, read_file, write_output};
-use ini_options::words_of;
+use hints::{hint, lacks_pair};
+use ini::Error;
+use ini_options::{Page, page_of, words_of};
 use merge_files::merge_files;
 use merge_words::merge_of;
-use page::page_of;
+use notes::{note_hint, note_reason};
+use order::{Sorted, in_order, sort};
+use page::{help_of, text_of_page};
 use refusals::refuse;
 use run::{Outcome, run, status, tell};
 use std::process::ExitCode;
 use target::{Target, handed_on};
+use unwritable::reason_of;
+use usage_error::{UsageError, tell_usage_error, usage_error_of};
 use words::{Invocation, parse};
 
 /// How a run over a file ended, and the file that it is reported of.
@@ -92,14 +110,49 @@ fn ended(outcome: Outcome, reported: &str) -> End<'_> {
     End { outcome, reported }
 }
 
-// Runs over what the words name, and answers the exit status.
-fn run_words(rt: &HostRuntime, words: &[String]) -> u8 {
-    if let Some(page) = page_of(words) {
-        return match print(rt, page.text().as_bytes()) {
-            Ok(()) => 0,
-            Err(refusal) => tell_alone(rt, &Outcome::from(refusal)),
-        };
+// Runs over what the words ask for, and answers the exit status.
+fn run_given(rt: &HostRuntime, given: &[String]) -> u8 {
+    if let Some(page) = page_of(given) {
+        return print_page(rt, text_of_page(page));
     }
+    let sorted = match sort(rt.alloc(), given) {
+        Ok(sorted) => sorted,
+        Err(error) => return tell_usage_error(error, &mut rt.stderr()),
+    };
+    if sorted.asks_help() {
+        return print_help(rt, &sorted);
+    }
+    match in_order(rt.alloc(), &sorted) {
+        Ok(Some(words)) => run_words(rt, &sorted, words.as_slice()),
+        Ok(None) => refuse_words(rt, &sorted),
+        Err(refused) => tell_usage_error(UsageError::from(refused), &mut rt.stderr()),
+    }
+}
+
+// Prints what the program tells of itself.
+fn print_page(rt: &HostRuntime, text: &str) -> u8 {
+    match print(rt, text.as_bytes()) {
+        Ok(()) => 0,
+        Err(refusal) => tell_alone(rt, &Outcome::from(refusal)),
+    }
+}
+
+// Prints the help, of a command where one is named.
+fn print_help(rt: &HostRuntime, sorted: &Sorted<'_>) -> u8 {
+    let Some(command) = sorted.command_of_help() else {
+        return print_page(rt, text_of_page(Page::Help));
+    };
+    let Some(shape) = shape_of(command) else {
+        return tell_usage_error(UsageError::Command(command), &mut rt.stderr());
+    };
+    match help_of(rt.alloc(), shape) {
+        Ok(text) => print_page(rt, text.as_str()),
+        Err(refused) => tell_usage_error(UsageError::from(refused), &mut rt.stderr()),
+    }
+}
+
+// Runs over what words name that are in order.
+fn run_words(rt: &HostRuntime, sorted: &Sorted<'_>, words: &[String]) -> u8 {
     if let Some(check) = check_of(words) {
         return check_files(rt, &check);
     }
@@ -107,17 +160,50 @@ fn run_words(rt: &HostRuntime, words: &[String]) -> u8 {
         return merge_files(rt, &merging);
     }
     let Some(asked) = parse(words) else {
-        return tell_alone(rt, &Outcome::Usage);
+        return refuse_words(rt, sorted);
     };
     let mut input = Vec::new(rt.alloc());
     let End { outcome, reported } = run_here(rt, words, asked, &mut input);
-    refuse(
-        rt,
-        asked.options.reading,
-        reported,
-        input.as_slice(),
-        outcome,
-    )
+    let input = input.as_slice();
+    let ended = refuse(rt, asked.options.reading, reported, input, &outcome);
+    tell_more(rt, asked, &outcome, input);
+    ended
+}
+
+// The longest text, in bytes, that is looked through for what may have hidden a pair.
+const HINTED: usize = 0x100_0000;
+
+// Whether a run found no pair of its key.
+fn is_missing(rt: &HostRuntime, asked: Invocation<'_>, outcome: &Outcome, text: &str) -> bool {
+    matches!(outcome, Outcome::NotFound) || lacks_pair(rt.alloc(), asked, text)
+}
+
+// Tells why words can't be written where a run ended for their sake; or where it found no pair of a key,
+// what its text has that may have hidden it.
+fn tell_more(rt: &HostRuntime, asked: Invocation<'_>, outcome: &Outcome, input: &[u8]) {
+    if let Outcome::Refused(refused) = outcome {
+        if let Some((reason, help)) = reason_of(asked.edit(), asked.options, refused) {
+            note_reason(rt, reason, help);
+        }
+        return;
+    }
+    let Ok((_, text)) = text_of(input) else {
+        return;
+    };
+    if text.len() > HINTED || !is_missing(rt, asked, outcome, text) {
+        return;
+    }
+    if let Ok(Some(warning)) = hint(rt.alloc(), text, asked.options.reading) {
+        note_hint(rt, asked.file, warning);
+    }
+}
+
+// Tells what is wrong with words that are none of the program's.
+fn refuse_words(rt: &HostRuntime, sorted: &Sorted<'_>) -> u8 {
+    match usage_error_of(sorted) {
+        Some(error) => tell_usage_error(error, &mut rt.stderr()),
+        None => tell_alone(rt, &Outcome::Usage),
+    }
 }
 
 // Tells how a run ended that is about no file, and answers its status.
@@ -128,7 +214,7 @@ fn tell_alone(rt: &HostRuntime, outcome: &Outcome) -> u8 {
 
 fn main(rt: HostRuntime) -> ExitCode {
     match words_of(&rt, rt.alloc()) {
-        Ok(words) => ExitCode::from(run_words(&rt, words.as_slice())),
+        Ok(given) => ExitCode::from(run_given(&rt, given.as_slice())),
         Err(refusal) => ExitCode::from(tell_alone(&rt, &Outcome::from(refusal))),
     }
 }

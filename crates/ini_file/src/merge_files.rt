@@ -4,10 +4,13 @@
 use crate::files::{lock_place, read_file, read_input, write_output};
 use crate::merge::{MergeEnd, load_all, merge};
 use crate::merge_words::Merging;
+use crate::notes::note_reason;
+use crate::reasons::{Help, Reason};
 use crate::refusals::refuse;
 use crate::run::Outcome;
 use crate::settings::settings_of;
 use crate::target::Target;
+use crate::unwritable::reason_of;
 use ini::Error;
 use ini_edit::{Edit, EditError};
 use std::alloc::{AllocError, Global};
@@ -28,18 +31,18 @@ pub fn merge_files(rt: &HostRuntime, merging: &Merging<'_>) -> u8 {
             Err(refusal) => Some(refusal),
         };
         if let Some(refusal) = refused {
-            return refuse(rt, read, other.as_str(), &[], Outcome::from(refusal));
+            return refuse(rt, read, other.as_str(), &[], &Outcome::from(refusal));
         }
     }
     let target = Target::of_merging(*merging);
     let _lock = match lock_place(rt, target) {
         Ok(lock) => lock,
-        Err(refusal) => return refuse(rt, read, target.reported(), &[], Outcome::from(refusal)),
+        Err(refusal) => return refuse(rt, read, target.reported(), &[], &Outcome::from(refusal)),
     };
     match read_file(rt, target) {
         Ok(Some(input)) => merge_read(rt, merging, Some(input.as_slice()), others.as_slice()),
         Ok(None) => merge_read(rt, merging, None, others.as_slice()),
-        Err(refusal) => refuse(rt, read, merging.file, &[], Outcome::from(refusal)),
+        Err(refusal) => refuse(rt, read, merging.file, &[], &Outcome::from(refusal)),
     }
 }
 
@@ -57,53 +60,69 @@ fn merge_read(
             let target = Target::of_merging(*merging);
             match write_output(rt, target, old, bytes.as_slice()) {
                 Ok(()) => 0,
-                Err(refusal) => refuse(rt, read, target.reported(), &[], Outcome::from(refusal)),
+                Err(refusal) => refuse(rt, read, target.reported(), &[], &Outcome::from(refusal)),
             }
         }
         MergeEnd::Other(index, refusal) => {
             let name = merging.others.get(index).map_or("", |name| name.as_str());
             let bytes = others.get(index).map_or(input, |bytes| bytes.as_slice());
-            refuse(rt, read, name, bytes, Outcome::from(refusal))
+            refuse(rt, read, name, bytes, &Outcome::from(refusal))
         }
-        MergeEnd::File(refusal) => refuse(rt, read, file, input, Outcome::from(refusal)),
-        MergeEnd::GetsMark => { refuse(rt, read, file, input, Outcome::Refused(EditError::Key)) }
+        MergeEnd::File(refusal) => refuse(rt, read, file, input, &Outcome::from(refusal)),
+        MergeEnd::GetsMark => {
+            let refused = refuse(rt, read, file, input, &Outcome::Refused(EditError::Key));
+            note_reason(rt, Reason::ByteOrderMark, None);
+            refused
+        }
         MergeEnd::Edit(refused) => match refused.refusal {
-            EditError::Text(refusal) => { refuse(rt, read, file, input, Outcome::from(refusal)) }
-            refusal => match setting_at(rt.alloc(), merging, others, refused.index) {
-                Ok(name) => refuse(rt, read, name.as_str(), input, Outcome::Refused(refusal)),
-                Err(_) => refuse(rt, read, file, input, Outcome::Refused(refusal)),
-            },
+            EditError::Text(refusal) => refuse(rt, read, file, input, &Outcome::from(refusal)),
+            refusal => refuse_setting(rt, merging, others, refused.index, refusal),
         },
     }
 }
 
-// The file, and the section and the key that the edit with this number sets there.
+// Tells that a pair of other files can't be set, and why.
+fn refuse_setting(
+    rt: &HostRuntime,
+    merging: &Merging<'_>,
+    others: &[Vec<u8>],
+    index: usize,
+    refusal: EditError,
+) -> u8 {
+    let (read, file) = (merging.options.reading, merging.file);
+    let found = setting_at(rt.alloc(), merging, others, index, &refusal);
+    let outcome = Outcome::Refused(refusal);
+    let Ok((name, reason)) = found else {
+        return refuse(rt, read, file, &[], &outcome);
+    };
+    let refused = refuse(rt, read, name.as_str(), &[], &outcome);
+    if let Some((reason, help)) = reason {
+        note_reason(rt, reason, help);
+    }
+    refused
+}
+
+// The file, and the section and the key that the edit with this number sets there; and why it is refused.
 fn setting_at(
     alloc: Global,
     merging: &Merging<'_>,
     others: &[Vec<u8>],
     index: usize,
-) -> Result<String, AllocError> {
+    refusal: &EditError,
+) -> Result<(String, Option<(Reason, Option<Help>)>), AllocError> {
     let Ok(documents) = load_all(alloc, merging.options.reading, others) else {
         return Err(AllocError);
     };
     let edits = settings_of(alloc, documents.as_slice())?;
     let file = merging.file;
-    match edits.get(index) {
-        Some(
-            Edit::Set {
-                name: None,
-                key,
-                ..
-            },
-        ) => format!(in alloc; "{file}: {key}"),
-        Some(
-            Edit::Set {
-                name: Some(name),
-                key,
-                ..
-            },
-        ) => format!(in alloc; "{file}: [{name}] {key}"),
-        _ => Err(AllocError),
-    }
+    let edit = *edits.get(index).ok_or(AllocError)?;
+    let reason = reason_of(Some(edit), merging.options, refusal);
+    let Edit::Set { name, key, .. } = edit else {
+        return Err(AllocError);
+    };
+    let told = match name {
+        None => format!(in alloc; "{file}: {key}")?,
+        Some(name) => format!(in alloc; "{file}: [{name}] {key}")?,
+    };
+    Ok((told, reason))
 }

@@ -1,8 +1,10 @@
-//! Lines on standard error of a run that is done: what its caller may want to know. This file knows no text.
+//! Lines on standard error after a run: what its caller may want to know. This file knows no text.
 //!
-//! No contract says what is printed; `tests/saving.sh` tests it.
+//! No contract says what is printed; `tests/saving.sh` and `tests/words.sh` test it.
 
+use crate::reasons::{Help, Reason};
 use crate::shown::Shown;
+use ini_check::Warning;
 use std::io::{self, Write};
 
 /// Prints what is to be known of a file, with the fault that it comes from. A fault of the stream is
@@ -14,6 +16,26 @@ pub fn note(rt: &HostRuntime, file: &str, words: &str, fault: Option<&io::Error>
         Some(fault) => writeln!(err, "ini_file: {file}: note: {words}: {fault}"),
         None => writeln!(err, "ini_file: {file}: note: {words}"),
     };
+}
+
+/// Prints why words can't be written, and which option helps, if one does.
+pub fn note_reason(rt: &HostRuntime, reason: Reason, help: Option<Help>) {
+    let (words, mut err) = (reason.words(), rt.stderr());
+    let _ = match help {
+        Some(help) => writeln!(err, "note: {words}: use {}", help.words()),
+        None => writeln!(err, "note: {words}"),
+    };
+}
+
+/// Prints what may have hidden a pair in a file.
+pub fn note_hint(rt: &HostRuntime, file: &str, warning: Warning) {
+    let (file, words) = (Shown(file), warning.trap.message());
+    let _ = writeln!(
+        rt.stderr(),
+        "note: {file}:{}:{}: {words}",
+        warning.line,
+        warning.column
+    );
 }
 
 /// Prints whether a file is changed.

@@ -1,39 +1,56 @@
-//! What the program tells of itself. This file knows no command and no file.
-ghost use Rattle.std.specs.Prelude.{◌≡◌, map, string_bytes};
-ghost use Rattle.ini_file.specs.Pages.{page_asked};
+//! What the program tells of itself. This file knows no file.
 
-/// What the program tells of itself, on standard output and with status 0.
-#[derive(Clone, Copy)]
-pub enum Page {
-    /// Its commands and options.
-    Help,
-    /// Its version.
-    Version,
-}
+use crate::commands::Shape;
+use crate::spelling::{Kind, kind_of};
+use ini_options::Page;
+use std::alloc::{AllocError, Global};
 
-/// The page that the words ask for, if the first one is `--help` or `--version`.
-pub fn page_of(words: &[String]) -> Option<Page>
-    ensures { result ≡ page_asked (map string_bytes words.now) }
-{
-    let (word, _) = words.split_first()?;
-    match word.as_str() {
-        "--help" => Some(Page::Help),
-        "--version" => Some(Page::Version),
-        _ => None,
+/// The text of a page. No clause says which it is; `tests/files.sh` tests it.
+pub fn text_of_page(page: Page) -> &'static str {
+    match page {
+        Page::Help => HELP,
+        Page::Version => "ini_file 0.3.0\n",
     }
 }
 
-impl Page {
-    /// The page's text. No clause says which it is; `tests/files.sh` tests it.
-    pub fn text(self) -> &'static str {
-        match self {
-            Page::Help => HELP,
-            Page::Version => "ini_file 0.3.0\n",
+/// The help of a command: what it takes, and of the program's help the lines that are about it.
+pub fn help_of(alloc: Global, shape: Shape) -> Result<String, AllocError> {
+    let (command, arguments) = (shape.command, shape.arguments);
+    let mut help = format!(in alloc;
+        "usage: ini_file [OPTION].. {command} [CHOICE].. [--] {arguments}\n\n"
+    )?;
+    let mut is_about = false;
+    for line in HELP.split_inclusive('\n') {
+        if !line.starts_with("   ") {
+            is_about = is_about_command(line, shape);
+        }
+        if is_about {
+            help.push_str(line)?;
         }
     }
+    help.push_str("\nThe options, of reading and of writing, and the statuses: ini_file --help\n")?;
+    Ok(help)
 }
 
-const HELP: &str = "\
+// Whether a line of the help is about the command, or about a choice that it takes.
+fn is_about_command(line: &str, shape: Shape) -> bool {
+    let Some(words) = line.strip_prefix("  ") else {
+        return false;
+    };
+    let word = words.split(' ').next().unwrap_or("");
+    word == shape.command || word == "--" || (is_choice(word) && shape.takes(word))
+}
+
+// Whether the option is a choice, or a section.
+fn is_choice(name: &str) -> bool {
+    matches!(
+        kind_of(name),
+        Some(Kind::Choice | Kind::ChoiceText | Kind::Section)
+    )
+}
+
+/// The program's help, which is the table of its commands too.
+pub const HELP: &str = "\
 usage: ini_file [OPTION].. COMMAND [CHOICE].. [--] FILE [ARGUMENT]..
 
 Commands; no SECTION is the general one, FILE - is standard input:
@@ -68,13 +85,16 @@ Choices:
                    stand, each with NUL after it
   --separator TEXT of set, add and format: what stands between key and value of
                    new lines; one = or : with spaces and tabs alone around it
-  --dry-run        of what writes a file: shows the change, and writes none
+  --section NAME   the section, in place of the last word; -s NAME too
+  --dry-run        of what writes a file: shows the change, and writes none; -n too
   --in-place       the file itself is written, not a new one in its place
   --force          a write-protected file is written too
   --wait SECONDS   how long a run waits for others that write the file (10)
   --verbose        a line tells whether the file is changed or unchanged
   --output FILE    writes this file in place of the other; - is standard output
-  --               what follows is no choice, though it begins with --
+  --               what follows is an argument, whatever it begins with
+Options and choices may stand anywhere before --, with = before their text too.
+ini_file COMMAND --help tells of one command; -h too.
 
 Status: 0 done, 1 not found or warnings, 2 wrong words, 3 a refused text,
 4 a fault of a file or of memory. Only with status 0 is a file changed, but

@@ -1,6 +1,6 @@
 //! A refusal, reported on standard error. This file knows the process's streams, and no word of the program.
 
-use crate::diagnosis::point_at;
+use crate::diagnosis::{show_byte, show_fault};
 use crate::run::{Outcome, status, tell};
 use ini::{Error, ParseOption};
 use ini_edit::EditError;
@@ -13,11 +13,15 @@ pub fn refuse(
     read: ParseOption,
     file: &str,
     input: &[u8],
-    outcome: Outcome,
+    outcome: &Outcome,
 ) -> u8 {
-    tell(file, &outcome, &mut rt.stderr());
-    if let Outcome::Refused(EditError::Text(Error::Parse(fault))) = &outcome {
-        point_at(rt.alloc(), file, input, read, fault, &mut rt.stderr());
+    let mut err = rt.stderr();
+    match outcome {
+        Outcome::Refused(EditError::Text(Error::Parse(fault))) => {
+            show_fault(rt.alloc(), file, input, read, fault, &mut err);
+        }
+        Outcome::Refused(EditError::Text(Error::NotUtf8)) => show_byte(file, input, &mut err),
+        _ => tell(file, outcome, &mut err),
     }
-    status(&outcome)
+    status(outcome)
 }

@@ -160,9 +160,9 @@ fn answer_to<W: Write>(
     answer(question, document, option, &mut Watched::new(writer))
 }
 
-/// Prints how a run over a file ended, where there is something to say: the usage; or the file, the place and
-/// the fault of a text that was refused; or the program's name, the file, if there is one, and the refusal.
-/// Control characters of the file's name are printed as escapes. A fault of the writer is dropped.
+/// Prints how a run over a file ended, where there is something to say: the usage; or the program's name, the
+/// file, if there is one, and the refusal. Control characters of the file's name are printed as escapes. A
+/// fault of the writer is dropped.
 pub fn tell<W: Write>(file: &str, outcome: &Outcome, err: &mut W)
     ensures quiet { (IsDone outcome.now ⊎ IsNotFound outcome.now) → err.new ≡ err.old }
     ensures usage { IsUsage outcome.now → AppendsFront (W.contents err.old) (W.contents err.new) usage_line }
@@ -171,10 +171,6 @@ pub fn tell<W: Write>(file: &str, outcome: &Outcome, err: &mut W)
         Outcome::Done(_) | Outcome::NotFound => {}
         Outcome::Usage => {
             let _ = write_raw(USAGE, &mut Watched::new(err));
-        }
-        Outcome::Refused(EditError::Text(Error::Parse(fault))) => {
-            let file = Shown(file);
-            let _ = writeln!(err, "{file}:{}:{}: {}", fault.line, fault.col, fault.msg);
         }
         Outcome::Refused(refusal) if file == "" => {
             let _ = writeln!(err, "ini_file: {refusal}");

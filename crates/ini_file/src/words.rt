@@ -4,7 +4,8 @@ ghost use Rattle.std.specs.Prelude.{◌≡◌, chars, map, string_bytes};
 ghost use Rattle.std.specs.Option.{option_map};
 ghost use Rattle.ini.specs.Texts.{str_name};
 ghost use Rattle.ini_file.specs.Choices.{chosen_of};
-ghost use Rattle.ini_file.specs.Requests.{asks_of, request_of};
+ghost use Rattle.ini_edit.specs.Editings.{editing_of};
+ghost use Rattle.ini_file.specs.Requests.{asks_of, edit_asked, request_of};
 ghost use Rattle.ini_file.specs.Words.{asks_of_words, getting, request_for, request_alone, request_with_one};
 ghost use Rattle.ini_file.specs.Words.{request_with_three, request_with_two, setting};
 
@@ -73,6 +74,18 @@ pub struct Invocation<'a> {
     pub file: &'a str,
     /// What is asked of the file.
     pub command: Command<'a>,
+}
+
+impl<'a> Invocation<'a> {
+    /// The change in the file's text that is asked for, if one is.
+    pub fn edit(self) -> Option<Edit<'a>>
+        ensures { option_map editing_of result ≡ edit_asked (request_of self.entry.command) }
+    {
+        match self.command {
+            Command::Change(edit) => Some(edit),
+            _ => None,
+        }
+    }
 }
 
 // The command of a word and its arguments.

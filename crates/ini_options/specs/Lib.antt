@@ -1,2 +1,3 @@
-pub mod Words
+pub mod Pages
 pub mod Refusals
+pub mod Words

@@ -85,8 +85,8 @@ impl Options {
     }
 }
 
-// The policy of a name, which is spelled as its variant.
-fn policy_named(name: &str) -> Option<EscapePolicy>
+/// The policy of a name, which is spelled as its variant.
+pub fn policy_named(name: &str) -> Option<EscapePolicy>
     ensures { result ≡ policy_named name.now }
 {
     match name {

@@ -10,13 +10,18 @@ mod run;
 mod words;
 
 use ini::{Error, Watched};
-use ini_options::{with_name, words_of};
+use ini_options::{Page, page_of, with_name, words_of};
 use run::{Outcome, run, status, tell};
+use std::io::Write;
 use std::process::ExitCode;
+use words::USAGE;
 
 /// Runs over the process's own words and streams. A fault of a stream has its name.
 fn run_here(rt: &HostRuntime) -> Result<Outcome, Error> {
     let words = words_of(rt, rt.alloc())?;
+    if let Some(page) = page_of(words.as_slice()) {
+        return print_page(rt, page);
+    }
     let mut input = rt.stdin();
     let mut output = rt.stdout();
     let mut reader = Watched::new(&mut input);
@@ -30,6 +35,18 @@ fn run_here(rt: &HostRuntime) -> Result<Outcome, Error> {
     match outcome {
         Outcome::Refused(Error::Io(fault)) => Err(Error::Io(with_name(rt.alloc(), stream, fault))),
         outcome => Ok(outcome),
+    }
+}
+
+// Prints what the program tells of itself.
+fn print_page(rt: &HostRuntime, page: Page) -> Result<Outcome, Error> {
+    let text = match page {
+        Page::Help => USAGE,
+        Page::Version => "ini_tool 0.3.0\n",
+    };
+    match rt.stdout().write_all(text.as_bytes()) {
+        Ok(()) => Ok(Outcome::Done),
+        Err(fault) => Err(Error::Io(with_name(rt.alloc(), "standard output", fault))),
     }
 }
 

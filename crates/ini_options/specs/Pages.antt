@@ -1,9 +1,9 @@
--- Which words ask the program to tell of itself.
+-- Which words ask a program to tell of itself.
 use Rattle.std.specs.Prelude.{if◌then◌else◌, List, [], ◌∷◌, codes, Option, None, Some}
 use Rattle.std.specs.Str.{bytes_eq}
 use Rattle.ini_options.specs.Words.{Word}
-use Rattle.ini_file.specs.declared.page.Page.{Page}
-use Rattle.ini_file.specs.declared.page.Page.TheVariants.{Help, Version}
+use Rattle.ini_options.specs.declared.page.Page.{Page}
+use Rattle.ini_options.specs.declared.page.Page.TheVariants.{Help, Version}
 
 -- the page that the first word asks for
 abbrev pub page_asked : List Word → Option Page

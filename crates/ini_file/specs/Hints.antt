@@ -1,0 +1,25 @@
+-- What a run that finds no pair of a key is told of its text.
+use Rattle.std.specs.Prelude.{◌≡◌, Bool, true, false, if◌then◌else◌, List, [], ◌∷◌, Option, None, Some}
+use Rattle.ini_text.specs.declared.option.ParseOption.{ParseOption}
+use Rattle.ini.specs.Texts.{Text}
+use Rattle.ini_check.specs.Warnings.{AreWarningsOf}
+use Rattle.ini_check.specs.declared.warning.Trap.{Trap}
+use Rattle.ini_check.specs.declared.warning.Trap.TheVariants.{MarkBeginsKey, RunsOn}
+use Rattle.ini_check.specs.declared.warning.Warning.{Warning}
+
+-- the trap makes a key another one: the line before it runs on into it, or a comment mark begins it
+abbrev pub hides_key : Trap → Bool
+hides_key RunsOn = true
+hides_key MarkBeginsKey = true
+hides_key _ = false
+
+-- the first warning of such a trap
+abbrev pub first_hint : List Warning → Option Warning
+first_hint [] = None
+first_hint (w ∷ ws) = if hides_key w.trap then Some w else first_hint ws
+
+-- what is told of a text, if anything is
+pub record IsHint (o : ParseOption) (T : Text) (hint : Option Warning) : Type 0 where
+  pub warnings : List Warning
+  pub are_warnings : AreWarningsOf o T warnings
+  pub is_first : hint ≡ first_hint warnings

@@ -1,0 +1,63 @@
+//! What a run that finds no pair of a key may have met in its text: a trap that makes a key another one. This
+//! file knows no device.
+ghost use Rattle.std.specs.Prelude.{◌≡◌, IfErr, IfOk, chars};
+ghost use Rattle.ini.specs.Loading.{IfParse, IsParseOrMemory, IsStopOf};
+ghost use Rattle.ini_file.specs.Hints.{IsHint, first_hint, hides_key};
+
+use crate::words::{Command, Invocation, Question};
+use ini::{Error, ParseOption};
+use ini_check::{Trap, Warning, check};
+use ini_edit::{Edit, find_pair};
+use std::alloc::Global;
+
+/// The first warning of a text that is of a trap that makes a key another one, if there is any.
+///
+/// # Errors
+///
+/// Those of `check`.
+pub fn hint(alloc: Global, text: &str, read: ParseOption) -> Result<Option<Warning>, Error>
+    ensures hint { IfOk result (IsHint read (chars text.now)) }
+    ensures fault { IfParse result (IsStopOf read (chars text.now)) }
+    ensures only { IfErr result IsParseOrMemory }
+{
+    let warnings = check(alloc, text, read)?;
+    Ok(first_hint(warnings.as_slice()))
+}
+
+// The first warning of such a trap.
+fn first_hint(warnings: &[Warning]) -> Option<Warning>
+    ensures { result ≡ first_hint warnings.now }
+{
+    let mut rest = warnings;
+    'warnings: while let Some((warning, after)) = rest.split_first() {
+        if hides_key(warning.trap) {
+            return Some(*warning);
+        }
+        rest = after;
+    }
+    None
+}
+
+// Whether the trap makes a key another one.
+fn hides_key(trap: Trap) -> bool
+    ensures { result ≡ hides_key trap }
+{
+    matches!(trap, Trap::RunsOn | Trap::MarkBeginsKey)
+}
+
+/// Whether the pair that the words name isn't in a text over which a run has found something all the same: a
+/// default, or room for a new line.
+pub fn lacks_pair(alloc: Global, asked: Invocation<'_>, text: &str) -> bool {
+    let (section, key) = match asked.command {
+        Command::Ask(Question::Get(lookup)) if lookup.default.is_some() => (
+            lookup.section,
+            lookup.key,
+        ),
+        Command::Change(Edit::Set { name, key, .. }) => (name, key),
+        _ => return false,
+    };
+    matches!(
+        find_pair(alloc, text, asked.options.reading, section, key),
+        Ok(None)
+    )
+}

@@ -1,0 +1,57 @@
+//! Where what has no end begins in a text that ends too early. This file knows no device.
+use ini::ParseOption;
+
+/// What has no end: the text from there on, and what it is, in words.
+#[derive(Clone, Copy)]
+pub struct Unclosed<'a> {
+    /// The text from there on.
+    pub place: &'a str,
+    /// What it is.
+    pub words: &'static str,
+}
+
+/// What has no end in an element within which its text ends: its bracket, its key, the quote of its value,
+/// or an escape.
+///
+/// No contract says what is found; `tests/words.sh` tests it.
+pub fn find_unclosed<'a>(element: &'a str, read: ParseOption) -> Unclosed<'a> {
+    let place = element.trim_start();
+    if place.starts_with('[') {
+        let words = "this bracket isn't closed";
+        return Unclosed { place, words };
+    }
+    let Some(value) = after_key(place, read) else {
+        let words = "this key has no = or : after it";
+        return Unclosed { place, words };
+    };
+    let value = value.trim_start();
+    if read.enabled_quote && (value.starts_with('"') || value.starts_with('\'')) {
+        let words = "this quote isn't closed";
+        return Unclosed {
+            place: value,
+            words,
+        };
+    }
+    let place = match value.rfind('\\') {
+        Some(at) => value.get(at..).unwrap_or(value),
+        None => value,
+    };
+    let words = "this escape has no end";
+    Unclosed { place, words }
+}
+
+// What stands after the first separator of a pair; a backslash takes the next character, where it begins an
+// escape.
+fn after_key(pair: &str, read: ParseOption) -> Option<&str> {
+    let mut is_taken = false;
+    for (at, c) in pair.char_indices() {
+        if is_taken {
+            is_taken = false;
+        } else if c == '\\' && read.enabled_escape {
+            is_taken = true;
+        } else if c == '=' || c == ':' {
+            return pair.get(at.saturating_add(1)..);
+        }
+    }
+    None
+}

@@ -1,0 +1,264 @@
+//! Usage errors, in one sentence each: which word is wrong, and what was expected. This file knows no file
+//! and no document.
+//!
+//! Which words are the program's, `sort`, `in_order`, `check_of`, `merge_of` and `parse` decide, by their
+//! contracts; no contract says what is printed of the others. `tests/words.sh` tests it.
+
+use crate::choices::{is_short_number, writes_texts};
+use crate::commands::{COMMANDS, Shape, nearest, shape_of};
+use crate::order::{Sorted, before_section};
+use crate::shown::Shown;
+use crate::spelling::kind_of;
+use ini_options::policy_named;
+use std::alloc::AllocError;
+use std::io::{self, Write};
+
+/// What is wrong with the words.
+#[derive(Clone, Copy)]
+pub enum UsageError<'a> {
+    /// This looks like an option, and is none.
+    Unknown(&'a str),
+    /// An option whose text is missing.
+    NeedsText(&'a str),
+    /// An option with a text that it doesn't take.
+    TakesNoText(&'a str),
+    /// No policy has this name.
+    Policy(&'a str),
+    /// This is no number of seconds.
+    Seconds(&'a str),
+    /// No command is there.
+    NoCommand,
+    /// No command has this name.
+    Command(&'a str),
+    /// A choice that the command hasn't.
+    Choice(Shape, &'a str),
+    /// A choice about the file that is written, where none is.
+    NeedsOutput(Shape, &'a str),
+    /// A separator of new lines where none is written.
+    NoNewLine,
+    /// Standard input twice.
+    InputTwice,
+    /// A section where the command has none.
+    Section(Shape, &'a str),
+    /// An argument too much.
+    TooMany(Shape, &'a str),
+    /// The argument of this number is missing, counted from 0.
+    Missing(Shape, usize),
+    /// Memory was refused.
+    Memory,
+}
+
+impl From<AllocError> for UsageError<'_> {
+    ghost use Rattle.std.specs.Prelude.{◌≡◌};
+    ghost use Rattle.ini_file.specs.declared.usage_error.UsageError.TheVariants.{Memory};
+
+    ghost from_gives = { λ _ error. error ≡ Memory };
+
+    fn from(_: AllocError) -> Self {
+        UsageError::Memory
+    }
+}
+
+/// What is wrong with sorted words that are none of the program's, as far as it is found.
+pub fn usage_error_of<'a>(sorted: &Sorted<'a>) -> Option<UsageError<'a>> {
+    let Some((command, arguments)) = sorted.others.as_slice().split_first() else {
+        return Some(UsageError::NoCommand);
+    };
+    let Some(shape) = shape_of(command) else {
+        return Some(UsageError::Command(*command));
+    };
+    policy_error(sorted.options.as_slice())
+        .or(choice_error(shape, sorted.choices.as_slice()))
+        .or(argument_error(shape, arguments, sorted.section))
+}
+
+// The name that is no policy's.
+fn policy_error<'a>(options: &[&'a str]) -> Option<UsageError<'a>> {
+    let mut is_name = false;
+    for word in options {
+        if is_name && policy_named(word).is_none() {
+            return Some(UsageError::Policy(*word));
+        }
+        is_name = !is_name && *word == "--policy";
+    }
+    None
+}
+
+// The choice that the command doesn't take.
+fn choice_error<'a>(shape: Shape, choices: &[&'a str]) -> Option<UsageError<'a>> {
+    let mut before = "";
+    for word in choices {
+        let word = *word;
+        if kind_of(before).is_some_and(|kind| kind.takes_text()) {
+            if before == "--wait" && !is_short_number(word) {
+                return Some(UsageError::Seconds(word));
+            }
+            before = "";
+            continue;
+        }
+        if !shape.takes(word) {
+            return Some(UsageError::Choice(shape, word));
+        }
+        if needs_output(shape, word) && !choices.contains(&"--output") {
+            return Some(UsageError::NeedsOutput(shape, word));
+        }
+        before = word;
+    }
+    if choices.contains(&"--existing") && choices.contains(&"--separator") {
+        return Some(UsageError::NoNewLine);
+    }
+    None
+}
+
+// Whether the choice is about a file that the command writes with `--output` alone.
+fn needs_output(shape: Shape, choice: &str) -> bool {
+    writes_texts(shape.command)
+        && matches!(choice, "--in-place" | "--force" | "--wait" | "--verbose")
+}
+
+// The argument that is missing, or one too many.
+fn argument_error<'a>(
+    shape: Shape,
+    arguments: &[&'a str],
+    section: Option<&'a str>,
+) -> Option<UsageError<'a>> {
+    let (least, most) = match (section, before_section(shape.command)) {
+        (Some(name), None) => return Some(UsageError::Section(shape, name)),
+        (Some(_), Some(count)) => (count, count),
+        (None, _) => (shape.least(), shape.most()),
+    };
+    if shape.command == "merge" && arguments.iter().filter(|word| **word == "-").count() > 1 {
+        return Some(UsageError::InputTwice);
+    }
+    if arguments.len() < least {
+        return Some(UsageError::Missing(shape, arguments.len()));
+    }
+    Some(UsageError::TooMany(shape, *arguments.get(most)?))
+}
+
+/// Prints an error, and where help is; and answers the exit status. A fault of the writer is dropped.
+pub fn tell_usage_error<W: Write>(error: UsageError<'_>, err: &mut W) -> u8 {
+    let _ = err.write_all(b"ini_file: ");
+    let _ = print_error(error, err);
+    if matches!(error, UsageError::Memory) {
+        return 4;
+    }
+    let _ = writeln!(err, "Try 'ini_file --help'.");
+    2
+}
+
+// Prints an error in one sentence.
+fn print_error<W: Write>(error: UsageError<'_>, err: &mut W) -> io::Result<()> {
+    match error {
+        UsageError::Unknown(word) => {
+            let word = Shown(word);
+            writeln!(err, "{word} is no option; after -- it is an argument")
+        }
+        UsageError::NeedsText(name) => writeln!(err, "{name} takes {}", text_of(name)),
+        UsageError::TakesNoText(name) => writeln!(err, "{name} takes no text"),
+        UsageError::Policy(name) => {
+            let name = Shown(name);
+            writeln!(err, "{name} is no policy; --policy takes one of {POLICIES}")
+        }
+        UsageError::Seconds(text) => {
+            let text = Shown(text);
+            writeln!(
+                err,
+                "{text} is no number of seconds; --wait takes one, as 10"
+            )
+        }
+        UsageError::NoCommand => writeln!(err, "a command is missing: one of {COMMANDS}"),
+        UsageError::Command(word) => print_command(word, err),
+        UsageError::NoNewLine => {
+            writeln!(
+                err,
+                "--existing writes no new line, so --separator has no place"
+            )
+        }
+        UsageError::InputTwice => writeln!(err, "- is standard input, which can't be read twice"),
+        UsageError::Memory => writeln!(err, "out of memory"),
+        _ => print_command_error(error, err),
+    }
+}
+
+// The same of a error that is about a command.
+fn print_command_error<W: Write>(error: UsageError<'_>, err: &mut W) -> io::Result<()> {
+    match error {
+        UsageError::Choice(shape, choice) => {
+            write!(err, "{} doesn't take {choice}", shape.command)?;
+            print_choices(shape, err)
+        }
+        UsageError::NeedsOutput(shape, choice) => {
+            let command = shape.command;
+            writeln!(err, "{command} takes {choice} with --output alone")
+        }
+        UsageError::Section(shape, name) => {
+            let (name, command) = (Shown(name), shape.command);
+            writeln!(
+                err,
+                "{command} has no section, so --section {name} has no place"
+            )
+        }
+        UsageError::TooMany(shape, word) => {
+            let word = Shown(word);
+            writeln!(err, "{word} is one word too many: {shape}")
+        }
+        UsageError::Missing(shape, index) => {
+            writeln!(err, "{} is missing: {shape}", shape.argument(index))
+        }
+        _ => Ok(()),
+    }
+}
+
+// Prints the choices that a command takes, if there are any, and ends the line.
+fn print_choices<W: Write>(shape: Shape, err: &mut W) -> io::Result<()> {
+    if !CHOICES.iter().any(|choice| shape.takes(choice)) {
+        return writeln!(err);
+    }
+    write!(err, ", but")?;
+    for choice in CHOICES {
+        if shape.takes(choice) {
+            write!(err, " {choice}")?;
+        }
+    }
+    writeln!(err)
+}
+
+// Prints that no command has this name, and which one may be meant.
+fn print_command<W: Write>(word: &str, err: &mut W) -> io::Result<()> {
+    let shown = Shown(word);
+    match nearest(word) {
+        Some(command) => writeln!(err, "{shown} is no command; did you mean {command}?"),
+        None => writeln!(err, "{shown} is no command; one of {COMMANDS}"),
+    }
+}
+
+const CHOICES: [&str; 12] = [
+    "--all",
+    "--default",
+    "--null",
+    "--existing",
+    "--separator",
+    "--section",
+    "--dry-run",
+    "--output",
+    "--in-place",
+    "--force",
+    "--wait",
+    "--verbose",
+];
+
+const POLICIES: &str =
+    "Nothing Basics BasicsUnicode BasicsUnicodeExtended Reserved ReservedUnicode \
+    ReservedUnicodeExtended Everything";
+
+// What an option's text is called.
+fn text_of(name: &str) -> &'static str {
+    match name {
+        "--output" => "FILE",
+        "--default" => "VALUE",
+        "--separator" => "TEXT",
+        "--wait" => "SECONDS",
+        _ => "NAME",
+    }
+}

@@ -1,0 +1,415 @@
+#!/bin/sh
+# Runs the built program ini_file over words as people type them: where options and choices may stand, their short forms, the
+# answer to each mistake, which names the word that is wrong and what was expected, the help of each command, and what is reported of
+# texts that are refused: each kind of refusal at the place where the mistake begins. Each case that fails is reported. The last
+# line is 'N passed, M failed', and the status is 1 if a case failed.
+#
+#     tests/words.sh [INI_FILE]
+#
+# The program is by default the one that its script builds.
+set -u
+LC_ALL=C
+export LC_ALL
+top=$(cd "$(dirname "$0")/.." && pwd)
+room=$(mktemp -d)
+trap 'rm -rf "$room"' EXIT
+program=${1:-}
+if [ -z "$program" ]; then
+    "$top/ini_file.sh" list - </dev/null || exit 1
+    program=$top/crates/ini_file/out/ini_file
+fi
+program=$(readlink -f "$program") || exit 1
+passed=0
+failed=0
+source='; a server\nname=one\n[server]\nport=8080\n[client]\nid=7\n'
+policies='Nothing Basics BasicsUnicode BasicsUnicodeExtended Reserved ReservedUnicode ReservedUnicodeExtended Everything'
+commands='get keys sections list set add delete delete-section rename-key rename-section merge format check'
+
+# says what a case wants and what it has, where these differ
+count() {
+    if cmp -s "$room/want" "$room/have"; then
+        passed=$((passed + 1))
+    else
+        failed=$((failed + 1))
+        echo "FAILED: $1"
+        diff "$room/want" "$room/have" | head -n 20
+    fi
+}
+
+# a folder with a file of the source; the next case runs in it
+fresh() {
+    cd "$room" || exit 1
+    rm -rf case
+    mkdir case
+    cd case || exit 1
+    printf "$source" >settings.ini
+}
+
+# ends NAME STATUS OUTPUT ERRORS WORD..: a run of the program on these words
+ends() {
+    name=$1
+    { printf -- "$3"; printf '%s\n' "$4" "status $2"; } >"$room/want"
+    shift 4
+    "$program" "$@" >"$room/out" 2>"$room/err"
+    status=$?
+    { cat "$room/out"; printf '%s\n' "$(cat "$room/err")" "status $status"; } >"$room/have"
+    count "$name"
+}
+
+# Each mistake is reported by one sentence, and where help is; nothing is read or written. WORDS|TOLD
+mistakes() {
+    while IFS='|' read -r words told; do
+        fresh
+        # shellcheck disable=SC2086
+        ends "a mistake: '$words'" 2 '' "ini_file: $told
+Try 'ini_file --help'." $words
+        { printf "$source"; echo settings.ini; } >"$room/want"
+        { cat settings.ini; ls -A; } >"$room/have"
+        count "a mistake: '$words': nothing is written"
+    done <<END
+|a command is missing: one of $commands
+frob|frob is no command; one of $commands
+fmt settings.ini|fmt is no command; did you mean format?
+lst settings.ini|lst is no command; did you mean list?
+del settings.ini name|del is no command; did you mean delete?
+rename settings.ini a b|rename is no command; did you mean rename-key?
+get|FILE is missing: get takes FILE KEY [SECTION]
+get settings.ini|KEY is missing: get takes FILE KEY [SECTION]
+set settings.ini k|VALUE is missing: set takes FILE KEY VALUE [SECTION]
+merge settings.ini|OTHER is missing: merge takes FILE OTHER ..
+delete-section settings.ini|SECTION is missing: delete-section takes FILE SECTION
+get settings.ini k s more|more is one word too many: get takes FILE KEY [SECTION]
+get settings.ini k s -s t|s is one word too many: get takes FILE KEY [SECTION]
+list settings.ini more|more is one word too many: list takes FILE
+list --policy Basic settings.ini|Basic is no policy; --policy takes one of $policies
+list settings.ini --policy=basics|basics is no policy; --policy takes one of $policies
+list settings.ini --policy|--policy takes NAME
+get settings.ini k --default|--default takes VALUE
+set settings.ini k v --wait|--wait takes SECONDS
+set settings.ini k v --output|--output takes FILE
+set settings.ini k v --separator|--separator takes TEXT
+get settings.ini k -s|--section takes NAME
+set settings.ini k v --wait=x|x is no number of seconds; --wait takes one, as 10
+set settings.ini k v --wait 1234567890|1234567890 is no number of seconds; --wait takes one, as 10
+get settings.ini k --frob|--frob is no option; after -- it is an argument
+get settings.ini k -x|-x is no option; after -- it is an argument
+get --frob=1 settings.ini k|--frob=1 is no option; after -- it is an argument
+get -sserver settings.ini port|-sserver is no option; after -- it is an argument
+get --all=1 settings.ini k|--all takes no text
+set --dry-run=yes settings.ini k v|--dry-run takes no text
+list --all settings.ini|list doesn't take --all, but --null --output --in-place --force --wait --verbose
+check --null settings.ini|check doesn't take --null
+get -n settings.ini name|get doesn't take --dry-run, but --all --default --null --section --output --in-place --force --wait --verbose
+get --force settings.ini name|get takes --force with --output alone
+keys --wait 5 settings.ini|keys takes --wait with --output alone
+merge settings.ini - -|- is standard input, which can't be read twice
+set --existing --separator : settings.ini name v|--existing writes no new line, so --separator has no place
+merge - -|- is standard input, which can't be read twice
+list -s server settings.ini|list has no section, so --section server has no place
+END
+}
+
+# Options, choices and sections wherever they stand before --, in each form. WORDS|OUTPUT
+places() {
+    while IFS='|' read -r words output; do
+        fresh
+        # shellcheck disable=SC2086
+        ends "$words" 0 "$output" '' $words
+    done <<'END'
+get settings.ini port server|8080\n
+get settings.ini port -s server|8080\n
+get -s server settings.ini port|8080\n
+-s server get settings.ini port|8080\n
+get settings.ini --section server port|8080\n
+get settings.ini --section=server port|8080\n
+--section=server get settings.ini port|8080\n
+keys settings.ini -s client|id\n
+get --default=5 settings.ini none|5\n
+get settings.ini none --default 5|5\n
+get settings.ini --default= none|\n
+get settings.ini --default -x none|-x\n
+get settings.ini --default -- none|--\n
+--all get settings.ini name|one\n
+get settings.ini name --all --null --crlf|one\0
+list settings.ini --noquote --policy=Reserved|\tname\tone\n[server]\tport\t8080\n[client]\tid\t7\n
+get -- settings.ini name|one\n
+get settings.ini -- name|one\n
+get settings.ini name --|one\n
+set settings.ini name two -n|\055-- settings.ini\n+++ settings.ini\n@@ -2,1 +2,1 @@\n-name=one\n+name=two\n
+--dry-run set settings.ini name two|\055-- settings.ini\n+++ settings.ini\n@@ -2,1 +2,1 @@\n-name=one\n+name=two\n
+-n set settings.ini name -5|\055-- settings.ini\n+++ settings.ini\n@@ -2,1 +2,1 @@\n-name=one\n+name=-5\n
+-n set settings.ini name -- -x|\055-- settings.ini\n+++ settings.ini\n@@ -2,1 +2,1 @@\n-name=one\n+name=-x\n
+-n set settings.ini -- name --x|\055-- settings.ini\n+++ settings.ini\n@@ -2,1 +2,1 @@\n-name=one\n+name=--x\n
+-n set settings.ini port 1 -s server|\055-- settings.ini\n+++ settings.ini\n@@ -4,1 +4,1 @@\n-port=8080\n+port=1\n
+-n delete settings.ini id -s client|\055-- settings.ini\n+++ settings.ini\n@@ -6,1 +5,0 @@\n-id=7\n
+-n delete-section settings.ini -s client|\055-- settings.ini\n+++ settings.ini\n@@ -5,2 +4,0 @@\n-[client]\n-id=7\n
+-n rename-key settings.ini id key -s client|\055-- settings.ini\n+++ settings.ini\n@@ -6,1 +6,1 @@\n-id=7\n+key=7\n
+set settings.ini k v --output=- --separator=:|; a server\nname=one\nk:v\n[server]\nport=8080\n[client]\nid=7\n
+END
+}
+
+# Help, of the program and of each command: status 0, on standard output.
+helps() {
+    fresh
+    "$program" --help >"$room/help"
+    for words in -h help --help '--crlf -h' '--help get'; do
+        cp "$room/help" "$room/want"
+        # shellcheck disable=SC2086
+        "$program" $words >"$room/have" 2>&1
+        count "$words: the help"
+    done
+    for command in $commands; do
+        for words in "$command --help" "$command -h" "-h $command" "--crlf $command -h" "$command settings.ini --help" \
+            "help $command"; do
+            # shellcheck disable=SC2086
+            "$program" $words >"$room/out" 2>"$room/err"
+            { echo "status $?"; head -n 1 "$room/out"; sed -n 3p "$room/out" | tr -s ' ' | cut -c 1-60; cat "$room/err"; } >"$room/have"
+            line=$(grep "^  $command " "$room/help")
+            takes=$(echo "$line" | sed 's/^ *\([^ ]* .*[^ ]\)   *[a-zA-Z].*/\1/; s/  .*//')
+            { echo 'status 0'; echo "usage: ini_file [OPTION].. $command [CHOICE].. [--] ${takes#* }"
+                echo "$line" | tr -s ' ' | cut -c 1-60; } >"$room/want"
+            count "$words: the help of the command"
+        done
+    done
+    ends 'the help of no command' 2 '' "ini_file: frob is no command; one of $commands
+Try 'ini_file --help'." frob -h
+    "$program" set -h | grep -o '^  --[a-z-]*' | sort -u >"$room/have"
+    printf '  %s\n' -- --dry-run --existing --force --in-place --output --section --separator --verbose --wait >"$room/want"
+    count 'set -h: its choices'
+}
+
+# Texts that are refused: OPTIONS|TEXT|PLACE AND WORDS|LINE|CARET|WHAT FOLLOWS
+refused() {
+    while IFS='~' read -r options text told line caret more; do
+        fresh
+        printf "$text" >settings.ini
+        # shellcheck disable=SC2086
+        "$program" $options list settings.ini >"$room/have" 2>&1
+        echo "status $?" >>"$room/have"
+        { echo "settings.ini:$told"; if [ -n "$line" ]; then printf '%s\n' "$line" "$caret"; fi
+            if [ -n "$more" ]; then echo "$more"; fi; echo 'status 3'; } >"$room/want"
+        count "a refused text: $options '$text'"
+    done <<'END'
+~k = "v\n\nw\n~1:5: this quote isn't closed~k = "v~    ^~note: the text ends at 4:1
+~a = 1\n  k='v~2:5: this quote isn't closed~  k='v~    ^~note: the text ends at 2:7
+~a\\=b = "c\\"~1:8: this quote isn't closed~a\=b = "c\"~       ^~note: the text ends at 1:12
+--noescape~a\\="c~1:4: this quote isn't closed~a\="c~   ^~note: the text ends at 1:6
+~a = 1\n[b\nc = 2\n~2:1: this bracket isn't closed~[b~^~note: the text ends at 4:1
+~a = 1\n\n  [b\n~3:3: this bracket isn't closed~  [b~  ^~note: the text ends at 4:1
+--brackets~a = 1\n[b~2:1: this bracket isn't closed~[b~^~note: the text ends at 2:3
+~a = 1\nkey\n~2:1: this key has no = or : after it~key~^~note: the text ends at 3:1
+~k = v\\x12~1:6: this escape has no end~k = v\x12~     ^~note: the text ends at 1:10
+--noquote~k = "v\\x1~1:7: this escape has no end~k = "v\x1~      ^~note: the text ends at 1:10
+~a = 1\n  = 2\n~2:3: no key stands before this~  = 2~  ^~
+~: 2\n~1:1: no key stands before this~: 2~^~
+~[s] ; a\n~1:5: a comment begins only in the first column of a line~[s] ; a~    ^~
+~k = \\x12\\z4\n~1:10: a backslash stands among the four digits after \x~k = \x12\z4~         ^~
+~k = \\xd800\n~1:10: no character has these four digits after \x~k = \xd800~         ^~
+--brackets~[a]x\nk=v\n~1:5: the line of a section's name doesn't end in ]~[a]x~    ^~
+END
+    # among the lines of a value: CR without LF
+    fresh
+    printf 'k = a\n\r b' >settings.ini
+    "$program" --multiline list settings.ini >"$room/have" 2>&1
+    grep -c 'settings.ini:2:[12]: among the lines of a value a CR has no LF after it' "$room/have" >"$room/found"
+    mv "$room/found" "$room/have"
+    echo 1 >"$room/want"
+    count 'a refused text: CR without LF among the lines of a value'
+    # check says the same
+    printf 'k = "v\n' >settings.ini
+    "$program" list settings.ini >"$room/want" 2>&1
+    "$program" check settings.ini >"$room/have" 2>&1
+    count 'check tells a refused text as list does'
+    # a mark is no part of the text
+    printf '\357\273\277k = "v\n' >settings.ini
+    "$program" check settings.ini >"$room/have" 2>&1
+    count 'a mark is no part of the text'
+    # no caret stands below nothing
+    printf '\n\n' >settings.ini
+    printf 'k\n\n\n' >>settings.ini
+    "$program" list settings.ini 2>&1 | grep -c -x '' >"$room/have"
+    echo 0 >"$room/want"
+    count 'no empty line is shown'
+}
+
+# Bytes that are no UTF-8: their place, and what they look like. BYTES|WHAT IS REPORTED
+bytes() {
+    while IFS='|' read -r bytes told; do
+        fresh
+        printf "$bytes" >settings.ini
+        for command in list check 'set -n'; do
+            set --
+            if [ "$command" = 'set -n' ]; then set -- k v; fi
+            # shellcheck disable=SC2086
+            ends "$command of bytes that are no UTF-8: '$bytes'" 3 '' "settings.ini:$told" $command settings.ini "$@"
+        done
+    done <<'END'
+\377\376k\000=\0001\000|1:1: this byte is no UTF-8; the file looks like UTF-16
+\376\377\000k\000=\0001|1:1: this byte is no UTF-8; the file looks like UTF-16
+name = caf\351\n|1:11: this byte is no UTF-8; the file looks like Latin-1
+a = 1\r\n\n\tb = \303\251t\351\n|3:8: this byte is no UTF-8; the file looks like Latin-1
+\357\273\277k = \344|1:5: this byte is no UTF-8; the file looks like Latin-1
+k = \303\n|1:5: this byte is no UTF-8; the file looks like Latin-1
+a = \000\nk = \351\n|2:5: this byte is no UTF-8
+k = \200\n|1:5: this byte is no UTF-8
+\n\001\377|2:2: this byte is no UTF-8
+END
+}
+
+# unwritten WORDS WHAT, over lines of OPTIONS|WORD|WHY: the word can't be written, and why
+unwritten() {
+    what=$1
+    shift
+    while IFS='|' read -r options word told; do
+        fresh
+        word=$(printf -- "$word.")
+        { printf '%s\n' "ini_file: settings.ini: this $what can't be written so that it is read back" "note: $told"
+            echo 'status 2'; } >"$room/want"
+        words=$options
+        # shellcheck disable=SC2086
+        set_words "$what" "${word%.}" $words >"$room/have" 2>&1
+        count "a $what that can't be written: $options '$word'"
+    done
+}
+
+# set_words WHAT WORD OPTION..: a run that would write the word
+set_words() {
+    what=$1
+    word=$2
+    shift 2
+    case $what in
+        value) "$program" "$@" set -- settings.ini k "$word" ;;
+        key) "$program" "$@" add -- settings.ini "$word" v ;;
+        name) "$program" "$@" set -- settings.ini k v "$word" ;;
+        separator) "$program" "$@" add --separator "$word" -- settings.ini k v ;;
+    esac
+    echo "status $?"
+}
+
+# Each reason why a word can't be written, and the option that helps, with which it is written. OPTIONS|WORD|WHY
+reasons() {
+    unwritten value <<'END'
+| v|white space begins or ends it
+|v\t|white space begins or ends it
+|"v"|a quote begins it: use --noquote
+--policy Nothing|'v|a quote begins it: use --noquote
+--policy Nothing|a\nb|it has a line end: use --policy Basics
+--noescape|a\nb|it has a line end
+--policy Nothing|a\\b|it has a backslash: use --policy Basics
+--noescape|a\\b|it has a backslash: use --policy Nothing
+--noescape --policy Nothing|a\\|a backslash at its end would take what follows
+--noescape|a\001b|it has a character that is written as an escape, and --noescape reads none: use --policy Nothing
+--noescape --policy Reserved|a=b|it has a character that is written as an escape, and --noescape reads none: use --policy Basics
+|a\013b|it has U+000B or U+000C, whose escapes aren't read: use --policy Nothing
+|a\013b\nc|it has U+000B or U+000C, whose escapes aren't read
+--policy Everything|\360\237\230\200|it has a character above U+FFFF, whose escape isn't read: use --policy Basics
+END
+    unwritten key <<'END'
+||it is empty
+|[k|[ begins it
+| k|white space begins or ends it: use --indent
+--multiline| k|white space begins or ends it
+|k |white space begins or ends it
+|;k|; or # begins it: use --policy Reserved
+|#k|; or # begins it: use --policy Reserved
+--noescape|#k|; or # begins it
+|a=b|= or : stands in it: use --policy Reserved
+|a:b|= or : stands in it: use --policy Reserved
+--policy Nothing|a\nb|it has a line end: use --policy Basics
+--noescape|a\\b|it has a backslash
+END
+    unwritten name <<'END'
+| s|white space begins or ends it
+|s]|it has ]: use --brackets
+--policy Nothing|a\nb|it has a line end: use --policy Basics
+--noescape|a\tb|it has a character that is written as an escape, and --noescape reads none: use --policy Nothing
+END
+    unwritten separator <<'END'
+|-|it isn't one = or : with spaces and tabs alone around it
+|==|it isn't one = or : with spaces and tabs alone around it
+END
+    # each option that helps does
+    while IFS='|' read -r options what word; do
+        fresh
+        word=$(printf -- "$word.")
+        # shellcheck disable=SC2086
+        set_words "$what" "${word%.}" $options >"$room/have" 2>&1
+        echo 'status 0' >"$room/want"
+        count "a $what that $options helps to write: '$word'"
+    done <<'END'
+--noquote|value|"v"
+--policy Basics|value|a\nb
+--noescape --policy Nothing|value|a\\b
+--policy Nothing|value|a\013b
+--indent|key| k
+--policy Reserved|key|;k
+--policy Reserved|key|a=b
+--brackets|name|s]
+END
+    # others: of a merge, of another key's or section's name, of a format, and of what would be a file's mark
+    fresh
+    printf '[new]\nk = " v"\n' >other.ini
+    ends 'a value of another file' 2 '' "ini_file: settings.ini: [new] k: this value can't be written so that it is read back
+note: white space begins or ends it" merge settings.ini other.ini
+    ends "another key that can't be written" 2 '' "ini_file: settings.ini: this key can't be written so that it is read back
+note: = or : stands in it: use --policy Reserved" rename-key settings.ini name a=b
+    ends "another key that a space begins" 2 '' "ini_file: settings.ini: this key can't be written so that it is read back
+note: white space begins or ends it" rename-key settings.ini name ' a'
+    ends "another key that a tab begins" 2 '' "ini_file: settings.ini: this key can't be written so that it is read back
+note: white space begins or ends it: use --indent" rename-key settings.ini name '	a'
+    ends "another name that can't be written" 2 '' "ini_file: settings.ini: this name can't be written so that it is read back
+note: it has ]: use --brackets" rename-section settings.ini server 'a]'
+    printf 'a=1\n%sk=2\n' "$(printf '\357\273\277')" >settings.ini
+    ends 'a key that a deletion would leave at the front' 2 '' "ini_file: settings.ini: this key can't be written so that it is read back
+note: it begins with U+FEFF, which reading drops at the front of a file" delete settings.ini a
+    ends 'a separator of format' 2 '' "ini_file: settings.ini: this separator can't be written so that it is read back
+note: it isn't one = or : with spaces and tabs alone around it" format --separator - settings.ini
+    mark=$(printf '\357\273\277')
+    ends 'a key that would be a mark' 2 '' "ini_file: new.ini: this key can't be written so that it is read back
+note: it begins with U+FEFF, which reading drops at the front of a file" set new.ini "${mark}k" v
+    printf '; a note\n%sk = 2\n' "$mark" >other.ini
+    ends 'a key of another file that would be a mark' 2 '' \
+        "ini_file: new.ini: this key can't be written so that it is read back
+note: it begins with U+FEFF, which reading drops at the front of a file" merge new.ini other.ini
+}
+
+# What may have hidden the pair that isn't found, or that is put in anew. WORDS|STATUS|OUTPUT|NOTE
+hints() {
+    runs="this line has no separator and runs on into the next"
+    mark="an indented comment mark begins a key"
+    while IFS='|' read -r words status output note; do
+        fresh
+        printf 'a = 1\nfoo\nport = 80\n  ; old = 2\n[s]\nb = 3\n' >settings.ini
+        # shellcheck disable=SC2086
+        ends "a hint: $words" "$status" "$output" "$note" $words
+    done <<END
+get settings.ini port|1||note: settings.ini:2:1: $runs
+get settings.ini port --default 5|0|5\\n|note: settings.ini:2:1: $runs
+get settings.ini a --default 5|0|1\\n|
+get settings.ini a|0|1\\n|
+get settings.ini none -s s|1||note: settings.ini:2:1: $runs
+set settings.ini port 81|0||note: settings.ini:2:1: $runs
+set settings.ini a 2|0||
+set settings.ini b 2 s|0||
+set --existing settings.ini port 81|1||note: settings.ini:2:1: $runs
+delete settings.ini port|1||note: settings.ini:2:1: $runs
+add settings.ini port 81|0||
+list settings.ini --null --output none|0||
+END
+    fresh
+    printf 'a = 1\n  ; port = 2\n' >settings.ini
+    ends 'a hint: a comment mark that begins a key' 1 '' "note: settings.ini:2:1: $mark" get settings.ini port
+    ends 'a hint: standard input' 1 '' "note: -:2:1: $mark" get - port <settings.ini
+    printf 'a = 1\na = 2\nb = x ; y\n' >settings.ini
+    ends 'a hint: no other trap' 1 '' '' get settings.ini port
+}
+
+mistakes
+places
+helps
+refused
+bytes
+reasons
+hints
+echo "$passed passed, $failed failed"
+[ "$failed" -eq 0 ]
