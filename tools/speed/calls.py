@@ -5,8 +5,8 @@
     calls.py compare OURS THEIRS [N ..]
     calls.py count OURS THEIRS [N ..]
 
-`build` builds two programs over the crate, and prints their paths: crate_calls.rs, which does what `ini_replay calls` does, and
-crate_fmt.rs, which does what `ini_tool fmt` does (speed.py compares these two). SOURCE is the folder of the crate's source,
+`build` builds three programs over the crate, and prints their paths: crate_calls.rs, which does what `ini_replay calls` does,
+crate_fmt.rs and crate_get.rs, which do what `ini_tool fmt` and `ini_tool get` do (speed.py compares these). SOURCE is the folder of the crate's source,
 with its Cargo.toml, rust-ini 0.21.3 with its default features. FOLDER is made where it isn't there. The further words go to
 `cargo build`.
 
@@ -37,6 +37,10 @@ path = "{here}/crate_calls.rs"
 name = "crate_fmt"
 path = "{here}/crate_fmt.rs"
 
+[[bin]]
+name = "crate_get"
+path = "{here}/crate_get.rs"
+
 [dependencies]
 rust-ini = {{ path = "{source}" }}
 
@@ -63,7 +67,7 @@ def build(source, folder, words):
     (folder / "Cargo.toml").write_text(MANIFEST.format(here=pathlib.Path(__file__).resolve().parent, source=source))
     command = ["cargo", "build", "--release", "--quiet", "--target-dir", str(folder / "target"), *words]
     subprocess.run(command, cwd=folder, check=True)
-    for program in ("crate_calls", "crate_fmt"):
+    for program in ("crate_calls", "crate_fmt", "crate_get"):
         print(folder / "target/release" / program)
 
 

@@ -1,8 +1,11 @@
 //! The program as a function of its words and of two devices. This file knows how a run ends, and what is
 //! reported of it.
-ghost use Rattle.std.specs.Prelude.{◌≡◌, ◌+◌, ◌↔◌, ◌⊎◌, IfSome, None};
+ghost use Rattle.std.specs.Prelude.{◌≡◌, ◌+◌, ◌↔◌, ◌⊎◌, IfErr, IfOk, IfSome, None};
 ghost use Rattle.ini_text.specs.Device.Watched.{AppendsFront, IsClear, SameDevice};
 ghost use Rattle.ini_text.specs.Device.Watched.{device_now, failure_count, stall_count};
+ghost use Rattle.ini_text.specs.Parsing.ByteOrderMarks.{text_bytes};
+ghost use Rattle.ini.specs.Loading.{IfParse, IsDocumentOf, IsNotUtf8, IsStopOf, IsTextWith};
+ghost use Rattle.ini.specs.Inside.ReadBytes.{IsTextRefusal};
 ghost use Rattle.ini_tool.specs.Runs.{IsDone, IsNotFound, IsUsage, OnNotUtf8, OnParse, OnSilent};
 ghost use Rattle.ini_tool.specs.Runs.{IsOutput, IsStop, IsText, WritesOutput, WritesOutputFront};
 ghost use Rattle.ini_tool.specs.Runs.{asked_by, failures_of, outcome_of, stalls_of, status_of, usage_line};
@@ -10,7 +13,7 @@ ghost use Rattle.ini_tool.specs.Runs.{asked_by, failures_of, outcome_of, stalls_
 use crate::command::{answer, write};
 use crate::reading::read_all;
 use crate::words::{Command, USAGE, parse};
-use ini::{Error, Ini, Watched, write_raw};
+use ini::{Error, Ini, ParseOption, Watched, write_raw};
 use ini_view::View;
 use std::alloc::Global;
 use std::io::{Read, Write};
@@ -94,7 +97,7 @@ pub fn run<R: Read, W: Write>(
                 Ok(bytes) => bytes,
                 Err(refusal) => return Outcome::Refused(refusal),
             };
-            match View::load_from_bytes(alloc, bytes.as_slice(), options.reading, true) {
+            match view_of(alloc, bytes.as_slice(), options.reading) {
                 Ok(document) => {
                     let answered = answer(question, &document, option, writer);
                     mem::forget(document);
@@ -108,6 +111,18 @@ pub fn run<R: Read, W: Write>(
             Err(refusal) => Outcome::Refused(refusal),
         },
     }
+}
+
+// The document of the bytes; a mark at their front is dropped.
+fn view_of<'a>(alloc: Global, bytes: &'a [u8], reading: ParseOption) -> Result<View<'a>, Error>
+    ensures document { IfOk result
+        (λ view. IsTextWith (λ T. IsDocumentOf reading T view) (text_bytes true bytes.now)) }
+    ensures fault { IfParse result
+        (λ stop. IsTextWith (λ T. IsStopOf reading T stop) (text_bytes true bytes.now)) }
+    ensures not_utf8 { IsNotUtf8 result → ¬ (IsText bytes.now) }
+    ensures only { IfErr result IsTextRefusal }
+{
+    View::load_from_bytes(alloc, bytes, reading, true)
 }
 
 // How a run ends whose command has answered.
