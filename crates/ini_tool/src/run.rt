@@ -1,6 +1,6 @@
 //! The program as a function of its words and of two devices. This file knows how a run ends, and what is
 //! reported of it.
-ghost use Rattle.std.specs.Prelude.{◌≡◌, ◌+◌, ◌↔◌, ◌⊎◌, IfErr, IfOk, IfSome, None};
+ghost use Rattle.std.specs.Prelude.{◌≡◌, ◌+◌, ◌↔◌, ◌⊎◌, IfErr, IfOk, IfSome, None, true};
 ghost use Rattle.ini_text.specs.Device.Watched.{AppendsFront, IsClear, SameDevice};
 ghost use Rattle.ini_text.specs.Device.Watched.{device_now, failure_count, stall_count};
 ghost use Rattle.ini_text.specs.Parsing.ByteOrderMarks.{text_bytes};
