@@ -45,15 +45,18 @@ fn hides_key(trap: Trap) -> bool
     matches!(trap, Trap::RunsOn | Trap::MarkBeginsKey)
 }
 
-/// Whether the pair that the words name isn't in a text over which a run has found something all the same: a
-/// default, or room for a new line.
-pub fn lacks_pair(alloc: Global, asked: Invocation<'_>, text: &str) -> bool {
+/// Whether the pair that the words name isn't in a text over which a run has made an output all the same: of
+/// a default, or with a new line.
+pub fn lacks_pair(alloc: Global, asked: Invocation<'_>, text: &str, output: &[u8]) -> bool {
+    let grown = output.len().saturating_sub(text.len());
     let (section, key) = match asked.command {
         Command::Ask(Question::Get(lookup)) if lookup.default.is_some() => (
             lookup.section,
             lookup.key,
         ),
-        Command::Change(Edit::Set { name, key, .. }) => (name, key),
+        // a new line takes its key, a separator, its value and a line end
+        Command::Change(Edit::Set { name, key, value })
+            if grown > key.len().saturating_add(value.len()) => { (name, key) }
         _ => return false,
     };
     matches!(

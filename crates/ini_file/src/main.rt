@@ -175,7 +175,11 @@ const HINTED: usize = 0x100_0000;
 
 // Whether a run found no pair of its key.
 fn is_missing(rt: &HostRuntime, asked: Invocation<'_>, outcome: &Outcome, text: &str) -> bool {
-    matches!(outcome, Outcome::NotFound) || lacks_pair(rt.alloc(), asked, text)
+    match outcome {
+        Outcome::NotFound => true,
+        Outcome::Done(output) => lacks_pair(rt.alloc(), asked, text, output.as_slice()),
+        _ => false,
+    }
 }
 
 // Tells why words can't be written where a run ended for their sake; or where it found no pair of a key,
