@@ -15,6 +15,11 @@
  *     that is 0 (never NULL). Memory that a call writes is the caller's, holds some value, and overlaps no other argument's;
  *   - a bool is 0 or 1; no call is made from a signal handler, nor in the child of a fork of a program with threads;
  *   - malloc, realloc and free are one allocator's, and align a block to each power of two up to 16 that divides its size.
+ *
+ * What was compiled with this header works with each later library whose version has the same first number (the soname,
+ * libbigrosk_ini.so.0, has it too): the calls, numbers and structs below keep their meaning and their layout. What comes
+ * later has a name of its own: a further option comes in a new struct, whose first field is its size, which its macro sets
+ * and by which the library knows what the caller has, and in new calls that take it. Such a struct may grow at its end.
  */
 #ifndef BIGROSK_INI_H
 #define BIGROSK_INI_H
@@ -27,6 +32,9 @@
 #ifdef __cplusplus
 extern "C" {
 #endif
+
+/* The version of this header; bigrosk_ini_version() has that of the library. */
+#define BIGROSK_INI_VERSION "0.3.0"
 
 /* What a call answers. */
 enum bigrosk_ini_status {
@@ -42,6 +50,25 @@ enum bigrosk_ini_status {
     BIGROSK_INI_NO_PLACE = 9,      /* a new line can be put into the text nowhere */
     BIGROSK_INI_UNPLAIN_NAME = 10  /* the same of the name of a section, which an edit of a text would open or rename */
 };
+
+/* The status in words, as for a message. Plain C. */
+static inline const char *bigrosk_ini_status_text(uint32_t status)
+{
+    switch (status) {
+    case BIGROSK_INI_OK: return "done";
+    case BIGROSK_INI_ABSENT: return "no such pair or section";
+    case BIGROSK_INI_NO_ROOM: return "the buffer is too small";
+    case BIGROSK_INI_BROKEN: return "the text breaks the grammar";
+    case BIGROSK_INI_NOT_UTF8: return "not UTF-8";
+    case BIGROSK_INI_NO_MEMORY: return "out of memory";
+    case BIGROSK_INI_NO_DOCUMENT: return "no document is loaded";
+    case BIGROSK_INI_UNPLAIN_VALUE: return "the value, written, is not read back";
+    case BIGROSK_INI_UNPLAIN_KEY: return "the key, written, is not read back";
+    case BIGROSK_INI_NO_PLACE: return "the text has no place for a new line";
+    case BIGROSK_INI_UNPLAIN_NAME: return "the section's name, written, is not read back";
+    default: return "no status of this library";
+    }
+}
 
 /* What is wrong where reading a text stops. */
 enum bigrosk_ini_kind {
@@ -132,7 +159,8 @@ void bigrosk_ini_free(struct bigrosk_ini_document *document);
 /* In the calls below, `named` false means the general section, which stands before the first header; its name is then passed
  * over, but must be a text. The first section of a name counts, and in it the first pair of a key. */
 
-/* Copies the value of the key out, and a 0 after it; count says how many bytes it has.
+/* Copies the value of the key out, and a 0 after it; count says how many bytes it has, with OK and with NO_ROOM, and means
+ * nothing with any other status.
  * OK; ABSENT; NO_ROOM where the buffer has room for no more than count bytes: it is then as it was; NOT_UTF8; NO_DOCUMENT. */
 uint32_t bigrosk_ini_get(struct bigrosk_ini_document *document, bool named, const uint8_t *section, size_t section_count,
                          const uint8_t *key, size_t key_count, uint8_t *value, size_t room, size_t *count);
@@ -191,7 +219,7 @@ uint32_t bigrosk_ini_delete(struct bigrosk_ini_document *document, bool named, c
 uint32_t bigrosk_ini_delete_section(struct bigrosk_ini_document *document, bool named, const uint8_t *section,
                                     size_t section_count);
 
-/* Copies the document's text out, and a 0 after it; count says how many bytes it has.
+/* Copies the document's text out, and a 0 after it; count says how many bytes it has, with OK and with NO_ROOM alone.
  * OK; NO_ROOM, and the buffer is as it was; NO_MEMORY; NO_DOCUMENT. */
 uint32_t bigrosk_ini_write(struct bigrosk_ini_document *document, const struct bigrosk_ini_write_option *option,
                            uint8_t *text, size_t room, size_t *count);
@@ -203,7 +231,7 @@ bool bigrosk_ini_is_plain(struct bigrosk_ini_document *document, const struct bi
 
 /* The next six edit a text itself, and keep every byte that the edit is not about: comments, blank lines, alignment, line ends.
  * No document is used: the text comes in as bytes, and the new one is copied into `out`, and a 0 after it; count says how many
- * bytes it has, with OK and with NO_ROOM. The text that comes in stays as it is. The options say how it is read, and how what is put
+ * bytes it has, with OK and with NO_ROOM alone. The text that comes in stays as it is. The options say how it is read, and how what is put
  * in is written. A mark at its front (the bytes EF BB BF) is a character like others: bigrosk_ini_mark says how many bytes to leave
  * out before the call, and to keep.
  * Each answers NOT_UTF8 before anything else, and BROKEN, and only then is the fault written, where reading the text stops,

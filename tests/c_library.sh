@@ -84,8 +84,8 @@ export CC
 # shellcheck disable=SC2016
 run 'install' sh -c 'umask 000 && exec "$0" "$1"' "$top/tools/c_library.sh" "$room/it"
 [ "$failed" -eq 0 ] || finish
-run 'what others may not do with what is installed' test -z "$(find "$room/it" ! -perm 755 \( -type d -o -name '*.so' \) -o \
-    ! -perm 644 -type f ! -name '*.so')"
+run 'what others may not do with what is installed' test -z "$(find "$room/it" ! -type l ! -perm 755 \( -type d -o \
+    -name '*.so.*' \) -o ! -perm 644 -type f ! -name '*.so.*')"
 run 'install without a heap' "$top/tools/c_library.sh" "$room/bare" --no-heap
 run 'install with the heap of the kit' "$top/tools/c_library.sh" "$room/kit" --kit-heap
 include="-I$room/it/include"

@@ -3,8 +3,12 @@
 #
 #     tools/c_library.sh PREFIX [--kit-heap | --no-heap]
 #
-#     PREFIX/lib/libbigrosk_ini.a, PREFIX/lib/libbigrosk_ini.so, PREFIX/lib/pkgconfig/bigrosk_ini.pc,
-#     PREFIX/include/bigrosk_ini.h, PREFIX/share/man/man3/bigrosk_ini.3
+#     PREFIX/lib/libbigrosk_ini.a, PREFIX/lib/libbigrosk_ini.so, PREFIX/include/bigrosk_ini.h,
+#     PREFIX/lib/pkgconfig/bigrosk_ini.pc, PREFIX/lib/cmake/bigrosk_ini, PREFIX/share/man/man3/bigrosk_ini.3
+#
+# libbigrosk_ini.so is a link to the library's soname, which has the first number of the version, and that one to the file,
+# whose name has the whole version, as the header says it (BIGROSK_INI_VERSION). The shared library exports nothing but the
+# header's calls (c/bigrosk_ini.map). What is installed may be moved: its files find each other from where they lie.
 #
 # The library asks for memory by three functions. By default they are those of c/heap.c, over malloc, realloc and free; with
 # --kit-heap those of the Rattle kit; with --no-heap the static library has none, so that the program brings its own, and no
@@ -18,8 +22,11 @@ prefix=${1:?'usage: tools/c_library.sh PREFIX [--kit-heap | --no-heap]'}
 heap=${2:-}
 case $heap in '' | --kit-heap | --no-heap) ;; *) echo "unknown word: $heap" >&2; exit 2 ;; esac
 cc=${CC:-cc}
-mkdir -p "$prefix/lib/pkgconfig" "$prefix/include" "$prefix/share/man/man3"
+cmake=lib/cmake/bigrosk_ini
+mkdir -p "$prefix/lib/pkgconfig" "$prefix/$cmake" "$prefix/include" "$prefix/share/man/man3"
 prefix=$(cd "$prefix" && pwd)
+version=$(sed -n 's/^#define BIGROSK_INI_VERSION "\(.*\)"$/\1/p' "$top/c/bigrosk_ini.h")
+soname=libbigrosk_ini.so.${version%%.*}
 room=$(mktemp -d)
 trap 'rm -rf "$room"' EXIT
 built=$top/crates/ini_c/out/libini_c.a
@@ -81,21 +88,20 @@ case $heap in
 esac
 if [ -f "$room/heap.o" ]; then
     ar r "$room/libbigrosk_ini.a" "$room/heap.o" 2>"$room/log" || { cat "$room/log" >&2; exit 1; }
-    "$cc" -shared -o "$room/libbigrosk_ini.so" -Wl,-soname,libbigrosk_ini.so -Wl,--whole-archive "$room/libbigrosk_ini.a" \
-        -Wl,--no-whole-archive
-    install -m 755 "$room/libbigrosk_ini.so" "$prefix/lib/libbigrosk_ini.so"
+    "$cc" -shared -o "$room/libbigrosk_ini.so" "-Wl,-soname,$soname" "-Wl,--version-script,$top/c/bigrosk_ini.map" -Wl,-z,defs \
+        -Wl,--whole-archive "$room/libbigrosk_ini.a" -Wl,--no-whole-archive
+    install -m 755 "$room/libbigrosk_ini.so" "$prefix/lib/libbigrosk_ini.so.$version"
+    ln -sf "libbigrosk_ini.so.$version" "$prefix/lib/$soname"
+    ln -sf "$soname" "$prefix/lib/libbigrosk_ini.so"
 fi
 install -m 644 "$room/libbigrosk_ini.a" "$prefix/lib/libbigrosk_ini.a"
 install -m 644 "$top/c/bigrosk_ini.h" "$prefix/include/bigrosk_ini.h"
 install -m 644 "$top/man/bigrosk_ini.3" "$prefix/share/man/man3/bigrosk_ini.3"
-cat >"$prefix/lib/pkgconfig/bigrosk_ini.pc" <<END
-prefix=$prefix
-libdir=\${prefix}/lib
-includedir=\${prefix}/include
-
-Name: bigrosk_ini
-Description: INI documents, read and edited by proved code
-Version: 0.3.0
-Libs: -L\${libdir} -lbigrosk_ini
-Cflags: -I\${includedir}
-END
+# written FILE FOLDER: the file of that name with the version's numbers in it, in the folder where it is looked for
+written() {
+    sed -e "s/@VERSION@/$version/g" -e "s/@MAJOR@/${version%%.*}/g" "$top/c/$1.in" >"$room/$1"
+    install -m 644 "$room/$1" "$prefix/$2/$1"
+}
+written bigrosk_ini.pc lib/pkgconfig
+written bigrosk_ini-config.cmake $cmake
+written bigrosk_ini-config-version.cmake $cmake

@@ -1,5 +1,6 @@
 """Compares the C header, the Python module and the sources of the C library: the numbers of statuses, kinds and policies, the
-separators, the options with their defaults, the layout of each struct, and the parameters of each call.
+separators, the options with their defaults, the layout of each struct, and the parameters of each call. The page of the manual
+has each function of the header as it stands there, in lines of at most 80 columns.
 
     borders.py HEADER
 
@@ -16,6 +17,7 @@ import tempfile
 from pathlib import Path
 
 import bigrosk_ini
+import bigrosk_ini._calls as calls_of_module
 
 TOP = Path(__file__).resolve().parents[2]
 HEADER = Path(sys.argv[1])
@@ -144,15 +146,15 @@ def source_parameters(text):
 
 def module_numbers():
     """Each number that the module names, without the underscore of a private name."""
-    named = {name.lstrip("_"): it for name, it in vars(bigrosk_ini).items() if type(it) is int}
-    for it in vars(bigrosk_ini).values():
+    named = {name.lstrip("_"): it for name, it in vars(calls_of_module).items() if type(it) is int}
+    for it in vars(calls_of_module).values():
         if isinstance(it, type) and issubclass(it, enum.Enum):
             named.update((spelled(name), member.value) for name, member in it.__members__.items())
     return named
 
 
 def module_struct(fields):
-    structs = [it for it in vars(bigrosk_ini).values() if isinstance(it, type) and issubclass(it, ctypes.Structure)]
+    structs = [it for it in vars(calls_of_module).values() if isinstance(it, type) and issubclass(it, ctypes.Structure)]
     return next((it for it in structs if hasattr(it, "_fields_") and {name for name, _ in it._fields_} == set(fields)), None)
 
 
@@ -204,7 +206,7 @@ def compare_calls():
     prototype = r"^(\w+) (bigrosk_ini_\w+)\(([^;{]*?)\);"
     prototypes = {name: (words, result) for result, name, words in some(re.findall(prototype, CODE, re.M | re.S), "prototypes")}
     same("calls", sorted(exports), sorted(prototypes))
-    library = next(it for it in vars(bigrosk_ini).values() if isinstance(it, ctypes.CDLL))
+    library = next(it for it in vars(calls_of_module).values() if isinstance(it, ctypes.CDLL))
     for name, (words, result) in prototypes.items():
         words = [re.sub(r"\w+$", "", it.strip()).strip() for it in words.split(",")] if words != "void" else []
         same(f"parameters of {name}", words, source_parameters(exports[name][0]))
@@ -215,8 +217,27 @@ def compare_calls():
             same(f"parameters of {name} in the module", words, [passed_as(it) for it in given])
 
 
+def functions_in(text):
+    """Each function that the text declares or defines, by its name, as one line."""
+    found = re.findall(r"^((?:const )?\w+(?: \w+)? \**)(bigrosk_ini_\w+)\(([^;{]*?)\)\s*[;{]", text, re.M | re.S)
+    return {name: f"{result}{name}({' '.join(words.split())})" for result, name, words in some(found, "functions")}
+
+
+def compare_page():
+    page = (TOP / "man/bigrosk_ini.3").read_text()
+    wanted, had = functions_in(CODE.replace("static inline ", "")), functions_in(page)
+    same("functions of the page", sorted(wanted), sorted(had))
+    for name, line in wanted.items():
+        same(f"{name} in the page", line, had.get(name))
+    same("lines of the page past column 80", [], [line for line in page.splitlines() if len(line) > 80])
+    # in the synopsis, which is shown as it stands, after seven blanks
+    synopsis = page[page.index(".nf\n") + 4 : page.index("\n.fi\n")]
+    same("lines of the synopsis past column 80", [], [line for line in synopsis.splitlines() if len(line) > 73])
+
+
 compare_numbers()
 compare_structs()
 compare_calls()
+compare_page()
 print(f"{compared} compared, {len(different)} differ")
 sys.exit(bool(different))

@@ -27,6 +27,25 @@ static void nothing_is_loaded(void)
     CHECK(bigrosk_ini_version() >= 300);
 }
 
+/* each status has its own words, and no other number has them */
+static void words(void)
+{
+    const char *none = bigrosk_ini_status_text(BIGROSK_INI_UNPLAIN_NAME + 1);
+    CHECK(!strcmp(bigrosk_ini_status_text(BIGROSK_INI_OK), "done"));
+    CHECK(!strcmp(bigrosk_ini_status_text(BIGROSK_INI_ABSENT), "no such pair or section"));
+    CHECK(!strcmp(bigrosk_ini_status_text(BIGROSK_INI_NOT_UTF8), "not UTF-8"));
+    CHECK(!strcmp(bigrosk_ini_status_text(BIGROSK_INI_NO_MEMORY), "out of memory"));
+    CHECK(strstr(bigrosk_ini_status_text(BIGROSK_INI_UNPLAIN_VALUE), "value"));
+    CHECK(strstr(bigrosk_ini_status_text(BIGROSK_INI_UNPLAIN_KEY), "key"));
+    CHECK(strstr(bigrosk_ini_status_text(BIGROSK_INI_UNPLAIN_NAME), "name"));
+    CHECK(!strcmp(none, bigrosk_ini_status_text(UINT32_MAX)));
+    for (uint32_t one = 0; one <= BIGROSK_INI_UNPLAIN_NAME; one++) {
+        CHECK(strcmp(bigrosk_ini_status_text(one), none));
+        for (uint32_t other = 0; other < one; other++)
+            CHECK(strcmp(bigrosk_ini_status_text(one), bigrosk_ini_status_text(other)));
+    }
+}
+
 static const char fleet[] =
     "; the fleet\nport = 8080\ntimeout: 30\n\n[paths]\nlog   = /var/log/app\ncache = \"/var/cache/app data\"\n";
 
@@ -533,6 +552,7 @@ static void many(void)
 int main(void)
 {
     nothing_is_loaded();
+    words();
     look_ups();
     look_ups_by_no_text();
     loans();

@@ -3,13 +3,14 @@ changes nothing, each block is freed, and of several threads one at a time is in
 import threading
 import time
 from ctypes import c_int, c_long
-from bigrosk_ini import Document, _library, edit_add, edit_delete, edit_delete_section
+from bigrosk_ini._calls import library
+from bigrosk_ini import Document, edit_add, edit_delete, edit_delete_section
 from bigrosk_ini import edit_rename_key, edit_rename_section, edit_set
 
-requests = c_long.in_dll(_library, "heap_requests")
-refused = c_long.in_dll(_library, "heap_refused")
-blocks = c_long.in_dll(_library, "heap_blocks")
-shut = c_int.in_dll(_library, "heap_shut")
+requests = c_long.in_dll(library, "heap_requests")
+refused = c_long.in_dll(library, "heap_refused")
+blocks = c_long.in_dll(library, "heap_blocks")
+shut = c_int.in_dll(library, "heap_shut")
 TEXT = "k=1\n[s]\nk=2\nj=" + "long" * 200 + "\nk=3\n[t]\n"
 CALLS = {
     "load": lambda _: Document(TEXT).is_plain(),

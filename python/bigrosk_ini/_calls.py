@@ -1,0 +1,254 @@
+"""The shared library: its numbers, structs and calls, what is raised for what they answer, and how texts go
+to it and come from it. This file knows no document.
+"""
+import ctypes
+import os
+from typing import Any, Callable, Iterator, List, Optional, Tuple, Union
+
+SONAME = "libbigrosk_ini.so.0"
+Pair = Tuple[str, str]
+
+
+def load_library() -> ctypes.CDLL:
+    """The shared library that the variable names, or that lies beside this file, or that the system
+    finds."""
+    beside = os.path.join(os.path.dirname(os.path.abspath(__file__)), "libbigrosk_ini.so")
+    name = os.environ.get("BIGROSK_INI_LIBRARY") or (beside if os.path.exists(beside) else SONAME)
+    try:
+        return ctypes.CDLL(name)
+    except OSError as error:
+        help = "install the library and run ldconfig, or name its file in BIGROSK_INI_LIBRARY"
+        raise ImportError(f"{error}: {help}") from error
+
+
+# A call leaves the interpreter's lock, so that other threads run meanwhile: Document has a lock of its own.
+library = load_library()
+OK, ABSENT, NO_ROOM, BROKEN, NOT_UTF8, NO_MEMORY = range(6)
+NO_DOCUMENT, UNPLAIN_VALUE, UNPLAIN_KEY, NO_PLACE, UNPLAIN_NAME = range(6, 11)
+UNNAMED = ctypes.c_size_t(-1).value
+KINDS = (
+    None,
+    "end of text",
+    "broken escape",
+    "unknown character",
+    "inline comment",
+    "missing key",
+    "CR alone",
+    "header end",
+)
+UNWRITABLE = {UNPLAIN_VALUE: "value", UNPLAIN_KEY: "key", NO_PLACE: "place", UNPLAIN_NAME: "name"}
+
+
+class Handle(ctypes.Structure):
+    _fields_ = [("is_open", ctypes.c_bool), ("inner", ctypes.c_void_p)]
+
+
+class Fault(ctypes.Structure):
+    _fields_ = [
+        ("kind", ctypes.c_uint32),
+        ("line", ctypes.c_size_t),
+        ("column", ctypes.c_size_t),
+        ("message", ctypes.c_char * 64),
+    ]
+
+
+class Sizes(ctypes.Structure):
+    _fields_ = [("bytes", ctypes.c_size_t), ("counts", ctypes.c_size_t)]
+
+
+class ReadOption(ctypes.Structure):
+    """How a text is read."""
+
+    _fields_ = [
+        ("quotes", ctypes.c_bool),
+        ("escapes", ctypes.c_bool),
+        ("multiline", ctypes.c_bool),
+        ("keep_indentation", ctypes.c_bool),
+        ("brackets", ctypes.c_bool),
+    ]
+
+    def __init__(
+        self,
+        quotes: bool = True,
+        escapes: bool = True,
+        multiline: bool = False,
+        keep_indentation: bool = False,
+        brackets: bool = False,
+    ) -> None:
+        super().__init__(quotes, escapes, multiline, keep_indentation, brackets)
+
+
+class WriteOption(ctypes.Structure):
+    """How a document is written: the policy's number, CR LF at line ends, the separator's number."""
+
+    _fields_ = [("policy", ctypes.c_uint32), ("crlf", ctypes.c_bool), ("separator", ctypes.c_uint32)]
+
+    def __init__(self, policy: int = 1, crlf: bool = False, separator: int = 0) -> None:
+        super().__init__(policy, crlf, separator)
+
+
+_handle = ctypes.POINTER(Handle)
+_text = [ctypes.c_char_p, ctypes.c_size_t]
+_name = [ctypes.c_bool] + _text
+_out = [ctypes.c_char_p, ctypes.c_size_t, ctypes.POINTER(ctypes.c_size_t)]
+_list = [ctypes.c_char_p, ctypes.c_size_t, ctypes.POINTER(ctypes.c_size_t), ctypes.c_size_t]
+_list += [ctypes.POINTER(Sizes)]
+_read, _write, _fault = ctypes.POINTER(ReadOption), ctypes.POINTER(WriteOption), ctypes.POINTER(Fault)
+for _call, _arguments, _result in [
+    ("load", _text + [ctypes.c_bool, _read, _handle, _fault], ctypes.c_uint32),
+    ("free", [_handle], None),
+    ("get", [_handle] + _name + _text + _out, ctypes.c_uint32),
+    ("get_all", [_handle] + _name + _text + _list, ctypes.c_uint32),
+    ("pairs", [_handle] + _name + _list, ctypes.c_uint32),
+    ("items", [_handle] + _list, ctypes.c_uint32),
+    ("has", [_handle] + _name + _text, ctypes.c_uint32),
+    ("has_section", [_handle] + _name, ctypes.c_uint32),
+    ("set", [_handle] + _name + _text + _text, ctypes.c_uint32),
+    ("add", [_handle] + _name + _text + _text, ctypes.c_uint32),
+    ("delete", [_handle] + _name + _text, ctypes.c_uint32),
+    ("delete_section", [_handle] + _name, ctypes.c_uint32),
+    ("write", [_handle, _write] + _out, ctypes.c_uint32),
+    ("is_plain", [_handle, _write, _read], ctypes.c_bool),
+    ("edit_set", _text + [_read, _write] + _name + _text + _text + _out + [_fault], ctypes.c_uint32),
+    ("edit_add", _text + [_read, _write] + _name + _text + _text + _out + [_fault], ctypes.c_uint32),
+    ("edit_delete", _text + [_read] + _name + _text + _out + [_fault], ctypes.c_uint32),
+    ("edit_rename_key", _text + [_read, _write] + _name + _text + _text + _out + [_fault], ctypes.c_uint32),
+    ("edit_delete_section", _text + [_read] + _text + _out + [_fault], ctypes.c_uint32),
+    ("edit_rename_section", _text + [_read, _write] + _text + _text + _out + [_fault], ctypes.c_uint32),
+    ("version", [], ctypes.c_uint32),
+]:
+    _function = getattr(library, "bigrosk_ini_" + _call)
+    _function.argtypes, _function.restype = _arguments, _result
+
+
+class Broken(ValueError):
+    """A text breaks the grammar: .line and .column from 1, .kind one of KINDS, .message; .file is the path
+    that was read, or None."""
+
+    def __init__(self, fault: Fault, file: Optional[str] = None, help: str = "") -> None:
+        self.line: int = fault.line
+        self.column: int = fault.column
+        self.kind = KINDS[fault.kind]
+        self.message: str = fault.message.decode()
+        self.file = file
+        place = f"{self.line}:{self.column}" if file is None else f"{file}:{self.line}:{self.column}"
+        super().__init__(f"{place} {self.message}{help}")
+
+
+class Unwritable(ValueError):
+    """A value, a key or a section's name that an edit of a text can't write so that it is read back, or a
+    line that finds no place: .what is "value", "key", "name" or "place"."""
+
+    def __init__(self, what: str) -> None:
+        self.what = what
+        super().__init__(f"no {what} for an edit of this text")
+
+
+def is_done(status: int) -> bool:
+    if status in UNWRITABLE:
+        raise Unwritable(UNWRITABLE[status])
+    if status == NOT_UTF8:
+        raise UnicodeError("not UTF-8")
+    if status == NO_MEMORY:
+        raise MemoryError
+    if status == NO_DOCUMENT:
+        raise ValueError("nothing is loaded")
+    return status == OK
+
+
+def shown(it: object) -> str:
+    """What it is, for a message."""
+    return f"{type(it).__name__}: {it!r:.40}"
+
+
+def text_words(**texts: str) -> List[Any]:
+    """Bytes and their number of each text, by what it is."""
+    words: List[Any] = []
+    for what, text in texts.items():
+        if not isinstance(text, str):
+            raise TypeError(f"a {what.replace('_', ' ')} is a str: this is {shown(text)}")
+        encoded = text.encode()
+        words += [encoded, len(encoded)]
+    return words
+
+
+def words_of(section: Optional[str], **texts: str) -> List[Any]:
+    """The same after those of a section's name, or of none for the general section."""
+    if section is not None and not isinstance(section, str):
+        raise TypeError(f"a section's name is a str, or None for the general one: this is {shown(section)}")
+    return [section is not None] + text_words(name=section or "", **texts)
+
+
+def copied_out(call: Callable[..., int], *words: Any) -> Optional[str]:
+    """What a call copies out, or None where it is absent."""
+    room, count = 256, ctypes.c_size_t()
+    while True:
+        out = ctypes.create_string_buffer(room)
+        status = call(*words, out, room, count)
+        if status != NO_ROOM:
+            return out.raw[: count.value].decode() if is_done(status) else None
+        room = count.value + 1
+
+
+def bytes_of(text: Union[str, bytes, "os.PathLike[str]"]) -> Tuple[bytes, Optional[str]]:
+    """The bytes of a text, and the file that they were read from, if that is what it is."""
+    if isinstance(text, str):
+        return text.encode(), None
+    if isinstance(text, (bytes, bytearray, memoryview)):
+        return bytes(text), None
+    if isinstance(text, os.PathLike):
+        with open(text, "rb") as file:
+            return file.read(), os.fspath(text)
+    raise TypeError(f"a text is a str or bytes, or a Path, which is read: this is {shown(text)}")
+
+
+def help_for(text: object) -> str:
+    """A word on paths, for a text that looks like one: a line without a separator, no header and no
+    comment."""
+    is_line = isinstance(text, str) and text != "" and text.isprintable()
+    is_path = is_line and str(text)[0] not in "[;#" and not set("=:") & set(str(text))
+    return " (a str is the text itself: for a file give its Path)" if is_path else ""
+
+
+class Listing:
+    """Texts and numbers that a call lists; none where it is absent."""
+
+    def __init__(self, call: Callable[..., int], *words: Any) -> None:
+        room = Sizes(4096, 512)
+        while True:
+            out, counts = ctypes.create_string_buffer(room.bytes), (ctypes.c_size_t * room.counts)()
+            sizes = Sizes()
+            status = call(*words, out, room.bytes, counts, room.counts, sizes)
+            if status != NO_ROOM:
+                break
+            room = Sizes(max(sizes.bytes, 1), max(sizes.counts, 1))
+        is_there = is_done(status)
+        self._bytes, self._at = out.raw[: sizes.bytes] if is_there else b"", 0
+        self._counts, self._next = counts[: sizes.counts] if is_there else [], 0
+
+    def is_over(self) -> bool:
+        return self._next == len(self._counts)
+
+    def number(self) -> int:
+        self._next += 1
+        return int(self._counts[self._next - 1])
+
+    def name(self) -> Optional[str]:
+        """The next section's name, or None for the general section."""
+        if self._counts[self._next] == UNNAMED:
+            self._next += 1
+            return None
+        return self.text()
+
+    def text(self) -> str:
+        """The next text."""
+        count, start = self.number(), self._at
+        self._at += count + 1
+        return self._bytes[start : start + count].decode()
+
+    def texts(self) -> Iterator[str]:
+        while not self.is_over():
+            yield self.text()
+
+    def pairs(self, number: int) -> List[Pair]:
+        return [(self.text(), self.text()) for _ in range(number)]

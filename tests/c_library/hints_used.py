@@ -1,0 +1,21 @@
+"""What a program says of the types that it gets from the package: mypy reads it, and nobody runs it."""
+from pathlib import Path
+from typing import List, Optional, Tuple
+
+from bigrosk_ini import Broken, Document, ReadOption, WriteOption, edit_set
+
+document = Document(Path("settings.ini"), ReadOption(multiline=True))
+port: Optional[str] = document.get("server", "port")
+sure: str = document.get("server", "port", fallback="80")
+number = int(document["server"].get("port", "80"))
+names: List[Optional[str]] = list(document)
+pairs: List[Tuple[str, str]] = document["server"].pairs()
+document["server"]["port"] = "443"
+text: str = edit_set("a=1", None, "a", "2", write=WriteOption(crlf=True))
+raw: bytes = edit_set(b"a=1", None, "a", "2")
+document["server"]["port"] = 443  # type: ignore[assignment]
+edit_set(Path("a"), None, "a", "2")  # type: ignore[type-var]
+try:
+    document.is_plain()
+except Broken as broken:
+    place: Tuple[Optional[str], int, int] = (broken.file, broken.line, broken.column)
