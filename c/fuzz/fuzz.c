@@ -1,0 +1,175 @@
+/* A fuzz target for the C library: libFuzzer's entry, which AFL++ takes too. It opens a text under options,
+ * looks up, edits and reads back, and ends the process where an answer breaks a promise of bigrosk_ini.h.
+ * tests/fuzz.sh builds and runs it.
+ *
+ * An input is two bytes of options, the name of a section, a key and a value, each with a | after it, and
+ * the text. Bits of the first byte: 1 quotes, 2 escapes, 4 multiline, 8 kept indentation, 16 brackets, 32 a
+ * mark is dropped, 64 the general section in place of the one of the name. Of the second: 1 to 8 the policy,
+ * 16 and 32 the separator, 128 CR LF. So `#A` has the default options. */
+#include "promises.h"
+
+int LLVMFuzzerTestOneInput(const uint8_t *data, size_t size);
+
+#ifdef __clang__
+/* libFuzzer looks at these, since the library itself has no counters. */
+__attribute__((section("__libfuzzer_extra_counters"))) static uint8_t seen[4096];
+#else
+static uint8_t seen[4096];
+#endif
+
+void broken(const char *file, int line, const char *promise)
+{
+    fprintf(stderr, "%s:%d: a promise is broken: %s\n", file, line, promise);
+    abort();
+}
+
+void *filled(size_t count)
+{
+    uint8_t *at = malloc(count + 1);
+    if (!at) exit(0);
+    memset(at, 0x5a, count + 1);
+    return at;
+}
+
+void note(unsigned what, size_t number)
+{
+    seen[(what * 64 + (number < 63 ? number : 63)) % sizeof seen] = 1;
+}
+
+/* How many bytes a character that begins with this one has; 0 where none does. */
+static unsigned bytes_of_character(uint8_t first)
+{
+    if (first < 0x80) return 1;
+    if (first >= 0xc2 && first < 0xe0) return 2;
+    if (first >= 0xe0 && first < 0xf0) return 3;
+    return first >= 0xf0 && first < 0xf5 ? 4 : 0;
+}
+
+/* Whether the second byte may follow the first: else the character is too long, half a pair or too great. */
+static bool may_follow(uint8_t first, uint8_t second)
+{
+    switch (first) {
+    case 0xe0: return second >= 0xa0;
+    case 0xed: return second < 0xa0;
+    case 0xf0: return second >= 0x90;
+    case 0xf4: return second < 0x90;
+    default: return true;
+    }
+}
+
+bool is_utf8(struct bytes text)
+{
+    for (size_t i = 0; i < text.count;) {
+        unsigned count = bytes_of_character(text.at[i]);
+        if (count == 0 || count > text.count - i) return false;
+        for (unsigned k = 1; k < count; k++)
+            if ((text.at[i + k] & 0xc0) != 0x80) return false;
+        if (count > 1 && !may_follow(text.at[i], text.at[i + 1])) return false;
+        i += count;
+    }
+    return true;
+}
+
+bool is_same(struct bytes one, struct bytes other)
+{
+    if (!one.at || !other.at) return !one.at && !other.at;
+    return one.count == other.count && memcmp(one.at, other.at, one.count) == 0;
+}
+
+/* The bytes up to the next |, which are taken off; all of them where there is none. */
+static struct bytes next_part(struct bytes *rest)
+{
+    const uint8_t *end = rest->count ? memchr(rest->at, '|', rest->count) : NULL;
+    struct bytes part = { rest->at, end ? (size_t)(end - rest->at) : rest->count };
+    size_t taken = end ? part.count + 1 : part.count;
+    rest->at += taken;
+    rest->count -= taken;
+    return part;
+}
+
+static struct input input_of(const uint8_t *data, size_t size)
+{
+    uint8_t first = data[0], second = data[1];
+    struct bytes rest = { data + 2, size - 2 };
+    struct input input = {
+        { first & 1, (first & 2) != 0, (first & 4) != 0, (first & 8) != 0, (first & 16) != 0 },
+        { second & 15u, second >> 7, (second >> 4) & 3u },
+        (first & 32) != 0, (first & 64) == 0, { NULL, 0 }, { NULL, 0 }, { NULL, 0 }, { NULL, 0 }
+    };
+    input.section = next_part(&rest);
+    input.key = next_part(&rest);
+    input.value = next_part(&rest);
+    input.text = rest;
+    return input;
+}
+
+/* Where a text is refused, the fault stands in it, and the document that was loaded stays. */
+static void is_refused(const struct input *input, struct bytes text, uint32_t status, const fault *f,
+                       document *it)
+{
+    char value[2] = "";
+    PROMISE(bigrosk_ini_get_str(it, NULL, "before", value, sizeof value, NULL) == BIGROSK_INI_OK
+        && value[0] == 'b');
+    PROMISE((status == BIGROSK_INI_NOT_UTF8) == !is_utf8(text));
+    if (status != BIGROSK_INI_BROKEN) return;
+    size_t lines = 1;
+    for (size_t i = 0; i < text.count; i++) lines += text.at[i] == '\n' || text.at[i] == '\r';
+    PROMISE(f->kind >= BIGROSK_INI_END_OF_TEXT && f->kind <= BIGROSK_INI_HEADER_END);
+    PROMISE(f->kind != BIGROSK_INI_CR_ALONE || input->read.multiline);
+    PROMISE(f->kind != BIGROSK_INI_HEADER_END || input->read.brackets);
+    PROMISE(f->line >= 1 && f->line <= lines && f->column >= 1 && f->column <= text.count + 1);
+    PROMISE(memchr(f->message, 0, sizeof f->message) != NULL && f->message[0] != 0);
+    note(1, f->kind);
+}
+
+/* A plain document, written by one option, loads by the other as it is; a text is as long as is said. */
+static void write_and_load(document *it, const struct listing *listing, const struct input *input)
+{
+    size_t count = 0, again = 0;
+    uint8_t *none = filled(0);
+    PROMISE(bigrosk_ini_write(it, &input->write, none, 0, &count) == BIGROSK_INI_NO_ROOM && none[0] == 0x5a);
+    free(none);
+    uint8_t *text = filled(count + 1);
+    PROMISE(bigrosk_ini_write(it, &input->write, text, count, &again) == BIGROSK_INI_NO_ROOM
+        && text[0] == 0x5a && again == count);
+    PROMISE(bigrosk_ini_write(it, &input->write, text, count + 1, &again) == BIGROSK_INI_OK
+        && text[count] == 0 && again == count);
+    if (bigrosk_ini_is_plain(it, &input->write, &input->read)) {
+        document other = BIGROSK_INI_EMPTY;
+        fault f = { 0, 0, 0, "" };
+        note(2, 1);
+        PROMISE(bigrosk_ini_load(text, count, false, &input->read, &other, &f) == BIGROSK_INI_OK);
+        struct listing loaded = listing_of(&other);
+        PROMISE(is_same_listing(listing, &loaded));
+        free_listing(&loaded);
+        bigrosk_ini_free(&other);
+    }
+    free(text);
+}
+
+int LLVMFuzzerTestOneInput(const uint8_t *data, size_t size)
+{
+    document it = BIGROSK_INI_EMPTY;
+    fault f = { 0, 0, 0, "" };
+    if (size < 2) return 0;
+    struct input input = input_of(data, size);
+    struct bytes text = input.text;
+    PROMISE(bigrosk_ini_load_str("before=b\n", &it, &f) == BIGROSK_INI_OK);
+    uint32_t status = bigrosk_ini_load(text.at, text.count, input.drop_mark, &input.read, &it, &f);
+    note(0, status);
+    if (status == BIGROSK_INI_OK) {
+        struct listing listing = listing_of(&it);
+        PROMISE(is_utf8(text));
+        look_up(&it, &listing, &input);
+        write_and_load(&it, &listing, &input);
+        edit_document(&listing, &input);
+        free_listing(&listing);
+    } else {
+        PROMISE(status == BIGROSK_INI_BROKEN || status == BIGROSK_INI_NOT_UTF8);
+        is_refused(&input, text, status, &f, &it);
+    }
+    bigrosk_ini_free(&it);
+    PROMISE(!it.is_open);
+    edit_text(&input);
+    return 0;
+}
