@@ -3,9 +3,10 @@
 # (tests/program.sh, tests/files.sh, tests/saving.sh, tests/words.sh, tests/long.sh, tests/streams.sh, tests/passing.sh), the
 # scripts that build and run them (tests/scripts.sh), what the programs cost (tests/costs.sh) and ask of memory (tests/memory.sh),
 # the pages that are made by scripts and the edits that the gate leaves out (tests/pages.sh), pages of the manual, completions
-# and installing (tests/habits.sh), ini_file beside its peers (tests/peers.sh), and clients of the C library
-# (tests/c_library.sh). Each step ends with the time that it took. The last line is 'N passed, M failed' over all, and the
-# status is 1 if anything failed.
+# and installing (tests/habits.sh), ini_file beside its peers (tests/peers.sh), clients of the C library (tests/c_library.sh), how
+# they are linked (tests/linking.sh), the Python package (tests/wheel.sh), a built release (tests/release.sh), and the C library
+# fuzzed for BIGROSK_FUZZ_SECONDS, by default 60 (tests/fuzz.sh). Each step ends with the time that it took. The last line is
+# 'N passed, M failed' over all, and the status is 1 if anything failed.
 set -u
 cd "$(dirname "$0")/.." || exit 1
 log=$(mktemp)
@@ -51,5 +52,9 @@ run tests/pages.sh
 run tests/habits.sh
 run tests/peers.sh
 run tests/c_library.sh
+run tests/linking.sh
+run tests/wheel.sh
+run tests/release.sh
+run tests/fuzz.sh "${BIGROSK_FUZZ_SECONDS:-60}"
 echo "$passed passed, $failed failed"
 [ "$failed" -eq 0 ]
