@@ -10,6 +10,7 @@ use Rattle.std.specs.Char.{is_whitespace}
 use Rattle.ini_text.specs.declared.option.ParseOption.{ParseOption}
 use Rattle.ini_text.specs.Grammar.CharacterKinds.{open_bracket, is_blank, is_comment_mark, is_line_feed}
 use Rattle.ini_text.specs.Grammar.CharacterKinds.{is_line_end, BeginsWith, BeginsWithNo}
+use Rattle.ini_text.specs.Grammar.Places.{TrailingLines}
 use Rattle.ini_text.specs.Grammar.Positions.{last_or, is_column_one}
 use Rattle.ini_text.specs.Grammar.Strings.{Closes, Str, bracketed_name_ends, plain_ends}
 use Rattle.ini_text.specs.Grammar.Values.{LineEnd, MoreLines, Value}
@@ -98,6 +99,13 @@ module _ {o : ParseOption} {x : List ℕ} (follows : Follows o x) where
   value_before f (Value.to_end on lead ln) = absurd (y_some f refl)
   value_before f (Value.lines on lead ln le m) = Value-before on (y_some f) (Value.lines on lead ln le m)
 
+  pub tail_before : {c t y : List ℕ} → FollowsFront c y → TrailingLines o t y → TrailingLines o t x
+  tail_before {y = y} f (TrailingLines.line off closes) = closes_no_line y f.some closes
+  tail_before f (TrailingLines.end on) = absurd (y_some f refl)
+  tail_before f (TrailingLines.lines {t = t} on end more all) =
+      TrailingLines.lines on (LineEnd-before t x _ (follows.no_line_end on) end)
+      (MoreLines-before on (y_some f) more) all
+
   pub no_bracketed : {X : Type 0} {c : List ℕ} {e : Bool} {s y v : List ℕ} → FollowsFront c y
       → Str e bracketed_name_ends s y v → X
   no_bracketed {y = y} f (Str.closed row h) = at y f.some h
@@ -116,7 +124,7 @@ module _ {o : ParseOption} {x : List ℕ} (follows : Follows o x) where
   ]
   Gap-before f (Gap.white h n) = Gap.white h n
 
-  Element-before : {b s y : List ℕ} {gives : List Given} → FollowsFront (b ++ s) y → Element o b s y gives
+  pub Element-before : {b s y : List ℕ} {gives : List Given} → FollowsFront (b ++ s) y → Element o b s y gives
       → Element o b s x gives
   Element-before f (Element.gap g) = Element.gap (Gap-before f g)
   Element-before f (Element.comment s one mark all) = Element.comment s one mark all

@@ -23,7 +23,7 @@ use Rattle.ini_edit.specs.Quotes.{IsQuoteFor, KeepsQuote, StandsInQuotes, has_qu
 use Rattle.ini_edit.proofs.PadLemmas.{drop_white, white_row}
 use Rattle.ini_edit.specs.Writable.{IsWritableValue}
 use Rattle.ini_edit.proofs.WrittenLemmas.{IsReadAsWritten, read_as_written}
-use Rattle.ini_edit.proofs.ValueLemmas.{IsSourceOf, bare_source, closes_no_mark}
+use Rattle.ini_edit.proofs.ValueLemmas.{IsSourceOf, bare_line, bare_source, closes_no_mark}
 
 -- there are two marks
 of_mark : (P : ℕ → Type 0) → P 0x22 → P 0x27 → (m : ℕ) → is_quote_mark m ≡ true → P m
@@ -88,6 +88,20 @@ module _ {o : ParseOption} {policy : EscapePolicy} {value : Text}
   source_in IsQuoteFor.empty =
       subst (λ z. IsSourceOf o z value) (sym (append-nil (escaped policy value))) (bare_source writable)
   source_in (IsQuoteFor.mark {m} on mark none) = quoted_source m on mark none
+
+  -- and the source is a raw value
+  pub own_in : {quote : Text} → IsQuoteFor o value quote → IsOwnSource o (written_in policy quote value)
+  unfolding quoted_source
+  own_in IsQuoteFor.empty = record {
+    space_after = [];
+    rest = [];
+    lines = subst (λ z. OwnLines o (z ++ []) []) (sym (append-nil (escaped policy value))) (bare_line writable);
+  }
+  own_in (IsQuoteFor.mark {m} on mark none) = record {
+    space_after = [];
+    rest = [];
+    lines = OwnLines.first ((quoted_source m on mark none).line [] [] [] refl refl refl).is_line;
+  }
 
 pub quote_for : {o : ParseOption} {raw_value value quote : Text} → KeepsQuote o raw_value value quote
     → IsQuoteFor o value quote

@@ -30,11 +30,11 @@ use Rattle.ini_edit.proofs.SectionLemmas.{EmptyOrHeader, Reads-before_header, he
 use Rattle.ini_edit.proofs.SectionListLemmas.{document_renamed}
 use Rattle.ini_edit.proofs.WalkLemmas.{told}
 
-str_closes : {e : Bool} {s r v : Text} → Str e bracketed_name_ends s r v → Closes bracketed_name_ends r
+pub str_closes : {e : Bool} {s r v : Text} → Str e bracketed_name_ends s r v → Closes bracketed_name_ends r
 str_closes (Str.closed row h) = h
 str_closes (Str.lone row h) = absurd (false≢true h)
 
-plain_closes : (r : Text) → Closes bracketed_name_ends r → Closes plain_ends r
+pub plain_closes : (r : Text) → Closes bracketed_name_ends r → Closes plain_ends r
 plain_closes [] h = absurd (false≢true h)
 plain_closes (c ∷ r) h = h
 
@@ -51,7 +51,7 @@ module _ {o : ParseOption} (policy : EscapePolicy) (new : Text) (p : IsPlainName
       (Element.bracketed_header on (Str.closed row closes)
       (record { blanks = []; blank = refl; whole = refl }))
 
-  header_anew : {b s r old : Text} {gives : List Given} → gives ≡ Header old ∷ [] → Element o b s r gives
+  pub header_anew : {b s r old : Text} {gives : List Given} → gives ≡ Header old ∷ [] → Element o b s r gives
       → Element o b (header_of policy new) r (Header new ∷ [])
   header_anew {old = old} is (Element.gap g) = absurd (let no : [] ≡ Header old ∷ [] = is in cc)
   header_anew {old = old} is (Element.comment s one mark all) =

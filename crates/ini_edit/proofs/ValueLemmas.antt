@@ -17,7 +17,7 @@ use Rattle.ini_text.specs.Grammar.Values.{LineEnd, Value}
 use Rattle.ini_text.specs.Escaping.EscapedTexts.{escaped}
 use Rattle.ini_text.proofs.PlainLemmas.PlainPairLemmas.{escaped_begins, line_end_no_mark}
 use Rattle.ini_text.proofs.PlainLemmas.PlainTrimLemmas.{trimmed_begins, without_line_feeds-trimmed}
-use Rattle.ini_text.specs.Grammar.Places.{TrailingLines}
+use Rattle.ini_text.specs.Grammar.Places.{OwnLines, TrailingLines}
 use Rattle.ini_edit.specs.Writable.{IsWritableValue}
 use Rattle.ini_edit.proofs.PadLemmas.{trimmed-white, white_both, white_row}
 use Rattle.ini_edit.proofs.WrittenLemmas.{IsReadAsWritten, read_as_written}
@@ -108,6 +108,16 @@ bare_source {o} {policy} {value} writable =
       line = λ w pad r white white_pad h. written_line w pad white white_pad value r is h;
       is_trimmed = is.is_trimmed;
     }
+
+-- which is a value's line
+pub bare_line : {o : ParseOption} {policy : EscapePolicy} {value : List ℕ} → IsWritableValue o policy value
+    → OwnLines o (escaped policy value ++ []) []
+unfolding written_line
+bare_line {o} {policy} {value} writable = at value (read_as_written writable)
+  where
+    at : (v : List ℕ) → IsReadAsWritten o policy v → OwnLines o (escaped policy v ++ []) []
+    at [] is = OwnLines.first (written_line [] [] refl refl [] [] is refl).is_line
+    at (c ∷ cs) is = OwnLines.first (written_line [] [] refl refl (c ∷ cs) [] is refl).is_line
 
 module _ {o : ParseOption} (w pad : List ℕ) (white : list_all is_inline_white w ≡ true)
     (white_pad : list_all is_inline_white pad ≡ true) where

@@ -1,7 +1,7 @@
 -- What a call that edits a text makes of it.
 use Rattle.std.specs.Prelude.{◌≡◌, [], ◌∷◌, ◌++◌, Option, Result, Err, ⊤}
 use Rattle.ini_text.specs.Grammar.Elements.{Pair}
-use Rattle.ini_text.specs.declared.error.Error.TheVariants.{Parse}
+use Rattle.ini_text.specs.declared.error.Error.TheVariants.{Memory, Parse}
 use Rattle.ini_text.specs.declared.error.ParseError.{ParseError}
 use Rattle.ini_text.specs.declared.option.ParseOption.{ParseOption}
 use Rattle.ini_text.specs.declared.write.policy.EscapePolicy.{EscapePolicy}
@@ -61,3 +61,21 @@ IsEditParseOrMemory _ = ⊥
 abbrev pub IsValueOrRefusal : EditError → Type 0
 IsValueOrRefusal EditErrors.Value = ⊤
 IsValueOrRefusal e = IsEditParseOrMemory e
+
+-- the value isn't writable, or memory was refused
+abbrev pub IsValueOrMemory : EditError → Type 0
+IsValueOrMemory EditErrors.Value = ⊤
+IsValueOrMemory (EditErrors.Text (Memory _)) = ⊤
+IsValueOrMemory _ = ⊥
+
+-- a key can't be written, or memory was refused
+abbrev pub IsKeyOrMemory : EditError → Type 0
+IsKeyOrMemory EditErrors.Key = ⊤
+IsKeyOrMemory (EditErrors.Text (Memory _)) = ⊤
+IsKeyOrMemory _ = ⊥
+
+-- a name isn't plain, or memory was refused
+abbrev pub IsNameOrMemory : EditError → Type 0
+IsNameOrMemory EditErrors.Name = ⊤
+IsNameOrMemory (EditErrors.Text (Memory _)) = ⊤
+IsNameOrMemory _ = ⊥

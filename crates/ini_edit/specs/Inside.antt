@@ -1,4 +1,5 @@
 pub mod Cuts
+pub mod InPlace
 pub mod KeyEdges
 pub mod Later
 pub mod Lines
@@ -8,4 +9,7 @@ pub mod Quotes
 pub mod RawTests
 pub mod SectionWalks
 pub mod SetWalks
+pub mod SourceSteps
+pub mod SourceWalks
+pub mod Spans
 pub mod Walks

@@ -19,5 +19,7 @@ pub mod Quotes
 pub mod Renamed
 pub mod Sections
 pub mod Settings
+pub mod SourceEdits
+pub mod Sources
 pub mod Targets
 pub mod Writable

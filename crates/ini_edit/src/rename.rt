@@ -84,8 +84,8 @@ fn rename_plain(
     Ok(Some(edited))
 }
 
-// Appends a key between the white space that stands around another one in its source.
-fn push_key(
+/// Appends a key between the white space that stands around another one in its source.
+pub(crate) fn push_key(
     alloc: Global,
     out: &mut String,
     source: &str,

@@ -7,3 +7,4 @@ mod random_edits;
 mod random_keys;
 mod random_sections;
 mod show;
+mod sources;

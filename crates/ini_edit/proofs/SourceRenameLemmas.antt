@@ -1,0 +1,396 @@
+-- A pair's key, and a section's name, written anew in a text in pieces.
+use Rattle.std.proofs.Common.{◌≡◌, ◌∙◌, ◌==◌, ℕ, false, true, ◌&&◌, List, [], ◌∷◌, ◌++◌, append_assoc}
+use Rattle.std.proofs.Common.{Bool, None, Option, Some, ap, append-nil, eqb-true, get_or, inl, inr, map}
+use Rattle.std.proofs.Common.{refl, set, subst, sym}
+use Rattle.std.proofs.lemmas.Bool.{false≢true}
+use Rattle.std.proofs.lemmas.List.Folds.{list_all-append}
+use Rattle.std.specs.List.{list_all}
+use Rattle.std.specs.Prelude.{is_some}
+use Rattle.ini_text.specs.Escaping.EscapedTexts.{escaped}
+use Rattle.ini_text.specs.Grammar.CharacterKinds.{BeginsWith, close_bracket, line_feed, open_bracket}
+use Rattle.ini_text.specs.Grammar.Elements.{Element, Given, Header}
+use Rattle.ini_text.specs.Grammar.Keys.{KeyFront}
+use Rattle.ini_text.specs.Grammar.Pieces.{ArePieces, Piece, pieces_text}
+use Rattle.ini_text.specs.Grammar.Places.{pair_source, value_source}
+use Rattle.ini_text.specs.Grammar.Positions.{last_or}
+use Rattle.ini_text.specs.Laws.PieceLaws.{Agree, BeginAlike}
+use Rattle.ini_text.specs.Laws.Plain.{IsPlainName}
+use Rattle.ini_text.specs.declared.option.ParseOption.{ParseOption}
+use Rattle.ini_text.specs.declared.write.policy.EscapePolicy.{EscapePolicy}
+use Rattle.ini_text.proofs.LawLemmas.LocalLemmas.{Element-before, KeyFront-like, by_front}
+use Rattle.ini_text.proofs.LawLemmas.OneAheadLemmas.{Alike, KeyFront-alike}
+use Rattle.ini_text.proofs.LawLemmas.PieceLemmas.{last_or-append}
+use Rattle.ini.specs.Edits.{key_renamed, rename_key_in, section_renamed}
+use Rattle.ini.specs.Texts.{Text, is_name, is_text}
+use Rattle.ini.proofs.KeepingLemmas.{names_equal}
+use Rattle.ini_edit.specs.Inside.InPlace.{AreInPlace}
+use Rattle.ini_edit.specs.Inside.SourceSteps.{IsFirstAt, RenamesIn, RenamesKey, RenamesPair}
+use Rattle.ini_edit.specs.Inside.Spans.{AreSections, AreSpans, BeginGeneral, IsPair, IsSpan, Span}
+use Rattle.ini_edit.specs.Inside.Spans.{gap, opening, pair, pairs_spans, sections_spans, span_source}
+use Rattle.ini_edit.specs.Places.{Follows}
+use Rattle.ini_edit.specs.Renamed.{HasEdges, IsPlainBareKey}
+use Rattle.ini_edit.specs.Sections.{header_of}
+use Rattle.ini_edit.specs.SourceEdits.{RenamesKeyIn, RenamesNameIn, first_changed, first_fitting}
+use Rattle.ini_edit.specs.SourceEdits.{key_changed, pair_changed, with_header, with_key, with_pairs}
+use Rattle.ini_edit.specs.Sources.{PairPiece, Pieces, SectionPiece, given_pair, given_section, joined}
+use Rattle.ini_edit.proofs.AheadLemmas.{FollowsFront, key_follows, tail_before, value_before}
+use Rattle.ini_edit.proofs.AheadLemmas as ahead
+use Rattle.ini_edit.proofs.FirstLemmas.{changed_first, first_stands, renamed_first, stands_there}
+use Rattle.ini_edit.proofs.InPlaceLemmas.{in_place-before, in_place-exchanged, in_place-put, in_place-split}
+use Rattle.ini_edit.proofs.NewKeyLemmas.{in_place}
+use Rattle.ini_edit.proofs.SectionLemmas.{header_bracket}
+use Rattle.ini_edit.proofs.SectionRenamedLemmas.{header_anew, plain_closes, str_closes}
+use Rattle.ini_edit.proofs.SourceReadLemmas.{sections_spans-append}
+use Rattle.ini_edit.proofs.SourceSetLemmas.{as_edit, changed_sections, closed_agrees, found_there}
+use Rattle.ini_edit.proofs.SourceSetLemmas.{last_agrees}
+use Rattle.ini_edit.proofs.SourceSetLemmas.{no_value, same_sections, sections_put}
+use Rattle.ini_edit.proofs.SpanLemmas.{span_before, spans_local}
+
+-- Before a key what stands in its place stands before any other text too that may follow a value.
+module _ {o : ParseOption} {x : Text} (follows : Follows o x) {k r key : Text} where
+  -- a key that stands after these characters
+  front_of : (c : ℕ) (s : Text) → KeyFront o (last_or c s ∷ []) k r key
+      → FollowsFront ((c ∷ []) ++ s) (k ++ r)
+  front_of c s front = key_follows r (KeyFront-like by_front front)
+
+  pieces_ahead : {c : ℕ} (ps : List Piece) → KeyFront o (last_or c (pieces_text ps) ∷ []) k r key
+      → ArePieces o c ps (k ++ r) → ArePieces o c ps x
+  pieces_ahead [] front ArePieces.none = ArePieces.none
+  pieces_ahead {c} (p ∷ ps) front (ArePieces.more e rest) =
+      let later : KeyFront o (last_or (last_or c p.source) (pieces_text ps) ∷ []) k r key =
+      subst (λ z. KeyFront o (z ∷ []) k r key) (last_or-append c p.source (pieces_text ps)) front in
+      ArePieces.more (at (pieces_text ps) later e) (pieces_ahead {c = last_or c p.source} ps later rest)
+    where
+      at : (t : Text) → KeyFront o (last_or (last_or c p.source) t ∷ []) k r key
+          → Element o (c ∷ []) p.source (t ++ (k ++ r)) p.gives → Element o (c ∷ []) p.source (t ++ x) p.gives
+      at [] last e = ahead.Element-before follows (front_of c p.source last) e
+      at (d ∷ t) last e = Element-before BeginAlike.character e
+
+  span_ahead : {c : ℕ} {s : Span} → KeyFront o (last_or c (span_source s) ∷ []) k r key
+      → IsSpan o c s (k ++ r) → IsSpan o c s x
+  span_ahead front IsSpan.general = IsSpan.general
+  span_ahead {c} front (IsSpan.header {s = s} e) =
+      IsSpan.header (ahead.Element-before follows (front_of c s front) e)
+  span_ahead {c} front (IsSpan.is_pair {p = p} h) =
+      let f = front_of c (pair_source p) front in
+      IsSpan.is_pair (record {
+        key_front = h.key_front;
+        some = h.some;
+        separates = h.separates;
+        gives = value_before follows f h.gives;
+        white_before = h.white_before;
+        own_source = h.own_source;
+        white_after = h.white_after;
+        are_trailing = tail_before follows f h.are_trailing;
+      })
+  span_ahead {c} front (IsSpan.is_gap h) = IsSpan.is_gap (record {
+    pieces = h.pieces;
+    whole = h.whole;
+    nothing = h.nothing;
+    are = pieces_ahead h.pieces
+        (subst (λ t. KeyFront o (last_or c t ∷ []) k r key) h.whole front) h.are;
+  })
+
+  pub spans_ahead : {c : ℕ} (xs : List Span) → KeyFront o (last_or c (joined span_source xs) ∷ []) k r key
+      → AreSpans o c xs (k ++ r) → AreSpans o c xs x
+  spans_ahead [] front AreInPlace.none = AreInPlace.none
+  spans_ahead {c} (s ∷ xs) front (AreInPlace.more is rest) =
+      let source = span_source s in
+      let later : KeyFront o (last_or (last_or c source) (joined span_source xs) ∷ []) k r key =
+      subst (λ z. KeyFront o (z ∷ []) k r key) (last_or-append c source (joined span_source xs)) front in
+      AreInPlace.more (at (joined span_source xs) later is) (spans_ahead {c = last_or c source} xs later rest)
+    where
+      at : (t : Text) → KeyFront o (last_or (last_or c (span_source s)) t ∷ []) k r key
+          → IsSpan o c s (t ++ (k ++ r)) → IsSpan o c s (t ++ x)
+      at [] last is = span_ahead last is
+      at (d ∷ t) last is = span_before BeginAlike.character is
+
+alike_begin : {r x : Text} → Alike r x → BeginAlike r x
+alike_begin Alike.same = BeginAlike.character
+
+-- the key of a pair
+module _ {o : ParseOption} {policy : EscapePolicy} {other : Text} (plain : IsPlainBareKey o policy other)
+    (p : PairPiece) {indent pad : Text} (edges : HasEdges o p.stretches.key indent pad) where
+  abbrev new_source : Text
+  new_source = indent ++ (escaped policy other ++ pad)
+
+  abbrev renamed_pair : Span
+  renamed_pair = pair (with_key new_source other p).stretches other p.value
+
+  abbrev after_keys : Text → Text
+  after_keys rest = p.stretches.separator ∷ (value_source p.stretches ++ (rest ++ []))
+
+  was_text : (rest : Text) → (pair_source p.stretches ++ rest) ++ [] ≡ p.stretches.key ++ after_keys rest
+  was_text rest =
+      append_assoc (pair_source p.stretches) rest []
+      ∙ append_assoc p.stretches.key (p.stretches.separator ∷ value_source p.stretches) (rest ++ [])
+
+  is_text_new : (rest : Text)
+      → (span_source renamed_pair ++ []) ++ (rest ++ []) ≡ new_source ++ after_keys rest
+  is_text_new rest =
+      ap (λ t. t ++ (rest ++ [])) (append-nil (span_source renamed_pair))
+      ∙ append_assoc new_source (p.stretches.separator ∷ value_source p.stretches) (rest ++ [])
+
+  same_last : (c : ℕ) → last_or c (pair_source p.stretches ++ []) ≡ last_or c (span_source renamed_pair ++ [])
+  same_last c =
+      let value = p.stretches.separator ∷ value_source p.stretches in
+      ap (last_or c) (append-nil (pair_source p.stretches)) ∙ last_or-append c p.stretches.key value
+      ∙ sym (last_or-append c new_source value) ∙ ap (last_or c) (sym (append-nil (span_source renamed_pair)))
+
+  pub spans_renamed : (front rest : List Span)
+      → AreSpans o line_feed (front ++ (pair p.stretches p.key p.value ∷ rest)) []
+      → AreSpans o line_feed (front ++ (renamed_pair ∷ rest)) []
+  spans_renamed front rest h =
+      let split = in_place-split span_source front (pair p.stretches p.key p.value ∷ rest) h in
+      at split.0 split.1
+    where
+      c : ℕ
+      c = last_or line_feed (joined span_source front)
+
+      following : Text
+      following = joined span_source rest
+
+      at : AreSpans o line_feed front ((pair_source p.stretches ++ joined span_source rest) ++ [])
+          → AreSpans o c (pair p.stretches p.key p.value ∷ rest) []
+          → AreSpans o line_feed (front ++ (renamed_pair ∷ rest)) []
+      at before (AreInPlace.more (IsSpan.is_pair is) later) =
+          let r = value_source p.stretches ++ (following ++ []) in
+          let place = in_place plain pad edges.white_pad p.stretches.separator is.separates r indent
+          is.key_front edges in
+          let was = subst (AreSpans o line_feed front) (was_text following) before in
+          let stays : AreSpans o line_feed front (new_source ++ after_keys following) = elim place.ahead [
+            | inl alike ↦ in_place-before span_source spans_local (alike_begin alike) was
+            | inr follows ↦ spans_ahead follows front (KeyFront-alike Alike.same is.key_front) was
+          ] in
+          let q = with_key new_source other p in
+          let new : IsPair o c q.stretches other p.value (following ++ []) = record {
+            key_front = KeyFront-alike Alike.same place.front;
+            some = plain.bare.some;
+            separates = is.separates;
+            gives = is.gives;
+            white_before = is.white_before;
+            own_source = is.own_source;
+            white_after = is.white_after;
+            are_trailing = is.are_trailing;
+          } in
+          in_place-put span_source spans_local front (pair p.stretches p.key p.value ∷ [])
+          (renamed_pair ∷ []) rest h
+          (subst (AreSpans o line_feed front) (sym (is_text_new following)) stays)
+          (AreInPlace.more (IsSpan.is_pair new) AreInPlace.none)
+          (last_agrees (same_last c))
+
+-- what the document shows of it
+renamed_keys : (key other source : Text) (ps : List PairPiece)
+    → map given_pair (first_changed (λ p. is_text key p.key) (with_key source other) ps)
+    ≡ key_renamed key other (map given_pair ps)
+renamed_keys key other source ps =
+    renamed_first (λ p. is_text key p.key) (is_text key) given_pair (λ p. refl) (with_key source other) other
+    (λ p. refl) ps
+
+pub key_replaced : (name : Option Text) (key other source : Text) (ss : List SectionPiece)
+    → map given_section (pair_changed name key (with_key source other) ss)
+    ≡ rename_key_in name key other (map given_section ss)
+key_replaced name key other source ss =
+    changed_first (λ s. is_name name s.name) (is_name name) given_section (λ s. refl)
+    (key_changed key (with_key source other)) (key_renamed key other)
+    (λ s. ap (λ ps. (s.name, ps)) (renamed_keys key other source s.pairs)) ss
+    ∙ as_edit name (key_renamed key other) (map given_section ss)
+
+-- the first pair of a key renamed in its section
+pub key_put : {o : ParseOption} {policy : EscapePolicy} {other : Text} (key : Text) {s t : SectionPiece}
+    {i : ℕ} {y z : PairPiece} → t ≡ s → IsFirstAt (λ p. is_text key p.key) t.pairs i → y ≡ get_or t.pairs i y
+    → RenamesPair o policy y z other → RenamesKey o policy s (with_pairs t (set t.pairs i z)) key other
+key_put {o} {policy} {other} key {s} {t} {i} {y} {z} same at is h =
+    let f = with_key (h.indent ++ (escaped policy other ++ h.pad)) other in
+    let there : at.found ≡ y = stands_there (λ p. is_text key p.key) at is in
+    subst (λ s. RenamesKey o policy s (with_pairs t (set t.pairs i z)) key other) same
+    (record {
+      pair = at.found;
+      was = at.fitting;
+      indent = h.indent;
+      pad = h.pad;
+      edges = subst (λ p. HasEdges o p.stretches.key h.indent h.pad) (sym there) h.edges;
+      is = ap (with_pairs t) (ap (set t.pairs i) (h.is ∙ ap f (sym there)) ∙ at.changed f);
+    })
+
+-- and in the first section of the name
+module _ {o : ParseOption} {policy : EscapePolicy} {other : Text} (plain : IsPlainBareKey o policy other)
+    (name : Option Text) (key : Text) (ss : List SectionPiece) {i : ℕ}
+    (at : IsFirstAt (λ s. is_name name s.name) ss i) (new : SectionPiece) where
+  pub sections_renamed : (found : Bool) → RenamesIn o policy at.found new key other found → AreSections o ss
+      → AreSections o (set ss i new)
+  sections_renamed true h are =
+      let f = with_key (h.indent ++ (escaped policy other ++ h.pad)) other in
+      subst (AreSections o) (sym (changed_sections name key ss at new (key_changed key f) h.is))
+      (sections_put name key f h.pair refl (spans_renamed plain h.pair h.edges) ss
+      (found_there name key ss at new h.was) are)
+  sections_renamed false h are = subst (AreSections o) (sym (same_sections name key ss at new h.0)) are
+
+  abbrev pieces : List SectionPiece → Pieces
+  pieces l = record { option = o; sections = l }
+
+  pub pieces_renamed : (found : Bool) → RenamesIn o policy at.found new key other found
+      → RenamesKeyIn o policy (pieces ss) (pieces (set ss i new)) name key other found
+  pieces_renamed true h =
+      let source = h.indent ++ (escaped policy other ++ h.pad) in
+      let is = changed_sections name key ss at new (key_changed key (with_key source other)) h.is in
+      record {
+        pair = h.pair;
+        was = found_there name key ss at new h.was;
+        indent = h.indent;
+        pad = h.pad;
+        edges = h.edges;
+        option = refl;
+        sections = is;
+        document = ap (map given_section) is ∙ key_replaced name key other source ss;
+      }
+  pieces_renamed false h = (
+    ap pieces (same_sections name key ss at new h.0),
+    no_value name key ss (found_there name key ss at new h.1),
+  )
+
+-- after another header the rest is read as before
+header_agrees : {o : ParseOption} {b s r old z : Text} {gives : List Given} (c : ℕ) (t : Text)
+    → gives ≡ Header old ∷ [] → Element o b s r gives → r ≡ z
+    → Agree (last_or c s ∷ []) (last_or c (open_bracket ∷ (t ++ close_bracket ∷ [])) ∷ []) z
+header_agrees {old = old} c t is (Element.gap g) same = absurd (let no : [] ≡ Header old ∷ [] = is in cc)
+header_agrees {old = old} c t is (Element.comment s one mark all) same =
+    absurd (let no : [] ≡ Header old ∷ [] = is in cc)
+header_agrees {old = old} c t is (Element.last_comment one mark all) same =
+    absurd (let no : [] ≡ Header old ∷ [] = is in cc)
+header_agrees c t is (Element.header {s = s} off str) same =
+    last_agrees (last_or-append open_bracket s (close_bracket ∷ [])
+    ∙ sym (last_or-append open_bracket t (close_bracket ∷ [])))
+header_agrees c t is (Element.bracketed_header {s = s} {r = r} on str i) same =
+    subst (Agree (last_or c (open_bracket ∷ s) ∷ [])
+    (last_or c (open_bracket ∷ (t ++ close_bracket ∷ [])) ∷ [])) same
+    (closed_agrees r (plain_closes r (str_closes str)))
+header_agrees c t is (Element.pair front some sep given) same = absurd (cc (is))
+header_agrees {old = old} c t is (Element.dropped_blanks i) same =
+    absurd (let no : [] ≡ Header old ∷ [] = is in cc)
+header_agrees {old = old} c t is (Element.dropped_key i begins stops) same =
+    absurd (let no : [] ≡ Header old ∷ [] = is in cc)
+
+-- headers begin alike
+headers_begin : (s t r : Text) → BeginsWith (λ c. c == open_bracket) s
+    → BeginAlike ((s ++ []) ++ r) (((open_bracket ∷ t) ++ []) ++ r)
+headers_begin [] t r h = absurd (false≢true (sym h))
+headers_begin (c ∷ s) t r h =
+    subst (λ z. BeginAlike ((z ∷ (s ++ [])) ++ r) (((open_bracket ∷ t) ++ []) ++ r)) (sym
+    (eqb-true c open_bracket h)) BeginAlike.character
+
+module _ {o : ParseOption} (policy : EscapePolicy) (other : Text) (plain : IsPlainName o policy other) where
+  -- the header of a section
+  abbrev named : Span
+  named = opening (Some other) (header_of policy other)
+
+  header_put : (old header : Text) (front rest : List Span)
+      → AreSpans o line_feed (front ++ (opening (Some old) header ∷ rest)) []
+      → AreSpans o line_feed (front ++ (named ∷ rest)) []
+  header_put old header front rest h =
+      at (in_place-split span_source front (opening (Some old) header ∷ rest) h).1
+    where
+      c : ℕ
+      c = last_or line_feed (joined span_source front)
+
+      following : Text
+      following = joined span_source rest
+
+      at : AreSpans o c (opening (Some old) header ∷ rest) []
+          → AreSpans o line_feed (front ++ (named ∷ rest)) []
+      at (AreInPlace.more (IsSpan.header e) later) =
+          in_place-exchanged span_source spans_local front (opening (Some old) header ∷ [])
+          (named ∷ []) rest h
+          (AreInPlace.more (IsSpan.header (header_anew policy other plain refl e)) AreInPlace.none)
+          (headers_begin header (escaped policy other ++ close_bracket ∷ []) (following ++ [])
+          (header_bracket refl e))
+          (subst (λ t. Agree (last_or c t ∷ []) (last_or c (header_of policy other ++ []) ∷ []) following)
+          (sym (append-nil header))
+          (subst (λ t. Agree (last_or c header ∷ []) (last_or c t ∷ []) following)
+          (sym (append-nil (header_of policy other)))
+          (header_agrees c (escaped policy other) refl e (append-nil following))))
+
+  -- and the sections
+  begin-named : (ss : List SectionPiece) (s t : SectionPiece) (rest : List SectionPiece) {old : Text}
+      → s.name ≡ Some old → t.name ≡ Some other → BeginGeneral (ss ++ s ∷ rest)
+      → BeginGeneral (ss ++ t ∷ rest)
+  begin-named [] s t rest {old} was is h = absurd (let no : None ≡ Some old = sym h.0 ∙ was in cc)
+  begin-named (u ∷ ss) s t rest was is h = (
+    h.0,
+    list_all-append (λ v. is_some v.name) ss (t ∷ rest)
+        ∙ ap (λ n. list_all (λ v. is_some v.name) ss && (is_some n && list_all (λ v. is_some v.name) rest)) is
+        ∙ ap (λ n. list_all (λ v. is_some v.name) ss && (is_some n && list_all (λ v. is_some v.name) rest))
+        (sym was)
+        ∙ sym (list_all-append (λ v. is_some v.name) ss (s ∷ rest)) ∙ h.1,
+  )
+
+  pub sections_named : (old : Text) (ss : List SectionPiece) (s : SectionPiece)
+      → first_fitting (λ s. is_name (Some old) s.name) ss ≡ Some s → AreSections o ss
+      → AreSections o (first_changed (λ s. is_name (Some old) s.name)
+      (with_header (header_of policy other) other) ss)
+  sections_named old ss s found h =
+      let f = with_header (header_of policy other) other in
+      let x = first_stands (λ s. is_name (Some old) s.name) ss s found in
+      let named_so : s.name ≡ Some old = sym (names_equal (Some old) s.name x.fits) in
+      let after = gap s.after ∷ (pairs_spans s.pairs ++ sections_spans x.rest) in
+      let before = sections_spans x.before in
+      let was : sections_spans ss ≡ before ++ (opening (Some old) s.header ∷ after) =
+      ap sections_spans x.whole ∙ sections_spans-append x.before (s ∷ x.rest)
+      ∙ ap (λ n. before ++ (opening n s.header ∷ after)) named_so in
+      record {
+        begin_general = subst BeginGeneral (sym (x.changed f))
+            (begin-named x.before s (f s) x.rest named_so refl (subst BeginGeneral x.whole h.begin_general));
+        spans = subst (λ xs. AreSpans o line_feed xs [])
+            (sym (ap sections_spans (x.changed f) ∙ sections_spans-append x.before (f s ∷ x.rest)))
+            (header_put old s.header before after (subst (λ xs. AreSpans o line_feed xs []) was h.spans));
+      }
+
+  -- and what the document shows of them
+  pub name_replaced : (old : Text) (ss : List SectionPiece)
+      → map given_section (first_changed (λ s. is_name (Some old) s.name)
+      (with_header (header_of policy other) other) ss)
+      ≡ section_renamed (Some old) (Some other) (map given_section ss)
+  name_replaced old ss =
+      renamed_first (λ s. is_name (Some old) s.name) (is_name (Some old)) given_section (λ s. refl)
+      (with_header (header_of policy other) other) (Some other) (λ s. refl) ss
+
+-- one pair: its key is written anew
+pub pair_renamed : {o : ParseOption} {policy : EscapePolicy} {other : Text} {p q : PairPiece}
+    {indent pad source new : Text} → q ≡ p → HasEdges o q.stretches.key indent pad
+    → source ≡ indent ++ (escaped policy other ++ pad) → new ≡ other
+    → RenamesPair o policy p (with_key source new q) other
+pair_renamed {o} {policy} {other} {q = q} {indent} {pad} {source} {new} same edges written is =
+    subst (λ p. RenamesPair o policy p (with_key source new q) other) same
+    (record {
+      indent = indent;
+      pad = pad;
+      edges = edges;
+      is = ap (λ s. with_key s new q) written
+          ∙ ap (λ k. with_key (indent ++ (escaped policy other ++ pad)) k q) is;
+    })
+
+-- the first section of the name has another one
+module _ {o : ParseOption} {policy : EscapePolicy} {other : Text} (plain : IsPlainName o policy other)
+    (old : Text) (ss : List SectionPiece) {i : ℕ} (at : IsFirstAt (λ s. is_name (Some old) s.name) ss i)
+    {y new : SectionPiece} (is : y ≡ get_or ss i y)
+    (written : new ≡ with_header (header_of policy other) other y) where
+  named_is : set ss i new ≡ first_changed (λ s. is_name (Some old) s.name)
+      (with_header (header_of policy other) other) ss
+  named_is =
+      let f = with_header (header_of policy other) other in
+      let there = stands_there (λ s. is_name (Some old) s.name) at is in
+      ap (set ss i) (written ∙ ap f (sym there)) ∙ at.changed f
+
+  pub sections_after_name : AreSections o ss → AreSections o (set ss i new)
+  sections_after_name are = subst (AreSections o) (sym named_is)
+      (sections_named policy other plain old ss at.found at.fitting are)
+
+  pub pieces_named : RenamesNameIn policy (record { option = o; sections = ss })
+      (record { option = o; sections = set ss i new }) old other true
+  pieces_named = record {
+    section = at.found;
+    was = at.fitting;
+    option = refl;
+    sections = named_is;
+    document = ap (map given_section) named_is ∙ name_replaced policy other plain old ss;
+  }

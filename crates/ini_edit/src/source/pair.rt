@@ -1,0 +1,174 @@
+//! A pair of a text in pieces. This file knows the stretches of a pair, and no section.
+ghost use Rattle.std.specs.Prelude.{◌≡◌, ◌++◌, IsOkUnless, OnErr, OnOk, alloc_error, chars};
+ghost use Rattle.ini.specs.Texts.{str_text};
+ghost use Rattle.ini_text.specs.Device.Gathering.{Sends};
+ghost use Rattle.ini_text.specs.Device.Watched.{IsClear};
+ghost use Rattle.ini_text.specs.Parsing.Items.{string_text};
+ghost use Rattle.ini_edit.specs.Inside.Quotes.{IsOwnSource};
+ghost use Rattle.ini_edit.specs.Inside.SourceSteps.{RenamesPair, SetsPair};
+ghost use Rattle.ini_edit.specs.Sources.{pair_text, placed_piece};
+
+use crate::append::{push, push_text};
+use crate::escape::push_in_quote;
+use crate::quote::kept_quote;
+use crate::rename::push_key;
+use crate::source::sending::{put_before, put_both};
+use ini_text::{Error, EscapePolicy, Gatherer, ParseOption, PlacedPair, Watched, is_same_text};
+use std::alloc::Global;
+use std::borrow::CowStr;
+use std::io::Write;
+use std::marker::Model;
+
+/// A pair of a `Source`: its key and its value, its source, and what follows that up to the next pair or
+/// header.
+#[derive(Debug, Drop)]
+pub struct SourcePair<'a> {
+    key: CowStr<'a>,
+    value: CowStr<'a>,
+    raw_key: CowStr<'a>,
+    separator: char,
+    space_before: &'a str,
+    raw_value: CowStr<'a>,
+    space_after: &'a str,
+    trailing_lines: CowStr<'a>,
+    after: CowStr<'a>,
+}
+
+impl<'a> Model for SourcePair<'a> {
+    ghost use Rattle.std.specs.Prelude.{chars};
+    ghost use Rattle.ini_text.specs.Parsing.Items.{cow_text};
+    ghost use Rattle.ini_edit.specs.Sources.{PairPiece};
+
+    ghost Value = { PairPiece };
+
+    ghost view = { λ p. record {
+      stretches = record {
+        key = cow_text p.raw_key;
+        separator = p.separator;
+        space_before = chars p.space_before.now;
+        raw_value = cow_text p.raw_value;
+        space_after = chars p.space_after.now;
+        trailing_lines = cow_text p.trailing_lines;
+      };
+      key = cow_text p.key;
+      value = cow_text p.value;
+      after = cow_text p.after;
+    } };
+}
+
+impl<'a> SourcePair<'a> {
+    // A pair as it stands in a text, and what follows it there.
+    pub(crate) fn new(pair: PlacedPair<'a>, after: &'a str) -> Self
+        ensures { result ≡ placed_piece pair.entry (chars after.now) }
+    {
+        let places = pair.places;
+        SourcePair {
+            key: pair.key,
+            value: pair.value,
+            raw_key: CowStr::Borrowed(places.key),
+            separator: places.separator,
+            space_before: places.space_before,
+            raw_value: CowStr::Borrowed(places.raw_value),
+            space_after: places.space_after,
+            trailing_lines: CowStr::Borrowed(places.trailing_lines),
+            after: CowStr::Borrowed(after),
+        }
+    }
+
+    /// The key.
+    pub fn key(&self) -> &str
+        ensures { str_text result ≡ self.now.key }
+    {
+        self.key.as_str()
+    }
+
+    /// The value, without quotes and escapes.
+    pub fn value(&self) -> &str
+        ensures { str_text result ≡ self.now.value }
+    {
+        self.value.as_str()
+    }
+
+    // Sets the value: one that the pair has already stays as it is written; another one is written by the
+    // policy, in the old one's quotes where it can be. Refused, the pair stays.
+    pub(crate) fn set_value(
+        &mut self,
+        alloc: Global,
+        value: &str,
+        policy: EscapePolicy,
+        read: ParseOption,
+    ) -> Result<(), Error>
+        requires own { IsOwnSource read self.old.stretches.raw_value }
+        ensures set { OnOk result (SetsPair read policy self.old self.new (chars value.now)) }
+        ensures unchanged { OnErr result (self.new ≡ self.old) }
+        ensures only { IsOkUnless result (Error.Memory alloc_error) }
+    {
+        if is_same_text(value, self.value.as_str()) {
+            return Ok(());
+        }
+        let mut raw_value = String::new(alloc);
+        let quote = kept_quote(self.raw_value.as_str(), value, read);
+        push_in_quote(alloc, &mut raw_value, quote, value, policy)?;
+        let value = String::from_str(alloc, value)?;
+        self.raw_value = CowStr::Owned(raw_value);
+        self.value = CowStr::Owned(value);
+        Ok(())
+    }
+
+    // Gives the pair another key, which the policy writes between the white space that stood around the old
+    // one. Refused, the pair stays.
+    pub(crate) fn rename(
+        &mut self,
+        alloc: Global,
+        key: &str,
+        policy: EscapePolicy,
+        read: ParseOption,
+    ) -> Result<(), Error>
+        ensures renamed { OnOk result (RenamesPair read policy self.old self.new (chars key.now)) }
+        ensures unchanged { OnErr result (self.new ≡ self.old) }
+        ensures only { IsOkUnless result (Error.Memory alloc_error) }
+    {
+        let mut raw_key = String::new(alloc);
+        push_key(
+            alloc,
+            &mut raw_key,
+            self.raw_key.as_str(),
+            key,
+            policy,
+            read,
+        )?;
+        let key = String::from_str(alloc, key)?;
+        self.raw_key = CowStr::Owned(raw_key);
+        self.key = CowStr::Owned(key);
+        Ok(())
+    }
+
+    // Appends the pair's text, and what follows it.
+    pub(crate) fn push_to(&self, out: &mut String) -> Result<(), Error>
+        ensures pushed { OnOk result (string_text out.new ≡ string_text out.old ++ pair_text self.now) }
+        ensures only { IsOkUnless result (Error.Memory alloc_error) }
+    {
+        push_text(out, self.raw_key.as_str())?;
+        push(out, self.separator)?;
+        push_text(out, self.space_before)?;
+        push_text(out, self.raw_value.as_str())?;
+        push_text(out, self.space_after)?;
+        push_text(out, self.trailing_lines.as_str())?;
+        push_text(out, self.after.as_str())
+    }
+
+    // Sends the same.
+    pub(crate) fn send_to<W: Write>(
+        &self,
+        lines: &mut Gatherer,
+        out: &mut Watched<'_, W>,
+    ) -> Result<(), Error>
+        requires { IsClear out.old }
+        ensures { Sends W.contents out.old out.new lines.old lines.new result (pair_text self.now) }
+    {
+        put_before(lines, self.raw_key.as_str(), self.separator, out)?;
+        put_both(lines, self.space_before, self.raw_value.as_str(), out)?;
+        put_both(lines, self.space_after, self.trailing_lines.as_str(), out)?;
+        lines.put(self.after.as_str(), out)
+    }
+}
