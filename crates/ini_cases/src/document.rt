@@ -3,7 +3,7 @@
 //! A row is a call and its operands: a name (`general`, or a text), a key, a value.
 use crate::option::Options;
 use crate::plain::count_plain;
-use crate::show::{flag, load, pairs, sections, value, written};
+use crate::show::{flag, load, nothing, pairs, sections, value, written};
 use crate::token::{Token, text_of, unreadable};
 use crate::view::is_same;
 use crate::walk;
@@ -87,6 +87,10 @@ impl Desk {
             .is_plain(&self.options.writing(), self.options.reading)
     }
 
+    fn is_plain_separator(&self) -> bool {
+        is_plain_separator(self.options.writing().kv_separator)
+    }
+
     fn is_plain_name(&self, name: &str) -> bool {
         is_plain_name(
             name,
@@ -107,30 +111,41 @@ impl Desk {
         Ok(format!(in self.alloc; "{names} {empty} {sections}")?)
     }
 
+    fn count_plain(&self) -> Result<String, Error> {
+        let plain = count_plain(self.alloc, &self.document, &self.options.writing())?;
+        Ok(format!(in self.alloc; "{plain}")?)
+    }
+
     fn of_document(&mut self, call: &str) -> Result<String, Error> {
+        let alloc = self.alloc;
         match call {
-            "sections" => return sections(self.alloc, &self.document),
-            "state" => return self.state(),
-            "text" => return written(self.alloc, &self.document, self.options.writing()),
-            "reload" => return self.reloaded(""),
-            "is_plain" => return flag(self.alloc, self.is_plain()),
-            "is_plain_separator" => {
-                let plain = is_plain_separator(self.options.writing().kv_separator);
-                return flag(self.alloc, plain);
+            "sections" => sections(alloc, &self.document),
+            "state" => self.state(),
+            "text" => written(alloc, &self.document, self.options.writing()),
+            "reload" => self.reloaded(""),
+            "is_plain" => flag(alloc, self.is_plain()),
+            "is_plain_separator" => flag(alloc, self.is_plain_separator()),
+            "count_plain" => self.count_plain(),
+            "general_section" => general_section(alloc, &self.document),
+            "name_all" => nothing(alloc, walk::name_all(&mut self.document)),
+            "clear" => {
+                self.document.clear();
+                Ok(String::new(alloc))
             }
-            "count_plain" => {
-                let plain = count_plain(self.alloc, &self.document, &self.options.writing())?;
-                return Ok(format!(in self.alloc; "{plain}")?);
+            "clone" => {
+                self.other = self.document.clone()?;
+                Ok(String::new(alloc))
             }
-            "general_section" => return general_section(self.alloc, &self.document),
-            "name_all" => walk::name_all(&mut self.document)?,
-            "clear" => self.document.clear(),
-            "clone" => self.other = self.document.clone()?,
-            "clone_by_trait" => self.other = Clone::clone(&self.document)?,
-            "swap" => mem::swap(&mut self.document, &mut self.other),
-            _ => return Err(unreadable("no such call")),
+            "clone_by_trait" => {
+                self.other = Clone::clone(&self.document)?;
+                Ok(String::new(alloc))
+            }
+            "swap" => {
+                mem::swap(&mut self.document, &mut self.other);
+                Ok(String::new(alloc))
+            }
+            _ => Err(unreadable("no such call")),
         }
-        Ok(String::new(self.alloc))
     }
 
     // A section's pairs, or `none`.
@@ -141,42 +156,49 @@ impl Desk {
         }
     }
 
+    // The text becomes the document, if a view of it answers the same.
+    fn load(&mut self, text: &str) -> Result<String, Error> {
+        let answer = Ini::load_from_str_opt(self.alloc, text, self.options.reading);
+        if !is_same(self.alloc, text, self.options.reading, &answer)? {
+            return Err(unreadable("the view answers something else"));
+        }
+        self.document = answer?;
+        Ok(String::new(self.alloc))
+    }
+
+    fn load_bom(&mut self, text: &str) -> Result<String, Error> {
+        self.document = Ini::load_from_str_bom(self.alloc, text, self.options.reading)?;
+        Ok(String::new(self.alloc))
+    }
+
+    fn delete(&mut self, name: Option<&str>) -> Result<String, Error> {
+        let deleted = self.document.delete(name);
+        self.shown(deleted.as_ref())
+    }
+
     fn of_section(&mut self, call: &str, name: Option<&str>) -> Result<String, Error> {
         let (alloc, text) = (self.alloc, name.unwrap_or(""));
         match call {
-            "load" => {
-                let answer = Ini::load_from_str_opt(alloc, text, self.options.reading);
-                if !is_same(alloc, text, self.options.reading, &answer)? {
-                    return Err(unreadable("the view answers something else"));
-                }
-                self.document = answer?;
+            "load" => self.load(text),
+            "load_bom" => self.load_bom(text),
+            "reload" => self.reloaded(text),
+            "section" => self.shown(self.document.section(name)),
+            "section_by_bytes" => self.shown(self.document.section_by_bytes(bytes_of(name))),
+            "delete" => self.delete(name),
+            "delete_all" => {
+                self.document.delete_all(name);
+                Ok(String::new(alloc))
             }
-            "reload" => return self.reloaded(text),
-            "load_bom" => {
-                self.document = Ini::load_from_str_bom(alloc, text, self.options.reading)?;
-            }
-            "section" => return self.shown(self.document.section(name)),
-            "section_by_bytes" => {
-                return self.shown(self.document.section_by_bytes(bytes_of(name)));
-            }
-            "delete" => {
-                let deleted = self.document.delete(name);
-                return self.shown(deleted.as_ref());
-            }
-            "delete_all" => self.document.delete_all(name),
-            "make_general" => self.document.rename_section(name, None)?,
-            "iter" => return walk::iter(alloc, &self.document, text),
-            "into_iter" => return walk::into_iter(alloc, &self.document, text),
-            "iter_mut" => return walk::iter_mut(alloc, &mut self.document, text),
-            "names" => return walk::names(alloc, &self.document, text),
-            "counts" => return walk::counts(alloc, &mut self.document, name),
-            "is_plain_name" => return flag(alloc, self.is_plain_name(text)),
-            "entry" | "or_insert" | "or_insert_with" | "append" => {
-                return self.enter(call, name, None);
-            }
-            _ => return Err(unreadable("no such call of a section")),
+            "make_general" => nothing(alloc, self.document.rename_section(name, None)),
+            "iter" => walk::iter(alloc, &self.document, text),
+            "into_iter" => walk::into_iter(alloc, &self.document, text),
+            "iter_mut" => walk::iter_mut(alloc, &mut self.document, text),
+            "names" => walk::names(alloc, &self.document, text),
+            "counts" => walk::counts(alloc, &mut self.document, name),
+            "is_plain_name" => flag(alloc, self.is_plain_name(text)),
+            "entry" | "or_insert" | "or_insert_with" | "append" => self.enter(call, name, None),
+            _ => Err(unreadable("no such call of a section")),
         }
-        Ok(String::new(alloc))
     }
 
     fn key_of(&self, name: Option<&str>) -> Result<Option<String>, Error> {
@@ -199,31 +221,40 @@ impl Desk {
         given.append("given", "1")?;
         let empty = Properties::new(alloc);
         let name = self.key_of(name)?;
-        let lent = match (call, self.document.entry(name)) {
-            ("or_insert", entry) => room(entry.or_insert(given))?,
-            ("or_insert_with", entry) => room(entry.or_insert_with(|| Properties::new(alloc)))?,
+        match (call, self.document.entry(name)) {
+            ("or_insert", entry) => extended(alloc, entry.or_insert(given), pair),
+            ("or_insert_with", entry) => {
+                let lent = entry.or_insert_with(|| Properties::new(alloc));
+                extended(alloc, lent, pair)
+            }
             ("append", SectionEntry::Occupied(mut entry)) => {
                 room(entry.append(empty))?;
-                entry.into_mut()
+                extended(alloc, Ok(entry.into_mut()), pair)
             }
-            ("append", SectionEntry::Vacant(entry)) => room(entry.insert(empty))?,
-            (_, SectionEntry::Occupied(_)) => return flag(alloc, true),
-            (_, SectionEntry::Vacant(_)) => return flag(alloc, false),
-        };
-        if let Some((key, value)) = pair {
-            lent.append(key, value)?;
+            ("append", SectionEntry::Vacant(entry)) => extended(alloc, entry.insert(empty), pair),
+            (_, SectionEntry::Occupied(_)) => flag(alloc, true),
+            (_, SectionEntry::Vacant(_)) => flag(alloc, false),
         }
-        pairs(alloc, lent)
+    }
+
+    // The value that is taken out of a section; `none` where there is no such section.
+    fn remove(&mut self, name: Option<&str>, key: &str) -> Result<String, Error> {
+        match self.document.section_mut(name) {
+            Some(section) => value(self.alloc, section.remove(key).as_deref()),
+            None => value(self.alloc, None),
+        }
+    }
+
+    fn get_by_bytes(&self, name: Option<&str>, key: &str) -> Result<String, Error> {
+        let found = self.document.get_by_bytes(bytes_of(name), key.as_bytes());
+        value(self.alloc, found)
     }
 
     fn of_key(&mut self, call: &str, name: Option<&str>, key: &str) -> Result<String, Error> {
         let (alloc, text) = (self.alloc, name.unwrap_or(""));
         match call {
             "get_from" => value(alloc, self.document.get_from(name, key)),
-            "get_by_bytes" => {
-                let found = self.document.get_by_bytes(bytes_of(name), key.as_bytes());
-                value(alloc, found)
-            }
+            "get_by_bytes" => self.get_by_bytes(name, key),
             "get_from_or" => value(alloc, Some(self.document.get_from_or(name, key, "d"))),
             "get" => value(alloc, self.document.with_section(name).get(key)),
             "index" => value(alloc, indexed(&self.document, name, key)),
@@ -232,14 +263,8 @@ impl Desk {
             "section_all_mut" => walk::section_all_mut(alloc, &mut self.document, name, key),
             "is_plain_pair" => flag(alloc, self.is_plain_pair(text, key)),
             "delete_from" => value(alloc, self.document.delete_from(name, key).as_deref()),
-            "remove" => match self.document.section_mut(name) {
-                Some(section) => value(alloc, section.remove(key).as_deref()),
-                None => value(alloc, None),
-            },
-            "rename_section" => {
-                self.document.rename_section(name, Some(key))?;
-                Ok(String::new(alloc))
-            }
+            "remove" => self.remove(name, key),
+            "rename_section" => nothing(alloc, self.document.rename_section(name, Some(key))),
             "delete" => {
                 self.document.with_section(name).delete(key);
                 Ok(String::new(alloc))
@@ -257,26 +282,24 @@ impl Desk {
     ) -> Result<String, Error> {
         let alloc = self.alloc;
         match call {
-            "set_to" => {
-                let key = String::from_str(alloc, key)?;
-                let value = String::from_str(alloc, value)?;
-                self.document.set_to(name, key, value)?;
-            }
-            "set" => {
-                self.document.with_section(name).set(key, value)?;
-            }
-            "add" => {
-                self.document.with_section(name).add(key, value)?;
-            }
-            "rename_key_in" => self.document.rename_key_in(name, key, value)?,
-            "append_section" => self.append_section(name, key, value)?,
-            "pair" => return self.only_pair(name, key, value),
+            "set_to" => nothing(alloc, self.set_to(name, key, value)),
+            "set" => nothing(alloc, set_key(&mut self.document, name, key, value)),
+            "add" => nothing(alloc, add_key(&mut self.document, name, key, value)),
+            "rename_key_in" => nothing(alloc, self.document.rename_key_in(name, key, value)),
+            "append_section" => nothing(alloc, self.append_section(name, key, value)),
+            "pair" => self.only_pair(name, key, value),
+            "push_str" => self.push_str(name, key, value),
             "or_insert" | "or_insert_with" | "append" => {
-                return self.enter(call, name, Some((key, value)));
+                self.enter(call, name, Some((key, value)))
             }
-            _ => return self.put_in_section(call, name, key, value),
+            _ => self.put_in_section(call, name, key, value),
         }
-        Ok(String::new(alloc))
+    }
+
+    fn set_to(&mut self, name: Option<&str>, key: &str, value: &str) -> Result<(), Error> {
+        let key = String::from_str(self.alloc, key)?;
+        let value = String::from_str(self.alloc, value)?;
+        self.document.set_to(name, key, value)
     }
 
     // Appends a section with this pair.
@@ -300,7 +323,16 @@ impl Desk {
         Ok(format!(in self.alloc; "{plain}, {shown}")?)
     }
 
-    // The same by a reference to the section, or to the value; `none` where it isn't lent.
+    // Pushes the text to the value; `none` where it isn't lent.
+    fn push_str(&mut self, name: Option<&str>, key: &str, text: &str) -> Result<String, Error> {
+        let Some(lent) = self.document.get_from_mut(name, key) else {
+            return value(self.alloc, None);
+        };
+        lent.push_str(text)?;
+        Ok(String::new(self.alloc))
+    }
+
+    // Puts the pair by a reference to the section; `none` where it isn't lent.
     fn put_in_section(
         &mut self,
         call: &str,
@@ -308,26 +340,56 @@ impl Desk {
         key: &str,
         text: &str,
     ) -> Result<String, Error> {
-        if call == "push_str" {
-            let Some(lent) = self.document.get_from_mut(name, key) else {
-                return value(self.alloc, None);
-            };
-            lent.push_str(text)?;
-            return Ok(String::new(self.alloc));
-        }
-        let Some(section) = self.document.section_mut(name) else {
-            return value(self.alloc, None);
+        let (alloc, document) = (self.alloc, &mut self.document);
+        let Some(section) = document.section_mut(name) else {
+            return value(alloc, None);
         };
         match call {
-            "insert_in" => section.insert(key, text)?,
-            "append_to" => section.append(key, text)?,
-            "insert_by_index" => put_by_index(&mut self.document, name, key, text)?,
-            "insert_by_text" => put_by_text(&mut self.document, name.unwrap_or(""), key, text)?,
-            "insert_in_general" => put_in_general(&mut self.document, key, text)?,
-            _ => return Err(unreadable("no such call of a pair")),
+            "insert_in" => nothing(alloc, section.insert(key, text)),
+            "append_to" => nothing(alloc, section.append(key, text)),
+            "insert_by_index" => nothing(alloc, put_by_index(document, name, key, text)),
+            "insert_by_text" => {
+                nothing(alloc, put_by_text(document, name.unwrap_or(""), key, text))
+            }
+            "insert_in_general" => nothing(alloc, put_in_general(document, key, text)),
+            _ => Err(unreadable("no such call of a pair")),
         }
-        Ok(String::new(self.alloc))
     }
+}
+
+/// Sets the key in the first section of the name, which is opened where there is none.
+pub fn set_key(
+    document: &mut Ini,
+    name: Option<&str>,
+    key: &str,
+    value: &str,
+) -> Result<(), Error> {
+    document.with_section(name).set(key, value)?;
+    Ok(())
+}
+
+/// Adds a pair to the first section of the name, which is opened where there is none.
+pub fn add_key(
+    document: &mut Ini,
+    name: Option<&str>,
+    key: &str,
+    value: &str,
+) -> Result<(), Error> {
+    document.with_section(name).add(key, value)?;
+    Ok(())
+}
+
+// The pairs of the section that an entry lent, once the pair is appended there.
+fn extended(
+    alloc: Global,
+    lent: Result<&mut Properties, NoRoom>,
+    pair: Option<(&str, &str)>,
+) -> Result<String, Error> {
+    let section = room(lent)?;
+    if let Some((key, value)) = pair {
+        section.append(key, value)?;
+    }
+    pairs(alloc, section)
 }
 
 fn room<T>(answer: Result<T, NoRoom>) -> Result<T, Error> {

@@ -2,7 +2,7 @@
 //!
 //! A row is a text, a call and its operands: a name (`general`, or a text), a key, a value or what takes its
 //! place. After them may stand `like` and another text, which was edited by hand.
-use crate::document::name_of;
+use crate::document::{add_key, name_of, set_key};
 use crate::option::Options;
 use crate::show::{load, sections};
 use crate::token::{Token, text_of, unreadable};
@@ -13,8 +13,8 @@ use ini_edit::{
 };
 use std::alloc::Global;
 
-// The edit that a call and its operands are.
-fn edit_of<'a>(call: &str, operands: &'a [Token]) -> Result<Edit<'a>, Error> {
+/// The edit that a call and its operands are.
+pub fn edit_of<'a>(call: &str, operands: &'a [Token]) -> Result<Edit<'a>, Error> {
     match operands {
         [old] if call == "delete_section" => Ok(Edit::DeleteSection {
             name: text_of(old)?,
@@ -52,8 +52,8 @@ fn of_key<'a>(
     }
 }
 
-// What the edit's own call answers.
-fn by_call(
+/// What the edit's own call answers.
+pub fn by_call(
     alloc: Global,
     text: &str,
     edit: Edit<'_>,
@@ -98,25 +98,24 @@ fn by_list(
     }
 }
 
-// Makes the edit in a document, by the document's own calls.
-fn edit_document(document: &mut Ini, edit: Edit<'_>) -> Result<(), Error> {
+/// Makes the edit in a document, by the document's own calls.
+pub fn edit_document(document: &mut Ini, edit: Edit<'_>) -> Result<(), Error> {
     match edit {
         Edit::Set { name, key, value } | Edit::SetExisting { name, key, value } => {
-            document.with_section(name).set(key, value)?;
+            set_key(document, name, key, value)
         }
-        Edit::Add { name, key, value } => {
-            document.with_section(name).add(key, value)?;
-        }
+        Edit::Add { name, key, value } => add_key(document, name, key, value),
         Edit::Delete { name, key } => {
             let _ = document.delete_from(name, key);
+            Ok(())
         }
-        Edit::RenameKey { name, old, new } => document.rename_key_in(name, old, new)?,
+        Edit::RenameKey { name, old, new } => document.rename_key_in(name, old, new),
         Edit::DeleteSection { name } => {
             let _ = document.delete(Some(name));
+            Ok(())
         }
-        Edit::RenameSection { old, new } => document.rename_section(Some(old), Some(new))?,
+        Edit::RenameSection { old, new } => document.rename_section(Some(old), Some(new)),
     }
-    Ok(())
 }
 
 // What the edited document of the text shows.

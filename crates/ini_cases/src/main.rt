@@ -7,17 +7,20 @@
 //! In a file an empty line, or one that begins with `#`, says nothing. A line that begins with a letter is
 //! a heading: what is asked, a name, and the options that differ from the default ones. A line that begins
 //! with a blank is a row: words, texts in quotes as Rust spells them (`"..."` or `r"..."`), then `=>` and
-//! the answer, a text too. A line that begins with `=>` or `with` goes on with the row above it. A row
-//! without an answer is to answer nothing.
+//! the answer, a text too. A line that begins with `=>`, `with` or `then` goes on with the row above it. A
+//! row without an answer is to answer nothing.
 #![tactic(auto)]
 
 mod document;
 mod edit;
+mod edit_list;
 mod file;
 mod option;
 mod places;
 mod plain;
 mod properties;
+mod random;
+mod random_edits;
 mod replay;
 mod show;
 mod text;

@@ -40,6 +40,42 @@ fn policy_of(name: &str) -> Option<EscapePolicy> {
     }
 }
 
+fn line_separator_of(name: &str) -> Option<LineSeparator> {
+    match name {
+        "SystemDefault" => Some(LineSeparator::SystemDefault),
+        "CR" => Some(LineSeparator::CR),
+        "CRLF" => Some(LineSeparator::CRLF),
+        _ => None,
+    }
+}
+
+// The options, and what the word turns off or on.
+fn reading_with(read: ParseOption, word: &str) -> Option<ParseOption> {
+    match word {
+        "noescape" => Some(ParseOption {
+            enabled_escape: false,
+            ..read
+        }),
+        "noquote" => Some(ParseOption {
+            enabled_quote: false,
+            ..read
+        }),
+        "multiline" => Some(ParseOption {
+            enabled_indented_mutiline_value: true,
+            ..read
+        }),
+        "indented" => Some(ParseOption {
+            enabled_preserve_key_leading_whitespace: true,
+            ..read
+        }),
+        "brackets" => Some(ParseOption {
+            enabled_brackets_in_section_names: true,
+            ..read
+        }),
+        _ => None,
+    }
+}
+
 // The separators that cases write by; an option keeps one for the whole run.
 const SEPARATORS: [&'static str; 16] = [
     "=", ":", " = ", ": ", "\t: \t", "", " ", "==", " :=", "x=", "= x", "=x", "=\n", "\n=",
@@ -79,22 +115,23 @@ impl Options {
         }
     }
 
-    fn set_word(&mut self, word: &str) -> Result<(), Error> {
-        match word {
-            "noescape" => self.reading.enabled_escape = false,
-            "noquote" => self.reading.enabled_quote = false,
-            "multiline" => self.reading.enabled_indented_mutiline_value = true,
-            "indented" => self.reading.enabled_preserve_key_leading_whitespace = true,
-            "brackets" => self.reading.enabled_brackets_in_section_names = true,
-            "SystemDefault" => self.line_separator = LineSeparator::SystemDefault,
-            "CR" => self.line_separator = LineSeparator::CR,
-            "CRLF" => self.line_separator = LineSeparator::CRLF,
-            _ => match policy_of(word) {
-                Some(policy) => self.policies.push(policy)?,
-                None => return Err(unreadable("no option")),
-            },
+    /// Sets what a word names.
+    pub fn set_word(&mut self, word: &str) -> Result<(), Error> {
+        if let Some(policy) = policy_of(word) {
+            self.policies.push(policy)?;
+            return Ok(());
         }
-        Ok(())
+        if let Some(separator) = line_separator_of(word) {
+            self.line_separator = separator;
+            return Ok(());
+        }
+        match reading_with(self.reading, word) {
+            Some(reading) => {
+                self.reading = reading;
+                Ok(())
+            }
+            None => Err(unreadable("no option")),
+        }
     }
 
     /// Sets what a word names, or the separator of keys and values that a text is.

@@ -2,7 +2,7 @@
 //!
 //! A row is a call and its operands: a key, a value; or the ends that a walk goes by, a letter a step: `f`
 //! from the front and `b` from the back.
-use crate::show::{flag, pairs, value};
+use crate::show::{flag, nothing, pairs, put, value};
 use crate::token::{Token, text_of, unreadable};
 use crate::walk::step;
 use ini::{Error, Properties};
@@ -47,17 +47,29 @@ impl List {
     }
 
     fn of_all(&mut self, call: &str) -> Result<String, Error> {
+        let alloc = self.alloc;
         match call {
-            "state" => return self.state(),
-            "pairs" => return pairs(self.alloc, &self.properties),
-            "equals" => return flag(self.alloc, self.properties == self.other),
-            "clone" => self.other = self.properties.clone()?,
-            "clone_by_trait" => self.other = Clone::clone(&self.properties)?,
-            "new" => self.properties = Properties::new(self.alloc),
-            "swap" => mem::swap(&mut self.properties, &mut self.other),
-            _ => return Err(unreadable("no such call")),
+            "state" => self.state(),
+            "pairs" => pairs(alloc, &self.properties),
+            "equals" => flag(alloc, self.properties == self.other),
+            "clone" => {
+                self.other = self.properties.clone()?;
+                Ok(String::new(alloc))
+            }
+            "clone_by_trait" => {
+                self.other = Clone::clone(&self.properties)?;
+                Ok(String::new(alloc))
+            }
+            "new" => {
+                self.properties = Properties::new(alloc);
+                Ok(String::new(alloc))
+            }
+            "swap" => {
+                mem::swap(&mut self.properties, &mut self.other);
+                Ok(String::new(alloc))
+            }
+            _ => Err(unreadable("no such call")),
         }
-        Ok(String::new(self.alloc))
     }
 
     fn of_key(&mut self, call: &str, key: &str) -> Result<String, Error> {
@@ -78,13 +90,12 @@ impl List {
 
     fn of_pair(&mut self, call: &str, key: &str, value: &str) -> Result<String, Error> {
         match call {
-            "append" => self.properties.append(key, value)?,
-            "insert" => self.properties.insert(key, value)?,
-            "get_all" => return self.values(key, value),
-            "remove_all" => return self.removed(key, value),
-            _ => return Err(unreadable("no such call of a pair")),
+            "append" => nothing(self.alloc, self.properties.append(key, value)),
+            "insert" => nothing(self.alloc, self.properties.insert(key, value)),
+            "get_all" => self.values(key, value),
+            "remove_all" => self.removed(key, value),
+            _ => Err(unreadable("no such call of a pair")),
         }
-        Ok(String::new(self.alloc))
     }
 
     // What a walk gives at each end, and how many pairs are left.
@@ -94,7 +105,7 @@ impl List {
         for end in ends.chars() {
             let given = step(&mut walk, end);
             let (key, value) = given.unwrap_or(("", "none"));
-            out.push_str(format!(in self.alloc; "{key}{value} ")?.as_str())?;
+            put(&mut out, &[key, value, " "])?;
         }
         push_left(&mut out, self.alloc, walk.size_hint())?;
         Ok(out)
@@ -106,12 +117,7 @@ impl List {
         let mut walk = self.properties.clone()?.into_iter();
         for end in ends.chars() {
             let given = step(&mut walk, end);
-            match given {
-                Some((key, value)) => out.push_str(format!(in self.alloc;
-                    "{key}{value} "
-                )?.as_str())?,
-                None => out.push_str("none ")?,
-            }
+            put_handed_out(&mut out, given)?;
         }
         push_left(&mut out, self.alloc, walk.size_hint())?;
         Ok(out)
@@ -123,8 +129,7 @@ impl List {
         let mut walk = self.properties.get_all(key);
         for end in ends.chars() {
             let given = step(&mut walk, end);
-            out.push_str(given.unwrap_or("none"))?;
-            out.push(' ')?;
+            put(&mut out, &[given.unwrap_or("none"), " "])?;
         }
         Ok(out)
     }
@@ -135,8 +140,7 @@ impl List {
         let mut walk = self.properties.remove_all(key)?;
         for end in ends.chars() {
             let given = step(&mut walk, end);
-            out.push_str(given.as_deref().unwrap_or("none"))?;
-            out.push(' ')?;
+            put(&mut out, &[given.as_deref().unwrap_or("none"), " "])?;
         }
         Ok(out)
     }
@@ -156,8 +160,7 @@ impl List {
             let lent = step(&mut walk, end);
             if let Some((key, value)) = lent {
                 value.clear();
-                out.push_str(key)?;
-                out.push(' ')?;
+                put(&mut out, &[key, " "])?;
             }
         }
         push_left(&mut out, self.alloc, walk.size_hint())?;
@@ -167,10 +170,17 @@ impl List {
     // Pushes each key and the text to the key's values.
     fn push_to_all(&mut self, text: &str) -> Result<String, Error> {
         for (key, value) in &mut self.properties {
-            value.push_str(key)?;
-            value.push_str(text)?;
+            put(value, &[key, text])?;
         }
         Ok(String::new(self.alloc))
+    }
+}
+
+// Puts the pair that is handed out last, or `none`.
+fn put_handed_out(out: &mut String, pair: Option<(String, String)>) -> Result<(), Error> {
+    match pair {
+        Some((key, value)) => put(out, &[key.as_str(), value.as_str(), " "]),
+        None => put(out, &["none "]),
     }
 }
 

@@ -4,7 +4,7 @@ use crate::option::Options;
 use crate::plain::count_over;
 use crate::properties::List;
 use crate::token::{Token, tokens, unreadable};
-use crate::{edit, file, text};
+use crate::{edit, edit_list, file, random_edits, text};
 use ini::Error;
 use std::alloc::Global;
 use std::mem;
@@ -69,6 +69,16 @@ fn parted(row: &[Token]) -> (&[Token], &[u8]) {
     }
 }
 
+// Whether a line goes on with the row above it.
+fn goes_on(line: &str) -> bool {
+    for front in ["=>", "with ", "then "] {
+        if line.starts_with(front) {
+            return true;
+        }
+    }
+    false
+}
+
 fn answer(rt: &HostRuntime, subject: &mut Subject, row: &[Token]) -> Result<String, Error> {
     match subject {
         Subject::Document(desk) => desk.answer(row),
@@ -82,6 +92,8 @@ impl Question {
         let asks = self.asks.as_str();
         match row {
             row if asks == "edit" => edit::answer(rt.alloc(), row, &self.options),
+            row if asks == "edit_list" => edit_list::answer(rt.alloc(), row, &self.options),
+            row if asks == "random_edits" => random_edits::answer(rt.alloc(), row),
             [Token::Text(bytes)] if asks.contains("_file") => {
                 file::answer(rt, asks, bytes.as_slice(), &self.options)
             }
@@ -137,31 +149,40 @@ impl Replay {
         if !line.starts_with(' ') {
             return self.head(rt, line);
         }
-        let words = line.trim_start();
-        if !(words.starts_with("=>") || words.starts_with("with ")) {
+        if !goes_on(line.trim_start()) {
             self.ask(rt)?;
         }
         self.row.push_str(line)?;
         Ok(())
     }
 
-    // Ends the rows of a heading, and begins those of another.
-    fn head(&mut self, rt: &HostRuntime, line: &str) -> Result<(), Error> {
+    // Ends the rows of a heading, which has to have some.
+    fn end_rows(&mut self, rt: &HostRuntime) -> Result<(), Error> {
         self.ask(rt)?;
-        if !self.has_rows {
-            self.tell("no rows")?;
+        if self.has_rows {
+            Ok(())
+        } else {
+            self.tell("no rows")
         }
+    }
+
+    // Ends the rows of a heading, and begins those of another; of none where the line is empty.
+    fn head(&mut self, rt: &HostRuntime, line: &str) -> Result<(), Error> {
+        self.end_rows(rt)?;
         self.heading.clear();
         self.heading.push_str(line)?;
         self.has_rows = line.is_empty();
         self.subject = None;
-        if !line.is_empty() {
-            match subject_of(self.alloc, line) {
-                Ok(subject) => self.subject = Some(subject),
-                Err(fault) => self.tell(fault.to_string(self.alloc)?.as_str())?,
-            }
+        if line.is_empty() {
+            return Ok(());
         }
-        Ok(())
+        match subject_of(self.alloc, line) {
+            Ok(subject) => {
+                self.subject = Some(subject);
+                Ok(())
+            }
+            Err(fault) => self.tell(fault.to_string(self.alloc)?.as_str()),
+        }
     }
 
     // Asks the row that was gathered, if there is one.

@@ -6,31 +6,42 @@ use crate::view::is_same;
 use ini::{Error, Ini, ParseOption, Properties, WriteOption};
 use std::alloc::Global;
 
+/// Puts the parts last, one after another.
+pub fn put(out: &mut String, parts: &[&str]) -> Result<(), Error> {
+    for part in parts {
+        out.push_str(part)?;
+    }
+    Ok(())
+}
+
 /// The pairs in order.
 pub fn pairs(alloc: Global, properties: &Properties) -> Result<String, Error> {
     let mut out = String::new(alloc);
     for (key, value) in properties {
-        for part in [" <", key, "|", value, ">"] {
-            out.push_str(part)?;
-        }
+        put(&mut out, &[" <", key, "|", value, ">"])?;
     }
     Ok(out)
+}
+
+// Puts a section last.
+fn put_section(
+    alloc: Global,
+    out: &mut String,
+    name: Option<&str>,
+    section: &Properties,
+) -> Result<(), Error> {
+    let pairs = pairs(alloc, section)?;
+    match name {
+        None => put(out, &["general:", pairs.as_str(), " "]),
+        Some(name) => put(out, &["[", name, "]:", pairs.as_str(), " "]),
+    }
 }
 
 /// The sections in order, one after another.
 pub fn sections(alloc: Global, document: &Ini) -> Result<String, Error> {
     let mut out = String::new(alloc);
     for (name, section) in document {
-        match name {
-            None => out.push_str("general:")?,
-            Some(name) => {
-                for part in ["[", name, "]:"] {
-                    out.push_str(part)?;
-                }
-            }
-        }
-        out.push_str(pairs(alloc, section)?.as_str())?;
-        out.push(' ')?;
+        put_section(alloc, &mut out, name, section)?;
     }
     Ok(out)
 }
@@ -71,6 +82,14 @@ pub fn written(alloc: Global, document: &Ini, option: WriteOption) -> Result<Str
 /// An answer that is yes or no.
 pub fn flag(alloc: Global, yes: bool) -> Result<String, Error> {
     Ok(String::from_str(alloc, if yes { "yes" } else { "no" })?)
+}
+
+/// The answer of a call that gives nothing, once it was made.
+pub fn nothing(alloc: Global, made: Result<(), Error>) -> Result<String, Error> {
+    match made {
+        Ok(()) => Ok(String::new(alloc)),
+        Err(refused) => Err(refused),
+    }
 }
 
 /// A value, or `none`.

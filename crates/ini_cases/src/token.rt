@@ -134,21 +134,21 @@ impl Reader {
         Ok(self.state)
     }
 
-    fn take(&mut self, c: char) -> Result<(), Error> {
-        self.state = match self.state {
-            State::Between if c == ' ' => State::Between,
-            State::Between if c == '"' => State::Text,
-            State::Between | State::Word => self.word(c)?,
-            State::Text | State::Raw if c == '"' => self.end_text()?,
-            State::Text if c == '\\' => State::Escape,
-            State::Text | State::Raw => self.stay(c)?,
-            State::Escape => self.escape(c)?,
-            State::Byte(high) => self.byte(high, c)?,
-            State::Brace if c == '{' => State::Scalar(0),
-            State::Brace => return Err(unreadable("no brace")),
-            State::Scalar(code) => self.scalar(code, c)?,
-        };
-        Ok(())
+    // Where the reader is after a character.
+    fn take(&mut self, c: char) -> Result<State, Error> {
+        match self.state {
+            State::Between if c == ' ' => Ok(State::Between),
+            State::Between if c == '"' => Ok(State::Text),
+            State::Between | State::Word => self.word(c),
+            State::Text | State::Raw if c == '"' => self.end_text(),
+            State::Text if c == '\\' => Ok(State::Escape),
+            State::Text | State::Raw => self.stay(c),
+            State::Escape => self.escape(c),
+            State::Byte(high) => self.byte(high, c),
+            State::Brace if c == '{' => Ok(State::Scalar(0)),
+            State::Brace => Err(unreadable("no brace")),
+            State::Scalar(code) => self.scalar(code, c),
+        }
     }
 }
 
@@ -165,7 +165,7 @@ pub fn tokens(alloc: Global, line: &str) -> Result<Vec<Token>, Error> {
         state: State::Between,
     };
     for c in line.chars() {
-        reader.take(c)?;
+        reader.state = reader.take(c)?;
     }
     match reader.state {
         State::Between => {}

@@ -1,6 +1,6 @@
 //! Walks over the sections of a document. Each goes by a text of ends, a letter a step: `f` from the front
 //! and `b` from the back.
-use crate::show::pairs;
+use crate::show::{pairs, put};
 use ini::{Error, Ini, Properties};
 use std::alloc::Global;
 
@@ -22,10 +22,16 @@ fn push_section(
     name: Option<&str>,
     section: &Properties,
 ) -> Result<(), Error> {
-    out.push_str(name.unwrap_or("general"))?;
-    out.push_str(pairs(alloc, section)?.as_str())?;
-    out.push(';')?;
-    Ok(())
+    let pairs = pairs(alloc, section)?;
+    put(out, &[name.unwrap_or("general"), pairs.as_str(), ";"])
+}
+
+// Puts a name last, as `none` where the walk has ended.
+fn push_name(out: &mut String, given: Option<Option<&str>>) -> Result<(), Error> {
+    match given {
+        Some(name) => put(out, &[name.unwrap_or("general"), ";"]),
+        None => put(out, &["none;"]),
+    }
 }
 
 // How many sections are left of a walk, where its hint is exact.
@@ -76,13 +82,31 @@ pub fn names(alloc: Global, document: &Ini, ends: &str) -> Result<String, Error>
     let mut walk = document.sections();
     for end in ends.chars() {
         let given = step(&mut walk, end);
-        match given {
-            Some(name) => out.push_str(name.unwrap_or("general"))?,
-            None => out.push_str("none")?,
-        }
-        out.push(';')?;
+        push_name(&mut out, given)?;
     }
     Ok(out)
+}
+
+// Takes k out of a section that is lent, and hands its name out.
+fn without_k<'a>(lent: Option<(Option<&'a str>, &mut Properties)>) -> Option<Option<&'a str>> {
+    match lent {
+        Some((name, section)) => {
+            let _ = section.remove("k");
+            Some(name)
+        }
+        None => None,
+    }
+}
+
+// Takes k out of a section, if one is lent.
+fn is_rid_of_k(lent: Option<&mut Properties>) -> bool {
+    match lent {
+        Some(section) => {
+            let _ = section.remove("k");
+            true
+        }
+        None => false,
+    }
 }
 
 /// The pairs of the sections of a name that a walk over those gives.
@@ -115,13 +139,7 @@ pub fn section_all_mut(
     let mut walk = document.section_all_mut(name);
     for end in ends.chars() {
         let lent = step(&mut walk, end);
-        match lent {
-            Some(section) => {
-                let _ = section.remove("k");
-                out.push_str("lent;")?;
-            }
-            None => out.push_str("none;")?,
-        }
+        out.push_str(if is_rid_of_k(lent) { "lent;" } else { "none;" })?;
     }
     Ok(out)
 }
@@ -132,14 +150,7 @@ pub fn iter_mut(alloc: Global, document: &mut Ini, ends: &str) -> Result<String,
     let mut walk = document.iter_mut();
     for end in ends.chars() {
         let lent = step(&mut walk, end);
-        match lent {
-            Some((name, section)) => {
-                let _ = section.remove("k");
-                out.push_str(name.unwrap_or("general"))?;
-            }
-            None => out.push_str("none")?,
-        }
-        out.push(';')?;
+        push_name(&mut out, without_k(lent))?;
     }
     push_left(&mut out, alloc, walk.size_hint())?;
     Ok(out)

@@ -1,10 +1,4 @@
-//! Edits of texts that take code: lists of them, the examples of the page on editing, and edits of random
-//! texts. What a row of text can ask of a single edit stands in `ini_cases`.
-mod edit_list;
-mod page;
+//! Edits of texts in pieces. What a row of text can ask of an edit stands in `ini_cases`.
 mod random;
-mod random_edits;
-mod random_keys;
-mod random_sections;
 mod show;
 mod sources;
