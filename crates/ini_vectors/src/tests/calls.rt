@@ -15,7 +15,7 @@ use std::test::Fail;
 
 // Whether a setter gets these values of a, b and c.
 fn gets(setter: &SectionSetter<'_>, a: Option<&str>, b: Option<&str>, c: Option<&str>) -> bool {
-    setter.get("a") == a && setter.get("b") == b && setter.get("c") == c
+    (setter.get("a"), setter.get("b"), setter.get("c")) == (a, b, c)
 }
 
 // What is set in a chain is there, the last value of each key; what is deleted is gone.
@@ -108,66 +108,95 @@ fn preserve_order_properties_into_iter(rt: HostRuntime) -> Result<(), Fail> {
     Ok(())
 }
 
+/// Names and keys as bytes, and the value that they find in the text `BY_BYTES`.
+const LOOK_UPS: [(&'static [u8], &'static [u8], Option<&'static str>); 4] = [
+    (b"\xc3\xa4", b"\xc3\xb6", Some("w")),
+    (b"\xc3\xa4", b"\xc3\xa4", None),
+    (b"\xc3\xa4", b"\xc3", None),
+    (b"\xc3", b"\xc3\xb6", None),
+];
+
+const BY_BYTES: &'static str = "k=v\n[ä]\nö=w\n";
+
 // Bytes find what the text finds that they are; those that are no UTF-8 find nothing.
 #[test]
 fn look_ups_by_bytes(rt: HostRuntime) -> Result<(), Fail> {
-    let document = Ini::load_from_str(rt.alloc(), "k=v\n[ä]\nö=w\n")?;
-    let (name, key) = (b"\xc3\xa4".as_slice(), b"\xc3\xb6".as_slice());
-    let cut = b"\xc3".as_slice();
-    assert!(rt; document.get_by_bytes(None, b"k".as_slice()) == Some("v"));
-    assert!(rt; document.get_by_bytes(Some(name), key) == Some("w"));
-    assert!(rt; document.get_by_bytes(Some(name), name).is_none());
-    assert!(rt; document.get_by_bytes(Some(name), cut).is_none());
-    assert!(rt; document.get_by_bytes(Some(cut), key).is_none());
-    assert!(rt; document.get_by_bytes(None, key).is_none());
-    assert!(rt; document.section_by_bytes(Some(name)).is_some());
-    assert!(rt; document.section_by_bytes(Some(cut)).is_none());
-    assert!(rt; document.section_by_bytes(Some(key)).is_none());
+    let document = Ini::load_from_str(rt.alloc(), BY_BYTES)?;
+    for (name, key, want) in LOOK_UPS {
+        let found = document.get_by_bytes(Some(name), key);
+        assert!(rt; found == want, "{name:?} {key:?}");
+    }
+    let found = document.get_by_bytes(None, b"k".as_slice());
+    assert!(rt; found == Some("v"));
+    let found = document.get_by_bytes(None, b"\xc3\xb6".as_slice());
+    assert!(rt; found.is_none());
     Ok(())
 }
 
-// Whether texts are split at their first and their last character.
-fn splits_texts() -> bool {
-    matches!(split_first("äb"), Some(('ä', "b")))
-        && matches!(split_last("bä"), Some(("b", 'ä')))
-        && split_first("").is_none()
-        && split_last("").is_none()
-}
-
-// Whether it is seen where lines begin, which texts are the same, and of which kind characters are.
-fn knows_lines() -> bool {
-    starts_line("")
-        && starts_line("a\r")
-        && !starts_line("a")
-        && is_column_one("a\n")
-        && !is_column_one("a\r")
-        && is_same_text("k", "k")
-        && !is_same_text("k", "K")
-        && is_blank('\t')
-        && is_line_end('\r')
-        && is_comment_mark(';')
-        && !is_blank('\n')
-        && !is_line_end(' ')
-        && !is_comment_mark('k')
-}
-
-// Whether a byte order mark is seen, and left out.
-fn drops_marks() -> bool {
-    let text = "\u{FEFF}k";
-    let bytes = text.as_bytes();
-    has_byte_order_mark(bytes)
-        && !has_byte_order_mark(b"\xEF\xBB".as_slice())
-        && text_bytes(bytes, true) == b"k".as_slice()
-        && text_bytes(bytes, false) == bytes
-        && without_byte_order_mark(text) == "k"
-        && without_byte_order_mark("k") == "k"
+#[test]
+fn sections_by_bytes(rt: HostRuntime) -> Result<(), Fail> {
+    let document = Ini::load_from_str(rt.alloc(), BY_BYTES)?;
+    let names: [(&'static [u8], bool); 3] = [
+        (b"\xc3\xa4", true),
+        (b"\xc3", false),
+        (b"\xc3\xb6", false),
+    ];
+    for (name, is_there) in names {
+        let section = document.section_by_bytes(Some(name));
+        assert!(rt; section.is_some() == is_there, "{name:?}");
+    }
+    Ok(())
 }
 
 #[test]
-fn helpers_of_texts(rt: HostRuntime) {
-    assert!(rt; splits_texts());
-    assert!(rt; knows_lines());
-    assert!(rt; drops_marks());
+fn texts_are_split_at_both_ends(rt: HostRuntime) {
+    assert!(rt; matches!(split_first("äb"), Some(('ä', "b"))));
+    assert!(rt; matches!(split_last("bä"), Some(("b", 'ä'))));
+    assert!(rt; split_first("").is_none());
+    assert!(rt; split_last("").is_none());
+}
+
+#[test]
+fn beginnings_of_lines_are_known(rt: HostRuntime) {
+    for (front, starts, is_at_column_one) in [
+        ("", true, true),
+        ("a\n", true, true),
+        ("a\r", true, false),
+        ("a", false, false),
+    ] {
+        assert!(rt; starts_line(front) == starts, "{front:?}");
+        assert!(rt; is_column_one(front) == is_at_column_one, "{front:?}");
+    }
+    assert!(rt; is_same_text("k", "k"));
+    assert!(rt; !is_same_text("k", "K"));
+}
+
+#[test]
+fn kinds_of_characters_are_known(rt: HostRuntime) {
+    for (c, blank, line_end, comment_mark) in [
+        ('\t', true, false, false),
+        (' ', true, false, false),
+        ('\n', false, true, false),
+        ('\r', false, true, false),
+        (';', false, false, true),
+        ('k', false, false, false),
+    ] {
+        assert!(rt; is_blank(c) == blank, "{c:?}");
+        assert!(rt; is_line_end(c) == line_end, "{c:?}");
+        assert!(rt; is_comment_mark(c) == comment_mark, "{c:?}");
+    }
+}
+
+#[test]
+fn byte_order_marks_are_left_out(rt: HostRuntime) {
+    let text = "\u{FEFF}k";
+    let bytes = text.as_bytes();
+    assert!(rt; has_byte_order_mark(bytes));
+    assert!(rt; !has_byte_order_mark(b"\xEF\xBB".as_slice()));
+    assert!(rt; text_bytes(bytes, true) == b"k".as_slice());
+    assert!(rt; text_bytes(bytes, false) == bytes);
+    assert!(rt; without_byte_order_mark(text) == "k");
+    assert!(rt; without_byte_order_mark("k") == "k");
 }
 
 #[test]
