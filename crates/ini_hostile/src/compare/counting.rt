@@ -153,14 +153,15 @@ fn ask<'a>(map: &mut Map<'a>, call: Call, key: Key<'a>, number: u32) -> Option<u
     }
 }
 
-/// Asks that the call at the key of the number answers so, by at most so many calls of `code` and `==`.
+/// A call at the key of a number, and what it answers.
+pub(super) type Row = (Call, u32, Option<u32>);
+
+/// Asks that the call answers so, by at most so many calls of `code` and `==`.
 pub(super) fn expect_few<'a>(
     rt: &(impl Abort + AllocGlobal),
     calls: &'a Cell<u32>,
     map: &mut Map<'a>,
-    call: Call,
-    number: u32,
-    want: Option<u32>,
+    (call, number, want): Row,
     most: u32,
 ) {
     let key = counted(rt, calls, number);
@@ -193,9 +194,13 @@ fn expect_few_for_looks<'a>(
     calls: &'a Cell<u32>,
     map: &mut Map<'a>,
 ) {
-    expect_few(rt, calls, map, Call::Get, 1900, Some(1900), FEW);
-    expect_few(rt, calls, map, Call::Get, 5000, None, FEW);
-    expect_few(rt, calls, map, Call::GetAll, 1900, Some(1), FEW);
+    for row in [
+        (Call::Get, 1900, Some(1900)),
+        (Call::Get, 5000, None),
+        (Call::GetAll, 1900, Some(1)),
+    ] {
+        expect_few(rt, calls, map, row, FEW);
+    }
 }
 
 // The same of look-ups for writing.
@@ -204,8 +209,12 @@ fn expect_few_for_writing<'a>(
     calls: &'a Cell<u32>,
     map: &mut Map<'a>,
 ) {
-    expect_few(rt, calls, map, Call::GetMut, 1900, Some(1900), FEW);
-    expect_few(rt, calls, map, Call::GetSecond, 1900, None, FEW);
+    for row in [
+        (Call::GetMut, 1900, Some(1900)),
+        (Call::GetSecond, 1900, None),
+    ] {
+        expect_few(rt, calls, map, row, FEW);
+    }
 }
 
 // The same of edits; the pairs are as many as before.
@@ -214,10 +223,14 @@ fn expect_few_for_edits<'a>(
     calls: &'a Cell<u32>,
     map: &mut Map<'a>,
 ) {
-    expect_few(rt, calls, map, Call::Insert, 1900, Some(1900), 2 * FEW);
-    expect_few(rt, calls, map, Call::Insert, 6000, Some(6000), 2 * FEW);
-    expect_few(rt, calls, map, Call::Remove, 6000, Some(6000), FEW);
-    expect_few(rt, calls, map, Call::RemoveAll, 6000, Some(0), FEW);
+    for (row, most) in [
+        ((Call::Insert, 1900, Some(1900)), 2 * FEW),
+        ((Call::Insert, 6000, Some(6000)), 2 * FEW),
+        ((Call::Remove, 6000, Some(6000)), FEW),
+        ((Call::RemoveAll, 6000, Some(0)), FEW),
+    ] {
+        expect_few(rt, calls, map, row, most);
+    }
 }
 
 // The same of each key of a walk over the keys.

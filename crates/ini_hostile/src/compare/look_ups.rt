@@ -123,7 +123,7 @@ fn expect_two_calls<'a>(
     first: u32,
 ) {
     for number in first..16 {
-        expect_few(rt, calls, map, Call::Get, number, Some(number), 2);
+        expect_few(rt, calls, map, (Call::Get, number, Some(number)), 2);
     }
 }
 
@@ -135,11 +135,11 @@ fn a_look_up_among_few_compares_the_key_of_its_byte(rt: HostRuntime) {
     let mut map: Map<'_> = Multimap::new(rt.alloc());
     each(&rt, &calls, &mut map, Call::Append, 0, 16);
     expect_two_calls(&rt, &calls, &mut map, 0);
-    expect_few(&rt, &calls, &mut map, Call::Get, 16, None, 1);
+    expect_few(&rt, &calls, &mut map, (Call::Get, 16, None), 1);
     each(&rt, &calls, &mut map, Call::Remove, 0, 7);
     expect_two_calls(&rt, &calls, &mut map, 7);
-    expect_few(&rt, &calls, &mut map, Call::Get, 6, None, 10);
+    expect_few(&rt, &calls, &mut map, (Call::Get, 6, None), 10);
     each(&rt, &calls, &mut map, Call::Remove, 7, 2);
     expect_two_calls(&rt, &calls, &mut map, 9);
-    expect_few(&rt, &calls, &mut map, Call::Get, 8, None, 1);
+    expect_few(&rt, &calls, &mut map, (Call::Get, 8, None), 1);
 }
