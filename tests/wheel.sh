@@ -6,6 +6,8 @@
 set -u
 LC_ALL=C.UTF-8
 export LC_ALL
+# a library of the caller's is none of the wheel's
+unset BIGROSK_INI_LIBRARY
 top=$(cd "$(dirname "$0")/.." && pwd)
 room=$(mktemp -d)
 trap 'rm -rf "$room"' EXIT

@@ -87,12 +87,12 @@ class WriteOption(ctypes.Structure):
         super().__init__(policy, crlf, separator)
 
 
+# what calls take: a document, a text, a section's name, room to copy out, rooms for a list, options, a fault
 _handle = ctypes.POINTER(Handle)
-_text = [ctypes.c_char_p, ctypes.c_size_t]
-_name = [ctypes.c_bool] + _text
-_out = [ctypes.c_char_p, ctypes.c_size_t, ctypes.POINTER(ctypes.c_size_t)]
-_list = [ctypes.c_char_p, ctypes.c_size_t, ctypes.POINTER(ctypes.c_size_t), ctypes.c_size_t]
-_list += [ctypes.POINTER(Sizes)]
+_text: List[Any] = [ctypes.c_char_p, ctypes.c_size_t]
+_name: List[Any] = [ctypes.c_bool, *_text]
+_out: List[Any] = [*_text, ctypes.POINTER(ctypes.c_size_t)]
+_list: List[Any] = [*_out, ctypes.c_size_t, ctypes.POINTER(Sizes)]
 _read, _write, _fault = ctypes.POINTER(ReadOption), ctypes.POINTER(WriteOption), ctypes.POINTER(Fault)
 for _call, _arguments, _result in [
     ("load", _text + [ctypes.c_bool, _read, _handle, _fault], ctypes.c_uint32),
