@@ -160,7 +160,8 @@ impl List {
             let lent = step(&mut walk, end);
             if let Some((key, value)) = lent {
                 value.clear();
-                put(&mut out, &[key, " "])?;
+                out.push_str(key)?;
+                out.push(' ')?;
             }
         }
         push_left(&mut out, self.alloc, walk.size_hint())?;

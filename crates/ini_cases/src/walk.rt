@@ -87,17 +87,6 @@ pub fn names(alloc: Global, document: &Ini, ends: &str) -> Result<String, Error>
     Ok(out)
 }
 
-// Takes k out of a section that is lent, and hands its name out.
-fn without_k<'a>(lent: Option<(Option<&'a str>, &mut Properties)>) -> Option<Option<&'a str>> {
-    match lent {
-        Some((name, section)) => {
-            let _ = section.remove("k");
-            Some(name)
-        }
-        None => None,
-    }
-}
-
 // Takes k out of a section, if one is lent.
 fn is_rid_of_k(lent: Option<&mut Properties>) -> bool {
     match lent {
@@ -150,7 +139,14 @@ pub fn iter_mut(alloc: Global, document: &mut Ini, ends: &str) -> Result<String,
     let mut walk = document.iter_mut();
     for end in ends.chars() {
         let lent = step(&mut walk, end);
-        push_name(&mut out, without_k(lent))?;
+        match lent {
+            Some((name, section)) => {
+                let _ = section.remove("k");
+                out.push_str(name.unwrap_or("general"))?;
+            }
+            None => out.push_str("none")?,
+        }
+        out.push(';')?;
     }
     push_left(&mut out, alloc, walk.size_hint())?;
     Ok(out)
