@@ -1,0 +1,322 @@
+-- Items by number, edits of the one that counts, and copies that are edited.
+use Rattle.std.proofs.Common.{◌≡◌, ◌∙◌, ℕ, zero, suc, ◌+◌, Bool, true, false, ◌&&◌, cond, not, List, [], ◌∷◌}
+use Rattle.std.proofs.Common.{◌++◌, length, map, Option, None, Some, IfNone, IfSome, ap, arith, refl, sym, subst}
+use Rattle.std.proofs.Common.{append_assoc, append-nil, inl, inr, length-append}
+use Rattle.std.proofs.lemmas.Bool.{cases_Bool, false≢true}
+use Rattle.std.specs.List.{list_any}
+use Rattle.ini_multimap.specs.Pairs.{without}
+use Rattle.ini.specs.Texts.{Text}
+use Rattle.ini.specs.Properties.{Pairs}
+use Rattle.ini.specs.Documents.{Document}
+use Rattle.ini_dialect.specs.Inside.{CountsAt, IsCounting, IsSettingAt, NonePasses, at_number, is_here, less}
+use Rattle.ini_dialect.specs.Inside.{passes_key, takes_first, takes_first_value}
+use Rattle.ini_dialect.specs.Lookups.{at_counting, at_first, at_last, delete_by, holds_key, is_named, name_fits}
+use Rattle.ini_dialect.specs.Lookups.{set_by, set_under, text_fits, valued, with_value}
+use Rattle.ini_dialect.specs.declared.rule.Lookup.{Lookup}
+use Rattle.ini_dialect.specs.declared.rule.SectionRule.{SectionRule}
+use Rattle.ini_dialect.specs.declared.rule.SectionRule.TheVariants.{First as FirstSection, Joined}
+use Rattle.ini_dialect.specs.declared.rule.ValueRule.{ValueRule}
+use Rattle.ini_dialect.specs.declared.rule.ValueRule.TheVariants.{First as FirstValue, Last}
+
+module _ {X : Type 0} (test : X → Bool) where
+  any-append : (xs ys : List X) → NonePasses test xs → list_any test (xs ++ ys) ≡ list_any test ys
+  any-append [] ys none = refl
+  any-append (x ∷ xs) ys none = grind (arith, any-append xs ys)
+
+  any-here : (xs : List X) (y : X) (ys : List X) → test y ≡ true → list_any test (xs ++ y ∷ ys) ≡ true
+  any-here [] y ys passes = grind (arith, passes)
+  any-here (x ∷ xs) y ys passes = grind (arith, any-here xs y ys passes)
+
+  none-more : (xs : List X) (x : X) → NonePasses test xs → test x ≡ false → NonePasses test (xs ++ x ∷ [])
+  none-more xs x none fails = any-append xs (x ∷ []) none ∙ grind (arith, fails)
+
+  module _ (f : X → X) where
+    first-here : (xs : List X) (y : X) (ys : List X) → NonePasses test xs → test y ≡ true
+        → at_first test f (xs ++ y ∷ ys) ≡ xs ++ f y ∷ ys
+    first-here [] y ys none passes = grind (arith, passes)
+    first-here (x ∷ xs) y ys none passes = grind (arith, first-here xs y ys)
+
+    last-here : (xs : List X) (y : X) (ys : List X) → NonePasses test ys → test y ≡ true
+        → at_last test f (xs ++ y ∷ ys) ≡ xs ++ f y ∷ ys
+    last-here [] y ys none passes = grind (arith, passes, none)
+    last-here (x ∷ xs) y ys none passes =
+        grind (arith, last-here xs y ys none passes, any-here xs y ys passes)
+
+number-here : {X : Type 0} (f : X → X) (xs : List X) (y : X) (ys : List X)
+    → at_number (length xs) f (xs ++ y ∷ ys) ≡ xs ++ f y ∷ ys
+number-here f [] y ys = refl
+number-here f (x ∷ xs) y ys = ap (λ l. x ∷ l) (number-here f xs y ys)
+
+module _ {X : Type 0} {order : ValueRule} {test : X → Bool} {xs : List X} {number : ℕ}
+    (counts : CountsAt order test xs number) where
+  pub counts-passes : list_any test xs ≡ true
+  counts-passes =
+      ap (list_any test) counts.split ∙ any-here test counts.before counts.item counts.after counts.passes
+
+  -- an edit at the number is one at the item that counts
+  pub counts-edit : (f : X → X) → at_number number f xs ≡ at_counting order test f xs
+  counts-edit f =
+      ap (λ n. at_number n f xs) counts.place
+      ∙ ap (at_number (length counts.before) f) counts.split
+      ∙ number-here f counts.before counts.item counts.after
+      ∙ sym (here order counts.counts)
+      ∙ ap (at_counting order test f) (sym counts.split)
+    where
+      here : (o : ValueRule) → IsCounting o test counts.before counts.after
+          → at_counting o test f (counts.before ++ counts.item ∷ counts.after)
+          ≡ counts.before ++ f counts.item ∷ counts.after
+      here FirstValue none = first-here test f counts.before counts.item counts.after none counts.passes
+      here Last none = last-here test f counts.before counts.item counts.after none counts.passes
+
+-- what a search found among the items that it passed
+abbrev pub FoundSoFar : {X : Type 0} → ValueRule → (X → Bool) → List X → Option ℕ → Type 0
+FoundSoFar FirstValue test xs None = NonePasses test xs
+FoundSoFar FirstValue test xs (Some n) = ⊥
+FoundSoFar Last test xs None = NonePasses test xs
+FoundSoFar Last test xs (Some n) = CountsAt Last test xs n
+
+-- a search that has `rest` before it
+pub record Searches {X : Type 0} (order : ValueRule) (test : X → Bool) (xs rest : List X) (number : ℕ)
+    (found : Option ℕ) : Type 0 where
+  pub passed : List X
+  pub split : xs ≡ passed ++ rest
+  pub place : number ≡ length passed
+  pub so_far : FoundSoFar order test passed found
+
+module _ {X : Type 0} (test : X → Bool) where
+  pub searches-starts : (order : ValueRule) (xs : List X) → Searches order test xs xs 0 None
+  searches-starts order xs = record { passed = []; split = refl; place = refl; so_far = none order }
+    where
+      none : (o : ValueRule) → FoundSoFar o test [] None
+      none FirstValue = refl
+      none Last = refl
+
+  -- it ends at an item that counts
+  pub searches-finds : (order : ValueRule) (xs left rest : List X) (x : X) (number : ℕ) (found : Option ℕ)
+      (passes : Bool) → Searches order test xs left number found → left ≡ x ∷ rest → passes ≡ test x
+      → (takes_first_value order && passes) ≡ true → CountsAt order test xs number
+  searches-finds FirstValue xs left rest x number None passes searches next is ends = record {
+    before = searches.passed;
+    item = x;
+    after = rest;
+    split = searches.split ∙ ap (λ l. searches.passed ++ l) next;
+    place = searches.place;
+    passes = sym is ∙ ends;
+    counts = searches.so_far;
+  }
+  searches-finds FirstValue xs left rest x number (Some n) passes searches next is ends = absurd searches.so_far
+  searches-finds Last xs left rest x number found passes searches next is ends = absurd (false≢true ends)
+
+  found_later : (order : ValueRule) (passed : List X) (x : X) (number : ℕ) (found : Option ℕ) (passes : Bool)
+      → FoundSoFar order test passed found → number ≡ length passed → passes ≡ test x
+      → (takes_first_value order && passes) ≡ false
+      → FoundSoFar order test (passed ++ x ∷ []) (cond passes (Some number) found)
+  found_later FirstValue passed x number None true so_far place is goes = absurd (false≢true (sym goes))
+  found_later FirstValue passed x number None false so_far place is goes =
+      none-more test passed x so_far (sym is)
+  found_later FirstValue passed x number (Some n) passes so_far place is goes = absurd so_far
+  found_later Last passed x number found true so_far place is goes = record {
+    before = passed;
+    item = x;
+    after = [];
+    split = refl;
+    place = place;
+    passes = sym is;
+    counts = refl;
+  }
+  found_later Last passed x number None false so_far place is goes =
+      none-more test passed x so_far (sym is)
+  found_later Last passed x number (Some n) false so_far place is goes = record {
+    before = so_far.before;
+    item = so_far.item;
+    after = so_far.after ++ x ∷ [];
+    split =
+        ap (λ l. l ++ x ∷ []) so_far.split ∙ append_assoc so_far.before (so_far.item ∷ so_far.after) (x ∷ []);
+    place = so_far.place;
+    passes = so_far.passes;
+    counts = none-more test so_far.after x so_far.counts (sym is);
+  }
+
+  -- it goes on after one that doesn't
+  pub searches-goes_on : (order : ValueRule) (xs left rest : List X) (x : X) (number : ℕ) (found : Option ℕ)
+      (passes : Bool) → Searches order test xs left number found → left ≡ x ∷ rest → passes ≡ test x
+      → (takes_first_value order && passes) ≡ false
+      → Searches order test xs rest (number + 1) (cond passes (Some number) found)
+  searches-goes_on order xs left rest x number found passes searches next is goes = record {
+    passed = searches.passed ++ x ∷ [];
+    split =
+        searches.split ∙ ap (λ l. searches.passed ++ l) next ∙ sym (append_assoc searches.passed (x ∷ []) rest);
+    place = omega (arith, searches.place, length-append searches.passed (x ∷ []));
+    so_far = found_later order searches.passed x number found passes searches.so_far searches.place is goes;
+  }
+
+  -- at the end it has found what counts
+  module _ (order : ValueRule) (xs left : List X) (number : ℕ) (found : Option ℕ)
+      (searches : Searches order test xs left number found) (all : left ≡ []) where
+    whole : xs ≡ searches.passed
+    whole = searches.split ∙ ap (λ l. searches.passed ++ l) all ∙ append-nil searches.passed
+
+    pub searches-ends_found : IfSome found (CountsAt order test xs)
+    searches-ends_found =
+        subst (λ l. IfSome found (CountsAt order test l)) (sym whole) (at order found searches.so_far)
+      where
+        at : (o : ValueRule) (f : Option ℕ) → FoundSoFar o test searches.passed f
+            → IfSome f (CountsAt o test searches.passed)
+        at FirstValue None so_far = tt
+        at FirstValue (Some n) so_far = absurd so_far
+        at Last None so_far = tt
+        at Last (Some n) so_far = so_far
+
+    pub searches-ends_none : IfNone found (NonePasses test xs)
+    searches-ends_none =
+        subst (λ l. IfNone found (NonePasses test l)) (sym whole) (at order found searches.so_far)
+      where
+        at : (o : ValueRule) (f : Option ℕ) → FoundSoFar o test searches.passed f
+            → IfNone f (NonePasses test searches.passed)
+        at FirstValue None so_far = so_far
+        at FirstValue (Some n) so_far = tt
+        at Last None so_far = so_far
+        at Last (Some n) so_far = tt
+
+-- no item is left where as many were passed as there are
+pub none_left : {X : Type 0} (xs : List X) (number len : ℕ) → number + length xs ≡ len → number ≡ len → xs ≡ []
+none_left [] number len sum all = refl
+none_left (x ∷ xs) number len sum all = absurd (omega arith)
+
+-- a copy that comes to the item of a number
+abbrev pub at_left : {X : Type 0} → Option ℕ → (X → X) → List X → List X
+at_left None f xs = xs
+at_left (Some n) f xs = at_number n f xs
+
+pub at_left-nil : {X : Type 0} (left : Option ℕ) (f : X → X) → at_left left f [] ≡ []
+at_left-nil None f = refl
+at_left-nil (Some zero) f = refl
+at_left-nil (Some (suc n)) f = refl
+
+-- one pair more, one section more
+pub pair-copied : (left : Option ℕ) (value key old new : Text) (ps : Pairs)
+    → new ≡ cond (is_here left) value old
+    → at_left left (λ p. (p.0, value)) ((key, old) ∷ ps)
+    ≡ (key, new) ∷ at_left (less left) (λ p. (p.0, value)) ps
+pair-copied None value key old new ps is = ap (λ v. (key, v) ∷ ps) (sym is)
+pair-copied (Some zero) value key old new ps is = ap (λ v. (key, v) ∷ ps) (sym is)
+pair-copied (Some (suc n)) value key old new ps is =
+    ap (λ v. (key, v) ∷ at_number n (λ p. (p.0, value)) ps) (sym is)
+
+module _ (rule : Lookup) (key value : Text) where
+  pub section-copied : (left : Option ℕ) (name : Option Text) (old new : Pairs) (d : Document)
+      → new ≡ cond (is_here left) (valued rule key value old) old
+      → at_left left (with_value rule key value) ((name, old) ∷ d)
+      ≡ (name, new) ∷ at_left (less left) (with_value rule key value) d
+  section-copied None name old new d is = ap (λ ps. (name, ps) ∷ d) (sym is)
+  section-copied (Some zero) name old new d is = ap (λ ps. (name, ps) ∷ d) (sym is)
+  section-copied (Some (suc n)) name old new d is =
+      ap (λ ps. (name, ps) ∷ at_number n (with_value rule key value) d) (sym is)
+
+-- one section more, where keys go
+module _ (rule : Lookup) (name : Option Text) (key : Text) where
+  -- while sections are looked at, those of the name lose the key
+  abbrev pub deleted_while : Bool → Document → Document
+  deleted_while looking d = cond looking (delete_by rule name key rule.sections d) d
+
+  by_rule : (sections : SectionRule) (looking named : Bool) (other : Option Text) (old new : Pairs)
+      (d : Document) → named ≡ name_fits rule.case name other
+      → new ≡ cond (looking && named) (without (text_fits rule.case key) old) old
+      → cond looking (delete_by rule name key sections ((other, old) ∷ d)) ((other, old) ∷ d)
+      ≡ (other, new)
+      ∷ cond (looking && not (takes_first sections && named)) (delete_by rule name key sections d) d
+  by_rule FirstSection true true other old new d named is = grind (arith, named, is)
+  by_rule FirstSection true false other old new d named is = grind (arith, named, is)
+  by_rule FirstSection false named_too other old new d named is = ap (λ ps. (other, ps) ∷ d) (sym is)
+  by_rule Joined true true other old new d named is = grind (arith, named, is)
+  by_rule Joined true false other old new d named is = grind (arith, named, is)
+  by_rule Joined false named_too other old new d named is = ap (λ ps. (other, ps) ∷ d) (sym is)
+
+  pub section-deleted : (looking named : Bool) (other : Option Text) (old new : Pairs) (d : Document)
+      → named ≡ name_fits rule.case name other
+      → new ≡ cond (looking && named) (without (text_fits rule.case key) old) old
+      → deleted_while looking ((other, old) ∷ d)
+      ≡ (other, new) ∷ deleted_while (looking && not (takes_first rule.sections && named)) d
+  section-deleted looking named other old new d = by_rule rule.sections looking named other old new d
+
+-- where a value is set, section by section
+module _ (rule : Lookup) (name : Option Text) (key : Text) (d : Document) where
+  abbrev named : Option Text × Pairs → Bool
+  named s = passes_key rule name None s
+
+  abbrev holds : Option Text × Pairs → Bool
+  holds s = passes_key rule name (Some key) s
+
+  same_test : (s : Option Text × Pairs) → named s ≡ is_named rule name s
+  same_test s =
+      elim (cases_Bool (is_named rule name s)) [ inl yes ↦ rw yes refl | inr no ↦ rw no refl ]
+
+  same_any : (e : Document) → list_any named e ≡ list_any (is_named rule name) e
+  same_any [] = refl
+  same_any (s ∷ e) = grind (arith, same_any e, same_test s)
+
+  same_edit : (order : ValueRule) (f : Option Text × Pairs → Option Text × Pairs) (e : Document)
+      → at_counting order named f e ≡ at_counting order (is_named rule name) f e
+  same_edit FirstValue f [] = refl
+  same_edit FirstValue f (s ∷ e) = grind (arith, same_edit FirstValue f e, same_test s)
+  same_edit Last f [] = refl
+  same_edit Last f (s ∷ e) = grind (arith, same_edit Last f e, same_any e, same_test s)
+
+  pub setting-first : (number : ℕ) → rule.sections ≡ FirstSection
+      → CountsAt FirstValue named d number → IsSettingAt rule name key d (Some number)
+  setting-first number is counts value =
+      counts-edit counts (with_value rule key value)
+      ∙ same_edit FirstValue (with_value rule key value) d
+      ∙ whole rule.sections is (sym (same_any d) ∙ counts-passes counts)
+    where
+      whole : (sections : SectionRule) → sections ≡ FirstSection → list_any (is_named rule name) d ≡ true
+          → at_first (is_named rule name) (with_value rule key value) d
+          ≡ set_by rule name key sections value d
+      whole FirstSection first there = rw there refl
+      whole Joined first there = absurd cc
+
+  pub setting-first_none : rule.sections ≡ FirstSection → NonePasses named d
+      → IsSettingAt rule name key d None
+  setting-first_none is none value = whole rule.sections is (sym (same_any d) ∙ none)
+    where
+      whole : (sections : SectionRule) → sections ≡ FirstSection → list_any (is_named rule name) d ≡ false
+          → d ++ (name, (key, value) ∷ []) ∷ [] ≡ set_by rule name key sections value d
+      whole FirstSection first none = rw none refl
+      whole Joined first none = absurd cc
+
+  pub setting-holder : (number : ℕ) → rule.sections ≡ Joined → CountsAt rule.values holds d number
+      → IsSettingAt rule name key d (Some number)
+  setting-holder number is counts value =
+      counts-edit counts (with_value rule key value) ∙ whole rule.sections is (counts-passes counts)
+    where
+      whole : (sections : SectionRule) → sections ≡ Joined → list_any (holds_key rule name key) d ≡ true
+          → at_counting rule.values (holds_key rule name key) (with_value rule key value) d
+          ≡ set_by rule name key sections value d
+      whole FirstSection joined there = absurd cc
+      whole Joined joined there = rw there refl
+
+  pub setting-last : (number : ℕ) → rule.sections ≡ Joined → NonePasses holds d
+      → CountsAt Last named d number → IsSettingAt rule name key d (Some number)
+  setting-last number is lacks counts value =
+      counts-edit counts (with_value rule key value)
+      ∙ same_edit Last (with_value rule key value) d
+      ∙ whole rule.sections is lacks (sym (same_any d) ∙ counts-passes counts)
+    where
+      whole : (sections : SectionRule) → sections ≡ Joined → list_any (holds_key rule name key) d ≡ false
+          → list_any (is_named rule name) d ≡ true
+          → at_last (is_named rule name) (with_value rule key value) d
+          ≡ set_by rule name key sections value d
+      whole FirstSection joined lacks there = absurd cc
+      whole Joined joined lacks there = rw (lacks, there) refl
+
+  pub setting-none : rule.sections ≡ Joined → NonePasses holds d → NonePasses named d
+      → IsSettingAt rule name key d None
+  setting-none is lacks none value = whole rule.sections is lacks (sym (same_any d) ∙ none)
+    where
+      whole : (sections : SectionRule) → sections ≡ Joined → list_any (holds_key rule name key) d ≡ false
+          → list_any (is_named rule name) d ≡ false
+          → d ++ (name, (key, value) ∷ []) ∷ [] ≡ set_by rule name key sections value d
+      whole FirstSection joined lacks none = absurd cc
+      whole Joined joined lacks none = rw (lacks, none) refl
+
+pub ruleset edits = (at_left-nil, pair-copied, section-copied, section-deleted)

@@ -1,0 +1,9 @@
+pub mod DefaultLemmas
+pub mod EditLemmas
+pub mod KeyLemmas
+pub mod LookupLawLemmas
+pub mod PairLemmas
+pub mod ReadLemmas
+pub mod RuleLemmas
+pub mod SectionLemmas
+pub mod TextLemmas

@@ -1,0 +1,32 @@
+-- What holds of a look-up under a rule: after an edit under the rule, and by the default rule.
+use Rattle.std.specs.Prelude.{◌≡◌, false, ◌&&◌, List, [], Option, Some, unwrap_or}
+use Rattle.ini.specs.Texts.{Text}
+use Rattle.ini.specs.Properties.{distinct}
+use Rattle.ini.specs.Documents.{Document, first_section, names, value_in}
+use Rattle.ini.specs.EditLaws.{values_in}
+use Rattle.ini_dialect.specs.Lookups.{all_values, delete_under, keys_under, name_fits, names_under, set_under}
+use Rattle.ini_dialect.specs.Lookups.{text_fits, value_under}
+use Rattle.ini_dialect.specs.declared.rule.Lookup.{Lookup}
+
+-- a look-up by another name or another key answers what it answered
+abbrev pub KeepsOtherLookups : Lookup → Option Text → Text → (Document → Document) → Type 0
+KeepsOtherLookups rule name key edit = (n : Option Text) (k : Text) (d : Document)
+    → (name_fits rule.case n name && text_fits rule.case k key) ≡ false
+    → all_values rule n k (edit d) ≡ all_values rule n k d
+
+-- after `set` the look-up answers the value, and after `delete` nothing
+abbrev pub AnswersSet : Lookup → Option Text → Text → Text → Type 0
+AnswersSet rule name key value = (d : Document)
+    → value_under rule name key (set_under rule name key value d) ≡ Some value
+
+abbrev pub AnswersNothing : Lookup → Option Text → Text → Type 0
+AnswersNothing rule name key = (d : Document)
+    → all_values rule name key (delete_under rule name key d) ≡ []
+
+-- the rule answers what the calls of a document and of its first section answer
+pub record AnswersAsCrate (rule : Lookup) : Type 0 where
+  pub value : (name : Option Text) (key : Text) (d : Document) → value_under rule name key d ≡ value_in name key d
+  pub values : (name : Option Text) (key : Text) (d : Document) → all_values rule name key d ≡ values_in name key d
+  pub keys : (name : Option Text) (d : Document)
+      → keys_under rule name d ≡ distinct (unwrap_or (first_section name d) [])
+  pub names : (d : Document) → names_under rule d ≡ names d

@@ -1,0 +1,17 @@
+//! Dialects: what a file means to the program that it belongs to, where this is no matter of reading.
+//!
+//! A `Lookup` is a rule: which sections of a name are looked at, which value of a key counts, whether case
+//! tells keys apart. `get`, `set` and their like go by one. The words for yes and no, numbers, sizes and spans
+//! of time are read from the text of a value.
+#![tactic(auto)]
+
+mod edit;
+mod get;
+pub mod laws;
+mod rule;
+mod typed;
+mod walk;
+
+pub use rule::{CaseRule, Lookup, SectionRule, ValueRule};
+pub use typed::{as_bool, as_duration, as_float, as_integer, as_size};
+pub use walk::AnyDocument;
