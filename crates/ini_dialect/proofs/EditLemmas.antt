@@ -193,51 +193,79 @@ at_left-nil None f = refl
 at_left-nil (Some zero) f = refl
 at_left-nil (Some (suc n)) f = refl
 
--- one pair more, one section more
-pub pair-copied : (left : Option ℕ) (value key old new : Text) (ps : Pairs)
-    → new ≡ cond (is_here left) value old
-    → at_left left (λ p. (p.0, value)) ((key, old) ∷ ps)
-    ≡ (key, new) ∷ at_left (less left) (λ p. (p.0, value)) ps
-pair-copied None value key old new ps is = ap (λ v. (key, v) ∷ ps) (sym is)
-pair-copied (Some zero) value key old new ps is = ap (λ v. (key, v) ∷ ps) (sym is)
-pair-copied (Some (suc n)) value key old new ps is =
-    ap (λ v. (key, v) ∷ at_number n (λ p. (p.0, value)) ps) (sym is)
+at_left-cons : {X : Type 0} (left : Option ℕ) (f : X → X) (x : X) (xs : List X)
+    → at_left left f (x ∷ xs) ≡ cond (is_here left) (f x) x ∷ at_left (less left) f xs
+at_left-cons None f x xs = refl
+at_left-cons (Some zero) f x xs = refl
+at_left-cons (Some (suc n)) f x xs = refl
 
-module _ (rule : Lookup) (key value : Text) where
-  pub section-copied : (left : Option ℕ) (name : Option Text) (old new : Pairs) (d : Document)
-      → new ≡ cond (is_here left) (valued rule key value old) old
-      → at_left left (with_value rule key value) ((name, old) ∷ d)
-      ≡ (name, new) ∷ at_left (less left) (with_value rule key value) d
-  section-copied None name old new d is = ap (λ ps. (name, ps) ∷ d) (sym is)
-  section-copied (Some zero) name old new d is = ap (λ ps. (name, ps) ∷ d) (sym is)
-  section-copied (Some (suc n)) name old new d is =
-      ap (λ ps. (name, ps) ∷ at_number n (with_value rule key value) d) (sym is)
+-- one item more: y was put after what is done, and all is whole with what g makes of the rest
+pub copied-more : {X : Type 0} (done done' whole left rest : List X) (y : X) → done ++ left ≡ whole
+    → left ≡ y ∷ rest → done' ≡ done ++ y ∷ [] → done' ++ rest ≡ whole
+copied-more done done' whole left rest y same one put =
+    ap (λ l. l ++ rest) put ∙ append_assoc done (y ∷ []) rest ∙ ap (λ l. done ++ l) (sym one) ∙ same
 
--- one section more, where keys go
+two_choices : {A B : Type 0} (b : Bool) (a : A) (x y z : B) → z ≡ cond b x y
+    → cond b (a, x) (a, y) ≡ (a, z)
+two_choices true a x y z is = ap (λ v. (a, v)) (sym is)
+two_choices false a x y z is = ap (λ v. (a, v)) (sym is)
+
+-- an item that changes where its number has come, in its second part
+pub number-step : {A B : Type 0} (f : B → B) (before rest : List (A × B)) (left left' : Option ℕ) (here : Bool)
+    (a : A) (old new : B) → before ≡ (a, old) ∷ rest → here ≡ is_here left → new ≡ cond here (f old) old
+    → left' ≡ less left
+    → at_left left (λ p. (p.0, f p.1)) before ≡ (a, new) ∷ at_left left' (λ p. (p.0, f p.1)) rest
+number-step f before rest left left' here a old new next now is on =
+    ap (at_left left (λ p. (p.0, f p.1))) next
+    ∙ at_left-cons left (λ p. (p.0, f p.1)) (a, old) rest
+    ∙ ap (λ b. cond b (a, f old) (a, old) ∷ at_left (less left) (λ p. (p.0, f p.1)) rest) (sym now)
+    ∙ ap (λ x. x ∷ at_left (less left) (λ p. (p.0, f p.1)) rest) (two_choices here a (f old) old new is)
+    ∙ ap (λ l. (a, new) ∷ at_left l (λ p. (p.0, f p.1)) rest) (sym on)
+
+-- a section that loses the key while sections are looked at
 module _ (rule : Lookup) (name : Option Text) (key : Text) where
-  -- while sections are looked at, those of the name lose the key
   abbrev pub deleted_while : Bool → Document → Document
   deleted_while looking d = cond looking (delete_by rule name key rule.sections d) d
 
-  by_rule : (sections : SectionRule) (looking named : Bool) (other : Option Text) (old new : Pairs)
-      (d : Document) → named ≡ name_fits rule.case name other
-      → new ≡ cond (looking && named) (without (text_fits rule.case key) old) old
+  by_rule : (sections : SectionRule) (looking : Bool) (other : Option Text) (old : Pairs) (d : Document)
       → cond looking (delete_by rule name key sections ((other, old) ∷ d)) ((other, old) ∷ d)
-      ≡ (other, new)
-      ∷ cond (looking && not (takes_first sections && named)) (delete_by rule name key sections d) d
-  by_rule FirstSection true true other old new d named is = grind (arith, named, is)
-  by_rule FirstSection true false other old new d named is = grind (arith, named, is)
-  by_rule FirstSection false named_too other old new d named is = ap (λ ps. (other, ps) ∷ d) (sym is)
-  by_rule Joined true true other old new d named is = grind (arith, named, is)
-  by_rule Joined true false other old new d named is = grind (arith, named, is)
-  by_rule Joined false named_too other old new d named is = ap (λ ps. (other, ps) ∷ d) (sym is)
+      ≡ (
+        other,
+        cond (looking && name_fits rule.case name other) (without (text_fits rule.case key) old) old,
+      )
+      ∷ cond (looking && not (takes_first sections && name_fits rule.case name other))
+      (delete_by rule name key sections d) d
+  by_rule sections false other old d = refl
+  by_rule FirstSection true other old d =
+      elim (cases_Bool (name_fits rule.case name other)) [ inl yes ↦ rw yes refl | inr no ↦ rw no refl ]
+  by_rule Joined true other old d =
+      elim (cases_Bool (name_fits rule.case name other)) [ inl yes ↦ rw yes refl | inr no ↦ rw no refl ]
 
-  pub section-deleted : (looking named : Bool) (other : Option Text) (old new : Pairs) (d : Document)
-      → named ≡ name_fits rule.case name other
-      → new ≡ cond (looking && named) (without (text_fits rule.case key) old) old
-      → deleted_while looking ((other, old) ∷ d)
-      ≡ (other, new) ∷ deleted_while (looking && not (takes_first rule.sections && named)) d
-  section-deleted looking named other old new d = by_rule rule.sections looking named other old new d
+  pub delete-step : (before rest : Document) (looking looking' named goes : Bool) (other : Option Text)
+      (old new : Pairs) → before ≡ (other, old) ∷ rest → named ≡ name_fits rule.case name other
+      → goes ≡ (looking && named) → new ≡ cond goes (without (text_fits rule.case key) old) old
+      → looking' ≡ (looking && not (takes_first rule.sections && named))
+      → deleted_while looking before ≡ (other, new) ∷ deleted_while looking' rest
+  delete-step before rest looking looking' named goes other old new next fits both is on =
+      ap (deleted_while looking) next
+      ∙ by_rule rule.sections looking other old rest
+      ∙ ap (λ b.
+      (other, cond (looking && b) (without (text_fits rule.case key) old) old)
+      ∷ deleted_while (looking && not (takes_first rule.sections && b)) rest) (sym fits)
+      ∙ ap (λ b.
+      (other, cond b (without (text_fits rule.case key) old) old)
+      ∷ deleted_while (looking && not (takes_first rule.sections && named)) rest) (sym both)
+      ∙ ap (λ ps. (other, ps) ∷ deleted_while (looking && not (takes_first rule.sections && named)) rest) (sym is)
+      ∙ ap (λ b. (other, new) ∷ deleted_while b rest) (sym on)
+
+  pub deleted_while-nil : (looking : Bool) → deleted_while looking [] ≡ []
+  deleted_while-nil looking = at rule.sections looking
+    where
+      at : (sections : SectionRule) (looking : Bool) → cond looking (delete_by rule name key sections []) [] ≡ []
+      at FirstSection true = refl
+      at FirstSection false = refl
+      at Joined true = refl
+      at Joined false = refl
 
 -- where a value is set, section by section
 module _ (rule : Lookup) (name : Option Text) (key : Text) (d : Document) where
@@ -319,4 +347,4 @@ module _ (rule : Lookup) (name : Option Text) (key : Text) (d : Document) where
       whole FirstSection joined lacks none = absurd cc
       whole Joined joined lacks none = rw (lacks, none) refl
 
-pub ruleset edits = (at_left-nil, pair-copied, section-copied, section-deleted)
+pub ruleset edits = (at_left-nil, deleted_while-nil)

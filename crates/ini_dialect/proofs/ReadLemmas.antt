@@ -1,8 +1,8 @@
 -- A look-up that walks from the end that counts answers the value that counts.
-use Rattle.std.proofs.Common.{◌≡◌, ◌∙◌, Bool, true, false, cond, List, [], ◌∷◌, ◌++◌, reverse, Option, None, Some}
+use Rattle.std.proofs.Common.{◌≡◌, ◌∙◌, Bool, true, false, cond, ◌||◌, List, [], ◌∷◌, ◌++◌, reverse, Option, None, Some}
 use Rattle.std.proofs.Common.{ap, arith, fold, map, refl, sym}
 use Rattle.std.proofs.lemmas.Grind.{fold-append, reverse_onto}
-use Rattle.std.specs.List.{last_or}
+use Rattle.std.specs.List.{last_or, list_any}
 use Rattle.std.specs.Map.{lookup}
 use Rattle.std.specs.Option.{option_or}
 use Rattle.ini_multimap.specs.Pairs.{values_at}
@@ -194,6 +194,11 @@ pub map-push : {X Y : Type 0} (f : X → Y) (xs : List X) (x : X) → map f (xs 
 map-push f [] x = refl
 map-push f (y ∷ xs) x = ap (λ l. f y ∷ l) (map-push f xs x)
 
+pub any-map : {X Y : Type 0} (test : Y → Bool) (f : X → Y) (xs : List X)
+    → list_any test (map f xs) ≡ list_any (λ x. test (f x)) xs
+any-map test f [] = refl
+any-map test f (x ∷ xs) = ap (λ b. test (f x) || b) (any-map test f xs)
+
 -- the keys and the names, each once
 pub keys_kept : (rule : Lookup) (name : Option Text) (d : Document)
     → fold (kept (text_fits rule.case)) [] (looked rule name d) ≡ keys_under rule name d
@@ -207,6 +212,7 @@ pub ruleset reads = (
   joined-first,
   joined-all,
   map-push,
+  any-map,
   values-append,
   fold-append,
   first-under,

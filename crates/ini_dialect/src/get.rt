@@ -213,7 +213,7 @@ impl Lookup {
 
     // Whether one of the keys fits.
     fn is_among(self, keys: &[&str], key: &str) -> bool
-        ensures { result ≡ list_any (λ k. text_fits self.case k (chars key.now)) (map str_text keys.now) }
+        ensures { result ≡ list_any (λ k. text_fits self.case (str_text k) (chars key.now)) keys.now }
     {
         for other in keys {
             if self.case.fits(other, key) {
@@ -226,7 +226,7 @@ impl Lookup {
     // Whether one of the names does.
     fn is_among_names(self, names: &[Option<&str>], name: Option<&str>) -> bool
         ensures { result
-            ≡ list_any (λ n. name_fits self.case n (str_name name.entry)) (map str_name names.now) }
+            ≡ list_any (λ n. name_fits self.case (str_name n) (str_name name.entry)) names.now }
     {
         for other in names {
             if self.case.names_fit(*other, name) {
