@@ -9,6 +9,8 @@ mod edit;
 mod get;
 pub mod laws;
 mod rule;
+#[cfg(test)]
+mod tests;
 mod typed;
 mod walk;
 
