@@ -153,12 +153,12 @@ module _ {X : Type 0} (test : X → Bool) where
   -- at the end it has found what counts
   module _ (order : ValueRule) (xs left : List X) (number : ℕ) (found : Option ℕ)
       (searches : Searches order test xs left number found) (all : left ≡ []) where
-    whole : xs ≡ searches.passed
-    whole = searches.split ∙ ap (λ l. searches.passed ++ l) all ∙ append-nil searches.passed
+    all_passed : xs ≡ searches.passed
+    all_passed = searches.split ∙ ap (λ l. searches.passed ++ l) all ∙ append-nil searches.passed
 
     pub searches-ends_found : IfSome found (CountsAt order test xs)
     searches-ends_found =
-        subst (λ l. IfSome found (CountsAt order test l)) (sym whole) (at order found searches.so_far)
+        subst (λ l. IfSome found (CountsAt order test l)) (sym all_passed) (at order found searches.so_far)
       where
         at : (o : ValueRule) (f : Option ℕ) → FoundSoFar o test searches.passed f
             → IfSome f (CountsAt o test searches.passed)
@@ -169,7 +169,7 @@ module _ {X : Type 0} (test : X → Bool) where
 
     pub searches-ends_none : IfNone found (NonePasses test xs)
     searches-ends_none =
-        subst (λ l. IfNone found (NonePasses test l)) (sym whole) (at order found searches.so_far)
+        subst (λ l. IfNone found (NonePasses test l)) (sym all_passed) (at order found searches.so_far)
       where
         at : (o : ValueRule) (f : Option ℕ) → FoundSoFar o test searches.passed f
             → IfNone f (NonePasses test searches.passed)
