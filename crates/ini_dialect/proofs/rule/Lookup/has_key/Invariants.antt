@@ -1,0 +1,8 @@
+use Rattle.std.proofs.Common.{◌≡◌, chars}
+use Rattle.ini_dialect.specs.Lookups.{has_key}
+use Rattle.ini_dialect.proofs.rule.Lookup.has_key.Given as goal
+
+-- what is left decides
+abbrev pub invariant-loop-other : goal.invariant-loop-other
+invariant-loop-other l =
+    has_key l.self (chars l.key) l.other-iterator ≡ has_key l.self (chars l.key) l.fn.section
