@@ -84,8 +84,8 @@ pub record Searches {X : Type 0} (order : ValueRule) (test : X → Bool) (xs res
   pub so_far : FoundSoFar order test passed found
 
 module _ {X : Type 0} (test : X → Bool) where
-  pub searches-starts : (order : ValueRule) (xs : List X) → Searches order test xs xs 0 None
-  searches-starts order xs = record { passed = []; split = refl; place = refl; so_far = none order }
+  pub searches-starts : (order : ValueRule) (xs rest : List X) → rest ≡ xs → Searches order test xs rest 0 None
+  searches-starts order xs rest is = record { passed = []; split = sym is; place = refl; so_far = none order }
     where
       none : (o : ValueRule) → FoundSoFar o test [] None
       none FirstValue = refl
@@ -93,19 +93,24 @@ module _ {X : Type 0} (test : X → Bool) where
 
   -- it ends at an item that counts
   pub searches-finds : (order : ValueRule) (xs left rest : List X) (x : X) (number : ℕ) (found : Option ℕ)
-      (passes : Bool) → Searches order test xs left number found → left ≡ x ∷ rest → passes ≡ test x
-      → (takes_first_value order && passes) ≡ true → CountsAt order test xs number
-  searches-finds FirstValue xs left rest x number None passes searches next is ends = record {
-    before = searches.passed;
-    item = x;
-    after = rest;
-    split = searches.split ∙ ap (λ l. searches.passed ++ l) next;
-    place = searches.place;
-    passes = sym is ∙ ends;
-    counts = searches.so_far;
-  }
-  searches-finds FirstValue xs left rest x number (Some n) passes searches next is ends = absurd searches.so_far
-  searches-finds Last xs left rest x number found passes searches next is ends = absurd (false≢true ends)
+      (passes ends : Bool) → Searches order test xs left number found → left ≡ x ∷ rest → passes ≡ test x
+      → ends ≡ (takes_first_value order && passes) → ends ≡ true → CountsAt order test xs number
+  searches-finds order xs left rest x number found passes ends searches one is end goes =
+      at order found searches.so_far (sym end ∙ goes)
+    where
+      at : (o : ValueRule) (f : Option ℕ) → FoundSoFar o test searches.passed f
+          → (takes_first_value o && passes) ≡ true → CountsAt o test xs number
+      at FirstValue None so_far all = record {
+        before = searches.passed;
+        item = x;
+        after = rest;
+        split = searches.split ∙ ap (λ l. searches.passed ++ l) one;
+        place = searches.place;
+        passes = sym is ∙ all;
+        counts = so_far;
+      }
+      at FirstValue (Some n) so_far all = absurd so_far
+      at Last f so_far all = absurd (false≢true all)
 
   found_later : (order : ValueRule) (passed : List X) (x : X) (number : ℕ) (found : Option ℕ) (passes : Bool)
       → FoundSoFar order test passed found → number ≡ length passed → passes ≡ test x
@@ -138,17 +143,22 @@ module _ {X : Type 0} (test : X → Bool) where
   }
 
   -- it goes on after one that doesn't
-  pub searches-goes_on : (order : ValueRule) (xs left rest : List X) (x : X) (number : ℕ) (found : Option ℕ)
-      (passes : Bool) → Searches order test xs left number found → left ≡ x ∷ rest → passes ≡ test x
-      → (takes_first_value order && passes) ≡ false
-      → Searches order test xs rest (number + 1) (cond passes (Some number) found)
-  searches-goes_on order xs left rest x number found passes searches next is goes = record {
-    passed = searches.passed ++ x ∷ [];
-    split =
-        searches.split ∙ ap (λ l. searches.passed ++ l) next ∙ sym (append_assoc searches.passed (x ∷ []) rest);
-    place = omega (arith, searches.place, length-append searches.passed (x ∷ []));
-    so_far = found_later order searches.passed x number found passes searches.so_far searches.place is goes;
-  }
+  pub searches-goes_on : (order : ValueRule) (xs left rest : List X) (x : X) (number next : ℕ)
+      (found later : Option ℕ) (passes ends : Bool) → Searches order test xs left number found → left ≡ x ∷ rest
+      → passes ≡ test x → ends ≡ (takes_first_value order && passes) → ends ≡ false → next ≡ number + 1
+      → later ≡ cond passes (Some number) found → Searches order test xs rest next later
+  searches-goes_on order xs left rest x number next found later passes ends searches one is end goes step so_far =
+      record {
+        passed = searches.passed ++ x ∷ [];
+        split =
+            searches.split ∙ ap (λ l. searches.passed ++ l) one
+            ∙ sym (append_assoc searches.passed (x ∷ []) rest);
+        place = omega (arith, step, searches.place, length-append searches.passed (x ∷ []));
+        so_far =
+            subst (FoundSoFar order test (searches.passed ++ x ∷ [])) (sym so_far)
+            (found_later order searches.passed x number found passes searches.so_far searches.place is
+            (sym end ∙ goes));
+      }
 
   -- at the end it has found what counts
   module _ (order : ValueRule) (xs left : List X) (number : ℕ) (found : Option ℕ)
@@ -205,10 +215,10 @@ pub copied-more : {X : Type 0} (done done' whole left rest : List X) (y : X) →
 copied-more done done' whole left rest y same one put =
     ap (λ l. l ++ rest) put ∙ append_assoc done (y ∷ []) rest ∙ ap (λ l. done ++ l) (sym one) ∙ same
 
-two_choices : {A B : Type 0} (b : Bool) (a : A) (x y z : B) → z ≡ cond b x y
-    → cond b (a, x) (a, y) ≡ (a, z)
-two_choices true a x y z is = ap (λ v. (a, v)) (sym is)
-two_choices false a x y z is = ap (λ v. (a, v)) (sym is)
+two_choices : {B C : Type 0} (b : Bool) (g : B → C) (x y z : B) → z ≡ cond b x y
+    → cond b (g x) (g y) ≡ g z
+two_choices true g x y z is = ap g (sym is)
+two_choices false g x y z is = ap g (sym is)
 
 -- an item that changes where its number has come, in its second part
 pub number-step : {A B : Type 0} (f : B → B) (before rest : List (A × B)) (left left' : Option ℕ) (here : Bool)
@@ -219,7 +229,7 @@ number-step f before rest left left' here a old new next now is on =
     ap (at_left left (λ p. (p.0, f p.1))) next
     ∙ at_left-cons left (λ p. (p.0, f p.1)) (a, old) rest
     ∙ ap (λ b. cond b (a, f old) (a, old) ∷ at_left (less left) (λ p. (p.0, f p.1)) rest) (sym now)
-    ∙ ap (λ x. x ∷ at_left (less left) (λ p. (p.0, f p.1)) rest) (two_choices here a (f old) old new is)
+    ∙ ap (λ x. x ∷ at_left (less left) (λ p. (p.0, f p.1)) rest) (two_choices here (λ v. (a, v)) (f old) old new is)
     ∙ ap (λ l. (a, new) ∷ at_left l (λ p. (p.0, f p.1)) rest) (sym on)
 
 -- a section that loses the key while sections are looked at
@@ -237,9 +247,9 @@ module _ (rule : Lookup) (name : Option Text) (key : Text) where
       (delete_by rule name key sections d) d
   by_rule sections false other old d = refl
   by_rule FirstSection true other old d =
-      elim (cases_Bool (name_fits rule.case name other)) [ inl yes ↦ rw yes refl | inr no ↦ rw no refl ]
+      elim (cases_Bool (name_fits rule.case name other)) [ inl there ↦ rw there refl | inr none ↦ rw none refl ]
   by_rule Joined true other old d =
-      elim (cases_Bool (name_fits rule.case name other)) [ inl yes ↦ rw yes refl | inr no ↦ rw no refl ]
+      elim (cases_Bool (name_fits rule.case name other)) [ inl there ↦ rw there refl | inr none ↦ rw none refl ]
 
   pub delete-step : (before rest : Document) (looking looking' named goes : Bool) (other : Option Text)
       (old new : Pairs) → before ≡ (other, old) ∷ rest → named ≡ name_fits rule.case name other
@@ -267,6 +277,13 @@ module _ (rule : Lookup) (name : Option Text) (key : Text) where
       at Joined true = refl
       at Joined false = refl
 
+-- the pair that counts, by its number
+pub valued-counts : (rule : Lookup) (key value : Text) (ps : Pairs) (number : ℕ)
+    → CountsAt rule.values (λ p. text_fits rule.case key p.0) ps number
+    → at_number number (λ p. (p.0, value)) ps ≡ valued rule key value ps
+valued-counts rule key value ps number counts =
+    counts-edit counts (λ p. (p.0, value)) ∙ rw (counts-passes counts) refl
+
 -- where a value is set, section by section
 module _ (rule : Lookup) (name : Option Text) (key : Text) (d : Document) where
   abbrev named : Option Text × Pairs → Bool
@@ -277,7 +294,7 @@ module _ (rule : Lookup) (name : Option Text) (key : Text) (d : Document) where
 
   same_test : (s : Option Text × Pairs) → named s ≡ is_named rule name s
   same_test s =
-      elim (cases_Bool (is_named rule name s)) [ inl yes ↦ rw yes refl | inr no ↦ rw no refl ]
+      elim (cases_Bool (is_named rule name s)) [ inl there ↦ rw there refl | inr none ↦ rw none refl ]
 
   same_any : (e : Document) → list_any named e ≡ list_any (is_named rule name) e
   same_any [] = refl
@@ -346,5 +363,19 @@ module _ (rule : Lookup) (name : Option Text) (key : Text) (d : Document) where
           → d ++ (name, (key, value) ∷ []) ∷ [] ≡ set_by rule name key sections value d
       whole FirstSection joined lacks none = absurd cc
       whole Joined joined lacks none = rw (lacks, none) refl
+
+-- what a search answers
+module _ (rule : Lookup) (name : Option Text) (key : Text) (d : Document) where
+  pub setting-by_first : (o : Option ℕ) → rule.sections ≡ FirstSection
+      → IfSome o (CountsAt FirstValue (named rule name key d) d)
+      → IfNone o (NonePasses (named rule name key d) d) → IsSettingAt rule name key d o
+  setting-by_first None is found none = setting-first_none rule name key d is none
+  setting-by_first (Some n) is found none = setting-first rule name key d n is found
+
+  pub setting-by_last : (o : Option ℕ) → rule.sections ≡ Joined → NonePasses (holds rule name key d) d
+      → IfSome o (CountsAt Last (named rule name key d) d)
+      → IfNone o (NonePasses (named rule name key d) d) → IsSettingAt rule name key d o
+  setting-by_last None is lacks found none = setting-none rule name key d is lacks none
+  setting-by_last (Some n) is lacks found none = setting-last rule name key d n is lacks found
 
 pub ruleset edits = (at_left-nil, deleted_while-nil)

@@ -1,6 +1,7 @@
 pub mod DefaultLemmas
 pub mod EditLemmas
 pub mod KeyLemmas
+pub mod LetterLemmas
 pub mod LookupLawLemmas
 pub mod PairLemmas
 pub mod ReadLemmas

@@ -1,8 +1,8 @@
 -- A look-up that walks from the end that counts answers the value that counts.
-use Rattle.std.proofs.Common.{◌≡◌, ◌∙◌, Bool, true, false, cond, ◌||◌, List, [], ◌∷◌, ◌++◌, reverse, Option, None, Some}
+use Rattle.std.proofs.Common.{◌≡◌, ◌∙◌, Bool, true, false, cond, List, [], ◌∷◌, ◌++◌, reverse, Option, None, Some}
 use Rattle.std.proofs.Common.{ap, arith, fold, map, refl, sym}
 use Rattle.std.proofs.lemmas.Grind.{fold-append, reverse_onto}
-use Rattle.std.specs.List.{last_or, list_any}
+use Rattle.std.specs.List.{last_or}
 use Rattle.std.specs.Map.{lookup}
 use Rattle.std.specs.Option.{option_or}
 use Rattle.ini_multimap.specs.Pairs.{values_at}
@@ -17,7 +17,7 @@ use Rattle.ini_dialect.specs.declared.rule.SectionRule.{SectionRule}
 use Rattle.ini_dialect.specs.declared.rule.SectionRule.TheVariants.{First as FirstSection, Joined}
 use Rattle.ini_dialect.specs.declared.rule.ValueRule.{ValueRule}
 use Rattle.ini_dialect.specs.declared.rule.ValueRule.TheVariants.{First as FirstValue, Last}
-use Rattle.ini_dialect.proofs.KeyLemmas.{kept-distinct}
+use Rattle.ini_dialect.proofs.KeyLemmas.{kept-distinct, map-push}
 use Rattle.ini_dialect.proofs.PairLemmas.{last_or-append, values-append}
 use Rattle.ini_dialect.proofs.RuleLemmas.{names_equiv, texts_equiv}
 use Rattle.ini_dialect.proofs.SectionLemmas.{Section, all_values-gathered, gathered}
@@ -35,8 +35,8 @@ option_or-assoc (Some x) p q = refl
 
 -- the last of a list, where there is one, else o
 last_or-or : {X : Type 0} (o : Option X) (xs : List X) → last_or o xs ≡ option_or (last_or None xs) o
-last_or-or o [] = refl
-last_or-or o (x ∷ xs) =
+last_or-or {X = X} o [] = refl
+last_or-or {X = X} o (x ∷ xs) =
     last_or-or (Some x) xs ∙ some_stays (last_or None xs) ∙ ap (λ p. option_or p o) (sym (last_or-or (Some x) xs))
   where
     some_stays : (p : Option X) → option_or p (Some x) ≡ option_or (option_or p (Some x)) o
@@ -190,15 +190,6 @@ pub joined-all : {X : Type 0} (rule : SectionRule) (xs later : List X) → rule 
 joined-all FirstSection xs later is = absurd cc
 joined-all Joined xs later is = refl
 
-pub map-push : {X Y : Type 0} (f : X → Y) (xs : List X) (x : X) → map f (xs ++ x ∷ []) ≡ map f xs ++ f x ∷ []
-map-push f [] x = refl
-map-push f (y ∷ xs) x = ap (λ l. f y ∷ l) (map-push f xs x)
-
-pub any-map : {X Y : Type 0} (test : Y → Bool) (f : X → Y) (xs : List X)
-    → list_any test (map f xs) ≡ list_any (λ x. test (f x)) xs
-any-map test f [] = refl
-any-map test f (x ∷ xs) = ap (λ b. test (f x) || b) (any-map test f xs)
-
 -- the keys and the names, each once
 pub keys_kept : (rule : Lookup) (name : Option Text) (d : Document)
     → fold (kept (text_fits rule.case)) [] (looked rule name d) ≡ keys_under rule name d
@@ -212,7 +203,6 @@ pub ruleset reads = (
   joined-first,
   joined-all,
   map-push,
-  any-map,
   values-append,
   fold-append,
   first-under,
