@@ -1,5 +1,6 @@
 -- The default rule answers what the calls of a document answer.
-use Rattle.std.proofs.Common.{◌≡◌, ◌∙◌, Bool, true, false, List, [], ◌∷◌, Option, None, Some, ap, arith, refl, sym}
+use Rattle.std.proofs.Common.{◌≡◌, ◌∙◌, Bool, true, false, List, [], ◌∷◌, Option, None, Some, ap, arith}
+use Rattle.std.proofs.Common.{refl, sym}
 use Rattle.std.proofs.Common.{unwrap_or, option_and_then}
 use Rattle.std.specs.Map.{lookup}
 use Rattle.ini_multimap.specs.Pairs.{values_at}
@@ -12,7 +13,8 @@ use Rattle.ini_dialect.specs.Lookups.{counting, looked}
 use Rattle.ini_dialect.specs.Rules.{default_lookup}
 use Rattle.ini_dialect.specs.declared.rule.ValueRule.TheVariants.{First as FirstValue}
 
-first-value : (key : Text) (ps : Pairs) → counting FirstValue (values_at (is_text key) ps) ≡ first_value key ps
+first-value : (key : Text) (ps : Pairs)
+    → counting FirstValue (values_at (is_text key) ps) ≡ first_value key ps
 first-value key [] = refl
 first-value key (p ∷ ps) = grind (arith, first-value key ps)
 

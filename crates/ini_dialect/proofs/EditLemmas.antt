@@ -1,6 +1,8 @@
 -- Items by number, edits of the one that counts, and copies that are edited.
-use Rattle.std.proofs.Common.{◌≡◌, ◌∙◌, ℕ, zero, suc, ◌+◌, Bool, true, false, ◌&&◌, cond, not, List, [], ◌∷◌}
-use Rattle.std.proofs.Common.{◌++◌, length, map, Option, None, Some, IfNone, IfSome, ap, arith, refl, sym, subst}
+use Rattle.std.proofs.Common.{◌≡◌, ◌∙◌, ℕ, zero, suc, ◌+◌, Bool, true, false, ◌&&◌, cond, not, List, []}
+use Rattle.std.proofs.Common.{◌∷◌}
+use Rattle.std.proofs.Common.{◌++◌, length, map, Option, None, Some, IfNone, IfSome, ap, arith, refl, sym}
+use Rattle.std.proofs.Common.{subst}
 use Rattle.std.proofs.Common.{append_assoc, append-nil, inl, inr, length-append}
 use Rattle.std.proofs.lemmas.Bool.{cases_Bool, false≢true}
 use Rattle.std.specs.List.{list_any}
@@ -8,9 +10,11 @@ use Rattle.ini_multimap.specs.Pairs.{without}
 use Rattle.ini.specs.Texts.{Text}
 use Rattle.ini.specs.Properties.{Pairs}
 use Rattle.ini.specs.Documents.{Document}
-use Rattle.ini_dialect.specs.Inside.{CountsAt, IsCounting, IsSettingAt, NonePasses, at_number, is_here, less}
+use Rattle.ini_dialect.specs.Inside.{CountsAt, IsCounting, IsSettingAt, NonePasses, at_number, is_here}
+use Rattle.ini_dialect.specs.Inside.{less}
 use Rattle.ini_dialect.specs.Inside.{passes_key, takes_first, takes_first_value}
-use Rattle.ini_dialect.specs.Lookups.{at_counting, at_first, at_last, delete_by, holds_key, is_named, name_fits}
+use Rattle.ini_dialect.specs.Lookups.{at_counting, at_first, at_last, delete_by, holds_key, is_named}
+use Rattle.ini_dialect.specs.Lookups.{name_fits}
 use Rattle.ini_dialect.specs.Lookups.{set_by, set_under, text_fits, valued, with_value}
 use Rattle.ini_dialect.specs.declared.rule.Lookup.{Lookup}
 use Rattle.ini_dialect.specs.declared.rule.SectionRule.{SectionRule}
@@ -84,8 +88,14 @@ pub record Searches {X : Type 0} (order : ValueRule) (test : X → Bool) (xs res
   pub so_far : FoundSoFar order test passed found
 
 module _ {X : Type 0} (test : X → Bool) where
-  pub searches-starts : (order : ValueRule) (xs rest : List X) → rest ≡ xs → Searches order test xs rest 0 None
-  searches-starts order xs rest is = record { passed = []; split = sym is; place = refl; so_far = none order }
+  pub searches-starts : (order : ValueRule) (xs rest : List X) → rest ≡ xs
+      → Searches order test xs rest 0 None
+  searches-starts order xs rest is = record {
+    passed = [];
+    split = sym is;
+    place = refl;
+    so_far = none order;
+  }
     where
       none : (o : ValueRule) → FoundSoFar o test [] None
       none FirstValue = refl
@@ -136,7 +146,8 @@ module _ {X : Type 0} (test : X → Bool) where
     item = so_far.item;
     after = so_far.after ++ x ∷ [];
     split =
-        ap (λ l. l ++ x ∷ []) so_far.split ∙ append_assoc so_far.before (so_far.item ∷ so_far.after) (x ∷ []);
+        ap (λ l. l ++ x ∷ []) so_far.split
+        ∙ append_assoc so_far.before (so_far.item ∷ so_far.after) (x ∷ []);
     place = so_far.place;
     passes = so_far.passes;
     counts = none-more test so_far.after x so_far.counts (sym is);
@@ -144,10 +155,10 @@ module _ {X : Type 0} (test : X → Bool) where
 
   -- it goes on after one that doesn't
   pub searches-goes_on : (order : ValueRule) (xs left rest : List X) (x : X) (number next : ℕ)
-      (found later : Option ℕ) (passes ends : Bool) → Searches order test xs left number found → left ≡ x ∷ rest
-      → passes ≡ test x → ends ≡ (takes_first_value order && passes) → ends ≡ false → next ≡ number + 1
-      → later ≡ cond passes (Some number) found → Searches order test xs rest next later
-  searches-goes_on order xs left rest x number next found later passes ends searches one is end goes step so_far =
+      (found later : Option ℕ) (passes ends : Bool) → Searches order test xs left number found
+      → left ≡ x ∷ rest → passes ≡ test x → ends ≡ (takes_first_value order && passes) → ends ≡ false
+      → next ≡ number + 1 → later ≡ cond passes (Some number) found → Searches order test xs rest next later
+  searches-goes_on order xs left rest x number next found later passes ends searches one is end goes step so =
       record {
         passed = searches.passed ++ x ∷ [];
         split =
@@ -155,7 +166,7 @@ module _ {X : Type 0} (test : X → Bool) where
             ∙ sym (append_assoc searches.passed (x ∷ []) rest);
         place = omega (arith, step, searches.place, length-append searches.passed (x ∷ []));
         so_far =
-            subst (FoundSoFar order test (searches.passed ++ x ∷ [])) (sym so_far)
+            subst (FoundSoFar order test (searches.passed ++ x ∷ [])) (sym so)
             (found_later order searches.passed x number found passes searches.so_far searches.place is
             (sym end ∙ goes));
       }
@@ -189,7 +200,8 @@ module _ {X : Type 0} (test : X → Bool) where
         at Last (Some n) so_far = tt
 
 -- no item is left where as many were passed as there are
-pub none_left : {X : Type 0} (xs : List X) (number len : ℕ) → number + length xs ≡ len → number ≡ len → xs ≡ []
+pub none_left : {X : Type 0} (xs : List X) (number len : ℕ) → number + length xs ≡ len → number ≡ len
+    → xs ≡ []
 none_left [] number len sum all = refl
 none_left (x ∷ xs) number len sum all = absurd (omega arith)
 
@@ -221,15 +233,16 @@ two_choices true g x y z is = ap g (sym is)
 two_choices false g x y z is = ap g (sym is)
 
 -- an item that changes where its number has come, in its second part
-pub number-step : {A B : Type 0} (f : B → B) (before rest : List (A × B)) (left left' : Option ℕ) (here : Bool)
-    (a : A) (old new : B) → before ≡ (a, old) ∷ rest → here ≡ is_here left → new ≡ cond here (f old) old
-    → left' ≡ less left
+pub number-step : {A B : Type 0} (f : B → B) (before rest : List (A × B)) (left left' : Option ℕ)
+    (here : Bool) (a : A) (old new : B) → before ≡ (a, old) ∷ rest → here ≡ is_here left
+    → new ≡ cond here (f old) old → left' ≡ less left
     → at_left left (λ p. (p.0, f p.1)) before ≡ (a, new) ∷ at_left left' (λ p. (p.0, f p.1)) rest
 number-step f before rest left left' here a old new next now is on =
     ap (at_left left (λ p. (p.0, f p.1))) next
     ∙ at_left-cons left (λ p. (p.0, f p.1)) (a, old) rest
     ∙ ap (λ b. cond b (a, f old) (a, old) ∷ at_left (less left) (λ p. (p.0, f p.1)) rest) (sym now)
-    ∙ ap (λ x. x ∷ at_left (less left) (λ p. (p.0, f p.1)) rest) (two_choices here (λ v. (a, v)) (f old) old new is)
+    ∙ ap (λ x. x ∷ at_left (less left) (λ p. (p.0, f p.1)) rest)
+    (two_choices here (λ v. (a, v)) (f old) old new is)
     ∙ ap (λ l. (a, new) ∷ at_left l (λ p. (p.0, f p.1)) rest) (sym on)
 
 -- a section that loses the key while sections are looked at
@@ -247,9 +260,15 @@ module _ (rule : Lookup) (name : Option Text) (key : Text) where
       (delete_by rule name key sections d) d
   by_rule sections false other old d = refl
   by_rule FirstSection true other old d =
-      elim (cases_Bool (name_fits rule.case name other)) [ inl there ↦ rw there refl | inr none ↦ rw none refl ]
+      elim (cases_Bool (name_fits rule.case name other)) [
+        | inl there ↦ rw there refl
+        | inr none ↦ rw none refl
+      ]
   by_rule Joined true other old d =
-      elim (cases_Bool (name_fits rule.case name other)) [ inl there ↦ rw there refl | inr none ↦ rw none refl ]
+      elim (cases_Bool (name_fits rule.case name other)) [
+        | inl there ↦ rw there refl
+        | inr none ↦ rw none refl
+      ]
 
   pub delete-step : (before rest : Document) (looking looking' named goes : Bool) (other : Option Text)
       (old new : Pairs) → before ≡ (other, old) ∷ rest → named ≡ name_fits rule.case name other
@@ -265,13 +284,15 @@ module _ (rule : Lookup) (name : Option Text) (key : Text) where
       ∙ ap (λ b.
       (other, cond b (without (text_fits rule.case key) old) old)
       ∷ deleted_while (looking && not (takes_first rule.sections && named)) rest) (sym both)
-      ∙ ap (λ ps. (other, ps) ∷ deleted_while (looking && not (takes_first rule.sections && named)) rest) (sym is)
+      ∙ ap (λ ps. (other, ps) ∷ deleted_while (looking && not (takes_first rule.sections && named)) rest)
+      (sym is)
       ∙ ap (λ b. (other, new) ∷ deleted_while b rest) (sym on)
 
   pub deleted_while-nil : (looking : Bool) → deleted_while looking [] ≡ []
   deleted_while-nil looking = at rule.sections looking
     where
-      at : (sections : SectionRule) (looking : Bool) → cond looking (delete_by rule name key sections []) [] ≡ []
+      at : (sections : SectionRule) (looking : Bool)
+          → cond looking (delete_by rule name key sections []) [] ≡ []
       at FirstSection true = refl
       at FirstSection false = refl
       at Joined true = refl

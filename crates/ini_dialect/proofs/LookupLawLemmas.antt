@@ -1,5 +1,6 @@
 -- The laws of edits under a rule: the look-up finds what was set, and all others what they found.
-use Rattle.std.proofs.Common.{◌≡◌, ◌∙◌, Bool, true, false, ◌&&◌, cond, List, [], ◌∷◌, ◌++◌, Option, None, Some, ap, arith, inl, inr, refl, sym}
+use Rattle.std.proofs.Common.{◌≡◌, ◌∙◌, Bool, true, false, ◌&&◌, cond, List, [], ◌∷◌, ◌++◌, Option, None}
+use Rattle.std.proofs.Common.{Some, ap, arith, inl, inr, refl, sym}
 use Rattle.std.proofs.Common.{append-nil}
 use Rattle.std.proofs.lemmas.Bool.{cases_Bool, false≢true}
 use Rattle.std.specs.List.{last_or, list_any}
@@ -8,15 +9,21 @@ use Rattle.ini.specs.Texts.{Text}
 use Rattle.ini.specs.Properties.{Pairs}
 use Rattle.ini.specs.Documents.{Document}
 use Rattle.ini_dialect.specs.LookupLaws.{AnswersNothing, AnswersSet, KeepsOtherLookups}
-use Rattle.ini_dialect.specs.Lookups.{all_values, at_counting, at_first, at_last, cleared, counting, delete_by, delete_under, has_key, holds_key, is_named, name_fits, set_by, set_under, text_fits, valued, with_value}
+use Rattle.ini_dialect.specs.Lookups.{all_values, at_counting, at_first, at_last, cleared, counting}
+use Rattle.ini_dialect.specs.Lookups.{delete_by, delete_under, has_key, holds_key, is_named, name_fits}
+use Rattle.ini_dialect.specs.Lookups.{set_by, set_under, text_fits, valued, with_value}
 use Rattle.ini_dialect.specs.declared.rule.Lookup.{Lookup}
 use Rattle.ini_dialect.specs.declared.rule.SectionRule.{SectionRule}
 use Rattle.ini_dialect.specs.declared.rule.SectionRule.TheVariants.{First as FirstSection, Joined}
 use Rattle.ini_dialect.specs.declared.rule.ValueRule.{ValueRule}
 use Rattle.ini_dialect.specs.declared.rule.ValueRule.TheVariants.{First as FirstValue, Last}
-use Rattle.ini_dialect.proofs.PairLemmas.{counting-one, counting-there, first-there, last-there, last_or-append, others-counting, others-without, values-append, values-none, values-without}
+use Rattle.ini_dialect.proofs.PairLemmas.{counting-one, counting-there, first-there, last-there}
+use Rattle.ini_dialect.proofs.PairLemmas.{last_or-append, others-counting, others-without, values-append}
+use Rattle.ini_dialect.proofs.PairLemmas.{values-none, values-without}
 use Rattle.ini_dialect.proofs.RuleLemmas.{names_equiv, texts_equiv}
-use Rattle.ini_dialect.proofs.SectionLemmas.{Keeps, Section, all_values-gathered, gathered, gathered-counting, gathered-each, gathered-first, gathered-last, gathered-new, gathered-new_other}
+use Rattle.ini_dialect.proofs.SectionLemmas.{Keeps, Section, all_values-gathered, gathered}
+use Rattle.ini_dialect.proofs.SectionLemmas.{gathered-counting, gathered-each, gathered-first}
+use Rattle.ini_dialect.proofs.SectionLemmas.{gathered-last, gathered-new, gathered-new_other}
 
 -- what is there afterwards
 module _ (rule : Lookup) (name : Option Text) (key : Text) where

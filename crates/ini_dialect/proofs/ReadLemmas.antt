@@ -1,5 +1,6 @@
 -- A look-up that walks from the end that counts answers the value that counts.
-use Rattle.std.proofs.Common.{◌≡◌, ◌∙◌, Bool, true, false, cond, List, [], ◌∷◌, ◌++◌, reverse, Option, None, Some}
+use Rattle.std.proofs.Common.{◌≡◌, ◌∙◌, Bool, true, false, cond, List, [], ◌∷◌, ◌++◌, reverse, Option, None}
+use Rattle.std.proofs.Common.{Some}
 use Rattle.std.proofs.Common.{ap, arith, fold, map, refl, sym}
 use Rattle.std.proofs.lemmas.Grind.{fold-append, reverse_onto}
 use Rattle.std.specs.List.{last_or}
@@ -10,7 +11,8 @@ use Rattle.ini.specs.Texts.{Text}
 use Rattle.ini.specs.Properties.{Pairs}
 use Rattle.ini.specs.Documents.{Document}
 use Rattle.ini_dialect.specs.Inside.{kept, turned, value_in_first, value_in_joined}
-use Rattle.ini_dialect.specs.Lookups.{counting, joined, keys_under, looked, name_fits, names_under, text_fits}
+use Rattle.ini_dialect.specs.Lookups.{counting, joined, keys_under, looked, name_fits, names_under}
+use Rattle.ini_dialect.specs.Lookups.{text_fits}
 use Rattle.ini_dialect.specs.Lookups.{value_under}
 use Rattle.ini_dialect.specs.declared.rule.Lookup.{Lookup}
 use Rattle.ini_dialect.specs.declared.rule.SectionRule.{SectionRule}
@@ -37,7 +39,9 @@ option_or-assoc (Some x) p q = refl
 last_or-or : {X : Type 0} (o : Option X) (xs : List X) → last_or o xs ≡ option_or (last_or None xs) o
 last_or-or {X = X} o [] = refl
 last_or-or {X = X} o (x ∷ xs) =
-    last_or-or (Some x) xs ∙ some_stays (last_or None xs) ∙ ap (λ p. option_or p o) (sym (last_or-or (Some x) xs))
+    last_or-or (Some x) xs
+    ∙ some_stays (last_or None xs)
+    ∙ ap (λ p. option_or p o) (sym (last_or-or (Some x) xs))
   where
     some_stays : (p : Option X) → option_or p (Some x) ≡ option_or (option_or p (Some x)) o
     some_stays None = refl

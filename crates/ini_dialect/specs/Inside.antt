@@ -49,7 +49,8 @@ IsCounting FirstValue test before after = NonePasses test before
 IsCounting Last test before after = NonePasses test after
 
 -- the item of this number, from 0, passes and counts
-pub record CountsAt {X : Type 0} (order : ValueRule) (test : X → Bool) (xs : List X) (number : ℕ) : Type 0 where
+pub record CountsAt {X : Type 0} (order : ValueRule) (test : X → Bool) (xs : List X)
+    (number : ℕ) : Type 0 where
   pub before : List X
   pub item : X
   pub after : List X

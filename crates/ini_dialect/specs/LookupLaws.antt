@@ -4,7 +4,8 @@ use Rattle.ini.specs.Texts.{Text}
 use Rattle.ini.specs.Properties.{distinct}
 use Rattle.ini.specs.Documents.{Document, first_section, names, value_in}
 use Rattle.ini.specs.EditLaws.{values_in}
-use Rattle.ini_dialect.specs.Lookups.{all_values, delete_under, keys_under, name_fits, names_under, set_under}
+use Rattle.ini_dialect.specs.Lookups.{all_values, delete_under, keys_under, name_fits, names_under}
+use Rattle.ini_dialect.specs.Lookups.{set_under}
 use Rattle.ini_dialect.specs.Lookups.{text_fits, value_under}
 use Rattle.ini_dialect.specs.declared.rule.Lookup.{Lookup}
 
@@ -25,8 +26,10 @@ AnswersNothing rule name key = (d : Document)
 
 -- the rule answers what the calls of a document and of its first section answer
 pub record AnswersAsCrate (rule : Lookup) : Type 0 where
-  pub value : (name : Option Text) (key : Text) (d : Document) → value_under rule name key d ≡ value_in name key d
-  pub values : (name : Option Text) (key : Text) (d : Document) → all_values rule name key d ≡ values_in name key d
+  pub value : (name : Option Text) (key : Text) (d : Document)
+      → value_under rule name key d ≡ value_in name key d
+  pub values : (name : Option Text) (key : Text) (d : Document)
+      → all_values rule name key d ≡ values_in name key d
   pub keys : (name : Option Text) (d : Document)
       → keys_under rule name d ≡ distinct (unwrap_or (first_section name d) [])
   pub names : (d : Document) → names_under rule d ≡ names d

@@ -82,7 +82,8 @@ module _ (rule : Lookup) (key : Text) where
   abbrev pub has_key : Pairs → Bool
   has_key ps = list_any (λ p. text_fits rule.case key p.0) ps
 
-  -- the pair that counts keeps its place and its key and takes the value; where there is none a new pair goes last
+  -- the pair that counts keeps its place and its key and takes the value; where there is none a new one goes
+  -- last
   abbrev pub valued : Text → Pairs → Pairs
   valued value ps =
       if has_key ps

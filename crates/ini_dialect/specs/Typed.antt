@@ -1,12 +1,13 @@
--- What the text of a value says as a bool, a number, a size or a span of time. Texts are bytes here: each word
--- and each digit is ASCII.
+-- What the text of a value says as a bool, a number, a size or a span of time. Texts are bytes here: each
+-- word and each digit is ASCII.
 use Rattle.std.specs.Prelude.{◌≡◌, ℕ, ◌*◌, Bool, true, false, if◌then◌else◌, List, [], ◌∷◌}
 use Rattle.std.specs.Prelude.{drop, take, codes, ℤ, pos, Option, Some, None}
 use Rattle.std.specs.Char.{is_ascii_alphabetic}
 use Rattle.std.specs.Prelude.{◌*ℤ◌}
 use Rattle.std.specs.List.{list_any, position_or_len}
 use Rattle.std.specs.Str.{str_eq_ignore_ascii_case}
-use Rattle.std.specs.Str.Parse.{IsNumeral, digits_value, signed_digits_value, without_leading_plus, without_leading_sign}
+use Rattle.std.specs.Str.Parse.{IsNumeral, digits_value, signed_digits_value, without_leading_plus}
+use Rattle.std.specs.Str.Parse.{without_leading_sign}
 
 -- the words for yes and for no
 abbrev pub yes_words : List (List ℕ)

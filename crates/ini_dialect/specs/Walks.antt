@@ -5,13 +5,15 @@ use Rattle.ini.specs.Texts.{Text, str_name}
 use Rattle.ini.specs.Properties.{Pairs}
 use Rattle.ini.specs.Documents.{Document}
 use Rattle.ini_dialect.specs.declared.walk.AnyDocument.{AnyDocument}
-use Rattle.ini_dialect.specs.declared.walk.AnyDocument.TheVariants.{Ini as IniDocument, View as ViewDocument}
+use Rattle.ini_dialect.specs.declared.walk.AnyDocument.TheVariants.{Ini as IniDocument}
+use Rattle.ini_dialect.specs.declared.walk.AnyDocument.TheVariants.{View as ViewDocument}
 use Rattle.ini_dialect.specs.declared.walk.AnySection.{AnySection}
 use Rattle.ini_dialect.specs.declared.walk.AnySection.TheVariants.{Ini as IniSection, View as ViewSection}
 use Rattle.ini_dialect.specs.declared.walk.PairWalk.{PairWalk}
 use Rattle.ini_dialect.specs.declared.walk.PairWalk.TheVariants.{Ini as IniPairs, View as ViewPairs}
 use Rattle.ini_dialect.specs.declared.walk.SectionWalk.{SectionWalk}
-use Rattle.ini_dialect.specs.declared.walk.SectionWalk.TheVariants.{Ini as IniSections, View as ViewSections}
+use Rattle.ini_dialect.specs.declared.walk.SectionWalk.TheVariants.{Ini as IniSections}
+use Rattle.ini_dialect.specs.declared.walk.SectionWalk.TheVariants.{View as ViewSections}
 
 -- the document that is looked at
 abbrev pub any_document : AnyDocument → Document

@@ -16,9 +16,9 @@ use std::alloc::{AllocError, Global};
 
 #[tactic(auto, using(crate::proofs::EditLemmas::edits))]
 impl Lookup {
-    /// Sets the key's value: the pair that `get` answers from keeps its place and its key and takes the value,
-    /// and all others stay. Where there is none a new pair goes last, in the last section that is looked at,
-    /// or in a new section, last.
+    /// Sets the key's value: the pair that `get` answers from keeps its place and its key and takes the
+    /// value, and all others stay. Where there is none a new pair goes last, in the last section that is
+    /// looked at, or in a new section, last.
     ///
     /// Refused, only when out of memory, it changes nothing. It takes the time and the memory of a copy.
     pub fn set(

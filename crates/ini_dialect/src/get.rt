@@ -1,4 +1,4 @@
-//! Look-ups under a rule. This file knows the walks over sections and pairs, from the front and from the back.
+//! Look-ups under a rule. This file knows the walks over sections and pairs, from the front and the back.
 ghost use Rattle.std.specs.Prelude.{◌≡◌, ◌++◌, fold, map, chars, IfOk, OnOk};
 ghost use Rattle.std.specs.List.{list_any};
 ghost use Rattle.std.specs.Map.{lookup};

@@ -11,7 +11,8 @@ ghost use Rattle.ini_dialect.specs.declared.rule.Lookup.{Lookup};
 /// After `set` the look-up answers the value; by each name or key that doesn't fit it answers what it
 /// answered.
 pub fn set_is_found()
-    ensures found { (rule : Lookup) (name : Option Text) (key value : Text) → AnswersSet rule name key value }
+    ensures found { (rule : Lookup) (name : Option Text) (key value : Text)
+        → AnswersSet rule name key value }
     ensures others { (rule : Lookup) (name : Option Text) (key value : Text)
         → KeepsOtherLookups rule name key (set_under rule name key value) }
 {}

@@ -1,8 +1,8 @@
 //! Dialects: what a file means to the program that it belongs to, where this is no matter of reading.
 //!
 //! A `Lookup` is a rule: which sections of a name are looked at, which value of a key counts, whether case
-//! tells keys apart. `get`, `set` and their like go by one. The words for yes and no, numbers, sizes and spans
-//! of time are read from the text of a value.
+//! tells keys apart. `get`, `set` and their like go by one. From the text of a value come bools, numbers,
+//! sizes and spans of time.
 #![tactic(auto)]
 
 mod edit;

@@ -1,5 +1,5 @@
-//! Rows of questions with their answers: look-ups and edits under each rule, and values with types. The answers
-//! are read from the definitions by hand.
+//! Rows of questions with their answers: look-ups and edits under each rule, and values with types. The
+//! answers are read from the definitions by hand.
 use crate::rule::{CaseRule, Lookup, SectionRule, ValueRule};
 use crate::typed::{as_bool, as_duration, as_float, as_integer, as_size};
 use crate::walk::AnyDocument;

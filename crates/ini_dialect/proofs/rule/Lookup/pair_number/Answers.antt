@@ -20,7 +20,8 @@ pub loop-number-preserved : goal.loop-number-preserved
 loop-number-preserved c =
     let test = λ (p : Text × Text). text_fits c.args.self.case (chars c.args.key.now) p.0 in (
       omega (arith, ap length c.in-Some.ensures.steps),
-      searches-goes_on test c.args.self.values c.args.section.now _ _ _ c.loop-number.number _ c.loop-number.found _
+      searches-goes_on test c.args.self.values c.args.section.now _ _ _ c.loop-number.number _
+          c.loop-number.found _
           c.fits-passes.result c.ends_at.result c.loop-number.invariant.1 c.in-Some.ensures.steps
           c.fits-passes.ensures c.ends_at.ensures c.if-ends_at.false (omega arith) c.latest-found.ensures,
     )
@@ -35,11 +36,13 @@ returns-then-ends_at-clause-found c =
 pub returns-clause-found : goal.returns-clause-found
 returns-clause-found c =
     let test = λ (p : Text × Text). text_fits c.args.self.case (chars c.args.key.now) p.0 in
-    searches-ends_found test c.args.self.values c.args.section.now _ _ c.loop-number.found c.loop-number.invariant.1
+    searches-ends_found test c.args.self.values c.args.section.now _ _ c.loop-number.found
+    c.loop-number.invariant.1
     (none_left _ c.loop-number.number _ c.loop-number.invariant.0 (omega arith))
 
 pub returns-clause-none : goal.returns-clause-none
 returns-clause-none c =
     let test = λ (p : Text × Text). text_fits c.args.self.case (chars c.args.key.now) p.0 in
-    searches-ends_none test c.args.self.values c.args.section.now _ _ c.loop-number.found c.loop-number.invariant.1
+    searches-ends_none test c.args.self.values c.args.section.now _ _ c.loop-number.found
+    c.loop-number.invariant.1
     (none_left _ c.loop-number.number _ c.loop-number.invariant.0 (omega arith))

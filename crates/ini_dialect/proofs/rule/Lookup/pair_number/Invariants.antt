@@ -6,4 +6,5 @@ use Rattle.ini_dialect.proofs.rule.Lookup.pair_number.Given as goal
 abbrev pub invariant-loop-number : goal.invariant-loop-number
 invariant-loop-number l =
     (l.number + length l.pairs ≡ l.len)
-    × Searches l.self.values (λ p. text_fits l.self.case (chars l.key) p.0) l.fn.section l.pairs l.number l.found
+    × Searches l.self.values (λ p. text_fits l.self.case (chars l.key) p.0) l.fn.section l.pairs l.number
+    l.found

@@ -7,7 +7,8 @@ use Rattle.ini_dialect.proofs.rule.Lookup.push_keys.Goals as goal
 pub loop-key-preserved-in-Continue-1 : goal.loop-key-preserved-in-Continue-1
 loop-key-preserved-in-Continue-1 c =
     let new : c.is_among.result ≡ false = grind arith in
-    kept-new (text_fits c.args.self.case) str_text c.loop-key.keys.items c.as_slice.result.now c.in-Some.key _ _ _
+    kept-new (text_fits c.args.self.case) str_text c.loop-key.keys.items c.as_slice.result.now
+    c.in-Some.key _ _ _
     c.is_among.result c.in-Some.ensures.steps c.as_slice.ensures.value c.is_among.ensures _ new
     c.in_ok-push.ensures.items
     ∙ c.loop-key.invariant
@@ -15,6 +16,7 @@ loop-key-preserved-in-Continue-1 c =
 pub loop-key-preserved : goal.loop-key-preserved
 loop-key-preserved c =
     let known : c.is_among.result ≡ true = grind arith in
-    kept-known (text_fits c.args.self.case) str_text c.loop-key.keys.items c.as_slice.result.now c.in-Some.key _ _ _
+    kept-known (text_fits c.args.self.case) str_text c.loop-key.keys.items c.as_slice.result.now
+    c.in-Some.key _ _ _
     c.is_among.result c.in-Some.ensures.steps c.as_slice.ensures.value c.is_among.ensures known
     ∙ c.loop-key.invariant

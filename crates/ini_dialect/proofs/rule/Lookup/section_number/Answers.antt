@@ -20,9 +20,11 @@ pub loop-number-preserved : goal.loop-number-preserved
 loop-number-preserved c =
     let test = passes_key c.args.self (str_name c.args.name) (str_name c.args.key) in (
       omega (arith, ap length c.in-Some.ensures.steps),
-      searches-goes_on test c.args.order c.args.document.now _ _ _ c.loop-number.number _ c.loop-number.found _
+      searches-goes_on test c.args.order c.args.document.now _ _ _ c.loop-number.number _
+          c.loop-number.found _
           c.is_section-passes.result c.ends_at.result c.loop-number.invariant.1 c.in-Some.ensures.steps
-          c.is_section-passes.ensures c.ends_at.ensures c.if-ends_at.false (omega arith) c.latest-found.ensures,
+          c.is_section-passes.ensures c.ends_at.ensures c.if-ends_at.false (omega arith)
+          c.latest-found.ensures,
     )
 
 pub returns-then-ends_at-clause-found : goal.returns-then-ends_at-clause-found
@@ -35,11 +37,13 @@ returns-then-ends_at-clause-found c =
 pub returns-clause-found : goal.returns-clause-found
 returns-clause-found c =
     let test = passes_key c.args.self (str_name c.args.name) (str_name c.args.key) in
-    searches-ends_found test c.args.order c.args.document.now _ _ c.loop-number.found c.loop-number.invariant.1
+    searches-ends_found test c.args.order c.args.document.now _ _ c.loop-number.found
+    c.loop-number.invariant.1
     (none_left _ c.loop-number.number _ c.loop-number.invariant.0 (omega arith))
 
 pub returns-clause-none : goal.returns-clause-none
 returns-clause-none c =
     let test = passes_key c.args.self (str_name c.args.name) (str_name c.args.key) in
-    searches-ends_none test c.args.order c.args.document.now _ _ c.loop-number.found c.loop-number.invariant.1
+    searches-ends_none test c.args.order c.args.document.now _ _ c.loop-number.found
+    c.loop-number.invariant.1
     (none_left _ c.loop-number.number _ c.loop-number.invariant.0 (omega arith))

@@ -7,5 +7,5 @@ use Rattle.ini_dialect.proofs.rule.Lookup.section_number.Given as goal
 abbrev pub invariant-loop-number : goal.invariant-loop-number
 invariant-loop-number l =
     (l.number + length l.sections ≡ l.len)
-    × Searches l.order (passes_key l.self (str_name l.name) (str_name l.key)) l.fn.document l.sections l.number
-    l.found
+    × Searches l.order (passes_key l.self (str_name l.name) (str_name l.key)) l.fn.document l.sections
+    l.number l.found
