@@ -45,7 +45,7 @@ impl Lookup {
     /// The value of the key that counts, in the sections of the name that are looked at. Takes no memory.
     pub fn get<'v>(
         self,
-        document: AnyDocument<'v>,
+        document: AnyDocument<'v, '_>,
         name: Option<&str>,
         key: &str,
     ) -> Option<&'v str>
@@ -62,7 +62,7 @@ impl Lookup {
     pub fn get_all<'v>(
         self,
         alloc: Global,
-        document: AnyDocument<'v>,
+        document: AnyDocument<'v, '_>,
         name: Option<&str>,
         key: &str,
     ) -> Result<Vec<&'v str>, AllocError>
@@ -87,7 +87,7 @@ impl Lookup {
     pub fn keys<'v>(
         self,
         alloc: Global,
-        document: AnyDocument<'v>,
+        document: AnyDocument<'v, '_>,
         name: Option<&str>,
     ) -> Result<Vec<&'v str>, AllocError>
         ensures { IfOk result (λ keys. map str_text keys.items
@@ -111,7 +111,7 @@ impl Lookup {
     pub fn sections<'v>(
         self,
         alloc: Global,
-        document: AnyDocument<'v>,
+        document: AnyDocument<'v, '_>,
     ) -> Result<Vec<Option<&'v str>>, AllocError>
         ensures { IfOk result (λ names. map str_name names.items
             ≡ names_under self (any_document document.entry)) }
@@ -128,7 +128,7 @@ impl Lookup {
     // In the first section of the name.
     fn get_in_first<'v>(
         self,
-        document: AnyDocument<'v>,
+        document: AnyDocument<'v, '_>,
         name: Option<&str>,
         key: &str,
     ) -> Option<&'v str>
@@ -146,7 +146,7 @@ impl Lookup {
     // In all sections of the name.
     fn get_in_joined<'v>(
         self,
-        document: AnyDocument<'v>,
+        document: AnyDocument<'v, '_>,
         name: Option<&str>,
         key: &str,
     ) -> Option<&'v str>
@@ -164,7 +164,7 @@ impl Lookup {
     }
 
     // The value of the key that counts in the section.
-    fn get_in<'v>(self, section: AnySection<'v>, key: &str) -> Option<&'v str>
+    fn get_in<'v>(self, section: AnySection<'v, '_>, key: &str) -> Option<&'v str>
         ensures { option_map str_text result
             ≡ lookup (text_fits self.case (chars key.now)) (turned self.values (any_section section.entry)) }
     {
@@ -179,7 +179,7 @@ impl Lookup {
     // Puts the values of the key in the section last, in order.
     fn push_values<'v>(
         self,
-        section: AnySection<'v>,
+        section: AnySection<'v, '_>,
         key: &str,
         values: &mut Vec<&'v str>,
     ) -> Result<(), AllocError>
@@ -197,7 +197,7 @@ impl Lookup {
     // Puts the keys of the section last that fit none before them.
     fn push_keys<'v>(
         self,
-        section: AnySection<'v>,
+        section: AnySection<'v, '_>,
         keys: &mut Vec<&'v str>,
     ) -> Result<(), AllocError>
         ensures { OnOk result (map str_text keys.new.items

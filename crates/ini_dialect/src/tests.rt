@@ -39,6 +39,21 @@ fn rule(rt: &impl Abort, letters: &str) -> Lookup {
     }
 }
 
+/// Whether the document answers so.
+fn answers(
+    lookup: Lookup,
+    document: AnyDocument<'_, '_>,
+    (name, key, want): (Option<&str>, &str, Option<&str>),
+) -> bool {
+    match lookup.get(document, name, key) {
+        Some(value) => match want {
+            Some(want) => value == want,
+            None => false,
+        },
+        None => want.is_none(),
+    }
+}
+
 /// Asks a document and a view for the value of the key.
 fn expect_value(
     rt: &(impl Abort + AllocGlobal),
@@ -46,17 +61,11 @@ fn expect_value(
 ) {
     let lookup = rule(rt, letters);
     let document = Ini::load_from_str(rt.alloc(), TEXT).expect(rt, "a document");
+    let found = answers(lookup, AnyDocument::Ini(&document), (name, key, want));
+    assert!(rt; found, "{letters} {name:?} {key}, and not {want:?}");
     let view = View::load_from_str(rt.alloc(), TEXT).expect(rt, "a view");
-    let value = lookup.get(AnyDocument::Ini(&document), name, key);
-    assert!(rt;
-        value == want,
-        "{letters} {name:?} {key}: {value:?}, and not {want:?}"
-    );
-    let value = lookup.get(AnyDocument::View(&view), name, key);
-    assert!(rt;
-        value == want,
-        "view, {letters} {name:?} {key}: {value:?}, and not {want:?}"
-    );
+    let found = answers(lookup, AnyDocument::View(&view), (name, key, want));
+    assert!(rt; found, "view, {letters} {name:?} {key}, and not {want:?}");
 }
 
 #[test]
@@ -169,8 +178,8 @@ fn expect_set(
             .is_ok()
     );
     expect_shown(rt, &document, want);
-    let value = lookup.get(AnyDocument::Ini(&document), name, key);
-    assert!(rt; value == Some("v"), "{letters} {name:?} {key}");
+    let found = answers(lookup, AnyDocument::Ini(&document), (name, key, Some("v")));
+    assert!(rt; found, "{letters} {name:?} {key}");
 }
 
 #[test]

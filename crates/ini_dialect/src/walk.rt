@@ -14,16 +14,16 @@ use std::marker::Model;
 
 /// A document to look up in.
 #[derive(Clone, Copy)]
-pub enum AnyDocument<'v> {
+pub enum AnyDocument<'v, 'a> {
     /// One that owns its texts.
     Ini(&'v Ini),
     /// One that borrows them.
-    View(&'v View<'v>),
+    View(&'v View<'a>),
 }
 
-impl<'v> AnyDocument<'v> {
+impl<'v, 'a> AnyDocument<'v, 'a> {
     // Its sections, from the front or from the back.
-    pub(crate) fn sections(self, order: ValueRule) -> Sections<'v>
+    pub(crate) fn sections(self, order: ValueRule) -> Sections<'v, 'a>
         ensures { result ≡ turned order (any_document self.entry) }
     {
         Sections {
@@ -32,7 +32,7 @@ impl<'v> AnyDocument<'v> {
         }
     }
 
-    fn walk(self) -> SectionWalk<'v>
+    fn walk(self) -> SectionWalk<'v, 'a>
         ensures { section_walk_rest result ≡ any_document self.entry }
     {
         match self {
@@ -44,14 +44,14 @@ impl<'v> AnyDocument<'v> {
 
 // A section of such a document.
 #[derive(Clone, Copy)]
-pub(crate) enum AnySection<'v> {
+pub(crate) enum AnySection<'v, 'a> {
     Ini(&'v Properties),
-    View(&'v ViewSection<'v>),
+    View(&'v ViewSection<'a>),
 }
 
-impl<'v> AnySection<'v> {
+impl<'v, 'a> AnySection<'v, 'a> {
     // Its pairs, from the front or from the back.
-    pub(crate) fn pairs(self, order: ValueRule) -> Pairs<'v>
+    pub(crate) fn pairs(self, order: ValueRule) -> Pairs<'v, 'a>
         ensures { result ≡ turned order (any_section self.entry) }
     {
         Pairs {
@@ -60,7 +60,7 @@ impl<'v> AnySection<'v> {
         }
     }
 
-    fn walk(self) -> PairWalk<'v>
+    fn walk(self) -> PairWalk<'v, 'a>
         ensures { pair_walk_rest result ≡ any_section self.entry }
     {
         match self {
@@ -71,13 +71,13 @@ impl<'v> AnySection<'v> {
 }
 
 #[derive(Drop)]
-enum SectionWalk<'v> {
+enum SectionWalk<'v, 'a> {
     Ini(SectionIter<'v>),
-    View(ViewIter<'v, 'v>),
+    View(ViewIter<'v, 'a>),
 }
 
-impl<'v> SectionWalk<'v> {
-    fn first(&mut self) -> Option<(Option<&'v str>, AnySection<'v>)>
+impl<'v, 'a> SectionWalk<'v, 'a> {
+    fn first(&mut self) -> Option<(Option<&'v str>, AnySection<'v, 'a>)>
         ensures { YieldsFirstBy shown_section section_walk_rest self.old result self.new }
     {
         match self {
@@ -92,7 +92,7 @@ impl<'v> SectionWalk<'v> {
         }
     }
 
-    fn last(&mut self) -> Option<(Option<&'v str>, AnySection<'v>)>
+    fn last(&mut self) -> Option<(Option<&'v str>, AnySection<'v, 'a>)>
         ensures { YieldsLastBy shown_section section_walk_rest self.old result self.new }
     {
         match self {
@@ -110,12 +110,12 @@ impl<'v> SectionWalk<'v> {
 
 // The sections of a document. Seen as the list of those that are left, in the order in which they come.
 #[derive(Drop)]
-pub(crate) struct Sections<'v> {
-    walk: SectionWalk<'v>,
+pub(crate) struct Sections<'v, 'a> {
+    walk: SectionWalk<'v, 'a>,
     order: ValueRule,
 }
 
-impl<'v> Model for Sections<'v> {
+impl<'v, 'a> Model for Sections<'v, 'a> {
     ghost use Rattle.ini.specs.Documents.{Document};
     ghost use Rattle.ini_dialect.specs.Inside.{turned};
     ghost use Rattle.ini_dialect.specs.Walks.{section_walk_rest};
@@ -125,14 +125,14 @@ impl<'v> Model for Sections<'v> {
     ghost view = { λ s. turned s.order (section_walk_rest s.walk) };
 }
 
-impl<'v> Iterator for Sections<'v> {
-    type Item = (Option<&'v str>, AnySection<'v>);
+impl<'v, 'a> Iterator for Sections<'v, 'a> {
+    type Item = (Option<&'v str>, AnySection<'v, 'a>);
 
     ghost next_gives = { YieldsFirstBy shown_section (λ it. it) };
 
     ghost remaining = { item_count (λ it. it) };
 
-    fn next(&mut self) -> Option<(Option<&'v str>, AnySection<'v>)> {
+    fn next(&mut self) -> Option<(Option<&'v str>, AnySection<'v, 'a>)> {
         match self.order {
             ValueRule::First => self.walk.first(),
             ValueRule::Last => self.walk.last(),
@@ -141,12 +141,12 @@ impl<'v> Iterator for Sections<'v> {
 }
 
 #[derive(Drop)]
-enum PairWalk<'v> {
+enum PairWalk<'v, 'a> {
     Ini(PropertyIter<'v>),
-    View(ViewPairs<'v, 'v>),
+    View(ViewPairs<'v, 'a>),
 }
 
-impl<'v> PairWalk<'v> {
+impl<'v, 'a> PairWalk<'v, 'a> {
     fn first(&mut self) -> Option<(&'v str, &'v str)>
         ensures { YieldsFirstBy str_pair pair_walk_rest self.old result self.new }
     {
@@ -168,12 +168,12 @@ impl<'v> PairWalk<'v> {
 
 // The pairs of a section. Seen as the list of those that are left, in the order in which they come.
 #[derive(Drop)]
-pub(crate) struct Pairs<'v> {
-    walk: PairWalk<'v>,
+pub(crate) struct Pairs<'v, 'a> {
+    walk: PairWalk<'v, 'a>,
     order: ValueRule,
 }
 
-impl<'v> Model for Pairs<'v> {
+impl<'v, 'a> Model for Pairs<'v, 'a> {
     ghost use Rattle.ini.specs.Properties as properties;
     ghost use Rattle.ini_dialect.specs.Inside.{turned};
     ghost use Rattle.ini_dialect.specs.Walks.{pair_walk_rest};
@@ -183,7 +183,7 @@ impl<'v> Model for Pairs<'v> {
     ghost view = { λ p. turned p.order (pair_walk_rest p.walk) };
 }
 
-impl<'v> Iterator for Pairs<'v> {
+impl<'v, 'a> Iterator for Pairs<'v, 'a> {
     type Item = (&'v str, &'v str);
 
     ghost next_gives = { YieldsFirstBy str_pair (λ it. it) };
