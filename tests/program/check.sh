@@ -4,14 +4,32 @@
 
 # traps: the lines of warnings as places and names, in one line
 traps() {
-    sed 's/^-:\([0-9]*:[0-9]*\): warning: /\1 /
-        s/this line has no separator and runs on into the next$/RunsOn/
-        s/an indented comment mark begins a key$/MarkBeginsKey/
-        s/this key was there before in its section$/RepeatedKey/
-        s/a section of this name was there before$/RepeatedSection/
-        s/this may not be read back once it is written$/NotPlain/
-        s/a backslash begins an escape in this value$/Escape/
-        s/a comment mark is part of this value$/MarkInValue/' | tr '\n' ';'
+    sed "s/^-:\([0-9]*:[0-9]*\): warning: /\1 /
+        s/this bracket isn't closed on its line and takes in the lines up to the next one that closes$/unclosed-bracket/
+        s/this quote isn't closed on its line and takes in the lines up to the next one$/unclosed-quote/
+        s/this backslash joins the next line to this value$/joined-line/
+        s/this line has no separator and runs on into the next$/runs-on/
+        s/an indented comment mark begins a key, which runs on into the next line$/comment-runs-on/
+        s/this last line is indented and has no separator, so it is dropped$/dropped-line/
+        s/this CR without LF doesn't end the comment, which takes in the next line$/lone-cr/
+        s/this line looks like a header and goes on with the value above$/header-in-value/
+        s/this line looks like a pair and goes on with the value above$/pair-in-value/
+        s/this key was there before in its section$/repeated-key/
+        s/a section of this name was there before$/repeated-section/
+        s/this stands on the line of a header$/after-header/
+        s/the name of this section is empty$/empty-name/
+        s/a section was there before whose name differs in case alone$/section-case/
+        s/a key was there before in its section that differs in case alone$/key-case/
+        s/an indented comment mark begins a key$/mark-begins-key/
+        s/this colon ends the key, before the equals sign$/colon-separates/
+        s/a backslash begins an escape in this name$/escape-in-name/
+        s/a backslash begins an escape in this key$/escape-in-key/
+        s/a backslash begins an escape in this value$/escape/
+        s/a comment mark is part of this value$/mark-in-value/
+        s/this text after the closing quote is part of the value$/text-after-quote/
+        s/this value ends with a quote that nothing opens$/half-quote/
+        s/white space other than spaces and tabs around this value is taken off$/odd-space/
+        s/this may not be read back once it is written$/not-plain/" | tr '\n' ';'
 }
 
 # Worked out by hand. A row is options, a text with escapes, and its warnings, each with line and column; or where it is refused.
@@ -34,25 +52,98 @@ while IFS='|' read -r words text want; do
 done <<'ROWS'
 ||
 |; c\nport = 8080\n[paths]\nlog: /var\n|
-|one\ntwo = 2\n|1:1 RunsOn;
-|a=b\none\r\n= 2|2:1 RunsOn;
-|a\\nb = 2|
-|  ; note\nk = v|1:1 RunsOn;1:1 MarkBeginsKey;1:1 NotPlain;
-|a=b\n\t#k = v\n|2:1 MarkBeginsKey;2:1 NotPlain;
-|k = v ; note|1:5 MarkInValue;
+|one\ntwo = 2\n|1:1 runs-on;
+|a=b\none\r\n= 2|2:1 runs-on;
+|one=1\ntwo = 2\n|
+|  ; note\nk = v|1:1 comment-runs-on;
+|; note\nk = v|
+|a=b\n\t#k = v\n|2:1 mark-begins-key;
+|a=b\n#k = v\n|
+|[server\nport=80\n[client]\n|1:1 unclosed-bracket;
+|[server]\nport=80\n[client]\n|
+--brackets|[a[b]]\nk=1\n|
+|a = 'tis\nport = 80\nb = don't\n|1:5 unclosed-quote;3:9 text-after-quote;
+|a = 'tis'\nport = 80\nb = don't\n|
+|a = 'tis\nport = 80\nb = dogs'\n|1:5 unclosed-quote;
+|k = "a\\\nb"\n|1:5 unclosed-quote;
+|k = "a" "b\n|1:9 text-after-quote;
+--noquote|a = 'tis\nport = 80\nb = don't\n|
+|a=1\n  port 80|2:1 dropped-line;
+|a=1\n  port = 80|
+|a=1\n  ; port 80\n|
+|a=1\n  ; one\n  port 80|2:1 dropped-line;
+|a=1\n  |
+|[C:\\temp]\n|1:1 escape-in-name;
+|[C:\\\\temp]\n[a\\]b]\n|2:1 not-plain;
+|a\\tb = 1\n|1:1 escape-in-key;
+|a\\\\tb = 1\n|
+|a\\=b = 1\n|1:1 not-plain;
+--noescape|a\\tb = 1\n[C:\\temp]\n|
+|12:30 = job\n|1:3 colon-separates;
+|12.30 = job\n|
+|C:/x = 1\n|1:2 colon-separates;
+|http://h = x\n|1:5 colon-separates;
+|note : this = 1\n|1:6 colon-separates;
+|command: FOO=bar run\n|
+|k:"a=b"\nl=12:30\n|
+--multiline|k = v\n  port = 80\n|2:3 pair-in-value;
+|k = v\n  port = 80\n|
+--multiline|k = v\n\n  port: 80\n  host = x\n|3:3 pair-in-value;4:3 pair-in-value;
+--multiline|k = v\n  port 80\n|
+--multiline|k = v\n  [b]\n|2:3 header-in-value;
+--multiline|k = v\n  [b], c\n|
+--multiline|  k =\n  port = 80\n|2:3 pair-in-value;
+--multiline|k =\n  port = 80\n|
+--multiline|k = a\n  pytest==3\n  --cov=x\n  http://h\n  a>=1\n|
+|; c\rk=v|1:4 lone-cr;
+|; c\r\nk=v|
+|; c\r; d\rk=v\r|1:8 lone-cr;
+|; c\r; d\r|
+|k=v\rj=w\r|
+--noescape|p=C:\\\nq=1\n|1:5 joined-line;
+--noescape|p=C:\\ \nq=1\n|
+|p=C:\\\nq=1\n|1:5 joined-line;
+|p=C:\\\r\nq=1\n|1:3 escape;
+--noescape|p=C:\\\r\nq=1\n|
+|p=C:\\\\\nq=1\n|
+|Port=1\nport=2\n|2:1 key-case;
+|Port=1\nports=2\n[a]\nport=3\n|
+|[a]\n[A]\n|2:1 section-case;
+|[a]\n[b]\n|
+|k=1\nK=2\nk=3\nk=4|2:1 key-case;3:1 repeated-key;4:1 repeated-key;
+|k=1\n[a]\nk=2\n k=3\n[b]\nk=4\n|4:1 repeated-key;
+|[a]\n[b]\nk=1\n [ a ]\nk=2\n|4:2 repeated-section;
+|k="a"b\n|1:6 text-after-quote;
+|k="a" b\n|1:7 text-after-quote;
+|k="a"\nl="a""b"\n|
+|k="a", "b"\n|1:6 text-after-quote;
+|k=a"\n|1:3 half-quote;
+|k=don't\nl=say "hi"\n|
+|k=5\\"\n|
+|[a] k=v\n|1:5 after-header;
+|[a][b]\n|1:4 after-header;
+|[a] \nk=v\n|
+|[]\nk=v\n[ ]|1:1 empty-name;3:1 empty-name;3:1 repeated-section;
+|k=\0302\0240v\n|1:4 odd-space;
+|k=v\0302\0240\n|1:3 odd-space;
+|k= \tv \t\n|
+|k = v ; note|1:5 mark-in-value;
 |k = v;note|
+|k="a" ; b\n|1:3 mark-in-value;
+|k="a ; b" \n|
 |color = #fff|
-|k = ; note|1:5 MarkInValue;
-|k=;note\nj =\t#|1:3 MarkInValue;2:5 MarkInValue;
-|password = # set me\n|1:12 MarkInValue;
+|k = ; note|1:5 mark-in-value;
+|k=;note\nj =\t#|1:3 mark-in-value;2:5 mark-in-value;
+|password = # set me\n|1:12 mark-in-value;
 |k = '; note'\nj = #a;b|
---multiline|k = v\n  # note\n|1:5 MarkInValue;
-|k=1\n[a]\nk=2\n k=3\n[b]\nk=4\n|4:1 RepeatedKey;
-|[a]\n[b]\nk=1\n [ a ]\nk=2\n|4:2 RepeatedSection;
-|k=1\nK=2\nk=3\nk=4|3:1 RepeatedKey;4:1 RepeatedKey;
-|path = C:\\temp|1:8 Escape;
---noescape|path = C:\\temp|1:1 NotPlain;
-|\0303\0251 =\0302\0240\\\0303\0251|1:5 Escape;
+--multiline|k = v\n  # note\n|1:5 mark-in-value;
+--multiline|k = "v\n  # note"\n|1:5 unclosed-quote;
+|path = C:\\temp|1:8 escape;
+|path = C:\\\\temp|
+|path = "say \\"hi\\""|
+--noescape|path = C:\\temp|
+|\0303\0251 =\0302\0240\\\0303\0251|1:5 escape;1:5 odd-space;
+|k = " a "|1:1 not-plain;
 |one\ntwo = 2\n= 3|refused at 3:1
 |k = "v|refused at 1:5
 |[a|refused at 1:1

@@ -1,2 +1,5 @@
 pub mod PositionLemmas
+pub mod NoteLemmas
 pub mod WalkLemmas
+pub mod Worked
+pub mod OneListLemmas

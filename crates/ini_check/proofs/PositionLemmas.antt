@@ -1,7 +1,7 @@
 -- Lines and columns after two texts in a row.
 use Rattle.std.proofs.Common.{◌≡◌, ◌∙◌, ℕ, ◌+◌, ◌<◌, ◌≤◌, ◌^◌, Bool, true, false, cond, List, [], ◌∷◌}
 use Rattle.std.proofs.Common.{◌++◌, length, refl, sym, ap, arith}
-use Rattle.std.proofs.Common.{count_by, rules, length-append}
+use Rattle.std.proofs.Common.{count_by, rules, length-append, append_assoc, append-nil, subst}
 use Rattle.std.proofs.lemmas.List.Sums.{count_by-le-length}
 use Rattle.std.proofs.lemmas.Bool.{cond-true, cond-false}
 use Rattle.std.specs.List.{list_any, fold}
@@ -113,19 +113,29 @@ module _ (p rest : List ℕ) (m n : Position) (none : rest ≡ [])
   }
 
 -- a separator is no LF
-separator-other : (c : ℕ) → is_separator c ≡ true → is_line_feed c ≡ false
+pub separator-other : (c : ℕ) → is_separator c ≡ true → is_line_feed c ≡ false
 separator-other c is = grind (arith, is)
 
--- the place after a separator
-pub separator_at : (b : List ℕ) (c : ℕ) (m n : Position) → is_separator c ≡ true → n.line ≡ m.line
+-- the place after a character that is no LF
+pub other_at : (b : List ℕ) (c : ℕ) (m n : Position) → is_line_feed c ≡ false → n.line ≡ m.line
     → n.column ≡ m.column + 1 → IsAt b m → IsAt (b ++ c ∷ []) n
-separator_at b c m n is line column at =
-    let other = separator-other c is in
+other_at b c m n other line column at =
     let none : count_by is_line_feed (c ∷ []) ≡ 0 = count-cons c [] ∙ ap (λ x. cond x 1 0 + 0) other in
     record {
       line = omega (arith, line, at.line, count-append b (c ∷ []), none);
       column = column ∙ ap (λ k. k + 1) at.column ∙ omega arith
           ∙ sym (column-other (column_of b) c [] other) ∙ column_of-append b (c ∷ []);
+    }
+
+-- the place after an LF
+pub line_at : (b : List ℕ) (c : ℕ) (m n : Position) → is_line_feed c ≡ true → n.line ≡ m.line + 1
+    → n.column ≡ 1 → IsAt b m → IsAt (b ++ c ∷ []) n
+line_at b c m n feed line column at =
+    let one : count_by is_line_feed (c ∷ []) ≡ 1 = count-cons c [] ∙ ap (λ x. cond x 1 0 + 0) feed in
+    record {
+      line = omega (arith, line, at.line, count-append b (c ∷ []), one);
+      column = column ∙ omega arith ∙ sym (column-line (column_of b) c [] feed)
+          ∙ column_of-append b (c ∷ []);
     }
 
 pub room_less : {k n : ℕ} {m : Position} → k ≤ n → HasRoom n m → HasRoom k m
@@ -152,3 +162,33 @@ room_after T b s r m fits whole at =
       line = omega (arith, fits, parts, at.line, count_by-le-length is_line_feed b);
       column = omega (arith, fits, parts, at.column, column-front b, column-bound 1 b);
     }
+
+-- From a place on characters were gone over, up to another place. Of `all` that is to be gone over, `left` is
+-- left.
+pub record Over (start position : Position) (all left : List ℕ) : Type 0 where
+  pub passed : List ℕ
+  pub whole : passed ++ left ≡ all
+  pub at : (b : List ℕ) → IsAt b start → IsAt (b ++ passed) position
+
+module _ {start position : Position} {all left : List ℕ} where
+  pub over_start : position ≡ start → left ≡ all → Over start position all left
+  over_start here whole = record {
+    passed = [];
+    whole = whole;
+    at = λ b at. subst (λ c. IsAt c position) (sym (append-nil b)) (subst (IsAt b) (sym here) at);
+  }
+
+  module _ (s : Over start position all left) where
+    pub over_step : {next : Position} {more : List ℕ} (c : ℕ) → left ≡ c ∷ more
+        → ((b : List ℕ) → IsAt b position → IsAt (b ++ c ∷ []) next) → Over start next all more
+    over_step {next} {more} c is step = record {
+      passed = s.passed ++ c ∷ [];
+      whole = append_assoc s.passed (c ∷ []) more ∙ ap (λ l. s.passed ++ l) (sym is) ∙ s.whole;
+      at = λ b at. subst (λ x. IsAt x next) (append_assoc b s.passed (c ∷ []))
+          (step (b ++ s.passed) (s.at b at));
+    }
+
+    pub over_end : left ≡ [] → (b : List ℕ) → IsAt b start → IsAt (b ++ all) position
+    over_end none b at =
+        subst (λ x. IsAt (b ++ x) position)
+        (sym (append-nil s.passed) ∙ ap (λ l. s.passed ++ l) (sym none) ∙ s.whole) (s.at b at)

@@ -15,12 +15,13 @@ use Rattle.ini_text.specs.declared.option.ParseOption.{ParseOption}
 use Rattle.ini_text.specs.declared.parser.placed.PlacedElement.{PlacedElement}
 use Rattle.ini_text.proofs.GrammarLemmas.ItemLemmas.{reads-append}
 use Rattle.ini.specs.Texts.{Text}
-use Rattle.ini.specs.Properties.{Pairs}
 use Rattle.ini.specs.Loading.{IfParse, IsStopOf}
 use Rattle.ini_check.specs.Inside.Positions.{IsAt}
 use Rattle.ini_check.specs.Inside.Walks.{IsPastLast, IsReading, StandsWithin, Steps}
-use Rattle.ini_check.specs.Warnings.{Adds, AreWarningsOf, ElementWarns, Warns, keys_after, names_after}
+use Rattle.ini_check.specs.Warnings.{Adds, AreWarningsOf, ElementWarns, Warns, known, seen_after}
+use Rattle.ini_check.specs.Warnings.{seen_none}
 use Rattle.ini_check.specs.declared.position.Position.{Position}
+use Rattle.ini_check.specs.declared.seen.Seen.{Seen}
 use Rattle.ini_check.specs.declared.warning.Warning.{Warning}
 
 -- where reading stops after what was read
@@ -42,13 +43,13 @@ step_stops c (Err (Parse e)) reads h = stops_after e reads h.0 h.1
 step_stops c (Err _) reads h = tt
 
 -- what was checked: elements reach where the parser stands, and these are their warnings
-pub record Checks (o : ParseOption) (T : Text) (p : Place) (m : Position) (names keys : Pairs)
-    (ws : List Warning) : Type 0 where
+pub record Checks (o : ParseOption) (T : Text) (p : Place) (m : Position) (seen : Seen) (ws : List Warning)
+    : Type 0 where
   pub is_reading : IsReading o T p
   pub items : List Given
   pub reads : Reads o T [] items p.front
   pub at : IsAt p.front m
-  pub warns : Warns o T p.front names keys ws
+  pub warns : Warns o T p.front seen ws
 
 module _ {o : ParseOption} {T : Text} where
   -- what was said of the parser's text and options
@@ -91,8 +92,7 @@ module _ {o : ParseOption} {T : Text} where
           length-append source stands.rest,
         )
 
-  module _ {p : Place} {m : Position} {names keys : Pairs} {ws : List Warning}
-      (s : Checks o T p m names keys ws) where
+  module _ {p : Place} {m : Position} {seen : Seen} {ws : List Warning} (s : Checks o T p m seen ws) where
     pub checks_within : StandsWithin p
     checks_within = record {
       refusal = s.is_reading.refusal;
@@ -104,42 +104,38 @@ module _ {o : ParseOption} {T : Text} where
 
     pub checks_end : {q : Place} → IsPastLast o T p.front q → AreWarningsOf o T ws
     checks_end h = record {
-      names = names;
-      keys = keys;
-      warns = subst (λ c. Warns o T c names keys ws) h.was_end s.warns;
+      seen = seen;
+      warns = subst (λ c. Warns o T c seen ws) h.was_end s.warns;
     }
 
-    pub checks_step : {q : Place} {e : PlacedElement} {n : Position} {new : List Warning}
-        {names' keys' : Pairs}
-        → Steps o T p.front q e → Adds (ElementWarns o p.front names keys e.content) ws new
-        → names' ≡ names_after names e.content → keys' ≡ keys_after keys e.content
-        → IsAt (p.front ++ chars e.source.now) n → Checks o T q n names' keys' new
-    checks_step {q} {e} {n} {new} {names'} {keys'} t adds names_are keys_are at = record {
+    pub checks_step : {q : Place} {e : PlacedElement} {n : Position} {new : List Warning} {next : Seen}
+        → Steps o T p.front q e
+        → Adds (ElementWarns o p.front (known seen e.content) (chars e.source.now) e.content) ws new
+        → next ≡ seen_after seen (chars e.source.now) e.content
+        → IsAt (p.front ++ chars e.source.now) n → Checks o T q n next new
+    checks_step {q} {e} {n} {new} {next} t adds seen_is at = record {
       is_reading = t.is_reading;
       items = s.items ++ gives e.content;
       reads = reads-append s.reads (step_reads t);
       at = subst (λ c. IsAt c n) (sym t.stands.reaches) at;
       warns =
-          subst (Warns o T q.front names' keys') (sym adds.added)
-          (subst (λ x. Warns o T q.front names' x (ws ++ adds.more)) (sym keys_are)
-          (subst (λ x. Warns o T q.front x (keys_after keys e.content) (ws ++ adds.more)) (sym names_are)
-          (Warns.following e adds.more s.warns t.stands adds.holds)));
+          subst (Warns o T q.front next) (sym adds.added)
+          (subst (λ x. Warns o T q.front x (ws ++ adds.more)) (sym seen_is)
+          (Warns.following e adds.more s.warns t.stands adds.holds));
     }
 
 -- before the first element
-pub checks_start : {o : ParseOption} {T : Text} {p : Place} {m : Position} {names keys : Pairs}
+pub checks_start : {o : ParseOption} {T : Text} {p : Place} {m : Position} {seen : Seen}
     {ws : List Warning} → p.option ≡ o → p.text ≡ T → p.front ≡ [] → p.refusal ≡ None → IsAt [] m
-    → names ≡ [] → keys ≡ [] → ws ≡ []
-    → Checks o T p m names keys ws
-checks_start {o} {T} {p} {m} {names} {keys} {ws} option text front refusal at no_names no_keys no_ws =
-    record {
-      is_reading = record { option = option; text = text; refusal = refusal };
-      items = [];
-      reads = subst (Reads o T [] []) (sym front) (Reads.stay T refl);
-      at = subst (λ c. IsAt c m) (sym front) at;
-      warns =
-          subst (λ c. Warns o T c names keys ws) (sym front)
-          (subst (λ x. Warns o T [] x keys ws) (sym no_names)
-          (subst (λ x. Warns o T [] [] x ws) (sym no_keys)
-          (subst (λ x. Warns o T [] [] [] x) (sym no_ws) Warns.front)));
-    }
+    → seen ≡ seen_none → ws ≡ []
+    → Checks o T p m seen ws
+checks_start {o} {T} {p} {m} {seen} {ws} option text front refusal at no_elements no_ws = record {
+  is_reading = record { option = option; text = text; refusal = refusal };
+  items = [];
+  reads = subst (Reads o T [] []) (sym front) (Reads.stay T refl);
+  at = subst (λ c. IsAt c m) (sym front) at;
+  warns =
+      subst (λ c. Warns o T c seen ws) (sym front)
+      (subst (λ x. Warns o T [] x ws) (sym no_elements)
+      (subst (λ x. Warns o T [] seen_none x) (sym no_ws) Warns.front));
+}

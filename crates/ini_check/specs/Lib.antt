@@ -1,4 +1,5 @@
 pub mod Traps
 pub mod Messages
+pub mod Kinds
 pub mod Warnings
 pub mod Inside

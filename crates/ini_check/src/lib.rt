@@ -2,11 +2,16 @@
 //! elements and their stretches, and writes nothing.
 #![tactic(auto)]
 
+pub mod laws;
+mod lexical;
+mod lower;
+mod note;
 mod position;
+mod seen;
 mod trap;
 mod walk;
 mod warn;
 mod warning;
 
 pub use walk::check;
-pub use warning::{Trap, Warning};
+pub use warning::{Level, TRAPS, Trap, Warning};

@@ -1,167 +1,242 @@
 //! The warnings of one element. This file knows its places and its traps, and no other element.
-ghost use Rattle.std.specs.Prelude.{◌≡◌, ◌++◌, true, chars, OnOk, length, IsOkUnless, alloc_error};
+ghost use Rattle.std.specs.Prelude.{◌≡◌, ◌++◌, chars, drop, OnOk, length, IsOkUnless, alloc_error};
+ghost use Rattle.ini_check.specs.Traps.Values.{space_of};
 ghost use Rattle.ini.specs.Texts.{Text};
-ghost use Rattle.ini_text.specs.Grammar.CharacterKinds.{is_separator};
 ghost use Rattle.ini_text.specs.Grammar.Places.{pair_source};
-ghost use Rattle.ini_text.specs.Parsing.Items.{string_text};
 ghost use Rattle.ini_text.specs.Parsing.Places.{HasPlaces, stretches_of};
-ghost use Rattle.ini_check.specs.Warnings.{Adds, ElementWarns, HeaderWarns, PairWarns, value_front, warned};
-ghost use Rattle.ini_check.specs.Warnings.{key_warnings, value_warnings};
+ghost use Rattle.ini_check.specs.Warnings.{Adds, ElementWarns, HeaderWarns, PairWarns, header_traps};
+ghost use Rattle.ini_check.specs.Warnings.{key_traps};
+ghost use Rattle.ini_check.specs.Warnings.{nothing_warnings, separator_trap, value_traps, value_warnings};
 ghost use Rattle.ini_check.specs.Inside.Positions.{HasRoom, IsAt};
 
+use crate::note::{warn_all, warn_character, warn_comment, warn_where, warn_within};
 use crate::position::Position;
-use crate::trap::{begins_like_comment, begins_like_note, has_comment_mark, has_escape, runs_on};
+use crate::seen::Known;
+use crate::trap::keys::{
+    begins_like_comment, colon_separates, comment_runs_on, has_escape, has_key_escape,
+    has_line_end, is_empty, is_unplain, mark_begins_key, runs_on,
+};
+use crate::trap::lines::is_list;
+use crate::trap::lost_lines::{begins_with_mark, drops_line};
+use crate::trap::values::{has_comment_mark, has_odd_space, value_of};
 use crate::warning::{Trap, Warning};
-use ini::Properties;
 use ini_text::{
     Content, Error, EscapePolicy, ParseOption, PlacedElement, PlacedPair, is_plain_name,
-    is_plain_pair,
+    is_plain_pair, split_first,
 };
 
-/// Puts an element's warnings last, after headers of these names and pairs of these keys in its section.
+/// Puts an element's warnings last; what is known of it from the elements before it is given.
 pub(crate) fn warn_element(
     warnings: &mut Vec<Warning>,
     position: Position,
     element: &PlacedElement,
-    names: &Properties,
-    keys: &Properties,
+    known: Known,
     read: ParseOption,
 ) -> Result<(), Error>
     requires room { HasRoom (length (chars element.now.source.now)) position }
     requires places { (b : Text) × ((r : Text)
         × HasPlaces read b (chars element.now.source.now) r element.now.content) }
     ensures warned { OnOk result ((b : Text) → IsAt b position
-        → Adds (ElementWarns read b names.now keys.now element.now.content)
+        → Adds (ElementWarns read b known (chars element.now.source.now) element.now.content)
         warnings.old.items warnings.new.items) }
     ensures only { IsOkUnless result (Error.Memory alloc_error) }
 {
     match &element.content {
-        Content::Nothing => Ok(()),
-        Content::Header(name) => warn_header(warnings, position, name.as_str(), names, read),
-        Content::Pair(pair) => warn_pair(warnings, position, pair, keys, read),
+        Content::Nothing => warn_nothing(warnings, position, element.source),
+        Content::Header(name) => {
+            warn_header(
+                warnings,
+                position,
+                element.source,
+                name.as_str(),
+                known,
+                read,
+            )
+        }
+        Content::Pair(pair) => warn_pair(warnings, position, element.source, pair, known, read),
     }
+}
+
+// Of an element that gives nothing.
+fn warn_nothing(warnings: &mut Vec<Warning>, position: Position, source: &str) -> Result<(), Error>
+    requires room { HasRoom (length (chars source.now)) position }
+    ensures warned { OnOk result ((b : Text) → IsAt b position
+        → Adds (λ ws. ws ≡ nothing_warnings b (chars source.now))
+        warnings.old.items warnings.new.items) }
+    ensures only { IsOkUnless result (Error.Memory alloc_error) }
+{
+    if begins_with_mark(source) {
+        warn_comment(warnings, position, source)?;
+        return Ok(());
+    }
+    let is_dropped = drops_line(source);
+    let ends = position.advance(source);
+    warn_where(warnings, position, ends, is_dropped, Trap::DroppedLine)?;
+    Ok(())
 }
 
 fn warn_header(
     warnings: &mut Vec<Warning>,
     position: Position,
+    source: &str,
     name: &str,
-    names: &Properties,
+    known: Known,
     read: ParseOption,
 ) -> Result<(), Error>
+    requires room { HasRoom (length (chars source.now)) position }
     ensures warned { OnOk result ((b : Text) → IsAt b position
-        → Adds (HeaderWarns read b names.now (chars name.now)) warnings.old.items warnings.new.items) }
+        → Adds (HeaderWarns read b known (chars source.now) (chars name.now))
+        warnings.old.items warnings.new.items) }
     ensures only { IsOkUnless result (Error.Memory alloc_error) }
 {
     let is_plain = is_plain_name(name, EscapePolicy::Basics, read);
-    warn_where(
-        warnings,
-        names.contains_key(name),
-        position,
-        Trap::RepeatedSection,
-    )?;
-    warn_where(warnings, !is_plain, position, Trap::NotPlain)
+    let traps = header_traps(read.enabled_escape, known, source, name, is_plain);
+    warn_all(warnings, position, position.advance(source), &traps)?;
+    Ok(())
+}
+
+// The traps of a header.
+fn header_traps(
+    escapes: bool,
+    known: Known,
+    source: &str,
+    name: &str,
+    is_plain: bool,
+) -> [(bool, Trap); 7]
+    ensures { result ≡ header_traps escapes known (chars source.now) (chars name.now) is_plain }
+{
+    [
+        (known.is_after_header, Trap::AfterHeader),
+        (has_line_end(source), Trap::UnclosedBracket),
+        (is_empty(name), Trap::EmptyName),
+        (has_escape(escapes, true, source), Trap::EscapeInName),
+        (known.is_repeated, Trap::RepeatedSection),
+        (known.differs_in_case, Trap::SectionCase),
+        (is_unplain(escapes, is_plain, false), Trap::NotPlain),
+    ]
 }
 
 fn warn_pair(
     warnings: &mut Vec<Warning>,
     position: Position,
+    source: &str,
     pair: &PlacedPair,
-    keys: &Properties,
+    known: Known,
     read: ParseOption,
 ) -> Result<(), Error>
-    requires room { HasRoom (length (pair_source (stretches_of pair.now.places))) position }
-    requires separates { is_separator pair.now.places.separator ≡ true }
+    requires room { HasRoom (length (chars source.now)) position }
+    requires source { chars source.now ≡ pair_source (stretches_of pair.now.places) }
     ensures warned { OnOk result ((b : Text) → IsAt b position
-        → Adds (PairWarns read b keys.now pair.now) warnings.old.items warnings.new.items) }
+        → Adds (PairWarns read b known pair.now) warnings.old.items warnings.new.items) }
     ensures only { IsOkUnless result (Error.Memory alloc_error) }
 {
     let (key, value) = (pair.key.as_str(), pair.value.as_str());
     let is_plain = is_plain_pair(key, value, EscapePolicy::Basics, read);
-    warn_key(warnings, position, pair.places.key, key, keys)?;
-    warn_where(warnings, !is_plain, position, Trap::NotPlain)?;
+    let (key, separator) = (pair.places.key, pair.places.separator);
+    let value_source = after_separator(source, key);
+    let traps = key_traps(read.enabled_escape, known, key, is_plain);
+    let after_key = position.advance(key);
+    warn_all(warnings, position, after_key, &traps)?;
+    let trap = separator_trap(read.enabled_quote, key, separator, value_source);
+    warn_character(warnings, after_key, separator, trap)?;
     warn_value(
         warnings,
-        value_position(position, pair),
-        pair.places.raw_value,
-        value,
+        after_key.after(separator),
+        key,
+        value_source,
         read,
-    )
-}
-
-// Where a pair's value begins, after the white space before it.
-fn value_position(position: Position, pair: &PlacedPair) -> Position
-    requires room { HasRoom (length (pair_source (stretches_of pair.now.places))) position }
-    requires separates { is_separator pair.now.places.separator ≡ true }
-    ensures { (b : Text) → IsAt b position → IsAt (value_front b (stretches_of pair.now.places)) result }
-{
-    position
-        .advance(pair.places.key)
-        .after_separator()
-        .advance(pair.places.space_before)
-}
-
-fn warn_key(
-    warnings: &mut Vec<Warning>,
-    position: Position,
-    source: &str,
-    key: &str,
-    keys: &Properties,
-) -> Result<(), Error>
-    ensures warned { OnOk result ((b : Text) → IsAt b position → warnings.new.items
-        ≡ warnings.old.items ++ key_warnings b keys.now (chars source.now) (chars key.now)) }
-    ensures only { IsOkUnless result (Error.Memory alloc_error) }
-{
-    warn_where(warnings, runs_on(source), position, Trap::RunsOn)?;
-    warn_where(
-        warnings,
-        begins_like_comment(source),
-        position,
-        Trap::MarkBeginsKey,
     )?;
-    warn_where(
-        warnings,
-        keys.contains_key(key),
-        position,
-        Trap::RepeatedKey,
-    )
+    Ok(())
 }
 
+// What stands in a pair's source after its key and the separator.
+fn after_separator<'a>(source: &'a str, key: &str) -> &'a str
+    ensures { chars result.now ≡ drop 1 (drop (length (chars key.now)) (chars source.now)) }
+{
+    match split_first(after_front(source, key)) {
+        Some((_, after)) => after,
+        None => "",
+    }
+}
+
+// What stands in a text after as many characters as a front has.
+fn after_front<'a>(text: &'a str, front: &str) -> &'a str
+    ensures { chars result.now ≡ drop (length (chars front.now)) (chars text.now) }
+{
+    let mut rest = text;
+    let mut passed = front;
+    'characters: while let Some((_, more)) = split_first(passed) {
+        let Some((_, after)) = split_first(rest) else {
+            return rest;
+        };
+        rest = after;
+        passed = more;
+    }
+    rest
+}
+
+// The traps of a pair's key.
+fn key_traps(escapes: bool, known: Known, source: &str, is_plain: bool) -> [(bool, Trap); 8]
+    ensures { result ≡ key_traps escapes known (chars source.now) is_plain }
+{
+    let is_comment = begins_like_comment(source);
+    [
+        (known.is_after_header, Trap::AfterHeader),
+        (runs_on(source), Trap::RunsOn),
+        (comment_runs_on(source), Trap::CommentRunsOn),
+        (mark_begins_key(source), Trap::MarkBeginsKey),
+        (has_key_escape(escapes, source), Trap::EscapeInKey),
+        (known.is_repeated, Trap::RepeatedKey),
+        (known.differs_in_case, Trap::KeyCase),
+        (is_unplain(escapes, is_plain, is_comment), Trap::NotPlain),
+    ]
+}
+
+// The trap of a pair's separator, before this source.
+fn separator_trap(quotes: bool, key: &str, separator: char, source: &str) -> Option<Trap>
+    ensures { result ≡ separator_trap quotes (chars key.now) separator (chars source.now) }
+{
+    if colon_separates(quotes, key, separator, source) {
+        Some(Trap::ColonSeparates)
+    } else {
+        None
+    }
+}
+
+// Of a pair's value, by what stands here, after the separator: of the whole, and then of each of its places.
 fn warn_value(
     warnings: &mut Vec<Warning>,
     position: Position,
-    raw_value: &str,
-    value: &str,
+    key: &str,
+    source: &str,
     read: ParseOption,
 ) -> Result<(), Error>
+    requires room { HasRoom (length (chars source.now)) position }
     ensures warned { OnOk result ((b : Text) → IsAt b position → warnings.new.items
-        ≡ warnings.old.items ++ value_warnings read b (chars raw_value.now) (chars value.now)) }
+        ≡ warnings.old.items
+        ++ value_warnings read (b ++ space_of (chars source.now)) (chars key.now) (chars source.now)) }
     ensures only { IsOkUnless result (Error.Memory alloc_error) }
 {
-    warn_where(
-        warnings,
-        has_escape(raw_value, value, read),
-        position,
-        Trap::Escape,
-    )?;
-    let is_mark = begins_like_note(raw_value) || has_comment_mark(raw_value);
-    warn_where(warnings, is_mark, position, Trap::MarkInValue)
+    let value = value_of(source);
+    let begins = position.over_space(source);
+    let traps = value_traps(source, read);
+    warn_all(warnings, begins, begins.over_line(value), &traps)?;
+    let is_list = is_list(key, value);
+    warn_within(warnings, begins, value, is_list, read.enabled_quote)?;
+    Ok(())
 }
 
-// Puts a warning last, if it is one.
-fn warn_where(
-    warnings: &mut Vec<Warning>,
-    is_trap: bool,
-    position: Position,
-    trap: Trap,
-) -> Result<(), Error>
-    ensures warned { OnOk result ((b : Text) → IsAt b position
-        → warnings.new.items ≡ warnings.old.items ++ warned is_trap b trap) }
-    ensures only { IsOkUnless result (Error.Memory alloc_error) }
+// The traps of a pair's value as a whole, by what stands after the separator.
+fn value_traps(source: &str, read: ParseOption) -> [(bool, Trap); 3]
+    ensures { result ≡ value_traps read (chars source.now) }
 {
-    if is_trap {
-        let (line, column) = (position.line, position.column);
-        warnings.push(Warning { line, column, trap })?;
-    }
-    Ok(())
+    let value = value_of(source);
+    [
+        (has_escape(read.enabled_escape, false, value), Trap::Escape),
+        (
+            has_comment_mark(read.enabled_quote, value),
+            Trap::MarkInValue,
+        ),
+        (has_odd_space(source), Trap::OddSpace),
+    ]
 }

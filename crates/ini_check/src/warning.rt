@@ -1,5 +1,6 @@
 //! A warning: its trap and its place. This file knows no text.
 ghost use Rattle.std.specs.Prelude.{◌≡◌, Some};
+ghost use Rattle.ini_check.specs.Kinds.{level, level_name, name, trap_named};
 ghost use Rattle.ini_check.specs.Messages.{message, printed_warning};
 
 use std::fmt;
@@ -7,22 +8,108 @@ use std::fmt;
 /// What a text says that its writer may not have meant.
 #[derive(Clone, Copy, PartialEq, Eq, Debug)]
 pub enum Trap {
+    /// A header's bracket isn't closed on its line, so the name goes on up to the next `]`.
+    UnclosedBracket,
+    /// A quote isn't closed on its line, so the value goes on up to the next such mark.
+    UnclosedQuote,
+    /// A backslash at a line's end joins the next line to a value.
+    JoinedLine,
     /// A line without a separator runs on into the next one: the key's source has a line end in it.
     RunsOn,
-    /// An indented comment mark begins a key.
-    MarkBeginsKey,
+    /// The same where an indented comment mark begins the key.
+    CommentRunsOn,
+    /// The text ends in indented text without a separator, which gives nothing.
+    DroppedLine,
+    /// A CR without LF doesn't end a comment, which goes on over the next line.
+    LoneCr,
+    /// A line that looks like a header goes on with a multiline value.
+    HeaderInValue,
+    /// A line that looks like a pair goes on with a multiline value that is no list.
+    PairInValue,
     /// The key is there twice: an earlier pair of the section has it.
     RepeatedKey,
     /// The section is there twice: an earlier header has the name.
     RepeatedSection,
+    /// A header or a pair stands on the line of a header.
+    AfterHeader,
+    /// The name of a section is empty.
+    EmptyName,
+    /// An earlier header has a name that differs in the case of ASCII letters alone.
+    SectionCase,
+    /// An earlier pair of the section has a key that differs in the case of ASCII letters alone.
+    KeyCase,
+    /// An indented comment mark begins a key on its own line.
+    MarkBeginsKey,
+    /// A colon separates a pair, and an equals sign follows it on its line.
+    ColonSeparates,
+    /// A backslash begins an escape in a name.
+    EscapeInName,
+    /// A backslash begins an escape in a key.
+    EscapeInKey,
+    /// A backslash begins an escape in a value.
+    Escape,
+    /// A comment mark stands in a value, outside quotes and after white space, or begins it as a note
+    /// does (`#fff` is none): it is part of the value.
+    MarkInValue,
+    /// Text stands after a quoted part of a value, and is part of the value.
+    TextAfterQuote,
+    /// A value ends with a quote that nothing opens.
+    HalfQuote,
+    /// White space that is neither a blank nor a line end stands around a value, and is taken off.
+    OddSpace,
     /// The name, or the key with its value, isn't plain: written by the default options, it isn't sure to
     /// be read back as it is.
     NotPlain,
-    /// A backslash begins an escape in a value.
-    Escape,
-    /// A comment mark stands in a value, after white space, or begins it as a note does (`#fff` is none): it
-    /// is part of the value.
-    MarkInValue,
+}
+
+/// Each trap, the levels one after another.
+pub const TRAPS: [Trap; 25] = [
+    Trap::UnclosedBracket,
+    Trap::UnclosedQuote,
+    Trap::JoinedLine,
+    Trap::RunsOn,
+    Trap::CommentRunsOn,
+    Trap::DroppedLine,
+    Trap::LoneCr,
+    Trap::HeaderInValue,
+    Trap::PairInValue,
+    Trap::RepeatedKey,
+    Trap::RepeatedSection,
+    Trap::AfterHeader,
+    Trap::EmptyName,
+    Trap::SectionCase,
+    Trap::KeyCase,
+    Trap::MarkBeginsKey,
+    Trap::ColonSeparates,
+    Trap::EscapeInName,
+    Trap::EscapeInKey,
+    Trap::Escape,
+    Trap::MarkInValue,
+    Trap::TextAfterQuote,
+    Trap::HalfQuote,
+    Trap::OddSpace,
+    Trap::NotPlain,
+];
+
+/// What a trap does.
+#[derive(Clone, Copy, PartialEq, Eq, Debug)]
+pub enum Level {
+    /// A line is swallowed or dropped, or what stands in it isn't found by a look-up.
+    LosesData,
+    /// What is read is all there, but may be other than what was meant.
+    Surprises,
+}
+
+impl Level {
+    /// The level's name, as users give it.
+    pub fn name(self) -> &'static str
+        ensures { result.now ≡ level_name self }
+    {
+        match self {
+            Level::LosesData => "loses-data",
+            Level::Surprises => "surprises",
+        }
+    }
 }
 
 impl Trap {
@@ -31,13 +118,130 @@ impl Trap {
         ensures { result.now ≡ message self }
     {
         match self {
+            Trap::UnclosedBracket => {
+                "this bracket isn't closed on its line and takes in the lines up to the next one that closes"
+            }
+            Trap::UnclosedQuote => {
+                "this quote isn't closed on its line and takes in the lines up to the next one"
+            }
+            Trap::JoinedLine => "this backslash joins the next line to this value",
             Trap::RunsOn => "this line has no separator and runs on into the next",
-            Trap::MarkBeginsKey => "an indented comment mark begins a key",
+            Trap::CommentRunsOn => {
+                "an indented comment mark begins a key, which runs on into the next line"
+            }
+            Trap::DroppedLine => {
+                "this last line is indented and has no separator, so it is dropped"
+            }
+            Trap::LoneCr => {
+                "this CR without LF doesn't end the comment, which takes in the next line"
+            }
+            Trap::HeaderInValue => "this line looks like a header and goes on with the value above",
+            Trap::PairInValue => "this line looks like a pair and goes on with the value above",
             Trap::RepeatedKey => "this key was there before in its section",
             Trap::RepeatedSection => "a section of this name was there before",
-            Trap::NotPlain => "this may not be read back once it is written",
+            Trap::AfterHeader => "this stands on the line of a header",
+            Trap::EmptyName => "the name of this section is empty",
+            Trap::SectionCase => "a section was there before whose name differs in case alone",
+            Trap::KeyCase => "a key was there before in its section that differs in case alone",
+            Trap::MarkBeginsKey => "an indented comment mark begins a key",
+            Trap::ColonSeparates => "this colon ends the key, before the equals sign",
+            Trap::EscapeInName => "a backslash begins an escape in this name",
+            Trap::EscapeInKey => "a backslash begins an escape in this key",
             Trap::Escape => "a backslash begins an escape in this value",
             Trap::MarkInValue => "a comment mark is part of this value",
+            Trap::TextAfterQuote => "this text after the closing quote is part of the value",
+            Trap::HalfQuote => "this value ends with a quote that nothing opens",
+            Trap::OddSpace => {
+                "white space other than spaces and tabs around this value is taken off"
+            }
+            Trap::NotPlain => "this may not be read back once it is written",
+        }
+    }
+
+    /// The trap's name, as users give it, always a constant.
+    pub fn name(self) -> &'static str
+        ensures { result.now ≡ name self }
+    {
+        match self {
+            Trap::UnclosedBracket => "unclosed-bracket",
+            Trap::UnclosedQuote => "unclosed-quote",
+            Trap::JoinedLine => "joined-line",
+            Trap::RunsOn => "runs-on",
+            Trap::CommentRunsOn => "comment-runs-on",
+            Trap::DroppedLine => "dropped-line",
+            Trap::LoneCr => "lone-cr",
+            Trap::HeaderInValue => "header-in-value",
+            Trap::PairInValue => "pair-in-value",
+            Trap::RepeatedKey => "repeated-key",
+            Trap::RepeatedSection => "repeated-section",
+            Trap::AfterHeader => "after-header",
+            Trap::EmptyName => "empty-name",
+            Trap::SectionCase => "section-case",
+            Trap::KeyCase => "key-case",
+            Trap::MarkBeginsKey => "mark-begins-key",
+            Trap::ColonSeparates => "colon-separates",
+            Trap::EscapeInName => "escape-in-name",
+            Trap::EscapeInKey => "escape-in-key",
+            Trap::Escape => "escape",
+            Trap::MarkInValue => "mark-in-value",
+            Trap::TextAfterQuote => "text-after-quote",
+            Trap::HalfQuote => "half-quote",
+            Trap::OddSpace => "odd-space",
+            Trap::NotPlain => "not-plain",
+        }
+    }
+
+    /// The trap of a name.
+    pub fn of_name(name: &str) -> Option<Trap>
+        ensures { result ≡ trap_named name.now }
+    {
+        match name {
+            "unclosed-bracket" => Some(Trap::UnclosedBracket),
+            "unclosed-quote" => Some(Trap::UnclosedQuote),
+            "joined-line" => Some(Trap::JoinedLine),
+            "runs-on" => Some(Trap::RunsOn),
+            "comment-runs-on" => Some(Trap::CommentRunsOn),
+            "dropped-line" => Some(Trap::DroppedLine),
+            "lone-cr" => Some(Trap::LoneCr),
+            "header-in-value" => Some(Trap::HeaderInValue),
+            "pair-in-value" => Some(Trap::PairInValue),
+            "repeated-key" => Some(Trap::RepeatedKey),
+            "repeated-section" => Some(Trap::RepeatedSection),
+            "after-header" => Some(Trap::AfterHeader),
+            "empty-name" => Some(Trap::EmptyName),
+            "section-case" => Some(Trap::SectionCase),
+            "key-case" => Some(Trap::KeyCase),
+            "mark-begins-key" => Some(Trap::MarkBeginsKey),
+            "colon-separates" => Some(Trap::ColonSeparates),
+            "escape-in-name" => Some(Trap::EscapeInName),
+            "escape-in-key" => Some(Trap::EscapeInKey),
+            "escape" => Some(Trap::Escape),
+            "mark-in-value" => Some(Trap::MarkInValue),
+            "text-after-quote" => Some(Trap::TextAfterQuote),
+            "half-quote" => Some(Trap::HalfQuote),
+            "odd-space" => Some(Trap::OddSpace),
+            "not-plain" => Some(Trap::NotPlain),
+            _ => None,
+        }
+    }
+
+    /// What the trap does.
+    pub fn level(self) -> Level
+        ensures { result ≡ level self }
+    {
+        match self {
+            Trap::UnclosedBracket
+            | Trap::UnclosedQuote
+            | Trap::JoinedLine
+            | Trap::RunsOn
+            | Trap::CommentRunsOn
+            | Trap::DroppedLine
+            | Trap::LoneCr
+            | Trap::HeaderInValue
+            | Trap::PairInValue
+            | Trap::RepeatedKey
+            | Trap::RepeatedSection => Level::LosesData,
+            _ => Level::Surprises,
         }
     }
 }
@@ -51,16 +255,20 @@ impl fmt::Display for Trap {
     }
 }
 
-/// A trap, and where in the text it is.
+/// A trap, and where in the text it is: at a stretch, from its first character up to the one after its last.
 ///
-/// The place is the first character of the pair or header, or of the value for `Escape` and `MarkInValue`.
-/// Lines and columns count from 1, and columns count characters. LF alone ends a line here.
+/// Lines and columns count from 1, and columns count characters. LF alone ends a line here. Which stretch it
+/// is stands at each trap in the crate's README.
 #[derive(Clone, Copy, PartialEq, Eq, Debug)]
 pub struct Warning {
-    /// The line of the place.
+    /// The line where the stretch begins.
     pub line: usize,
-    /// The column of the place.
+    /// The column where it begins.
     pub column: usize,
+    /// The line where it ends.
+    pub end_line: usize,
+    /// The column after its last character.
+    pub end_column: usize,
     /// What is there.
     pub trap: Trap,
 }

@@ -1,14 +1,15 @@
-use Rattle.std.proofs.Common.{arith, chars}
+use Rattle.std.proofs.Common.{arith, chars, subst}
 use Rattle.ini_text.proofs.StringLemmas.PositionLemmas.{characters_fit}
 use Rattle.ini_check.proofs.PositionLemmas.{room_after}
 use Rattle.ini_check.proofs.WalkLemmas.{checks_start, checks_step, step_some}
+use Rattle.ini_check.specs.Warnings.{Adds, ElementWarns}
 use Rattle.ini_check.proofs.walk.check.Goals as goal
 
 pub elements-init : goal.elements-init
 elements-init c =
     let p = c.new-parser.ensures in
-    checks_start p.option p.text p.front p.refusal c.at_front-position.ensures c.new-names.ensures
-    c.new-keys.ensures c.new-warnings.ensures.items
+    checks_start p.option p.text p.front p.refusal c.at_front-position.ensures c.none-seen.ensures
+    c.new-warnings.ensures.items
 
 pub warn_element-requires-clause-room : goal.warn_element-requires-clause-room
 warn_element-requires-clause-room c =
@@ -35,7 +36,12 @@ advance-position-requires c =
 pub elements-preserved : goal.elements-preserved
 elements-preserved c =
     let s = c.elements.invariant in
-    let noted = c.in_ok-note_element.ensures in
-    checks_step s (step_some s.is_reading c.in_ok-element.ensures.element c.in-Some.is)
-    (c.in_ok-warn_element.ensures.warned c.elements.parser.front s.at) noted.names noted.keys
-    (c.advance-position.ensures.at c.elements.parser.front s.at)
+    let noted = c.in_ok-known.ensures in
+    let t = step_some s.is_reading c.in_ok-element.ensures.element c.in-Some.is in
+    let warned = c.in_ok-warn_element.ensures.warned c.elements.parser.front s.at in
+    let e = c.in-Some.element in
+    let front = c.elements.parser.front in
+    checks_step s t
+    (subst (λ k. Adds (ElementWarns c.args.read front k (chars e.source.now) e.content)
+    c.elements.warnings.items c.warn_element.new.warnings.items) noted.known warned)
+    noted.seen (c.advance-position.ensures.at front s.at)

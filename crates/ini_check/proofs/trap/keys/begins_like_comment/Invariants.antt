@@ -1,8 +1,8 @@
 use Rattle.std.proofs.Common.{◌≡◌, length, chars}
 use denote.Text.{Utf8}
 use denote.Shadow.{shadow}
-use Rattle.ini_check.specs.Traps.{begins_like_comment}
-use Rattle.ini_check.proofs.trap.begins_like_comment.Given as goal
+use Rattle.ini_check.specs.Traps.Keys.{begins_like_comment}
+use Rattle.ini_check.proofs.trap.keys.begins_like_comment.Given as goal
 
 abbrev pub decreases-blanks : goal.decreases-blanks
 decreases-blanks l = length (chars l.rest)

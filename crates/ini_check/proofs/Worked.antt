@@ -1,0 +1,143 @@
+-- Each trap in a small text, and the nearest text without it.
+use Rattle.std.proofs.Common.{◌≡◌, refl, true, false, [], ◌∷◌}
+use Rattle.std.specs.Prelude.{codes}
+use Rattle.ini_check.specs.Traps.Keys.{comment_runs_on, has_escape, has_key_escape, has_line_end, is_empty}
+use Rattle.ini_check.specs.Traps.Keys.{lower, mark_begins_key, has_equals, runs_on}
+use Rattle.ini_check.specs.Traps.LostLines.{drops_line}
+use Rattle.ini_check.specs.Traps.Values.{has_comment_mark, has_odd_space}
+use Rattle.ini_check.specs.Warnings.{comment_warnings, inner_warnings, warning}
+use Rattle.ini_check.specs.declared.lexical.LexicalState.TheVariants.{Front}
+use Rattle.ini_check.specs.declared.warning.Trap.TheVariants.{HalfQuote, HeaderInValue, JoinedLine, LoneCr}
+use Rattle.ini_check.specs.declared.warning.Trap.TheVariants.{PairInValue, TextAfterQuote, UnclosedQuote}
+
+bracket : has_line_end (codes "[server\nport=80\n[client]") ≡ true
+bracket = refl
+
+bracket-closed : has_line_end (codes "[server]") ≡ false
+bracket-closed = refl
+
+quote : inner_warnings true false Front [] (codes "'tis\nb = dogs'")
+    ≡ warning [] (codes "'") UnclosedQuote ∷ []
+quote = refl
+
+quote-closed : inner_warnings true false Front [] (codes "'tis'") ≡ []
+quote-closed = refl
+
+quotes-off : inner_warnings false false Front [] (codes "'tis") ≡ []
+quotes-off = refl
+
+joined : inner_warnings true false Front [] (codes "C:\\\nq=1")
+    ≡ warning (codes "C:") (codes "\\") JoinedLine ∷ []
+joined = refl
+
+joined-not : inner_warnings true false Front [] (codes "C:\\\\") ≡ []
+joined-not = refl
+
+key-runs : runs_on (codes "one\ntwo ") ≡ true
+key-runs = refl
+
+key-runs-not : runs_on (codes "two ") ≡ false
+key-runs-not = refl
+
+comment-runs : comment_runs_on (codes "  ; note\nk ") ≡ true
+comment-runs = refl
+
+comment-key : mark_begins_key (codes "  #k ") ≡ true
+comment-key = refl
+
+comment-key-not : mark_begins_key (codes "  k# ") ≡ false
+comment-key-not = refl
+
+dropped : drops_line (codes "  port 80") ≡ true
+dropped = refl
+
+dropped-comment : drops_line (codes "  ; port 80\n") ≡ false
+dropped-comment = refl
+
+dropped-blanks : drops_line (codes "  ") ≡ false
+dropped-blanks = refl
+
+carriage_return-alone : comment_warnings [] (codes "; c\rk=v")
+    ≡ warning (codes "; c") (codes "\r") LoneCr ∷ []
+carriage_return-alone = refl
+
+carriage_return-and-lf : comment_warnings [] (codes "; c\r\n") ≡ []
+carriage_return-and-lf = refl
+
+pair_goes_on : inner_warnings true false Front [] (codes "v\n  port = 80")
+    ≡ warning (codes "v\n  ") (codes "p") PairInValue ∷ []
+pair_goes_on = refl
+
+text_goes_on : inner_warnings true false Front [] (codes "v\n  port 80") ≡ []
+text_goes_on = refl
+
+list_goes_on : inner_warnings true true Front [] (codes "\n  port = 80") ≡ []
+list_goes_on = refl
+
+header_goes_on : inner_warnings true false Front [] (codes "v\n  [b]")
+    ≡ warning (codes "v\n  ") (codes "[") HeaderInValue ∷ []
+header_goes_on = refl
+
+brackets_go_on : inner_warnings true false Front [] (codes "v\n  [b], c") ≡ []
+brackets_go_on = refl
+
+cased : lower (codes "Port") ≡ codes "port"
+cased = refl
+
+name_is_empty : is_empty [] ≡ true
+name_is_empty = refl
+
+equals_after_colon : has_equals true false (codes "30 = job") ≡ true
+equals_after_colon = refl
+
+equals_in_word : has_equals false false (codes "FOO=bar run") ≡ false
+equals_in_word = refl
+
+escape : has_escape true false (codes "C:\\temp") ≡ true
+escape = refl
+
+escape-doubled : has_escape true false (codes "C:\\\\temp") ≡ false
+escape-doubled = refl
+
+escapes-off : has_escape false false (codes "C:\\temp") ≡ false
+escapes-off = refl
+
+bracket-meant : has_escape true true (codes "[a\\]b]") ≡ false
+bracket-meant = refl
+
+key_escape : has_key_escape true (codes "a\\tb ") ≡ true
+key_escape = refl
+
+key_escape-in-comment : has_key_escape true (codes "  ; C:\\temp") ≡ false
+key_escape-in-comment = refl
+
+mark : has_comment_mark true (codes "v ; note") ≡ true
+mark = refl
+
+mark-first : has_comment_mark true (codes "# note") ≡ true
+mark-first = refl
+
+mark-in-quotes : has_comment_mark true (codes "\"a ; b\"") ≡ false
+mark-in-quotes = refl
+
+mark-in-word : has_comment_mark true (codes "#fff;a") ≡ false
+mark-in-word = refl
+
+text_after : inner_warnings true false Front [] (codes "\"a\"b")
+    ≡ warning (codes "\"a\"") (codes "b") TextAfterQuote ∷ []
+text_after = refl
+
+note_after : inner_warnings true false Front [] (codes "\"a\" ; b") ≡ []
+note_after = refl
+
+half : inner_warnings true false Front [] (codes "a\"") ≡ warning [] (codes "a") HalfQuote ∷ []
+half = refl
+
+apostrophe : inner_warnings true false Front [] (codes "don't") ≡ []
+apostrophe = refl
+
+odd : has_odd_space (0xA0 ∷ codes "v") ≡ true
+odd = refl
+
+odd-not : has_odd_space (codes " \tv ") ≡ false
+odd-not = refl

@@ -1,0 +1,15 @@
+use Rattle.std.proofs.Common.{◌≡◌, ◌++◌, length, chars}
+use denote.Text.{Utf8}
+use denote.Shadow.{shadow}
+use Rattle.ini_text.specs.Parsing.Items.{string_text}
+use Rattle.ini_check.specs.Traps.Keys.{lower}
+use Rattle.ini_check.proofs.lower.lowered.Given as goal
+
+abbrev pub decreases-characters : goal.decreases-characters
+decreases-characters l = length (chars l.rest)
+
+abbrev pub invariant-characters : goal.invariant-characters
+invariant-characters l = record {
+  text : shadow (Utf8 l.rest);
+  made : string_text l.made ++ lower (chars l.rest) ≡ lower (chars l.fn.text);
+}

@@ -1,0 +1,14 @@
+use Rattle.std.proofs.Common.{◌≡◌, length, chars}
+use denote.Text.{Utf8}
+use denote.Shadow.{shadow}
+use Rattle.ini_check.specs.Traps.Lines.{has_bracket_last}
+use Rattle.ini_check.proofs.trap.lines.has_bracket_last.Given as goal
+
+abbrev pub decreases-characters : goal.decreases-characters
+decreases-characters l = length (chars l.rest)
+
+abbrev pub invariant-characters : goal.invariant-characters
+invariant-characters l = record {
+  text : shadow (Utf8 l.rest);
+  has : has_bracket_last (chars l.rest) ≡ has_bracket_last (chars l.fn.text);
+}

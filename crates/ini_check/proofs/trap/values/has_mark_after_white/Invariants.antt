@@ -1,0 +1,16 @@
+use Rattle.std.proofs.Common.{◌≡◌, length, chars, false}
+use denote.Text.{Utf8}
+use denote.Shadow.{shadow}
+use Rattle.ini_check.specs.Traps.Values.{has_mark_after_white}
+use Rattle.ini_check.specs.declared.lexical.LexicalState.TheVariants.{Front}
+use Rattle.ini_check.proofs.trap.values.has_mark_after_white.Given as goal
+
+abbrev pub decreases-characters : goal.decreases-characters
+decreases-characters l = length (chars l.rest)
+
+abbrev pub invariant-characters : goal.invariant-characters
+invariant-characters l = record {
+  text : shadow (Utf8 l.rest);
+  mark : has_mark_after_white l.fn.quotes l.state l.white (chars l.rest)
+      ≡ has_mark_after_white l.fn.quotes Front false (chars l.fn.value);
+}

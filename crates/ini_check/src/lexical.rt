@@ -1,0 +1,107 @@
+//! Where a character of a raw value stands: in quotes, after them, after a backslash, or in the plain part.
+ghost use Rattle.std.specs.Prelude.{◌≡◌};
+ghost use Rattle.ini_check.specs.Traps.LexicalStates.{after_outside, after_quoted, after_white, is_outside};
+ghost use Rattle.ini_check.specs.Traps.LexicalStates.{may_open, next_state};
+
+use crate::trap::quotes::is_quote_mark;
+use ini_text::is_line_end;
+
+/// Where a character of a raw value stands.
+#[derive(Clone, Copy)]
+pub(crate) enum LexicalState {
+    /// At the value's front.
+    Front,
+    /// At the front of a later line, after its blanks.
+    LineFront,
+    /// Between quotes of this mark.
+    Quoted(char),
+    /// The same, after a backslash.
+    QuotedEscape(char),
+    /// Right after a quoted part.
+    AfterQuote,
+    /// After a quoted part and white space.
+    Trailing,
+    /// In the plain part.
+    Plain,
+    /// The same, after a backslash.
+    PlainEscape,
+}
+
+impl LexicalState {
+    /// Whether a quote's mark opens quotes here.
+    pub(crate) fn may_open(self) -> bool
+        ensures { result ≡ may_open self }
+    {
+        matches!(
+            self,
+            LexicalState::Front | LexicalState::LineFront | LexicalState::AfterQuote
+        )
+    }
+
+    /// Whether it is neither in quotes nor after a backslash.
+    pub(crate) fn is_outside(self) -> bool
+        ensures { result ≡ is_outside self }
+    {
+        !matches!(
+            self,
+            LexicalState::Quoted(_) | LexicalState::QuotedEscape(_) | LexicalState::PlainEscape
+        )
+    }
+
+    /// The state after a character.
+    pub(crate) fn next(self, quotes: bool, c: char) -> LexicalState
+        ensures { result ≡ next_state quotes self c }
+    {
+        match self {
+            LexicalState::Quoted(mark) => after_quoted(mark, c),
+            LexicalState::QuotedEscape(mark) => LexicalState::Quoted(mark),
+            LexicalState::PlainEscape => LexicalState::Plain,
+            LexicalState::Front => after_outside(quotes, LexicalState::Front, c),
+            LexicalState::LineFront => after_outside(quotes, LexicalState::LineFront, c),
+            LexicalState::AfterQuote => after_outside(quotes, LexicalState::AfterQuote, c),
+            LexicalState::Trailing => after_outside(quotes, LexicalState::Trailing, c),
+            LexicalState::Plain => after_outside(quotes, LexicalState::Plain, c),
+        }
+    }
+
+    // The state after white space outside quotes.
+    fn after_white(self) -> LexicalState
+        ensures { result ≡ after_white self }
+    {
+        match self {
+            LexicalState::LineFront => LexicalState::LineFront,
+            LexicalState::AfterQuote | LexicalState::Trailing => LexicalState::Trailing,
+            _ => LexicalState::Plain,
+        }
+    }
+}
+
+// The state after a character outside quotes.
+fn after_outside(quotes: bool, state: LexicalState, c: char) -> LexicalState
+    ensures { result ≡ after_outside quotes state c }
+{
+    if is_line_end(c) {
+        LexicalState::LineFront
+    } else if c == '\\' {
+        LexicalState::PlainEscape
+    } else if quotes && state.may_open() && is_quote_mark(c) {
+        LexicalState::Quoted(c)
+    } else if c.is_whitespace() {
+        state.after_white()
+    } else {
+        LexicalState::Plain
+    }
+}
+
+// The state after a character between quotes of this mark.
+fn after_quoted(mark: char, c: char) -> LexicalState
+    ensures { result ≡ after_quoted mark c }
+{
+    if c == '\\' {
+        LexicalState::QuotedEscape(mark)
+    } else if c == mark {
+        LexicalState::AfterQuote
+    } else {
+        LexicalState::Quoted(mark)
+    }
+}
