@@ -12,7 +12,7 @@ function __bigrosk_sort
             set bigrosk_option
         else
             switch $word
-                case --policy --output --default --separator --wait --section -s
+                case --policy --output --default --separator --wait --format --allow --deny --section -s
                     set bigrosk_option $word
                 case '-?*'
                 case '*'
@@ -69,6 +69,9 @@ function __bigrosk_ini_file
             return
         case --section -s
             __bigrosk_sections
+            return
+        case --format
+            printf '%s\n' json sarif github
             return
         case '?*'
             return

@@ -814,6 +814,26 @@ traps.ini:8:1: warning: a section of this name was there before
 bad.ini:2:3: no key stands before this
   =v
   ^' check none.ini bad.ini path.ini
+    case_of 'check: JSON' 1 '{"file":"path.ini","line":1,"column":8,"end":{"line":1,"column":15},"kind":"escape","level":"surprises",'\
+'"message":"a backslash begins an escape in this value"}\n' '' check --format json path.ini
+    case_of 'check: what the words report' 1 'traps.ini:1:1: warning: this line has no separator and runs on into the next
+traps.ini:7:1: warning: this key was there before in its section
+traps.ini:8:1: warning: a section of this name was there before
+' '' check --allow all --deny loses-data traps.ini
+    case_of 'check: nothing is reported' 0 '' '' check traps.ini --allow surprises --allow loses-data
+    case_of 'check: NUL' 1 'path.ini\0001\0008\000escape\000a backslash begins an escape in this value\000' '' check --null path.ini
+    odd='a "b\c,d%:
+.ini'
+    cp path.ini "$odd"
+    case_of 'check: a name in JSON' 1 '{"file":"a \\"b\\\\c,d%%:\\u000A.ini","line":1,"column":8,"end":{"line":1,"column":15},'\
+'"kind":"escape","level":"surprises","message":"a backslash begins an escape in this value"}\n' '' check --format=json "$odd"
+    case_of 'check: a name in a command' 1 '::warning file=a "b\\c%%2Cd%%25%%3A%%0A.ini,line=1,endLine=1,col=8,title=escape::'\
+'a backslash begins an escape in this value\n' '' check --format github "$odd"
+    "$program" check --format sarif "$odd" "$odd" | "$top/tests/program/sarif.py" 'a%20%22b%5Cc%2Cd%25%3A%0A.ini' 2 >"$room/have" 2>&1
+    : >"$room/want"
+    count 'check: SARIF'
+    "$program" check --format sarif clean.ini | "$top/tests/program/sarif.py" '' 0 >"$room/have" 2>&1
+    count 'check: SARIF without results'
     case_of 'check: standard input' 1 "\055:2:1: warning: $repeated\n" '' check - clean.ini <<END
 k=1
 k=2

@@ -23,6 +23,10 @@ passed=0
 failed=0
 source='; a server\nname=one\n[server]\nport=8080\n[client]\nid=7\n'
 policies='Nothing Basics BasicsUnicode BasicsUnicodeExtended Reserved ReservedUnicode ReservedUnicodeExtended Everything'
+traps='unclosed-bracket, unclosed-quote, joined-line, runs-on, comment-runs-on, dropped-line, lone-cr, header-in-'
+traps="$traps value, pair-in-value, repeated-key, repeated-section, after-header, empty-name, section-case, key-case, mark-"
+traps="$traps begins-key, colon-separates, escape-in-name, escape-in-key, escape, mark-in-value, text-after-quote, half-"
+traps="$traps quote, odd-space, not-plain"
 commands='get keys sections list set add delete delete-section rename-key rename-section merge format check'
 
 # says what a case wants and what it has, where these differ
@@ -98,7 +102,11 @@ get -sserver settings.ini port|-sserver is no option; after -- it is an argument
 get --all=1 settings.ini k|--all takes no text
 set --dry-run=yes settings.ini k v|--dry-run takes no text
 list --all settings.ini|list doesn't take --all, but --null --output --in-place --force --wait --verbose
-check --null settings.ini|check doesn't take --null
+check --all settings.ini|check doesn't take --all, but --null --format --allow --deny
+check --format xml settings.ini|xml is no form; --format takes json, sarif or github
+check --allow frob settings.ini|frob is no warning; they are all, loses-data, surprises, $traps
+check settings.ini --deny|--deny takes NAME
+list --allow escape settings.ini|list doesn't take --allow, but --null --output --in-place --force --wait --verbose
 get -n settings.ini name|get doesn't take --dry-run, but --all --default --null --section --output --in-place --force --wait --verbose
 get --force settings.ini name|get takes --force with --output alone
 keys --wait 5 settings.ini|keys takes --wait with --output alone

@@ -2,41 +2,16 @@
 # programs in it.
 # shellcheck shell=sh disable=SC2154
 
-# traps: the lines of warnings as places and names, in one line
+# traps: the warnings that `check --null` writes as places and names, in one line
 traps() {
-    sed "s/^-:\([0-9]*:[0-9]*\): warning: /\1 /
-        s/this bracket isn't closed on its line and takes in the lines up to the next one that closes$/unclosed-bracket/
-        s/this quote isn't closed on its line and takes in the lines up to the next one$/unclosed-quote/
-        s/this backslash joins the next line to this value$/joined-line/
-        s/this line has no separator and runs on into the next$/runs-on/
-        s/an indented comment mark begins a key, which runs on into the next line$/comment-runs-on/
-        s/this last line is indented and has no separator, so it is dropped$/dropped-line/
-        s/this CR without LF doesn't end the comment, which takes in the next line$/lone-cr/
-        s/this line looks like a header and goes on with the value above$/header-in-value/
-        s/this line looks like a pair and goes on with the value above$/pair-in-value/
-        s/this key was there before in its section$/repeated-key/
-        s/a section of this name was there before$/repeated-section/
-        s/this stands on the line of a header$/after-header/
-        s/the name of this section is empty$/empty-name/
-        s/a section was there before whose name differs in case alone$/section-case/
-        s/a key was there before in its section that differs in case alone$/key-case/
-        s/an indented comment mark begins a key$/mark-begins-key/
-        s/this colon ends the key, before the equals sign$/colon-separates/
-        s/a backslash begins an escape in this name$/escape-in-name/
-        s/a backslash begins an escape in this key$/escape-in-key/
-        s/a backslash begins an escape in this value$/escape/
-        s/a comment mark is part of this value$/mark-in-value/
-        s/this text after the closing quote is part of the value$/text-after-quote/
-        s/this value ends with a quote that nothing opens$/half-quote/
-        s/white space other than spaces and tabs around this value is taken off$/odd-space/
-        s/this may not be read back once it is written$/not-plain/" | tr '\n' ';'
+    tr '\0' '\n' | paste -d '|' - - - - - | sed 's/^-|\([0-9]*\)|\([0-9]*\)|\([a-z-]*\)|.*$/\1:\2 \3/' | tr '\n' ';'
 }
 
 # Worked out by hand. A row is options, a text with escapes, and its warnings, each with line and column; or where it is refused.
 while IFS='|' read -r words text want; do
     printf '%b' "$text" >"$room/in"
     # shellcheck disable=SC2086
-    "$room/bin/ini_file" $words check - <"$room/in" >"$room/out" 2>"$room/err"
+    "$room/bin/ini_file" $words check --null - <"$room/in" >"$room/out" 2>"$room/err"
     ended=$?
     case $want in
         '') echo 'status 0, ' ;;
@@ -144,6 +119,10 @@ done <<'ROWS'
 --noescape|path = C:\\temp|
 |\0303\0251 =\0302\0240\\\0303\0251|1:5 escape;1:5 odd-space;
 |k = " a "|1:1 not-plain;
+--allow=escape|path = C:\\temp\nk = 1 ; a|2:5 mark-in-value;
+--allow=all --deny=escape|path = C:\\temp\nk = 1 ; a|1:8 escape;
+--allow surprises|path = C:\\temp\none\ntwo = 2|2:1 runs-on;
+--deny escape --allow all|path = C:\\temp|
 |one\ntwo = 2\n= 3|refused at 3:1
 |k = "v|refused at 1:5
 |[a|refused at 1:1

@@ -4,12 +4,23 @@ use Rattle.ini_text.specs.declared.option.ParseOption.{ParseOption}
 use Rattle.ini.specs.Texts.{Text}
 use Rattle.ini_check.specs.Warnings.{AreWarningsOf}
 use Rattle.ini_check.specs.declared.warning.Trap.{Trap}
-use Rattle.ini_check.specs.declared.warning.Trap.TheVariants.{MarkBeginsKey, RunsOn}
+use Rattle.ini_check.specs.declared.warning.Trap.TheVariants.{CommentRunsOn, DroppedLine, HeaderInValue}
+use Rattle.ini_check.specs.declared.warning.Trap.TheVariants.{JoinedLine, LoneCr, MarkBeginsKey}
+use Rattle.ini_check.specs.declared.warning.Trap.TheVariants.{PairInValue}
+use Rattle.ini_check.specs.declared.warning.Trap.TheVariants.{RunsOn, UnclosedBracket, UnclosedQuote}
 use Rattle.ini_check.specs.declared.warning.Warning.{Warning}
 
--- the trap makes a key another one: the line before it runs on into it, or a comment mark begins it
+-- the trap hides a key: it swallows the key's line, or a comment mark begins the key
 abbrev pub hides_key : Trap → Bool
+hides_key UnclosedBracket = true
+hides_key UnclosedQuote = true
+hides_key JoinedLine = true
 hides_key RunsOn = true
+hides_key CommentRunsOn = true
+hides_key DroppedLine = true
+hides_key LoneCr = true
+hides_key HeaderInValue = true
+hides_key PairInValue = true
 hides_key MarkBeginsKey = true
 hides_key _ = false
 

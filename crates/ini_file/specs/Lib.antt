@@ -1,4 +1,5 @@
 pub mod Bytes
+pub mod CheckWords
 pub mod Checks
 pub mod Choices
 pub mod Diffs
@@ -14,6 +15,7 @@ pub mod Order
 pub mod Outputs
 pub mod Places
 pub mod Reasons
+pub mod Reports
 pub mod Requests
 pub mod Runs
 pub mod Settings

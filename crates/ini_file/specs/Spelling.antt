@@ -21,7 +21,9 @@ kind_of name =
     || bytes_eq name (codes "--in-place") || bytes_eq name (codes "--force")
     || bytes_eq name (codes "--verbose") then Some Choice
     else if bytes_eq name (codes "--output") || bytes_eq name (codes "--default")
-    || bytes_eq name (codes "--separator") || bytes_eq name (codes "--wait") then Some ChoiceText
+    || bytes_eq name (codes "--separator") || bytes_eq name (codes "--wait")
+    || bytes_eq name (codes "--format") || bytes_eq name (codes "--allow")
+    || bytes_eq name (codes "--deny") then Some ChoiceText
     else if bytes_eq name (codes "--section") then Some Section
     else if bytes_eq name (codes "--help") then Some Help
     else None

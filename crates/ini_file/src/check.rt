@@ -1,76 +1,101 @@
-//! The check of a file: its warnings, a line each, and the exit status. This file knows no word of the
+//! The check of a file: what is reported of its warnings, and the exit status. This file knows no word of the
 //! program and no device.
-ghost use Rattle.std.specs.Prelude.{◌≡◌, IfErr, IfOk, IsOkUnless, alloc_error, chars, flat_map, max};
-ghost use Rattle.std.specs.Prelude.{string_bytes};
+ghost use Rattle.std.specs.Prelude.{◌≡◌, ◌++◌, IfErr, IfOk, IsOkUnless, OnOk, alloc_error, chars, flat_map};
+ghost use Rattle.std.specs.Prelude.{map, max, string_bytes};
 ghost use Rattle.ini_text.specs.declared.error.Error.TheVariants.{Memory};
 ghost use Rattle.ini.specs.Loading.{IfParse, IsParseOrMemory, IsStopOf};
-ghost use Rattle.ini_file.specs.Checks.{AreWarningLines, IsChecked, check_status, warning_line};
+ghost use Rattle.ini_file.specs.Checks.{AreReports, IsChecked, check_status, report};
 
 use crate::bytes::text_of;
-use ini::{Error, ParseOption};
+use crate::check_words::Check;
+use crate::report::push_report;
+use crate::reported::is_reported;
+use ini::Error;
 use ini_check::{Warning, check};
-use std::alloc::Global;
+use std::alloc::{AllocError, Global};
 
-/// The lines of the warnings of a file with this name and these bytes: the file, the line, the column and the
-/// trap, as in `settings.ini:1:8: warning: a backslash begins an escape in this value`. A mark at the bytes'
-/// front is no part of the text.
+/// What is written of the warnings of a file with this name and these bytes, those that the check reports, in
+/// its form: as a line, the file, the line, the column and the trap, as in
+/// `settings.ini:1:8: warning: a backslash begins an escape in this value`. A mark at the bytes' front is no
+/// part of the text. In SARIF a result stands after a comma.
 ///
 /// # Errors
 ///
-/// `NotUtf8`; `Parse` where reading the text stops, with its place; `Memory`. No line is made then.
+/// `NotUtf8`; `Parse` where reading the text stops, with its place; `Memory`. Nothing is written then.
 pub fn check_file(
     alloc: Global,
-    read: ParseOption,
+    asked: &Check<'_>,
     file: &str,
     input: &[u8],
 ) -> Result<Vec<u8>, Error>
-    ensures { IsChecked read file.now input.now result }
+    ensures { IsChecked asked.now.reading asked.now.format (map string_bytes asked.now.choices.now)
+        file.now input.now result }
 {
     match text_of(input) {
-        Ok((_, text)) => warning_lines(alloc, read, file, text),
+        Ok((_, text)) => reports_of_text(alloc, asked, file, text),
         Err(refused) => Err(refused),
     }
 }
 
-// The lines of the warnings of a text.
-fn warning_lines(alloc: Global, read: ParseOption, file: &str, text: &str) -> Result<Vec<u8>, Error>
-    ensures lines { IfOk result (λ lines. AreWarningLines read file.now (chars text.now) lines.items) }
-    ensures fault { IfParse result (IsStopOf read (chars text.now)) }
+// What is written of the warnings of a text.
+fn reports_of_text(
+    alloc: Global,
+    asked: &Check<'_>,
+    file: &str,
+    text: &str,
+) -> Result<Vec<u8>, Error>
+    ensures reports { IfOk result (λ reports. AreReports asked.now.reading asked.now.format
+        (map string_bytes asked.now.choices.now) file.now (chars text.now) reports.items) }
+    ensures fault { IfParse result (IsStopOf asked.now.reading (chars text.now)) }
     ensures only { IfErr result IsParseOrMemory }
 {
-    let warnings = check(alloc, text, read)?;
-    lines_of(alloc, file, warnings.as_slice())
+    let warnings = check(alloc, text, asked.reading)?;
+    reports_of(alloc, asked, file, warnings.as_slice())
 }
 
-// A line for each warning.
-fn lines_of(alloc: Global, file: &str, warnings: &[Warning]) -> Result<Vec<u8>, Error>
-    ensures lines { IfOk result (λ lines. lines.items ≡ flat_map (warning_line file.now) warnings.now) }
+// What is written of warnings.
+fn reports_of(
+    alloc: Global,
+    asked: &Check<'_>,
+    file: &str,
+    warnings: &[Warning],
+) -> Result<Vec<u8>, Error>
+    ensures reports { IfOk result (λ reports. reports.items ≡ flat_map
+        (report asked.now.format (map string_bytes asked.now.choices.now) file.now) warnings.now) }
     ensures only { IsOkUnless result (Memory alloc_error) }
 {
-    let mut lines = Vec::new(alloc);
+    let mut reports = Vec::new(alloc);
     for warning in warnings {
-        let line = line_of(alloc, file, *warning)?;
-        lines.extend_from_slice(line.as_bytes())?;
+        push_reported(alloc, &mut reports, asked, file, *warning)?;
     }
-    Ok(lines)
+    Ok(reports)
 }
 
-// The line of a warning.
-fn line_of(alloc: Global, file: &str, warning: Warning) -> Result<String, Error>
-    ensures line { IfOk result (λ line. string_bytes line ≡ warning_line file.now warning) }
-    ensures only { IsOkUnless result (Memory alloc_error) }
+// Puts last what is written of a warning, if the check reports its trap.
+fn push_reported(
+    alloc: Global,
+    reports: &mut Vec<u8>,
+    asked: &Check<'_>,
+    file: &str,
+    warning: Warning,
+) -> Result<(), AllocError>
+    ensures { OnOk result (reports.new.items ≡ reports.old.items
+        ++ report asked.now.format (map string_bytes asked.now.choices.now) file.now warning) }
 {
-    let (line, column, words) = (warning.line, warning.column, warning.trap.message());
-    Ok(format!(in alloc; "{file}:{line}:{column}: warning: {words}\n")?)
+    if is_reported(warning.trap, asked.choices) {
+        push_report(alloc, reports, asked.format, file, warning)
+    } else {
+        Ok(())
+    }
 }
 
-/// The exit status of a file's check: 0 no warning, 1 warnings, 3 a refused text, 4 refused memory or a
+/// The exit status of a file's check: 0 nothing reported, 1 warnings, 3 a refused text, 4 refused memory or a
 /// device that failed.
 pub fn status_of_check(checked: &Result<Vec<u8>, Error>) -> u8
     ensures { result ≡ check_status checked.now }
 {
     match checked {
-        Ok(lines) if lines.is_empty() => 0,
+        Ok(reports) if reports.is_empty() => 0,
         Ok(_) => 1,
         Err(Error::Parse(_) | Error::NotUtf8) => 3,
         Err(Error::Io(_) | Error::Memory(_) | Error::NoProgress) => 4,

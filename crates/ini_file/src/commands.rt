@@ -30,7 +30,8 @@ impl Shape {
         match choice {
             "--existing" => command == "set",
             "--all" | "--default" => command == "get",
-            "--null" => writes_texts(command),
+            "--null" => writes_texts(command) || command == "check",
+            "--format" | "--allow" | "--deny" => command == "check",
             "--separator" => writes_pairs(command),
             "--section" => before_section(command).is_some(),
             "--dry-run" => !writes_texts(command) && command != "check",

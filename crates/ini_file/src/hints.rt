@@ -1,5 +1,5 @@
-//! What a run that finds no pair of a key may have met in its text: a trap that makes a key another one. This
-//! file knows no device.
+//! What a run that finds no pair of a key may have met in its text: a trap that swallows a line, or makes a
+//! key another one. This file knows no device.
 ghost use Rattle.std.specs.Prelude.{◌≡◌, IfErr, IfOk, chars};
 ghost use Rattle.ini.specs.Loading.{IfParse, IsParseOrMemory, IsStopOf};
 ghost use Rattle.ini_file.specs.Hints.{IsHint, first_hint, hides_key};
@@ -10,7 +10,7 @@ use ini_check::{Trap, Warning, check};
 use ini_edit::{Edit, find_pair};
 use std::alloc::Global;
 
-/// The first warning of a text that is of a trap that makes a key another one, if there is any.
+/// The first warning of a text that is of a trap that hides a key, if there is any.
 ///
 /// # Errors
 ///
@@ -38,11 +38,23 @@ fn first_hint(warnings: &[Warning]) -> Option<Warning>
     None
 }
 
-// Whether the trap makes a key another one.
+// Whether the trap hides a key.
 fn hides_key(trap: Trap) -> bool
     ensures { result ≡ hides_key trap }
 {
-    matches!(trap, Trap::RunsOn | Trap::MarkBeginsKey)
+    matches!(
+        trap,
+        Trap::UnclosedBracket
+            | Trap::UnclosedQuote
+            | Trap::JoinedLine
+            | Trap::RunsOn
+            | Trap::CommentRunsOn
+            | Trap::DroppedLine
+            | Trap::LoneCr
+            | Trap::HeaderInValue
+            | Trap::PairInValue
+            | Trap::MarkBeginsKey
+    )
 }
 
 /// Whether the pair that the words name isn't in a text over which a run has made an output all the same: of

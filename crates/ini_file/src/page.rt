@@ -5,6 +5,9 @@ use crate::spelling::{Kind, kind_of};
 use ini_options::Page;
 use std::alloc::{AllocError, Global};
 
+/// The version of the program.
+pub const VERSION: &str = "0.3.0";
+
 /// The text of a page. No clause says which it is; `tests/files.sh` tests it.
 pub fn text_of_page(page: Page) -> &'static str {
     match page {
@@ -66,7 +69,8 @@ Commands; no SECTION is the general one, FILE - is standard input:
   rename-section FILE OLD NEW               the section gets another name
   merge FILE OTHER ..                       sets in FILE what the others set
   format FILE                               writes the file anew, without comments
-  check FILE ..                             warnings of each file, a line each
+  check FILE ..                             warnings of each file: lines that are
+                                            lost, and what may surprise
 
 Options, of reading and of writing:
   --noescape     a backslash begins no escape
@@ -82,7 +86,7 @@ Choices:
   --all            of get: each value of the key, not the first alone
   --default VALUE  of get: the value where the key isn't there
   --null           of get, keys, sections and list: names, keys and values as they
-                   stand, each with NUL after it
+                   stand, each with NUL after it; so the parts of check's warnings
   --separator TEXT of set, add and format: what stands between key and value of
                    new lines; one = or : with spaces and tabs alone around it
   --section NAME   the section, in place of the last word; -s NAME too
@@ -91,6 +95,10 @@ Choices:
   --force          a write-protected file is written too
   --wait SECONDS   how long a run waits for others that write the file (10)
   --verbose        a line tells whether the file is changed or unchanged
+  --format FORM    of check: warnings for programs, as json, sarif or github
+  --allow NAME     of check: warnings of this name, as runs-on or surprises or
+                   all, aren't reported
+  --deny NAME      of check: they are, after a wider --allow
   --output FILE    writes this file in place of the other; - is standard output
   --               what follows is an argument, whatever it begins with
 Options and choices may stand anywhere before --, with = before their text too.

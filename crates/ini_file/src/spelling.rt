@@ -40,7 +40,9 @@ pub fn kind_of(name: &str) -> Option<Kind>
         "--policy" => Some(Kind::ReadingText),
         "--existing" | "--all" | "--null" | "--dry-run" | "--in-place" | "--force" | "--verbose" =>
             { Some(Kind::Choice) }
-        "--output" | "--default" | "--separator" | "--wait" => Some(Kind::ChoiceText),
+        "--output" | "--default" | "--separator" | "--wait" | "--format" | "--allow" | "--deny" => {
+            Some(Kind::ChoiceText)
+        }
         "--section" => Some(Kind::Section),
         "--help" => Some(Kind::Help),
         _ => None,

@@ -7,8 +7,11 @@
 use crate::choices::{is_short_number, writes_texts};
 use crate::commands::{COMMANDS, Shape, nearest, shape_of};
 use crate::order::{Sorted, before_section};
+use crate::report_format::Format;
+use crate::reported::names_traps;
 use crate::shown::Shown;
 use crate::spelling::kind_of;
+use ini_check::TRAPS;
 use ini_options::policy_named;
 use std::alloc::AllocError;
 use std::io::{self, Write};
@@ -26,6 +29,10 @@ pub enum UsageError<'a> {
     Policy(&'a str),
     /// This is no number of seconds.
     Seconds(&'a str),
+    /// No form has this name.
+    Format(&'a str),
+    /// No trap and no level has this name.
+    Trap(&'a str),
     /// No command is there.
     NoCommand,
     /// No command has this name.
@@ -90,8 +97,8 @@ fn choice_error<'a>(shape: Shape, choices: &[&'a str]) -> Option<UsageError<'a>>
     for word in choices {
         let word = *word;
         if kind_of(before).is_some_and(|kind| kind.takes_text()) {
-            if before == "--wait" && !is_short_number(word) {
-                return Some(UsageError::Seconds(word));
+            if let Some(error) = text_error(before, word) {
+                return Some(error);
             }
             before = "";
             continue;
@@ -108,6 +115,16 @@ fn choice_error<'a>(shape: Shape, choices: &[&'a str]) -> Option<UsageError<'a>>
         return Some(UsageError::NoNewLine);
     }
     None
+}
+
+// What is wrong with the text of a choice.
+fn text_error<'a>(choice: &str, text: &'a str) -> Option<UsageError<'a>> {
+    match choice {
+        "--wait" if !is_short_number(text) => Some(UsageError::Seconds(text)),
+        "--format" if Format::of_name(text).is_none() => Some(UsageError::Format(text)),
+        "--allow" | "--deny" if !names_traps(text) => Some(UsageError::Trap(text)),
+        _ => None,
+    }
 }
 
 // Whether the choice is about a file that the command writes with `--output` alone.
@@ -167,6 +184,14 @@ fn print_error<W: Write>(error: UsageError<'_>, err: &mut W) -> io::Result<()> {
                 "{text} is no number of seconds; --wait takes one, as 10"
             )
         }
+        UsageError::Format(name) => {
+            let name = Shown(name);
+            writeln!(
+                err,
+                "{name} is no form; --format takes json, sarif or github"
+            )
+        }
+        UsageError::Trap(name) => print_trap(name, err),
         UsageError::NoCommand => writeln!(err, "a command is missing: one of {COMMANDS}"),
         UsageError::Command(word) => print_command(word, err),
         UsageError::NoNewLine => {
@@ -224,6 +249,19 @@ fn print_choices<W: Write>(shape: Shape, err: &mut W) -> io::Result<()> {
     writeln!(err)
 }
 
+// Prints that no trap and no level has this name, and which do.
+fn print_trap<W: Write>(name: &str, err: &mut W) -> io::Result<()> {
+    let name = Shown(name);
+    write!(
+        err,
+        "{name} is no warning; they are all, loses-data, surprises"
+    )?;
+    for trap in TRAPS {
+        write!(err, ", {}", trap.name())?;
+    }
+    writeln!(err)
+}
+
 // Prints that no command has this name, and which one may be meant.
 fn print_command<W: Write>(word: &str, err: &mut W) -> io::Result<()> {
     let shown = Shown(word);
@@ -233,10 +271,13 @@ fn print_command<W: Write>(word: &str, err: &mut W) -> io::Result<()> {
     }
 }
 
-const CHOICES: [&str; 12] = [
+const CHOICES: [&str; 15] = [
     "--all",
     "--default",
     "--null",
+    "--format",
+    "--allow",
+    "--deny",
     "--existing",
     "--separator",
     "--section",
@@ -259,6 +300,7 @@ fn text_of(name: &str) -> &'static str {
         "--default" => "VALUE",
         "--separator" => "TEXT",
         "--wait" => "SECONDS",
+        "--format" => "FORM",
         _ => "NAME",
     }
 }
