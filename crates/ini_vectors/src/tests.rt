@@ -9,4 +9,5 @@ mod layers;
 mod refusals;
 mod saving;
 mod text_edits;
+mod traps;
 mod trivia;
