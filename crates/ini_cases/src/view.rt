@@ -1,7 +1,6 @@
 //! The view of a text beside its document: both have to answer the same.
 //!
-//! A comparison ends at the first answer that differs. In a chain of `&&` what each call promises would be
-//! carried to the chain's end, and proving it would take several times as long.
+//! A comparison ends at the first answer that differs.
 use crate::walk::step;
 use ini::{Error, Ini, ParseError, ParseOption, Properties};
 use ini_view::{View, ViewSection};

@@ -206,7 +206,7 @@ fn print_error<W: Write>(error: UsageError<'_>, err: &mut W) -> io::Result<()> {
     }
 }
 
-// The same of a error that is about a command.
+// The same of an error that is about a command.
 fn print_command_error<W: Write>(error: UsageError<'_>, err: &mut W) -> io::Result<()> {
     match error {
         UsageError::Choice(shape, choice) => {
