@@ -23,10 +23,10 @@ passed=0
 failed=0
 source='; a server\nname=one\n[server]\nport=8080\n[client]\nid=7\n'
 policies='Nothing Basics BasicsUnicode BasicsUnicodeExtended Reserved ReservedUnicode ReservedUnicodeExtended Everything'
-traps='unclosed-bracket, unclosed-quote, joined-line, runs-on, comment-runs-on, dropped-line, lone-cr, header-in-'
-traps="$traps value, pair-in-value, repeated-key, repeated-section, after-header, empty-name, section-case, key-case, mark-"
-traps="$traps begins-key, colon-separates, escape-in-name, escape-in-key, escape, mark-in-value, text-after-quote, half-"
-traps="$traps quote, odd-space, not-plain"
+traps='unclosed-bracket, unclosed-quote, joined-line, runs-on, comment-runs-on, dropped-line, lone-cr, header-in-value'
+traps="$traps, pair-in-value, repeated-key, repeated-section, after-header, empty-name, section-case, key-case"
+traps="$traps, mark-begins-key, colon-separates, escape-in-name, escape-in-key, escape, mark-in-value, text-after-quote"
+traps="$traps, half-quote, odd-space, not-plain"
 commands='get keys sections list set add delete delete-section rename-key rename-section merge format check'
 
 # says what a case wants and what it has, where these differ
