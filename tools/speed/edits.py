@@ -7,7 +7,7 @@
 
 PROGRAM is `ini_replay`. `own` makes a text of that size, whose last section has the key, and prints for loading it and for each
 edit the milliseconds of user and system time, and the ratio to loading. Reading the text, a run that does nothing else, is
-taken off. The aim is at most 1.2; the status is 1 if an edit misses it.
+taken off; from look-ups and edits of a text in pieces, reading it into these too. The aim is at most 1.2; the status is 1 if an edit misses it.
 
 `peers` sets a value in the last of so many sections: once by PROGRAM, by `crudini` and by `git config -f`, each a run over a
 file, with what starting the program takes. A peer that isn't there is left out.
@@ -26,6 +26,7 @@ import tempfile
 
 RUNS = 9
 AIM = 1.2
+PIECES = ["source", "source_get", "source_text", "source_edit", "source_edits", "source_list"]
 EDITS = ["set_existing", "set", "set_pair", "set_section", "delete", "add", "add_section"]
 LAST = "[last]\nkey = its value\n"
 
@@ -64,13 +65,16 @@ def own(program, megabytes):
     with tempfile.TemporaryDirectory() as folder:
         path = pathlib.Path(folder, "text.ini")
         path.write_text(text)
-        best = shortest({call: [program, call] for call in ["read", "load", *EDITS]}, path)
+        best = shortest({call: [program, call] for call in ["read", "load", *EDITS, *PIECES]}, path)
     loading = best["load"] - best["read"]
     print(f"{len(text):,} bytes, reading them {best['read']:.0f} ms")
     print(f"| Call | ms | Ratio |\n|---|---|---|\n| loading | {loading:.0f} | |")
     ratios = {call: (best[call] - best["read"]) / loading for call in EDITS}
     for call, ratio in ratios.items():
         print(f"| `{call}` | {best[call] - best['read']:.0f} | {ratio:.2f} |")
+    print(f"| `source` | {best['source'] - best['read']:.0f} | {(best['source'] - best['read']) / loading:.2f} |")
+    for call in PIECES[1:]:
+        print(f"| `{call}` | {best[call] - best['source']:.1f} | |")
     return max(ratios.values()) <= AIM
 
 

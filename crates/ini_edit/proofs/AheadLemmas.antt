@@ -45,7 +45,7 @@ blank_no_column b [] some all one = false≢true (sym some)
 blank_no_column b (c ∷ w) some all one =
     both_ways (is_line_feed (last_or c w)) (last_blank c w all) (sym (column_one_after b c w) ∙ one)
 
-no_line_feed : (x : List ℕ) → BeginsWithNo is_line_end x → BeginsWithNo is_line_feed x
+pub no_line_feed : (x : List ℕ) → BeginsWithNo is_line_end x → BeginsWithNo is_line_feed x
 no_line_feed [] h = tt
 no_line_feed (c ∷ x) h = at (eqb c 0x0A) (eqb c 0x0D) h
   where
@@ -61,7 +61,7 @@ LineEnd-before [] x y h (LineEnd.cr n) = LineEnd.cr (no_line_feed x h)
 LineEnd-before (c ∷ t) x y h (LineEnd.cr n) = LineEnd.cr n
 
 -- no text that closes a line begins so
-closes_no_line : {X : Type 0} (y : List ℕ) → BeginsWith (λ c. not (is_line_end c)) y → Closes plain_ends y
+pub closes_no_line : {X : Type 0} (y : List ℕ) → BeginsWith (λ c. not (is_line_end c)) y → Closes plain_ends y
     → X
 closes_no_line [] begins h = absurd (false≢true (sym begins))
 closes_no_line (c ∷ y) begins h =

@@ -26,7 +26,7 @@ first_two test (c ∷ w) x h m = (c, (h, m))
 no_indent : {X : Type 0} {b w : Text} (x : Text) → Indentation b w → BeginsWith is_comment_mark (w ++ x) → X
 no_indent {w = w} x i m = let two = first_two is_blank w x i.some m in no_mark_blank two.0 two.1.1 two.1.0
 
-no_key : {X : Type 0} {o : ParseOption} {b k y key : Text} → KeyFront o b k y key
+pub no_key : {X : Type 0} {o : ParseOption} {b k y key : Text} → KeyFront o b k y key
     → BeginsWith is_comment_mark (k ++ y) → X
 no_key (KeyFront.unindented {s = k} {r = y} begins str) m =
     let two = first_two begins_key (k ++ y) [] begins
@@ -42,7 +42,7 @@ pub begins_with : (test : ℕ → Bool) (x : Text) → begins test x ≡ true �
 begins_with test [] h = absurd (false≢true h)
 begins_with test (c ∷ x) h = h
 
-begins_front : (test : ℕ → Bool) (s r : Text) → BeginsWith test s → BeginsWith test (s ++ r)
+pub begins_front : (test : ℕ → Bool) (s r : Text) → BeginsWith test s → BeginsWith test (s ++ r)
 begins_front test [] r h = absurd (false≢true (sym h))
 begins_front test (c ∷ s) r h = h
 
@@ -54,7 +54,7 @@ pub data IsComment (b : Text) : Text → Text → List Given → Type 0 where
       → list_all (λ c. not (is_line_feed c)) s ≡ true → IsComment b (m ∷ s) [] []
 
 module _ {o : ParseOption} {b : Text} where
-  is_comment : {s r : Text} {gives : List Given} → BeginsWith is_comment_mark (s ++ r)
+  pub is_comment : {s r : Text} {gives : List Given} → BeginsWith is_comment_mark (s ++ r)
       → Element o b s r gives
       → IsComment b s r gives
   is_comment {r = r} m (Element.gap (Gap.blank_line {w = w} d i q)) =

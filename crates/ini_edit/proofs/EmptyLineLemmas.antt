@@ -25,14 +25,14 @@ use Rattle.ini_edit.proofs.PlaceLemmas.{place_column, place_reached}
 use Rattle.ini_edit.proofs.PlaceWalkLemmas.{begins_yes, blanks_no_key}
 
 -- an indented key's source begins with a blank
-key_blank : {c : ℕ} {s : Text} → IsIndentedKey (c ∷ s) → is_blank c ≡ true
+pub key_blank : {c : ℕ} {s : Text} → IsIndentedKey (c ∷ s) → is_blank c ≡ true
 key_blank key = ap (begins is_blank) key.whole ∙ begins_yes is_blank key.blanks key.key key.some
 
 -- blanks and line ends
-abbrev blank_or_end : ℕ → Bool
+abbrev pub blank_or_end : ℕ → Bool
 blank_or_end c = is_blank c || is_line_end c
 
-blanks_all : (w t : Text) → list_all is_blank w ≡ true → list_all blank_or_end t ≡ true
+pub blanks_all : (w t : Text) → list_all is_blank w ≡ true → list_all blank_or_end t ≡ true
     → list_all blank_or_end (w ++ t) ≡ true
 blanks_all [] t all more = more
 blanks_all (c ∷ w) t all more =
@@ -43,7 +43,7 @@ all_after : (a b : Text) → list_all blank_or_end (a ++ b) ≡ true → list_al
 all_after [] b all = all
 all_after (c ∷ a) b all = all_after a b (and_parts (blank_or_end c) _ all).1
 
-blank_source_no_key : (s : Text) → list_all blank_or_end s ≡ true → ¬ IsIndentedKey s
+pub blank_source_no_key : (s : Text) → list_all blank_or_end s ≡ true → ¬ IsIndentedKey s
 blank_source_no_key s all key =
     blanks_no_key key.key (all_after key.blanks key.key (ap (list_all blank_or_end) (sym key.whole) ∙ all))
     key.begins
@@ -57,7 +57,7 @@ one_no_key (b ∷ []) (k ∷ rest) some begins is = cc
 one_no_key (b ∷ d ∷ blanks) (k ∷ rest) some begins is = cc
 
 -- an element that gives nothing, and which something follows, is no indented key
-nothing_no_key : {o : ParseOption} {b s r : Text} {gives : List Given} → Element o b s r gives → r ≢ []
+pub nothing_no_key : {o : ParseOption} {b s r : Text} {gives : List Given} → Element o b s r gives → r ≢ []
     → gives ≡ [] → ¬ IsIndentedKey s
 nothing_no_key (Element.gap (Gap.blank_line {w} c i end)) some none key =
     blank_source_no_key (w ++ c ∷ [])
@@ -111,7 +111,7 @@ no_lone : (e : Ending) (c : ℕ) (V : Text) → is_line_feed (last_or c V) ≡ t
 no_lone e c [] feed = no_escape e [] c (no_backslash is_line_feed c refl feed)
 no_lone e c (d ∷ V) feed = no_lone (next_ending e c) d V feed
 
-closing_nothing : {o : ParseOption} (e : Ending) → e ≢ Ending.escape → Closing o e []
+pub closing_nothing : {o : ParseOption} (e : Ending) → e ≢ Ending.escape → Closing o e []
 closing_nothing Ending.inside apart = Closing.within
 closing_nothing Ending.escape apart = absurd (apart refl)
 closing_nothing Ending.line apart = Closing.after_line

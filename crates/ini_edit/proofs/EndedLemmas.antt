@@ -73,7 +73,7 @@ line_end-some-after z y (LineEnd.cr n) h = cc
 
 module _ {o : ParseOption} {x : List ℕ} (follows : Follows o x) where
   -- a line end, and how what follows it ends
-  LineEnd-ended : {e : List ℕ} (t r : List ℕ) → LineEnd e (t ++ r)
+  pub LineEnd-ended : {e : List ℕ} (t r : List ℕ) → LineEnd e (t ++ r)
       → ending_from Ending.inside (e ++ t) ≡ Ending.line
       → LineEnd e (t ++ x) × (ending_from Ending.line t ≡ Ending.line)
   LineEnd-ended t r LineEnd.lf h = (LineEnd.lf, h)
@@ -81,7 +81,7 @@ module _ {o : ParseOption} {x : List ℕ} (follows : Follows o x) where
   LineEnd-ended [] r (LineEnd.cr n) h = cc
   LineEnd-ended (c ∷ t) r (LineEnd.cr n) h = (LineEnd.cr n, h)
 
-  MoreLines-ended : {t r v : List ℕ} → o.enabled_indented_mutiline_value ≡ true → MoreLines o t r v
+  pub MoreLines-ended : {t r v : List ℕ} → o.enabled_indented_mutiline_value ≡ true → MoreLines o t r v
       → ending_from Ending.line t ≡ Ending.line → MoreLines o t x v
   MoreLines-ended on (MoreLines.done n m) h = MoreLines.done (follows.no_blank on) (follows.no_line_end on)
   MoreLines-ended on (MoreLines.empty_lf m) h = MoreLines.empty_lf (MoreLines-ended on m h)
@@ -96,7 +96,7 @@ module _ {o : ParseOption} {x : List ℕ} (follows : Follows o x) where
   MoreLines-ended on (MoreLines.last {w} {l} b lead ln) h =
       absurd (line_no_line ln (sym (ending-lead Ending.line w l b lead.white) ∙ h))
 
-  Value-ended : {s r v : List ℕ} → Value o s r v → ending_from Ending.inside s ≡ Ending.line → Value o s x v
+  pub Value-ended : {s r v : List ℕ} → Value o s r v → ending_from Ending.inside s ≡ Ending.line → Value o s x v
   Value-ended (Value.one_line {w} {l} off lead ln) h =
       absurd (line_no_line ln (sym (ending-white w l lead.white) ∙ h))
   Value-ended (Value.to_end {w} {l} on lead ln) h =

@@ -16,14 +16,31 @@ abbrev pub entry_changed : {K V : Type 0} → (K → Bool) → (V → V) → Lis
 entry_changed fits h [] = []
 entry_changed fits h (e ∷ es) = cond (fits e.0) ((e.0, h e.1) ∷ es) (e ∷ entry_changed fits h es)
 
+-- what is left of a list from an index on, where this is read there
+pub rest_here : {A : Type 0} (xs : List A) (i : ℕ) (x : A) → i < length xs → x ≡ get_or xs i x
+    → drop i xs ≡ x ∷ drop (i + 1) xs
+rest_here xs i x within is = drop_more xs i x within ∙ ap (λ y. y ∷ drop (i + 1) xs) (sym is)
+
 module _ {A : Type 0} (test : A → Bool) where
+  fitting-append : (xs ys : List A) → first_fitting test xs ≡ None
+      → first_fitting test (xs ++ ys) ≡ first_fitting test ys
+  fitting-append [] ys none = refl
+  fitting-append (x ∷ xs) ys none = at (test x) none (fitting-append xs ys)
+    where
+      at : (b : Bool) → cond b (Some x) (first_fitting test xs) ≡ None
+          → (first_fitting test xs ≡ None → first_fitting test (xs ++ ys) ≡ first_fitting test ys)
+          → cond b (Some x) (first_fitting test (xs ++ ys)) ≡ first_fitting test ys
+      at true none more = absurd (let no : Some x ≡ None = none in cc)
+      at false none more = more none
+
   -- up to the index of the list none fitted
   pub record PassedTo (xs : List A) (i : ℕ) : Type 0 where
     pub fitting : first_fitting test xs ≡ first_fitting test (drop i xs)
+    pub none_before : first_fitting test (take i xs) ≡ None
     pub changed : (f : A → A) → first_changed test f xs ≡ take i xs ++ first_changed test f (drop i xs)
 
   pub passed_start : (xs : List A) → PassedTo xs 0
-  passed_start xs = record { fitting = refl; changed = λ f. refl }
+  passed_start xs = record { fitting = refl; none_before = refl; changed = λ f. refl }
 
   module _ {xs : List A} {i : ℕ} (passed : PassedTo xs i) where
     pub passed_end : length xs ≤ i → first_fitting test xs ≡ None
@@ -31,16 +48,20 @@ module _ {A : Type 0} (test : A → Bool) where
 
     module _ {x : A} (within : i < length xs) (is : x ≡ get_or xs i x) where
       here : drop i xs ≡ x ∷ drop (i + 1) xs
-      here = drop_more xs i x within ∙ ap (λ y. y ∷ drop (i + 1) xs) (sym is)
+      here = rest_here xs i x within is
+
+      front : take (i + 1) xs ≡ take i xs ++ x ∷ []
+      front = take_more xs i x within ∙ ap (λ y. take i xs ++ y ∷ []) (sym is)
 
       pub passed_more : test x ≡ false → PassedTo xs (i + 1)
       passed_more apart = record {
         fitting = passed.fitting ∙ ap (first_fitting test) here ∙ cond-false (test x) _ _ apart;
+        none_before = ap (first_fitting test) front ∙ fitting-append (take i xs) (x ∷ []) passed.none_before
+            ∙ cond-false (test x) _ _ apart;
         changed = λ f. passed.changed f ∙ ap (λ l. take i xs ++ first_changed test f l) here
             ∙ ap (λ l. take i xs ++ l) (cond-false (test x) _ _ apart)
             ∙ sym (append_assoc (take i xs) (x ∷ []) (first_changed test f (drop (i + 1) xs)))
-            ∙ ap (λ l. l ++ first_changed test f (drop (i + 1) xs))
-            (ap (λ y. take i xs ++ y ∷ []) is ∙ sym (take_more xs i x within));
+            ∙ ap (λ l. l ++ first_changed test f (drop (i + 1) xs)) (sym front);
       }
 
       pub passed_found : test x ≡ true → IsFirstAt test xs i
@@ -49,6 +70,7 @@ module _ {A : Type 0} (test : A → Bool) where
         fitting = passed.fitting ∙ ap (first_fitting test) here ∙ cond-true (test x) _ _ fits;
         within = within;
         is = is;
+        none_before = passed.none_before;
         changed = λ f. set_split xs i (f x) within
             ∙ (let next : suc i ≡ i + 1 = omega arith in ap (λ n. take i xs ++ f x ∷ drop n xs) next)
             ∙ ap (λ l. take i xs ++ l) (sym (cond-true (test x) _ _ fits) ∙ sym (ap

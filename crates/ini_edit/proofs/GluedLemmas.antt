@@ -30,7 +30,7 @@ use Rattle.ini_edit.proofs.InsertedLemmas.{line_end-closes}
 use Rattle.ini_edit.proofs.PadLemmas.{end_trimmed-white}
 use Rattle.ini_edit.proofs.ValueLemmas.{closes_no_inline, closes_no_mark}
 
-row-append : {e : Bool} {ends : Ends} {s v t w : List ℕ} → Row e ends s v → Row e ends t w
+pub row-append : {e : Bool} {ends : Ends} {s v t w : List ℕ} → Row e ends s v → Row e ends t w
     → Row e ends (s ++ t) (v ++ w)
 row-append Row.none other = other
 row-append (Row.raw n inside rest) other = Row.raw n inside (row-append rest other)
@@ -52,7 +52,7 @@ module _ {o : ParseOption} where
   closing_escape (Closing.by_space off) = inr (off, refl)
 
   -- after a line end, and after its CR
-  closing_after : {c : List ℕ} (t : List ℕ) → Closing o (ending_from Ending.inside t) c
+  pub closing_after : {c : List ℕ} (t : List ℕ) → Closing o (ending_from Ending.inside t) c
       → Closing o (ending_from Ending.line t) c
   closing_after [] k = subst (Closing o Ending.line) (sym (closing_inside k)) Closing.after_line
   closing_after (x ∷ t) k = k
@@ -96,7 +96,7 @@ drop_feeds-after [] w h = drop_feeds w h
 drop_feeds-after (c ∷ cs) w h =
     ap (λ l. cond (is_line_feed c && eqb (length l) 0) [] (c ∷ l)) (drop_feeds-after cs w h)
 
-feeds_after : (cs w : List ℕ) → list_all is_line_feed w ≡ true
+pub feeds_after : (cs w : List ℕ) → list_all is_line_feed w ≡ true
     → without_outer_line_feeds (cs ++ w) ≡ without_outer_line_feeds cs
 feeds_after [] [] h = refl
 feeds_after [] (c ∷ w) h =
@@ -123,7 +123,7 @@ no_mark_after [] y z h = refl
 no_mark_after (c ∷ s) y z h = h
 
 module _ {o : ParseOption} {c : List ℕ} (y : List ℕ) (closes : Closes plain_ends y) where
-  line_glued : {first : Bool} {l r v : List ℕ} → Line o first l r v
+  pub line_glued : {first : Bool} {l r v : List ℕ} → Line o first l r v
       → Closing o (ending_from Ending.inside l) c
       → Line o first (l ++ c) y v
   line_glued {first} {v = u} (Line.line {q = q} {p = p} {r = r} quoted plain (Str.closed row h)) k =
@@ -164,7 +164,7 @@ module _ {o : ParseOption} {c : List ℕ} (y : List ℕ) (closes : Closes plain_
             (Str.closed (row-append row (Row.escape kept Row.none)) closes))))
       ]
 
-  lead_glued : {w : List ℕ} (l r : List ℕ) → Lead w (l ++ r) → Closing o (ending_from Ending.inside l) c
+  pub lead_glued : {w : List ℕ} (l r : List ℕ) → Lead w (l ++ r) → Closing o (ending_from Ending.inside l) c
       → Lead w ((l ++ c) ++ y)
   lead_glued [] r lead k = record {
     white = lead.white;
@@ -191,7 +191,7 @@ no_lines (MoreLines.last {w} {l} b lead ln) h = absurd (some w _ b h)
 
 -- With g, a line end and what goes before it, after them, lines are read before x: their value has only
 -- line feeds after it.
-record MoreGlued (o : ParseOption) (t g x v : List ℕ) : Type 0 where
+pub record MoreGlued (o : ParseOption) (t g x v : List ℕ) : Type 0 where
   pub value : List ℕ
   pub feeds : List ℕ
   pub more : MoreLines o (t ++ g) x value
@@ -199,7 +199,7 @@ record MoreGlued (o : ParseOption) (t g x v : List ℕ) : Type 0 where
   pub all : list_all is_line_feed feeds ≡ true
 
 -- the same from a line end e on
-record EndedGlued (o : ParseOption) (e t r g x v : List ℕ) : Type 0 where
+pub record EndedGlued (o : ParseOption) (e t r g x v : List ℕ) : Type 0 where
   pub end : List ℕ
   pub lines : List ℕ
   pub value : List ℕ
@@ -293,7 +293,7 @@ module _ {o : ParseOption} (sep : LineSeparator) {x : List ℕ} (follows : Follo
           all = refl;
         }
 
-    ended_glued : {e : List ℕ} (t r v : List ℕ) → LineEnd e (t ++ r) → MoreLines o t r v
+    pub ended_glued : {e : List ℕ} (t r v : List ℕ) → LineEnd e (t ++ r) → MoreLines o t r v
         → Closing o (ending_from Ending.inside (e ++ t)) c → MoreGlued o t g x v → EndedGlued o e t r g x v
     ended_glued t r v LineEnd.lf m k n = record {
       end = line_feed ∷ [];
@@ -334,7 +334,7 @@ module _ {o : ParseOption} (sep : LineSeparator) {x : List ℕ} (follows : Follo
     }
 
     -- how the lines after a line end end
-    closing_lines : {e : List ℕ} (t y : List ℕ) → LineEnd e y
+    pub closing_lines : {e : List ℕ} (t y : List ℕ) → LineEnd e y
         → Closing o (ending_from Ending.inside (e ++ t)) c
         → Closing o (ending_from Ending.line t) c
     closing_lines t y LineEnd.lf k = k
@@ -356,7 +356,7 @@ module _ {o : ParseOption} (sep : LineSeparator) {x : List ℕ} (follows : Follo
         ap (λ y. w ++ (l ++ y)) h ∙ ap (λ y. w ++ y) (sym (append_assoc l z g))
         ∙ sym (append_assoc w (l ++ z) g)
 
-    more_glued : {t r v : List ℕ} → MoreLines o t r v → Closing o (ending_from Ending.line t) c
+    pub more_glued : {t r v : List ℕ} → MoreLines o t r v → Closing o (ending_from Ending.line t) c
         → MoreGlued o t g x v
     more_glued (MoreLines.done n m) k =
         subst (λ z. MoreGlued o [] z x []) (nothing_before (closing_line k)) done_glued

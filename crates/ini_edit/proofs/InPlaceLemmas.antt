@@ -11,7 +11,7 @@ use Rattle.ini_edit.specs.Inside.InPlace.{AreInPlace, IsLocal}
 use Rattle.ini_edit.specs.Sources.{joined}
 
 -- fronts that agree before a text and what follows it agree after the text
-Agree-after : {c d : ℕ} (s t : Text) → Agree (c ∷ []) (d ∷ []) (s ++ t)
+pub Agree-after : {c d : ℕ} (s t : Text) → Agree (c ∷ []) (d ∷ []) (s ++ t)
     → Agree (last_or c s ∷ []) (last_or d s ∷ []) t
 Agree-after [] t a = a
 Agree-after (e ∷ s) t a = record { line = λ _. refl; column = λ _. refl }

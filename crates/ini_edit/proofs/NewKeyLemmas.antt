@@ -125,14 +125,14 @@ module _ {o : ParseOption} {policy : EscapePolicy} {key : List ℕ} (plain : IsP
   read_key = cond_both o.enabled_preserve_key_leading_whitespace _ _ (λ k. k ≡ key)
       (λ on. end_trimmed-before_white key pad white_pad ∙ bare_end) (λ off. trimmed_key [] off refl)
 
-  unindented : {b : List ℕ} → KeyFront o b source (m ∷ r) key
+  pub unindented : {b : List ℕ} → KeyFront o b source (m ∷ r) key
   unindented {b} =
       let begins : BeginsWith begins_key (source ++ m ∷ r) =
       rw (append_assoc (escaped policy key) pad (m ∷ r)) (bare_unindented policy (pad ++ m ∷ r) bare) in
       subst (KeyFront o b source (m ∷ r)) read_key
       (KeyFront.unindented begins (Str.closed key_row (separator_closes m sep)))
 
-  indented : {b w : List ℕ} (s x : List ℕ) → Indentation b w
+  pub indented : {b w : List ℕ} (s x : List ℕ) → Indentation b w
       → o.enabled_preserve_key_leading_whitespace ≡ false → list_all is_whitespace x ≡ true → (y : List ℕ)
       → BeginsWith begins_indented_key ((x ++ y) ++ s)
       → KeyFront o b (w ++ (x ++ source)) (m ∷ r) key
@@ -151,7 +151,7 @@ module _ {o : ParseOption} {policy : EscapePolicy} {key : List ℕ} (plain : IsP
           rw (append_assoc (escaped policy key) pad (m ∷ r)) (bare_indented policy (pad ++ m ∷ r) bare)
       begins (c ∷ x) h = h
 
-  follows : Follows o (source ++ m ∷ r)
+  pub follows : Follows o (source ++ m ∷ r)
   follows =
       let whole = sym (append_assoc (escaped policy key) pad (m ∷ r)) in
       record {

@@ -42,7 +42,7 @@ not_taken : {o : ParseOption} {W : Text} → ¬ IsTaken o W []
 not_taken (IsTaken.by_value on h) = false≢true h
 not_taken (IsTaken.by_blank apart h) = false≢true h
 
-mark_apart : (c : ℕ) → is_comment_mark c ≡ true → is_blank_or_line_end c ≡ false
+pub mark_apart : (c : ℕ) → is_comment_mark c ≡ true → is_blank_or_line_end c ≡ false
 mark_apart c h =
     elim (or_cases (c == 59) (c == 35) h)
     [ inl q ↦ rw (eqb-true c 59 q) refl | inr q ↦ rw (eqb-true c 35 q) refl ]

@@ -11,6 +11,7 @@ use Rattle.std.specs.List.{list_all}
 use Rattle.ini_text.specs.declared.option.ParseOption.{ParseOption}
 use Rattle.ini_text.specs.declared.write.policy.EscapePolicy.{EscapePolicy}
 use Rattle.ini_text.specs.Grammar.CharacterKinds.{backslash, is_inline_white, is_quote_mark, plus}
+use Rattle.ini_text.specs.Grammar.CharacterKinds.{line_feed}
 use Rattle.ini_text.specs.Grammar.CharacterKinds.{BeginsWithNo}
 use Rattle.ini_text.specs.Grammar.EscapeSequences.{EscapeSequence, spelled}
 use Rattle.ini_text.specs.Grammar.Lines.{BeginsPlain, Line, Quoted, plain_value}
@@ -41,7 +42,7 @@ mark_no_white = of_mark (λ m. is_inline_white m ≡ false) refl refl
 mark_no_backslash : (m : ℕ) → is_quote_mark m ≡ true → eqb backslash m ≡ false
 mark_no_backslash = of_mark (λ m. eqb backslash m ≡ false) refl refl
 
-white_no_mark : (c : ℕ) → is_inline_white c ≡ true → is_quote_mark c ≡ false
+pub white_no_mark : (c : ℕ) → is_inline_white c ≡ true → is_quote_mark c ≡ false
 white_no_mark c h =
     false_from_ne_true (is_quote_mark c) (λ q. both_ways (is_inline_white c) (mark_no_white c q) h)
 
@@ -89,19 +90,14 @@ module _ {o : ParseOption} {policy : EscapePolicy} {value : Text}
       subst (λ z. IsSourceOf o z value) (sym (append-nil (escaped policy value))) (bare_source writable)
   source_in (IsQuoteFor.mark {m} on mark none) = quoted_source m on mark none
 
-  -- and the source is a raw value
-  pub own_in : {quote : Text} → IsQuoteFor o value quote → IsOwnSource o (written_in policy quote value)
+  -- its lines are the value's own before a line end
+  pub lines_in : {quote : Text} → IsQuoteFor o value quote
+      → OwnLines o (written_in policy quote value) (line_feed ∷ [])
   unfolding quoted_source
-  own_in IsQuoteFor.empty = record {
-    space_after = [];
-    rest = [];
-    lines = subst (λ z. OwnLines o (z ++ []) []) (sym (append-nil (escaped policy value))) (bare_line writable);
-  }
-  own_in (IsQuoteFor.mark {m} on mark none) = record {
-    space_after = [];
-    rest = [];
-    lines = OwnLines.first ((quoted_source m on mark none).line [] [] [] refl refl refl).is_line;
-  }
+  lines_in IsQuoteFor.empty = bare_line (line_feed ∷ []) refl writable
+  lines_in (IsQuoteFor.mark {m} on mark none) =
+      subst (λ s. OwnLines o s (line_feed ∷ [])) (append-nil (written_in policy (m ∷ []) value))
+      (OwnLines.first ((quoted_source m on mark none).line [] [] (line_feed ∷ []) refl refl refl).is_line)
 
 pub quote_for : {o : ParseOption} {raw_value value quote : Text} → KeepsQuote o raw_value value quote
     → IsQuoteFor o value quote

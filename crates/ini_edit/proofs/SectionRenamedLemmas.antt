@@ -1,5 +1,6 @@
 -- A text with another name in a header.
-use Rattle.std.proofs.Common.{◌≡◌, ◌∙◌, ◌==◌, Bool, true, List, [], ◌∷◌, ◌++◌, ap, sym, subst, refl, append_assoc}
+use Rattle.std.proofs.Common.{◌≡◌, ◌∙◌, ◌==◌, Bool, true, List, [], ◌∷◌, ◌++◌, ap, sym, subst, refl}
+use Rattle.std.proofs.Common.{append_assoc}
 use Rattle.std.proofs.Common.{arith, chars, eqb-true}
 use Rattle.std.proofs.lemmas.Bool.{false≢true}
 use Rattle.ini_text.specs.declared.option.ParseOption.{ParseOption}
@@ -40,7 +41,7 @@ plain_closes (c ∷ r) h = h
 
 -- the new header is read where the old one was
 module _ {o : ParseOption} (policy : EscapePolicy) (new : Text) (p : IsPlainName o policy new) where
-  bracketed : {b r : Text} → o.enabled_brackets_in_section_names ≡ true → Closes bracketed_name_ends r
+  pub bracketed : {b r : Text} → o.enabled_brackets_in_section_names ≡ true → Closes bracketed_name_ends r
       → Element o b (header_of policy new) r (Header new ∷ [])
   bracketed {b} {r} on closes =
       let all = all_read {o = o} policy new p.read_back in

@@ -36,6 +36,7 @@ use Rattle.ini_edit.specs.Inside.Spans.{span_source}
 use Rattle.ini_edit.specs.Inside.Walks.{IsPastLast, IsReading, StandsWithin, Steps}
 use Rattle.ini_edit.specs.Sources.{PairPiece, SectionPiece, joined, placed_piece, sections_text}
 use Rattle.ini_edit.specs.declared.source.gap.Reached.{Reached}
+use Rattle.ini_edit.proofs.ClosedLemmas.{closed_space}
 use Rattle.ini_edit.proofs.InPlaceLemmas.{in_place-join, joined-append}
 use Rattle.ini_edit.proofs.SpanLemmas.{spans_read, sections_joined}
 use Rattle.ini_edit.proofs.WalkLemmas.{reads_rest, stands_within, stays, step_reads}
@@ -45,7 +46,7 @@ white_after : {raw_value space_after : Text} → SpaceAfter raw_value space_afte
 white_after (SpaceAfter.bare bare white) = white
 white_after (SpaceAfter.escaped front white all) = refl
 
-empty_parts : (xs ys : List Given) → xs ++ ys ≡ [] → (xs ≡ []) × (ys ≡ [])
+pub empty_parts : (xs ys : List Given) → xs ++ ys ≡ [] → (xs ≡ []) × (ys ≡ [])
 empty_parts [] ys h = (refl, h)
 empty_parts (x ∷ xs) ys h = absurd (let no : x ∷ (xs ++ ys) ≡ [] = h in cc)
 
@@ -107,9 +108,10 @@ module _ {o : ParseOption} where
     separates = h.separates;
     gives = h.gives;
     white_before = h.space_before.white;
-    own_source = record { space_after = p.space_after; rest = p.trailing_lines ++ r; lines = h.raw_value };
     white_after = white_after h.space_after;
     are_trailing = h.trailing_lines;
+    own_lines = h.raw_value;
+    closed = closed_space h.space_after;
   }
 
 -- after the front b the parser went over elements that give nothing

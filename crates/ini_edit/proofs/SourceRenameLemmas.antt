@@ -9,15 +9,12 @@ use Rattle.std.specs.Prelude.{is_some}
 use Rattle.ini_text.specs.Escaping.EscapedTexts.{escaped}
 use Rattle.ini_text.specs.Grammar.CharacterKinds.{BeginsWith, close_bracket, line_feed, open_bracket}
 use Rattle.ini_text.specs.Grammar.Elements.{Element, Given, Header}
-use Rattle.ini_text.specs.Grammar.Keys.{KeyFront}
-use Rattle.ini_text.specs.Grammar.Pieces.{ArePieces, Piece, pieces_text}
 use Rattle.ini_text.specs.Grammar.Places.{pair_source, value_source}
 use Rattle.ini_text.specs.Grammar.Positions.{last_or}
 use Rattle.ini_text.specs.Laws.PieceLaws.{Agree, BeginAlike}
 use Rattle.ini_text.specs.Laws.Plain.{IsPlainName}
 use Rattle.ini_text.specs.declared.option.ParseOption.{ParseOption}
 use Rattle.ini_text.specs.declared.write.policy.EscapePolicy.{EscapePolicy}
-use Rattle.ini_text.proofs.LawLemmas.LocalLemmas.{Element-before, KeyFront-like, by_front}
 use Rattle.ini_text.proofs.LawLemmas.OneAheadLemmas.{Alike, KeyFront-alike}
 use Rattle.ini_text.proofs.LawLemmas.PieceLemmas.{last_or-append}
 use Rattle.ini.specs.Edits.{key_renamed, rename_key_in, section_renamed}
@@ -27,14 +24,11 @@ use Rattle.ini_edit.specs.Inside.InPlace.{AreInPlace}
 use Rattle.ini_edit.specs.Inside.SourceSteps.{IsFirstAt, RenamesIn, RenamesKey, RenamesPair}
 use Rattle.ini_edit.specs.Inside.Spans.{AreSections, AreSpans, BeginGeneral, IsPair, IsSpan, Span}
 use Rattle.ini_edit.specs.Inside.Spans.{gap, opening, pair, pairs_spans, sections_spans, span_source}
-use Rattle.ini_edit.specs.Places.{Follows}
 use Rattle.ini_edit.specs.Renamed.{HasEdges, IsPlainBareKey}
 use Rattle.ini_edit.specs.Sections.{header_of}
 use Rattle.ini_edit.specs.SourceEdits.{RenamesKeyIn, RenamesNameIn, first_changed, first_fitting}
 use Rattle.ini_edit.specs.SourceEdits.{key_changed, pair_changed, with_header, with_key, with_pairs}
 use Rattle.ini_edit.specs.Sources.{PairPiece, Pieces, SectionPiece, given_pair, given_section, joined}
-use Rattle.ini_edit.proofs.AheadLemmas.{FollowsFront, key_follows, tail_before, value_before}
-use Rattle.ini_edit.proofs.AheadLemmas as ahead
 use Rattle.ini_edit.proofs.FirstLemmas.{changed_first, first_stands, renamed_first, stands_there}
 use Rattle.ini_edit.proofs.InPlaceLemmas.{in_place-before, in_place-exchanged, in_place-put, in_place-split}
 use Rattle.ini_edit.proofs.NewKeyLemmas.{in_place}
@@ -44,66 +38,8 @@ use Rattle.ini_edit.proofs.SourceReadLemmas.{sections_spans-append}
 use Rattle.ini_edit.proofs.SourceSetLemmas.{as_edit, changed_sections, closed_agrees, found_there}
 use Rattle.ini_edit.proofs.SourceSetLemmas.{last_agrees}
 use Rattle.ini_edit.proofs.SourceSetLemmas.{no_value, same_sections, sections_put}
-use Rattle.ini_edit.proofs.SpanLemmas.{span_before, spans_local}
-
--- Before a key what stands in its place stands before any other text too that may follow a value.
-module _ {o : ParseOption} {x : Text} (follows : Follows o x) {k r key : Text} where
-  -- a key that stands after these characters
-  front_of : (c : ℕ) (s : Text) → KeyFront o (last_or c s ∷ []) k r key
-      → FollowsFront ((c ∷ []) ++ s) (k ++ r)
-  front_of c s front = key_follows r (KeyFront-like by_front front)
-
-  pieces_ahead : {c : ℕ} (ps : List Piece) → KeyFront o (last_or c (pieces_text ps) ∷ []) k r key
-      → ArePieces o c ps (k ++ r) → ArePieces o c ps x
-  pieces_ahead [] front ArePieces.none = ArePieces.none
-  pieces_ahead {c} (p ∷ ps) front (ArePieces.more e rest) =
-      let later : KeyFront o (last_or (last_or c p.source) (pieces_text ps) ∷ []) k r key =
-      subst (λ z. KeyFront o (z ∷ []) k r key) (last_or-append c p.source (pieces_text ps)) front in
-      ArePieces.more (at (pieces_text ps) later e) (pieces_ahead {c = last_or c p.source} ps later rest)
-    where
-      at : (t : Text) → KeyFront o (last_or (last_or c p.source) t ∷ []) k r key
-          → Element o (c ∷ []) p.source (t ++ (k ++ r)) p.gives → Element o (c ∷ []) p.source (t ++ x) p.gives
-      at [] last e = ahead.Element-before follows (front_of c p.source last) e
-      at (d ∷ t) last e = Element-before BeginAlike.character e
-
-  span_ahead : {c : ℕ} {s : Span} → KeyFront o (last_or c (span_source s) ∷ []) k r key
-      → IsSpan o c s (k ++ r) → IsSpan o c s x
-  span_ahead front IsSpan.general = IsSpan.general
-  span_ahead {c} front (IsSpan.header {s = s} e) =
-      IsSpan.header (ahead.Element-before follows (front_of c s front) e)
-  span_ahead {c} front (IsSpan.is_pair {p = p} h) =
-      let f = front_of c (pair_source p) front in
-      IsSpan.is_pair (record {
-        key_front = h.key_front;
-        some = h.some;
-        separates = h.separates;
-        gives = value_before follows f h.gives;
-        white_before = h.white_before;
-        own_source = h.own_source;
-        white_after = h.white_after;
-        are_trailing = tail_before follows f h.are_trailing;
-      })
-  span_ahead {c} front (IsSpan.is_gap h) = IsSpan.is_gap (record {
-    pieces = h.pieces;
-    whole = h.whole;
-    nothing = h.nothing;
-    are = pieces_ahead h.pieces
-        (subst (λ t. KeyFront o (last_or c t ∷ []) k r key) h.whole front) h.are;
-  })
-
-  pub spans_ahead : {c : ℕ} (xs : List Span) → KeyFront o (last_or c (joined span_source xs) ∷ []) k r key
-      → AreSpans o c xs (k ++ r) → AreSpans o c xs x
-  spans_ahead [] front AreInPlace.none = AreInPlace.none
-  spans_ahead {c} (s ∷ xs) front (AreInPlace.more is rest) =
-      let source = span_source s in
-      let later : KeyFront o (last_or (last_or c source) (joined span_source xs) ∷ []) k r key =
-      subst (λ z. KeyFront o (z ∷ []) k r key) (last_or-append c source (joined span_source xs)) front in
-      AreInPlace.more (at (joined span_source xs) later is) (spans_ahead {c = last_or c source} xs later rest)
-    where
-      at : (t : Text) → KeyFront o (last_or (last_or c (span_source s)) t ∷ []) k r key
-          → IsSpan o c s (t ++ (k ++ r)) → IsSpan o c s (t ++ x)
-      at [] last is = span_ahead last is
-      at (d ∷ t) last is = span_before BeginAlike.character is
+use Rattle.ini_edit.proofs.SpanLemmas.{spans_local}
+pub use Rattle.ini_edit.proofs.SpanFrontLemmas.{spans_ahead}
 
 alike_begin : {r x : Text} → Alike r x → BeginAlike r x
 alike_begin Alike.same = BeginAlike.character
@@ -169,9 +105,10 @@ module _ {o : ParseOption} {policy : EscapePolicy} {other : Text} (plain : IsPla
             separates = is.separates;
             gives = is.gives;
             white_before = is.white_before;
-            own_source = is.own_source;
             white_after = is.white_after;
             are_trailing = is.are_trailing;
+            own_lines = is.own_lines;
+            closed = is.closed;
           } in
           in_place-put span_source spans_local front (pair p.stretches p.key p.value ∷ [])
           (renamed_pair ∷ []) rest h

@@ -34,21 +34,23 @@ use Rattle.ini_edit.specs.SourceEdits.{SetsValueIn, first_changed, first_fitting
 use Rattle.ini_edit.specs.SourceEdits.{pair_in, pair_of_key, with_pairs, with_value}
 use Rattle.ini_edit.specs.Sources.{PairPiece, Pieces, SectionPiece, given_pair, given_section, joined}
 use Rattle.ini_edit.specs.Writable.{IsWritableValue}
+use Rattle.ini_edit.proofs.ClosedLemmas.{source_closed}
 use Rattle.ini_edit.proofs.FirstLemmas.{changed_first, entry_changed, first_stands}
 use Rattle.ini_edit.proofs.FirstLemmas.{lookup_first, stands_there}
 use Rattle.ini_edit.proofs.InPlaceLemmas.{in_place-exchanged, in_place-split}
-use Rattle.ini_edit.proofs.QuoteLemmas.{own_in, quote_for, source_in}
+use Rattle.ini_edit.proofs.OwnBeforeLemmas.{own_padded}
+use Rattle.ini_edit.proofs.QuoteLemmas.{lines_in, quote_for, source_in}
 use Rattle.ini_edit.proofs.SourceReadLemmas.{begin-same, pairs_spans-append, sections_spans-append}
-use Rattle.ini_edit.proofs.SpanLemmas.{spans_local}
-use Rattle.ini_edit.proofs.ValueLemmas.{closes_line_end, value_written}
+use Rattle.ini_edit.proofs.SpanLemmas.{own_source, spans_local}
+use Rattle.ini_edit.proofs.ValueLemmas.{closes_line_end, tail_closes, value_written}
 
-line_end_no_mark : (c : ℕ) → is_line_end c ≡ true → is_comment_mark c ≡ false
+pub line_end_no_mark : (c : ℕ) → is_line_end c ≡ true → is_comment_mark c ≡ false
 line_end_no_mark c h =
     elim (or_cases (c == 10) (c == 13) h)
     [ inl q ↦ rw (eqb-true c 10 q) refl | inr q ↦ rw (eqb-true c 13 q) refl ]
 
 -- before nothing all fronts agree
-before_nothing : {b c : Text} → Agree b c []
+pub before_nothing : {b c : Text} → Agree b c []
 before_nothing = record { line = λ h. absurd (false≢true (sym h)); column = λ h. absurd (false≢true (sym h)) }
 
 -- and before what closes a line
@@ -92,10 +94,10 @@ keys_begin [] m v w r = BeginAlike.character
 keys_begin (c ∷ k) m v w r = BeginAlike.character
 
 -- a pair's source is what stands before its tail, and that
-abbrev before_tail : Stretches → Text
+abbrev pub before_tail : Stretches → Text
 before_tail p = p.key ++ p.separator ∷ (p.space_before ++ (p.raw_value ++ p.space_after))
 
-with_tail : (p : Stretches) → pair_source p ++ [] ≡ before_tail p ++ p.trailing_lines
+pub with_tail : (p : Stretches) → pair_source p ++ [] ≡ before_tail p ++ p.trailing_lines
 with_tail p =
     append-nil (pair_source p)
     ∙ ap (λ t. p.key ++ p.separator ∷ (p.space_before ++ t)) (sym
@@ -105,13 +107,16 @@ with_tail p =
     ∙ sym (append_assoc p.key (p.separator ∷ (p.space_before ++
     (p.raw_value ++ p.space_after))) p.trailing_lines)
 
+-- in the pair's place the value may stand, of this source
+abbrev pub MayStand : ParseOption → (source value : Text) → PairPiece → Type 0
+MayStand o source value p = (c : ℕ) (r : Text) → IsPair o c p.stretches p.key p.value r
+    → IsPair o c (with_value source value p).stretches p.key value r
+
 module _ {o : ParseOption} {policy : EscapePolicy} {value source : Text}
     (writable : IsWritableValue o policy value)
     (p : PairPiece) (put : IsPut o policy p.stretches.raw_value p.value value source) where
-  -- the pair is one with the value
-  pair_set : {c : ℕ} {r : Text} → IsPair o c p.stretches p.key p.value r
-      → IsPair o c (with_value source value p).stretches p.key value r
-  pair_set {c} {r} h = at put
+  pair_set : MayStand o source value p
+  pair_set c r h = at put
     where
       at : {source : Text} → IsPut o policy p.stretches.raw_value p.value value source
           → IsPair o c (with_value source value p).stretches p.key value r
@@ -123,11 +128,14 @@ module _ {o : ParseOption} {policy : EscapePolicy} {value source : Text}
         gives = value_written p.stretches.space_before p.stretches.space_after h.white_before h.white_after
             (source_in writable (quote_for keeps)) h.are_trailing;
         white_before = h.white_before;
-        own_source = own_in writable (quote_for keeps);
         white_after = h.white_after;
         are_trailing = h.are_trailing;
+        own_lines = own_padded p.stretches.space_after (p.stretches.trailing_lines ++ r) h.white_after
+            (tail_closes h.are_trailing) (lines_in writable (quote_for keeps));
+        closed = λ e. absurd (source_closed (source_in writable (quote_for keeps)) e);
       }
 
+module _ {o : ParseOption} (source value : Text) (p : PairPiece) (may : MayStand o source value p) where
   abbrev the_new : Span
   the_new = pair (with_value source value p).stretches p.key value
 
@@ -144,7 +152,7 @@ module _ {o : ParseOption} {policy : EscapePolicy} {value source : Text}
       at (AreInPlace.more (IsSpan.is_pair is) later) =
           in_place-exchanged span_source spans_local front (pair p.stretches p.key p.value ∷ [])
           (the_new ∷ []) rest h
-          (AreInPlace.more (IsSpan.is_pair (pair_set is)) AreInPlace.none)
+          (AreInPlace.more (IsSpan.is_pair (may _ _ is)) AreInPlace.none)
           (keys_begin p.stretches.key p.stretches.separator _ _ (joined span_source rest ++ []))
           (subst (λ t. Agree (last_or c (pair_source p.stretches ++ []) ∷ []) (last_or c t ∷ [])
           (joined span_source rest))
@@ -158,14 +166,14 @@ module _ {o : ParseOption} {policy : EscapePolicy} {value source : Text}
           (append-nil (joined span_source rest)) is.are_trailing)))
 
 -- the spans around a pair
-abbrev spans_before : List SectionPiece → SectionPiece → List PairPiece → List Span
+abbrev pub spans_before : List SectionPiece → SectionPiece → List PairPiece → List Span
 spans_before before s earlier =
     sections_spans before ++ (opening s.name s.header ∷ gap s.after ∷ pairs_spans earlier)
 
-abbrev spans_after : Text → List PairPiece → List SectionPiece → List Span
+abbrev pub spans_after : Text → List PairPiece → List SectionPiece → List Span
 spans_after after later rest = gap after ∷ (pairs_spans later ++ sections_spans rest)
 
-spans_at : (before : List SectionPiece) (s : SectionPiece) (rest : List SectionPiece)
+pub spans_at : (before : List SectionPiece) (s : SectionPiece) (rest : List SectionPiece)
     (earlier later : List PairPiece)
     (p : PairPiece) → sections_spans (before ++ with_pairs s (earlier ++ p ∷ later) ∷ rest)
     ≡ spans_before before s earlier ++ (pair p.stretches p.key p.value ∷ spans_after p.after later rest)
@@ -289,7 +297,8 @@ module _ {o : ParseOption} where
       → HaveOwnSources o ps
   pairs_own [] rest h = All-nil (λ p. IsOwnSource o p.stretches.raw_value)
   pairs_own (p ∷ ps) rest (AreInPlace.more (IsSpan.is_pair is) (AreInPlace.more _ later)) =
-      All-cons (λ p. IsOwnSource o p.stretches.raw_value) p ps is.own_source (pairs_own ps rest later)
+      All-cons (λ p. IsOwnSource o p.stretches.raw_value) p ps (own_source is)
+      (pairs_own ps rest later)
 
   pub sections_own : {c : ℕ} {r : Text} (ss : List SectionPiece) → AreSpans o c (sections_spans ss) r
       → All (λ s. HaveOwnSources o s.pairs) ss
@@ -324,7 +333,8 @@ module _ {o : ParseOption} {policy : EscapePolicy} {value : Text} (writable : Is
   sections_after true h are =
       let f = with_value h.source value in
       subst (AreSections o) (sym (changed_sections name key ss at new (key_changed key f) h.is))
-      (sections_put name key f h.pair refl (spans_set writable h.pair h.is_put) ss
+      (sections_put name key f h.pair refl
+      (spans_set h.source value h.pair (pair_set writable h.pair h.is_put)) ss
       (found_there name key ss at new h.was) are)
   sections_after false h are = subst (AreSections o) (sym (same_sections name key ss at new h.0)) are
 

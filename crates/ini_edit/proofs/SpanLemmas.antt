@@ -14,7 +14,8 @@ use Rattle.ini_text.specs.Grammar.Texts.{Reads}
 use Rattle.ini_text.specs.Grammar.Values.{Value}
 use Rattle.ini_text.specs.Laws.PieceLaws.{Agree, BeginAlike}
 use Rattle.ini_text.specs.declared.option.ParseOption.{ParseOption}
-use Rattle.ini_text.proofs.LawLemmas.LocalLemmas.{Agree-front, Element-before, Element-like, KeyFront-like}
+use Rattle.ini_text.proofs.LawLemmas.LocalLemmas.{Agree-front, BeginAlike-after, Element-before}
+use Rattle.ini_text.proofs.LawLemmas.LocalLemmas.{Element-like, KeyFront-like}
 use Rattle.ini_text.proofs.LawLemmas.OneAheadLemmas.{Alike, Alike-after, KeyFront-alike, LineEnd-alike}
 use Rattle.ini_text.proofs.LawLemmas.OneAheadLemmas.{MoreLines-alike, Value-alike}
 use Rattle.ini_text.proofs.LawLemmas.PieceLemmas.{pieces_before, pieces_items-append}
@@ -26,12 +27,14 @@ use Rattle.ini.specs.SectionItems.{items_of, name_items, pair_items}
 use Rattle.ini.specs.Texts.{Text}
 use Rattle.ini.proofs.PlainTextLemmas.{HasNames, items_make}
 use Rattle.ini_edit.specs.Inside.InPlace.{AreInPlace, IsLocal}
+use Rattle.ini_edit.specs.Inside.Quotes.{IsOwnSource}
 use Rattle.ini_edit.specs.Inside.Spans.{AreSections, AreSpans, BeginGeneral, IsPair, IsSpan, Span}
 use Rattle.ini_edit.specs.Inside.Spans.{opening, pair, gap, pairs_spans, section_spans, sections_spans}
 use Rattle.ini_edit.specs.Inside.Spans.{span_source}
 use Rattle.ini_edit.specs.Sources.{PairPiece, SectionPiece, given_pair, given_section, joined}
 use Rattle.ini_edit.specs.Sources.{pairs_text, sections_text}
 use Rattle.ini_edit.proofs.InPlaceLemmas.{joined-append}
+use Rattle.ini_edit.proofs.OwnBeforeLemmas.{own_before}
 
 module _ {o : ParseOption} where
   Value-before : {s r v x : Text} → BeginAlike r x → Value o s r v → Value o s x v
@@ -49,6 +52,11 @@ module _ {o : ParseOption} where
       → Element o (c ∷ []) (pair_source p) r (Pair key value ∷ [])
   pair_element h = Element.pair (KeyFront-alike Alike.same h.key_front) h.some h.separates h.gives
 
+  pub own_source : {c : ℕ} {p : Stretches} {key value r : Text} → IsPair o c p key value r
+      → IsOwnSource o p.raw_value
+  own_source {p = p} {r = r} h =
+      record { space_after = p.space_after; rest = p.trailing_lines ++ r; lines = h.own_lines }
+
   span_like : {c d : ℕ} {x : Span} {r : Text} → Agree (c ∷ []) (d ∷ []) (span_source x) → IsSpan o c x r
       → IsSpan o d x r
   span_like a IsSpan.general = IsSpan.general
@@ -59,9 +67,10 @@ module _ {o : ParseOption} where
     separates = h.separates;
     gives = h.gives;
     white_before = h.white_before;
-    own_source = h.own_source;
     white_after = h.white_after;
     are_trailing = h.are_trailing;
+    own_lines = h.own_lines;
+    closed = h.closed;
   })
   span_like {c} {d} a (IsSpan.is_gap h) = IsSpan.is_gap (record {
     pieces = h.pieces;
@@ -73,15 +82,16 @@ module _ {o : ParseOption} where
   pub span_before : {c : ℕ} {x : Span} {r y : Text} → BeginAlike r y → IsSpan o c x r → IsSpan o c x y
   span_before a IsSpan.general = IsSpan.general
   span_before a (IsSpan.header e) = IsSpan.header (Element-before a e)
-  span_before a (IsSpan.is_pair h) = IsSpan.is_pair (record {
+  span_before a (IsSpan.is_pair {p = p} h) = IsSpan.is_pair (record {
     key_front = h.key_front;
     some = h.some;
     separates = h.separates;
     gives = Value-before a h.gives;
     white_before = h.white_before;
-    own_source = h.own_source;
     white_after = h.white_after;
     are_trailing = TrailingLines-before a h.are_trailing;
+    own_lines = own_before (BeginAlike-after p.trailing_lines a) h.own_lines;
+    closed = h.closed;
   })
   span_before a (IsSpan.is_gap h) = IsSpan.is_gap (record {
     pieces = h.pieces;
@@ -113,11 +123,12 @@ spans_items-append (x ∷ xs) ys = ap (λ l. span_items x ++ l) (spans_items-app
     ∙ sym (append_assoc (span_items x) (spans_items xs) (spans_items ys))
 
 -- the elements of a source that gives items
-record AreElements (o : ParseOption) (c : ℕ) (source : Text) (items : List Given) (r : Text) : Type 0 where
-  pieces : List Piece
-  text : source ≡ pieces_text pieces
-  gives : items ≡ pieces_items pieces
-  are : ArePieces o c pieces r
+pub record AreElements (o : ParseOption) (c : ℕ) (source : Text) (items : List Given) (r : Text)
+    : Type 0 where
+  pub pieces : List Piece
+  pub text : source ≡ pieces_text pieces
+  pub gives : items ≡ pieces_items pieces
+  pub are : ArePieces o c pieces r
 
 module _ {o : ParseOption} where
   one_element : {c : ℕ} {s r : Text} {items : List Given} → Element o (c ∷ []) s r items
@@ -137,7 +148,7 @@ module _ {o : ParseOption} where
   span_elements (IsSpan.is_gap h) =
       record { pieces = h.pieces; text = h.whole; gives = sym h.nothing; are = h.are }
 
-  spans_elements : {c : ℕ} {xs : List Span} {r : Text} → AreSpans o c xs r
+  pub spans_elements : {c : ℕ} {xs : List Span} {r : Text} → AreSpans o c xs r
       → AreElements o c (joined span_source xs) (spans_items xs) r
   spans_elements AreInPlace.none = record { pieces = []; text = refl; gives = refl; are = ArePieces.none }
   spans_elements {c} {r = r} (AreInPlace.more {x = x} {xs = xs} h rest) =
@@ -164,7 +175,7 @@ module _ {o : ParseOption} where
       (pieces_read [] all.pieces all.are (whole ∙ ap (λ t. t ++ r) all.text)))
 
 -- the text of sections is that of their spans
-pairs_joined : (ps : List PairPiece) → joined span_source (pairs_spans ps) ≡ pairs_text ps
+pub pairs_joined : (ps : List PairPiece) → joined span_source (pairs_spans ps) ≡ pairs_text ps
 pairs_joined [] = refl
 pairs_joined (p ∷ ps) = ap (λ t. pair_source p.stretches ++ (p.after ++ t)) (pairs_joined ps)
     ∙ sym (append_assoc (pair_source p.stretches) p.after (pairs_text ps))

@@ -110,14 +110,14 @@ bare_source {o} {policy} {value} writable =
     }
 
 -- which is a value's line
-pub bare_line : {o : ParseOption} {policy : EscapePolicy} {value : List ℕ} → IsWritableValue o policy value
-    → OwnLines o (escaped policy value ++ []) []
+pub bare_line : {o : ParseOption} {policy : EscapePolicy} {value : List ℕ} (r : List ℕ)
+    → Closes plain_ends r → IsWritableValue o policy value → OwnLines o (escaped policy value ++ []) r
 unfolding written_line
-bare_line {o} {policy} {value} writable = at value (read_as_written writable)
+bare_line {o} {policy} {value} r h writable = at value (read_as_written writable)
   where
-    at : (v : List ℕ) → IsReadAsWritten o policy v → OwnLines o (escaped policy v ++ []) []
-    at [] is = OwnLines.first (written_line [] [] refl refl [] [] is refl).is_line
-    at (c ∷ cs) is = OwnLines.first (written_line [] [] refl refl (c ∷ cs) [] is refl).is_line
+    at : (v : List ℕ) → IsReadAsWritten o policy v → OwnLines o (escaped policy v ++ []) r
+    at [] is = OwnLines.first (written_line [] [] refl refl [] r is h).is_line
+    at (c ∷ cs) is = OwnLines.first (written_line [] [] refl refl (c ∷ cs) r is h).is_line
 
 module _ {o : ParseOption} (w pad : List ℕ) (white : list_all is_inline_white w ≡ true)
     (white_pad : list_all is_inline_white pad ≡ true) where

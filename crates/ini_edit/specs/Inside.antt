@@ -9,6 +9,9 @@ pub mod Quotes
 pub mod RawTests
 pub mod SectionWalks
 pub mod SetWalks
+pub mod SourceElementWalks
+pub mod SourceEnds
+pub mod SourceSearches
 pub mod SourceSteps
 pub mod SourceWalks
 pub mod Spans

@@ -20,6 +20,17 @@ pub mod Renamed
 pub mod Sections
 pub mod Settings
 pub mod SourceEdits
+pub mod SourceEditsAdd
+pub mod SourceEditsAdded
+pub mod SourceEditsComments
+pub mod SourceEditsDelete
+pub mod SourceEditsList
+pub mod SourceEditsSections
+pub mod SourceEditsSet
+pub mod SourceElements
+pub mod SourceLines
+pub mod SourcePlaces
+pub mod SourceWritten
 pub mod Sources
 pub mod Targets
 pub mod Writable

@@ -75,7 +75,7 @@ pub(crate) fn text_end(text: &str) -> TextEnd
     end
 }
 
-fn next_end(end: TextEnd, c: char) -> TextEnd
+pub(crate) fn next_end(end: TextEnd, c: char) -> TextEnd
     ensures { ending_of result ≡ next_ending (ending_of end) c }
 {
     match end {

@@ -41,6 +41,8 @@ pub use section_deletion::delete_section;
 pub use section_renaming::rename_section;
 pub use setting::{set, set_existing};
 pub use source::Source;
+pub use source::elements::{Position, SourceContent, SourceElement, SourceElements};
 pub use source::pair::SourcePair;
 pub use source::section::SourceSection;
+pub use source::set::LaterPairs;
 pub use writable::is_writable_value;

@@ -31,11 +31,22 @@ use std::alloc::{AllocError, Global};
 use std::io::Write;
 use std::marker::Model;
 
+mod add;
+mod comments;
+mod delete;
+pub(crate) mod elements;
+mod find;
 mod gap;
+pub(crate) mod lines;
+mod list;
 pub(crate) mod pair;
+mod place;
 mod rename;
 pub(crate) mod section;
+mod sections;
 mod sending;
+pub(crate) mod set;
+mod written;
 
 /// A text that was read once, in pieces: sections in order, of which the first is the general one, each with
 /// its pairs. Every byte is kept: comments, blank lines, white space, quotes.
@@ -223,6 +234,7 @@ fn push_section<'a>(
     section: SourceSection<'a>,
 ) -> Result<(), Error>
     ensures pushed { OnOk result (sections.new.items ≡ sections.old.items ++ section.entry ∷ []) }
+    ensures kept { OnErr result (sections.new.items ≡ sections.old.items) }
     ensures only { IsOkUnless result (Error.Memory alloc_error) }
 {
     match sections.push(section) {

@@ -1,5 +1,7 @@
 //! Options by the words of a question: `InvalidInput` where a word is none.
+use crate::hex::text_of_hex;
 use ini_text::{EscapePolicy, LineSeparator, ParseOption};
+use std::alloc::Global;
 use std::io::{self, ErrorKind};
 
 /// That a line is no question.
@@ -51,5 +53,29 @@ pub(crate) fn separator_of_line_end(name: &str) -> io::Result<LineSeparator> {
         "LF" => Ok(LineSeparator::CR),
         "CRLF" => Ok(LineSeparator::CRLF),
         _ => Err(invalid()),
+    }
+}
+
+/// A separator is a constant of the program: these are asked for, the last two of them not plain.
+pub(crate) fn separator_of_text(text: &str) -> io::Result<&'static str> {
+    match text {
+        "=" => Ok("="),
+        ":" => Ok(":"),
+        " = " => Ok(" = "),
+        ":\t" => Ok(":\t"),
+        "" => Ok(""),
+        " ==" => Ok(" =="),
+        _ => Err(invalid()),
+    }
+}
+
+/// A section's name: none is the general one's.
+pub(crate) fn name_of_word(alloc: Global, word: &str) -> io::Result<Option<String>> {
+    if word == "G" {
+        return Ok(None);
+    }
+    match word.strip_prefix('S') {
+        Some(digits) => Ok(Some(text_of_hex(alloc, digits)?)),
+        None => Err(invalid()),
     }
 }

@@ -1,5 +1,6 @@
 -- What edits of a text in pieces make of one pair, and of one section.
-use Rattle.std.specs.Prelude.{◌≡◌, ◌<◌, ℕ, Bool, true, false, List, ◌++◌, length, set, get_or, None, Some}
+use Rattle.std.specs.Prelude.{◌≡◌, ◌<◌, ℕ, Bool, true, false, List, ◌++◌, length, set, get_or}
+use Rattle.std.specs.Prelude.{None, Some, take}
 use Rattle.std.specs.List.{All}
 use Rattle.ini_text.specs.Escaping.EscapedTexts.{escaped}
 use Rattle.ini_text.specs.declared.option.ParseOption.{ParseOption}
@@ -18,6 +19,7 @@ pub record IsFirstAt {A : Type 0} (test : A → Bool) (xs : List A) (i : ℕ) : 
   pub fitting : first_fitting test xs ≡ Some found
   pub within : i < length xs
   pub is : found ≡ get_or xs i found
+  pub none_before : first_fitting test (take i xs) ≡ None
   pub changed : (f : A → A) → set xs i (f found) ≡ first_changed test f xs
 
 -- each of the pairs' values is the source of a value

@@ -5,12 +5,13 @@ use Rattle.ini_text.specs.Grammar.CharacterKinds.{line_feed, is_inline_white, is
 use Rattle.ini_text.specs.Grammar.Elements.{Header, Element}
 use Rattle.ini_text.specs.Grammar.Keys.{KeyFront}
 use Rattle.ini_text.specs.Grammar.Pieces.{ArePieces, Piece, pieces_items, pieces_text}
-use Rattle.ini_text.specs.Grammar.Places.{Stretches, TrailingLines, pair_source, value_source}
+use Rattle.ini_text.specs.Grammar.Places.{OwnLines, Stretches, TrailingLines, pair_source}
+use Rattle.ini_text.specs.Grammar.Places.{value_source}
 use Rattle.ini_text.specs.Grammar.Values.{Value}
 use Rattle.ini_text.specs.declared.option.ParseOption.{ParseOption}
 use Rattle.ini.specs.Texts.{Text}
+use Rattle.ini_edit.specs.Endings.{Ending, ending}
 use Rattle.ini_edit.specs.Inside.InPlace.{AreInPlace}
-use Rattle.ini_edit.specs.Inside.Quotes.{IsOwnSource}
 use Rattle.ini_edit.specs.Sources.{PairPiece, SectionPiece}
 
 -- what opens a section, of this source; a pair; or gaps and comments
@@ -32,9 +33,12 @@ module _ (o : ParseOption) where
     pub separates : is_separator p.separator ≡ true
     pub gives : Value o (value_source p) r value
     pub white_before : list_all is_inline_white p.space_before ≡ true
-    pub own_source : IsOwnSource o p.raw_value
     pub white_after : list_all is_inline_white p.space_after ≡ true
     pub are_trailing : TrailingLines o p.trailing_lines r
+    -- the raw value, and white space after it, are all of the value's own lines
+    pub own_lines : OwnLines o (p.raw_value ++ p.space_after) (p.trailing_lines ++ r)
+    -- no white space stands after a backslash that would take it
+    pub closed : ending p.raw_value ≡ Ending.escape → p.space_after ≡ []
 
   -- elements that give nothing
   pub record IsGap (c : ℕ) (source r : Text) : Type 0 where

@@ -1,5 +1,5 @@
-//! What stands between the items of a text: gaps and comments, up to the next item. This file knows elements,
-//! and no item.
+//! What stands between the items of a text: gaps and comments, up to the next item. This file knows
+//! elements, and no item.
 ghost use Rattle.std.specs.Prelude.{◌≡◌, ◌≢◌, [], false, true, IfErr, IfOk};
 ghost use Rattle.ini_text.specs.Parsing.Places.{gives};
 ghost use Rattle.ini.specs.Loading.{IfParse, IsParseOrMemory, IsStopOf};

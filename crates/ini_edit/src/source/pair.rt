@@ -19,6 +19,9 @@ use std::borrow::CowStr;
 use std::io::Write;
 use std::marker::Model;
 
+pub(crate) mod ends;
+mod parts;
+
 /// A pair of a `Source`: its key and its value, its source, and what follows that up to the next pair or
 /// header.
 #[derive(Debug, Drop)]

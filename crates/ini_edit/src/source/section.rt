@@ -22,6 +22,12 @@ use std::borrow::CowStr;
 use std::io::Write;
 use std::marker::Model;
 
+mod comments;
+mod delete;
+mod ends;
+mod insert;
+mod parts;
+
 /// A section of a `Source`: its name, and its pairs in order.
 #[derive(Debug, Drop)]
 pub struct SourceSection<'a> {
@@ -243,7 +249,11 @@ fn send_pairs<W: Write>(
 }
 
 // A header, as the policy writes it.
-fn written_header(alloc: Global, name: &str, policy: EscapePolicy) -> Result<String, Error>
+pub(crate) fn written_header(
+    alloc: Global,
+    name: &str,
+    policy: EscapePolicy,
+) -> Result<String, Error>
     ensures written { IfOk result (λ header. string_text header ≡ header_of policy (chars name.now)) }
     ensures only { IsOkUnless result (Error.Memory alloc_error) }
 {

@@ -1,6 +1,9 @@
 //! Questions: an edit of a text, and the options by which it is read and written.
 use crate::hex::text_of_hex;
-use crate::options::{invalid, policy_of_name, reading_of_flags, separator_of_line_end};
+use crate::options::{
+    invalid, name_of_word, policy_of_name, reading_of_flags, separator_of_line_end,
+    separator_of_text,
+};
 use ini_text::{ParseOption, WriteOption};
 use std::alloc::Global;
 use std::io;
@@ -40,29 +43,6 @@ fn call_of_name(name: &str) -> io::Result<Call> {
         "delete_section" => Ok(Call::DeleteSection),
         "rename_section" => Ok(Call::RenameSection),
         _ => Err(invalid()),
-    }
-}
-
-// A separator is a constant of the program: these are asked for, the last two of them not plain.
-fn separator_of_text(text: &str) -> io::Result<&'static str> {
-    match text {
-        "=" => Ok("="),
-        ":" => Ok(":"),
-        " = " => Ok(" = "),
-        ":\t" => Ok(":\t"),
-        "" => Ok(""),
-        " ==" => Ok(" =="),
-        _ => Err(invalid()),
-    }
-}
-
-fn name_of_word(alloc: Global, word: &str) -> io::Result<Option<String>> {
-    if word == "G" {
-        return Ok(None);
-    }
-    match word.strip_prefix('S') {
-        Some(digits) => Ok(Some(text_of_hex(alloc, digits)?)),
-        None => Err(invalid()),
     }
 }
 

@@ -2,7 +2,7 @@
 use super::random::Random;
 use super::show::{loaded, options_of, reported};
 use ini::{Error, EscapePolicy, Ini};
-use ini_edit::{EditError, Source, rename_key, rename_section, set_existing};
+use ini_edit::{EditError, Source, SourceContent, rename_key, rename_section, set_existing};
 use std::alloc::Global;
 use std::process::Abort;
 use std::test::Fail;
@@ -100,6 +100,46 @@ fn edited(
         Ok(false) => reported(alloc, Ok(None)),
         Err(refused) => reported(alloc, Err(refused)),
     }
+}
+
+/// The elements of a text: each with its place, its section, and what it is.
+fn elements_of(alloc: Global, text: &str) -> Result<String, Error> {
+    let source = Source::read(alloc, text, options_of("qe"))?;
+    let mut out = String::new(alloc);
+    for element in source.elements() {
+        let (line, column) = (element.position.line, element.position.column);
+        let section = element.section.unwrap_or("-");
+        let what = match element.content {
+            SourceContent::Header(header) => header,
+            SourceContent::Pair(pair) => pair.key(),
+            SourceContent::Between(between) => between,
+        };
+        out.push_str(format!(in alloc; "{line}:{column} {section} {what:?}, ")?.as_str())?;
+    }
+    Ok(out)
+}
+
+/// Each element stands where it does, in its section, and none is empty.
+#[test]
+fn elements_have_their_places(rt: HostRuntime) -> Result<(), Fail> {
+    let rows = [
+        ("", ""),
+        ("k=v", "1:1 - \"k\", "),
+        (
+            "\n [a]\n; c\nk=v\n",
+            "1:1 - \"\\n \", 2:2 a \"[a]\", 2:5 a \"\\n; c\\n\", 4:1 a \"k\", 4:4 a \"\\n\", ",
+        ),
+        (
+            "é=\"a\nb\"\nj=1[b]",
+            "1:1 - \"é\", 2:3 - \"\\n\", 3:1 - \"j\", ",
+        ),
+        ("k\n=v\r[b]", "1:1 - \"k\", 2:3 - \"\\r\", 2:4 b \"[b]\", "),
+    ];
+    for (text, want) in rows {
+        let is = elements_of(rt.alloc(), text)?;
+        assert!(&rt; is.as_str() == want, "{text:?}: {is}, and not {want}");
+    }
+    Ok(())
 }
 
 /// The text with a value set by its pieces, where the key is there.

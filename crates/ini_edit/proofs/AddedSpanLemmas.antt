@@ -1,0 +1,165 @@
+-- Spans of a text up to its last gap, of which a front is kept, and other spans after it.
+use Rattle.std.proofs.Common.{◌≡◌, ◌≢◌, ◌∙◌, ◌≤◌, arith, length, ℕ, Bool, true, false, cond, List, []}
+use Rattle.std.proofs.Common.{◌∷◌, ◌++◌}
+use Rattle.std.proofs.Common.{Option, ap, append_assoc, append-nil, refl, subst, sym}
+use Rattle.std.proofs.lemmas.Bool.{false≢true}
+use Rattle.ini_text.specs.Grammar.CharacterKinds.{is_line_feed, line_feed}
+use Rattle.ini_text.specs.Grammar.Elements.{Element, Given, Header}
+use Rattle.ini_text.specs.Grammar.Pieces.{pieces_text}
+use Rattle.ini_text.specs.Grammar.Places.{Stretches, pair_source, value_source}
+use Rattle.ini_text.specs.Grammar.Positions.{last_or}
+use Rattle.ini_text.specs.Grammar.Strings.{Closes, Str, bracketed_name_ends}
+use Rattle.ini_text.specs.Laws.PieceLaws.{BeginAlike}
+use Rattle.ini_text.specs.Options.WriteOptions.{line_end}
+use Rattle.ini_text.specs.declared.option.ParseOption.{ParseOption}
+use Rattle.ini_text.specs.declared.write.option.LineSeparator.{LineSeparator}
+use Rattle.ini_text.specs.declared.write.option.LineSeparator.TheVariants.{CR, CRLF, SystemDefault}
+use Rattle.ini_text.proofs.GrammarLemmas.ItemLemmas.{element-some}
+use Rattle.ini_text.proofs.LawLemmas.OneAheadLemmas.{Alike, Str-alike}
+use Rattle.ini.specs.Texts.{Text}
+use Rattle.ini_edit.specs.Inside.InPlace.{AreInPlace}
+use Rattle.ini_edit.specs.Inside.Spans.{AreSpans, IsGap, IsPair, IsSpan, Span, gap, opening, pair}
+use Rattle.ini_edit.specs.Inside.Spans.{span_source}
+use Rattle.ini_edit.specs.Sources.{joined}
+use Rattle.ini_edit.proofs.EndedGapLemmas.{feed_gap, gap_stands, pieces_ended}
+use Rattle.ini_edit.proofs.GapLemmas.{gap_join}
+use Rattle.ini_edit.proofs.GapPartLemmas.{gap_nothing}
+use Rattle.ini_edit.proofs.InPlaceLemmas.{in_place-before, in_place-join, in_place-split}
+use Rattle.ini_edit.proofs.SectionPlaceLemmas.{IsCutFor}
+use Rattle.ini_edit.proofs.SectionTakenLemmas.{IsFeed, key_starts, same_start}
+use Rattle.ini_edit.proofs.SpanLemmas.{spans_local}
+
+pub feed_of : (s : LineSeparator) → IsFeed (line_end s)
+feed_of SystemDefault = IsFeed.lf
+feed_of CR = IsFeed.lf
+feed_of CRLF = IsFeed.cr_lf
+
+source_some : (s : Text) → 1 ≤ length s → s ≢ []
+source_some [] h none = omega arith
+source_some (c ∷ s) h none = cc
+
+-- the line end that is put, if it is
+pub gap_either : {o : ParseOption} {c : ℕ} {l : Text} (b : Bool) (r : Text) → IsFeed l
+    → IsGap o c (cond b [] l) r
+gap_either true r feed = gap_nothing
+gap_either false r feed = feed_gap feed
+
+feed_closes : {l : Text} (y : Text) → IsFeed l → Closes bracketed_name_ends (l ++ y)
+feed_closes y IsFeed.lf = refl
+feed_closes y IsFeed.cr_lf = refl
+
+module _ {o : ParseOption} where
+  -- after spans that stay, another gap and others
+  pub spans_kept : (ys : List Span) (new : Text) (tail : List Span)
+      → AreSpans o line_feed ys (new ++ (joined span_source tail ++ []))
+      → IsGap o (last_or line_feed (joined span_source ys)) new (joined span_source tail ++ [])
+      → ((c : ℕ) → AreSpans o c tail []) → AreSpans o line_feed (ys ++ (gap new ∷ tail)) []
+  spans_kept ys new tail front is later =
+      in_place-join span_source ys (gap new ∷ tail)
+      (subst (AreSpans o line_feed ys) (sym (append_assoc new (joined span_source tail) [])) front)
+      (AreInPlace.more (IsSpan.is_gap is) (later (last_or (last_or line_feed (joined span_source ys)) new)))
+
+  -- after a pair that ends otherwise
+  pub spans_ended : {y : Text} (ys : List Span) (p q : Stretches) (key value new : Text) (tail : List Span)
+      → q.key ≡ p.key → q.separator ≡ p.separator
+      → AreSpans o line_feed (ys ++ pair p key value ∷ []) y
+      → ((c : ℕ) → IsPair o c p key value y → IsPair o c q key value (new ++ (joined span_source tail ++ [])))
+      → ((c : ℕ) → IsGap o c new (joined span_source tail ++ []))
+      → ((c : ℕ) → AreSpans o c tail [])
+      → AreSpans o line_feed (ys ++ (pair q key value ∷ gap new ∷ tail)) []
+  spans_ended {y} ys p q key value new tail same separates h ended is later =
+      let split = in_place-split span_source ys (pair p key value ∷ []) h in
+      in_place-join span_source ys (pair q key value ∷ gap new ∷ tail)
+      (in_place-before span_source spans_local begins split.0) (at split.1)
+    where
+      Z : Text
+      Z = joined span_source tail ++ []
+
+      c : ℕ
+      c = last_or line_feed (joined span_source ys)
+
+      begins : BeginAlike ((pair_source p ++ []) ++ y)
+          ((pair_source q ++ (new ++ joined span_source tail)) ++ [])
+      begins =
+          subst (λ k. BeginAlike ((pair_source p ++ []) ++ y)
+          (((k ++ q.separator ∷ value_source q) ++ (new ++ joined span_source tail)) ++ [])) (sym same)
+          (subst (λ m. BeginAlike ((pair_source p ++ []) ++ y)
+          (((p.key ++ m ∷ value_source q) ++ (new ++ joined span_source tail)) ++ [])) (sym separates)
+          (key_starts p.key p.separator (value_source p) [] y (value_source q)
+          (new ++ joined span_source tail) []))
+
+      at : AreSpans o c (pair p key value ∷ []) y → AreSpans o c (pair q key value ∷ gap new ∷ tail) []
+      at (AreInPlace.more (IsSpan.is_pair one) AreInPlace.none) =
+          AreInPlace.more
+          (IsSpan.is_pair (subst (IsPair o c q key value)
+          (sym (append_assoc new (joined span_source tail) [])) (ended c one)))
+          (AreInPlace.more (IsSpan.is_gap (is (last_or c (pair_source q))))
+          (later (last_or (last_or c (pair_source q)) new)))
+
+  -- what opens a section, before a line end; and what opens none, before any text
+  opening_ended : {b s y name l : Text} {gives : List Given} (x : Text) → IsFeed l → gives ≡ Header name ∷ []
+      → Element o b s y gives → Element o b s (l ++ x) gives
+  opening_ended {name = name} x feed is (Element.gap g) =
+      absurd (let no : [] ≡ Header name ∷ [] = is in cc)
+  opening_ended {name = name} x feed is (Element.comment s one mark all) =
+      absurd (let no : [] ≡ Header name ∷ [] = is in cc)
+  opening_ended {name = name} x feed is (Element.last_comment one mark all) =
+      absurd (let no : [] ≡ Header name ∷ [] = is in cc)
+  opening_ended x feed is (Element.header off str) = Element.header off (Str-alike Alike.same str)
+  opening_ended {l = l} x feed is (Element.bracketed_header on str i) =
+      Element.bracketed_header on (closed str) i
+    where
+      closed : {s r v : Text} → Str o.enabled_escape bracketed_name_ends s r v
+          → Str o.enabled_escape bracketed_name_ends s (l ++ x) v
+      closed (Str.closed row h) = Str.closed row (feed_closes x feed)
+      closed (Str.lone row h) = absurd (false≢true h)
+  opening_ended x feed is (Element.pair front some sep given) = absurd (cc (is))
+  opening_ended {name = name} x feed is (Element.dropped_blanks i) =
+      absurd (let no : [] ≡ Header name ∷ [] = is in cc)
+  opening_ended {name = name} x feed is (Element.dropped_key i begins stops) =
+      absurd (let no : [] ≡ Header name ∷ [] = is in cc)
+
+  header_ended : {c : ℕ} {name : Option Text} {s y : Text} (x : Text)
+      → (s ≢ [] → (l : Text) × ((z : Text) × (IsFeed l × (x ≡ l ++ z))))
+      → IsSpan o c (opening name s) y → IsSpan o c (opening name s) x
+  header_ended x feed IsSpan.general = IsSpan.general
+  header_ended {c} x feed (IsSpan.header {name = name} {s = s} e) =
+      let h = feed (source_some s (element-some e)) in
+      IsSpan.header (subst (λ x. Element o (c ∷ []) s x (Header name ∷ [])) (sym h.1.1.1)
+      (opening_ended h.1.0 h.1.1.0 refl e))
+
+  pub spans_headed : (ys : List Span) (name : Option Text) (s y x : Text) → (s ≡ [] → ys ≡ [])
+      → (s ≢ [] → (l : Text) × ((z : Text) × (IsFeed l × (x ≡ l ++ z))))
+      → AreSpans o line_feed (ys ++ opening name s ∷ []) y
+      → AreSpans o line_feed (ys ++ opening name s ∷ []) x
+  spans_headed ys name s y x first feed h =
+      let split = in_place-split span_source ys (opening name s ∷ []) h in
+      in_place-join span_source ys (opening name s ∷ []) (front s refl split.0) (last split.1)
+    where
+      front : (t : Text) → s ≡ t → AreSpans o line_feed ys ((s ++ []) ++ y)
+          → AreSpans o line_feed ys ((s ++ []) ++ x)
+      front [] is h = subst (λ ys. AreSpans o line_feed ys ((s ++ []) ++ x)) (sym (first is)) AreInPlace.none
+      front (d ∷ t) is h =
+          in_place-before span_source spans_local
+          (same_start s y x (λ none. let no : d ∷ t ≡ [] = sym is ∙ none in cc)) h
+
+      last : AreSpans o (last_or line_feed (joined span_source ys)) (opening name s ∷ []) y
+          → AreSpans o (last_or line_feed (joined span_source ys)) (opening name s ∷ []) x
+      last (AreInPlace.more one AreInPlace.none) = AreInPlace.more (header_ended x feed one) AreInPlace.none
+
+-- a gap of which a front is kept, with its line ended, and an empty line
+pub kept_ended : {o : ParseOption} {has : Bool} {b : ℕ} {a g l : Text} (cut : IsCutFor o has b a g) (x : Text)
+    → IsFeed l → (e : Bool) → (e ≡ true → is_line_feed (last_or b (pieces_text cut.front)) ≡ true)
+    → (f : Bool) → IsGap o b (pieces_text cut.front ++ ((cond e [] l ++ cond f [] l) ++ [])) x
+kept_ended {o} {b = b} {g = g} {l} cut x feed true one f =
+    let k = pieces_text cut.front in
+    subst (λ t. IsGap o b (k ++ t) x) (sym (append-nil (cond f [] l)))
+    (gap_join (gap_stands (cond f [] l ++ x) cut.front cut.nothing cut.keyless (one refl) cut.are)
+    (gap_either f x feed))
+kept_ended {o} {b = b} {g = g} {l} cut x feed false one f =
+    let k = pieces_text cut.front in
+    let text : (k ++ l) ++ cond f [] l ≡ k ++ ((l ++ cond f [] l) ++ []) =
+    append_assoc k l (cond f [] l) ∙ ap (λ t. k ++ t) (sym (append-nil (l ++ cond f [] l))) in
+    subst (λ t. IsGap o b t x) text
+    (gap_join (pieces_ended (cond f [] l ++ x) cut.front feed cut.nothing cut.keyless cut.other cut.are)
+    (gap_either f x feed))

@@ -1,0 +1,300 @@
+-- A pair of a multiline value taken out of a text in pieces: its blank lines go to the gap before it, or to
+-- the lines of the pair before it.
+use Rattle.std.proofs.Common.{◌≡◌, ◌≢◌, ◌∙◌, ℕ, Bool, true, List, [], ◌∷◌, ◌++◌, ap, append_assoc, append-nil}
+use Rattle.std.proofs.Common.{inl, inr, refl, subst, sym}
+use Rattle.std.specs.Prelude.{◌⊎◌, Option}
+use Rattle.std.proofs.lemmas.Bool.{both_ways, false≢true}
+use Rattle.ini_text.specs.Grammar.CharacterKinds.{BeginsWith, BeginsWithNo, is_blank, is_comment_mark}
+use Rattle.ini_text.specs.Grammar.CharacterKinds.{is_line_end, is_line_feed, line_feed}
+use Rattle.ini_text.specs.Grammar.Keys.{KeyFront}
+use Rattle.ini_text.specs.Grammar.Places.{Stretches, pair_source, value_source}
+use Rattle.ini_text.specs.Grammar.Positions.{is_column_one, last_or}
+use Rattle.ini_text.specs.Grammar.Values.{Value}
+use Rattle.ini_text.specs.Laws.PieceLaws.{Agree, BeginAlike}
+use Rattle.ini_text.specs.declared.option.ParseOption.{ParseOption}
+use Rattle.ini_text.proofs.LawLemmas.LocalLemmas.{Agree-front}
+use Rattle.ini_text.proofs.LawLemmas.PieceLemmas.{last_or-append}
+use Rattle.ini.specs.Texts.{Text}
+use Rattle.ini_edit.specs.Endings.{Ending}
+use Rattle.ini_edit.specs.Inside.InPlace.{AreInPlace}
+use Rattle.ini_edit.specs.Inside.Spans.{AreSpans, IsGap, IsPair, IsSpan, Span, gap, opening, pair}
+use Rattle.ini_edit.specs.Inside.Spans.{span_source}
+use Rattle.ini_edit.specs.Sources.{joined}
+use Rattle.ini_edit.proofs.AheadLemmas.{value_follows}
+use Rattle.ini_edit.proofs.BlankLineLemmas.{AreBlank, line_last, trailing_ends}
+use Rattle.ini_edit.proofs.DeletedLinesLemmas.{staying, staying_column, staying_gap, staying_lines}
+use Rattle.ini_edit.proofs.GapLemmas.{gap_ahead, gap_join, gap_like, opening_ahead, spans_column}
+use Rattle.ini_edit.proofs.InPlaceLemmas.{Agree-after, in_place-before, in_place-exchanged, in_place-join}
+use Rattle.ini_edit.proofs.InPlaceLemmas.{in_place-split, joined-append}
+use Rattle.ini_edit.proofs.SourceDeleteLemmas.{StandsBefore, pair_and_rest, pair_to_gap}
+use Rattle.ini_edit.proofs.SourceSetLemmas.{before_tail, with_tail}
+use Rattle.ini_edit.proofs.SpanLemmas.{span_before, spans_local}
+use Rattle.ini_edit.proofs.TrailingLemmas.{own_lengthened, trailing_lengthened, value_lengthened}
+
+no_begin : {X : Type 0} (test : ℕ → Bool) (x : Text) → BeginsWithNo test x → BeginsWith test x → X
+no_begin test [] other h = absurd (false≢true (sym h))
+no_begin test (c ∷ x) other h = absurd (both_ways (test c) other h)
+
+pub tail_last : (c : ℕ) (p : Stretches)
+    → last_or c (pair_source p) ≡ last_or (last_or c (before_tail p)) p.trailing_lines
+tail_last c p =
+    ap (last_or c) (sym (append-nil (pair_source p)) ∙ with_tail p)
+    ∙ last_or-append c (before_tail p) p.trailing_lines
+
+-- a pair and the gap after it, before r
+record IsThere (o : ParseOption) (last : ℕ) (p : Stretches) (key value b r : Text) : Type 0 where
+  is : IsPair o last p key value (b ++ r)
+  is_gap : IsGap o (last_or last (pair_source p)) b r
+  column : BeginsWith is_comment_mark (b ++ r) → is_column_one (last_or last (pair_source p) ∷ []) ≡ true
+
+is_there : {o : ParseOption} {last : ℕ} {p : Stretches} {key value b : Text} (zs : List Span)
+    → AreSpans o last (pair p key value ∷ gap b ∷ zs) []
+    → IsThere o last p key value b (joined span_source zs ++ [])
+is_there {o} {last} {p} {key} {value} {b} zs (AreInPlace.more (IsSpan.is_pair is)
+    (AreInPlace.more (IsSpan.is_gap g) later)) =
+    let rest = joined span_source zs in
+    record {
+      is = subst (IsPair o last p key value) (append_assoc b rest []) is;
+      is_gap = g;
+      column = λ m. spans_column (gap b ∷ zs) (AreInPlace.more (IsSpan.is_gap g) later)
+          (subst (BeginsWith is_comment_mark) (ap (λ t. b ++ t) (append-nil rest)) m);
+    }
+
+module _ {o : ParseOption} (on : o.enabled_indented_mutiline_value ≡ true) {last : ℕ} {p : Stretches}
+    {key value b r : Text} (there : IsThere o last p key value b r)
+    (unmarked : BeginsWithNo is_comment_mark r) where
+  tail_column : BeginsWith is_comment_mark (b ++ r)
+      → is_line_feed (last_or (last_or last (before_tail p)) p.trailing_lines) ≡ true
+  tail_column m = subst (λ z. is_line_feed z ≡ true) (tail_last last p) (there.column m)
+
+  -- what follows is read as before
+  kept_agrees : Agree (last_or last (pair_source p) ∷ [])
+      (last_or last (staying last p.trailing_lines b) ∷ [])
+      (b ++ r)
+  kept_agrees = record {
+    line = λ m. no_begin is_blank (b ++ r) ((value_follows on there.is.gives).no_blank on) m;
+    column = λ m. there.column m
+        ∙ sym (staying_column on b r there.is.are_trailing last (last_or last (before_tail p)) unmarked m
+        (tail_column m));
+  }
+
+  kept_gap : IsGap o last (staying last p.trailing_lines b ++ b) r
+  kept_gap =
+      gap_join (staying_gap on b r there.is.are_trailing last)
+      (gap_like (Agree-front r kept_agrees) there.is_gap)
+
+  kept_lines : is_line_end last ≡ true → AreBlank o (staying last p.trailing_lines b) (b ++ r)
+  kept_lines starts =
+      staying_lines on b r there.is.are_trailing last (last_or last (before_tail p)) starts tail_column
+
+  rest_agrees : Agree (last_or (last_or last (pair_source p)) b ∷ [])
+      (last_or last (staying last p.trailing_lines b ++ b) ∷ []) r
+  rest_agrees =
+      subst (λ z. Agree (last_or (last_or last (pair_source p)) b ∷ []) (z ∷ []) r)
+      (sym (last_or-append last (staying last p.trailing_lines b) b))
+      (Agree-after b r kept_agrees)
+
+-- into the gap before it
+pub multiline_to_gap : {o : ParseOption} (on : o.enabled_indented_mutiline_value ≡ true) (xs : List Span)
+    (a b : Text) (p : Stretches) (key value : Text) (zs : List Span)
+    → AreSpans o line_feed (xs ++ (gap a ∷ pair p key value ∷ gap b ∷ zs)) []
+    → BeginsWithNo is_comment_mark (joined span_source zs ++ []) → StandsBefore o (xs ++ gap a ∷ [])
+    → AreSpans o line_feed (xs ++ (gap (a ++
+    (staying (last_or line_feed (joined span_source (xs ++ gap a ∷ []))) p.trailing_lines b ++ b)) ∷ zs)) []
+multiline_to_gap on xs a b p key value zs whole unmarked stands =
+    let last = last_or line_feed (joined span_source (xs ++ gap a ∷ [])) in
+    let c = staying last p.trailing_lines b ++ b in
+    let there = is_there zs (pair_and_rest xs a b p key value zs whole) in
+    pair_to_gap xs a b p key value zs whole c stands (kept_gap on there unmarked)
+    (subst (Agree (last_or (last_or last (pair_source p)) b ∷ []) (last_or last c ∷ []))
+    (append-nil (joined span_source zs)) (rest_agrees on there unmarked))
+
+last_of : (c : ℕ) (xs : List Span) (y : Span)
+    → last_or c (joined span_source (xs ++ y ∷ []))
+    ≡ last_or (last_or c (joined span_source xs)) (span_source y)
+last_of c xs y =
+    ap (last_or c) (joined-append span_source xs (y ∷ [])
+    ∙ ap (λ t. joined span_source xs ++ t) (append-nil (span_source y)))
+    ∙ last_or-append c (joined span_source xs) (span_source y)
+
+begin_there : (a r x : Text) → a ≢ [] → BeginAlike ((a ++ []) ++ r) ((a ++ []) ++ x)
+begin_there [] r x some = absurd (some refl)
+begin_there (d ∷ a) r x some = BeginAlike.character
+
+-- where a gap that is something, or what opens a section, stands before it
+module _ {o : ParseOption} where
+  gap_alone : {c : ℕ} {a k r key x : Text} → KeyFront o (last_or c a ∷ []) k r key
+      → AreSpans o c (gap a ∷ []) (k ++ r) → AreSpans o c (gap a ∷ []) x
+  gap_alone front (AreInPlace.more (IsSpan.is_gap g) AreInPlace.none) =
+      AreInPlace.more (IsSpan.is_gap (gap_ahead front g)) AreInPlace.none
+
+  pub gap_stands : (xs : List Span) (a : Text) → a ≢ [] → StandsBefore o (xs ++ gap a ∷ [])
+  gap_stands xs a some k r key x front h =
+      let split = in_place-split span_source xs (gap a ∷ []) h in
+      in_place-join span_source xs (gap a ∷ [])
+      (in_place-before span_source spans_local (begin_there a (k ++ r) x some) split.0)
+      (gap_alone (subst (λ z. KeyFront o (z ∷ []) k r key) (last_of line_feed xs (gap a)) front) split.1)
+
+  opening_stands : {c : ℕ} {name : Option Text} {s k r key : Text} (a x : Text)
+      → KeyFront o (last_or (last_or c s) a ∷ []) k r key → IsSpan o c (opening name s) (a ++ (k ++ r))
+      → IsSpan o c (opening name s) (a ++ x)
+  opening_stands [] x front h = opening_ahead front h
+  opening_stands (d ∷ a) x front h = span_before BeginAlike.character h
+
+  -- nothing stands before a section of no name, and any other begins with its header
+  pub section_stands : (xs : List Span) (name : Option Text) (s a : Text) → (xs ≡ []) ⊎ (s ≢ [])
+      → StandsBefore o ((xs ++ opening name s ∷ []) ++ gap a ∷ [])
+  section_stands xs name s a first k r key x front h =
+      let same = append_assoc xs (opening name s ∷ []) (gap a ∷ []) in
+      let split = in_place-split span_source xs (opening name s ∷ gap a ∷ [])
+      (subst (λ l. AreSpans o line_feed l (k ++ r)) same h) in
+      let c = last_or line_feed (joined span_source xs) in
+      let there : last_or line_feed (joined span_source ((xs ++ opening name s ∷ []) ++ gap a ∷ []))
+      ≡ last_or (last_or c s) a =
+      last_of line_feed (xs ++ opening name s ∷ []) (gap a)
+      ∙ ap (λ z. last_or z a) (last_of line_feed xs (opening name s)) in
+      let key_front = subst (λ z. KeyFront o (z ∷ []) k r key) there front in
+      subst (λ l. AreSpans o line_feed l x) (sym same)
+      (in_place-join span_source xs (opening name s ∷ gap a ∷ []) (before first split.0)
+      (at key_front split.1))
+    where
+      header_begins : (s u v w : Text) → s ≢ [] → BeginAlike ((s ++ u) ++ v) ((s ++ u) ++ w)
+      header_begins [] u v w some = absurd (some refl)
+      header_begins (d ∷ s) u v w some = BeginAlike.character
+
+      none_before : (xs : List Span) {y : Text} → xs ≡ [] → AreSpans o line_feed xs y
+      none_before xs {y} is = subst (λ l. AreSpans o line_feed l y) (sym is) AreInPlace.none
+
+      before : (xs ≡ []) ⊎ (s ≢ []) → AreSpans o line_feed xs ((s ++ (a ++ [])) ++ (k ++ r))
+          → AreSpans o line_feed xs ((s ++ (a ++ [])) ++ x)
+      before first h = elim first [
+        | inl is ↦ none_before xs is
+        | inr some ↦ in_place-before span_source spans_local (header_begins s (a ++ []) (k ++ r) x some) h
+      ]
+
+      at : {c : ℕ} → KeyFront o (last_or (last_or c s) a ∷ []) k r key
+          → AreSpans o c (opening name s ∷ gap a ∷ []) (k ++ r)
+          → AreSpans o c (opening name s ∷ gap a ∷ []) x
+      at {c} front (AreInPlace.more is rest) =
+          AreInPlace.more (subst (IsSpan o c (opening name s)) (ap (λ t. t ++ x) (sym (append-nil a)))
+          (opening_stands a x front (subst (IsSpan o c (opening name s))
+          (ap (λ t. t ++ (k ++ r)) (append-nil a)) is)))
+          (gap_alone front rest)
+
+-- with more lines after its value
+abbrev pub with_lines : Text → Stretches → Stretches
+with_lines lines p = record p { trailing_lines = p.trailing_lines ++ lines }
+
+with_lines_source : (lines : Text) (p : Stretches) → value_source p ++ lines
+    ≡ value_source (with_lines lines p)
+with_lines_source lines p =
+    append_assoc p.space_before (p.raw_value ++ (p.space_after ++ p.trailing_lines)) lines
+    ∙ ap (λ t. p.space_before ++ t) (append_assoc p.raw_value (p.space_after ++ p.trailing_lines) lines)
+    ∙ ap (λ t. p.space_before ++ (p.raw_value ++ t)) (append_assoc p.space_after p.trailing_lines lines)
+
+source_lines : (lines : Text) (p : Stretches) → pair_source (with_lines lines p) ≡ pair_source p ++ lines
+source_lines lines p =
+    ap (λ t. p.key ++ p.separator ∷ t) (sym (with_lines_source lines p))
+    ∙ sym (append_assoc p.key (p.separator ∷ value_source p) lines)
+
+keys_begin : (k : Text) (m : ℕ) (v w t u r s : Text) → BeginAlike (((k ++ m ∷ v) ++ t) ++ r)
+    (((k ++ m ∷ w) ++ u) ++ s)
+keys_begin [] m v w t u r s = BeginAlike.character
+keys_begin (c ∷ k) m v w t u r s = BeginAlike.character
+
+key_some : (k : Text) (m : ℕ) (v r : Text) → (k ++ m ∷ v) ++ r ≢ []
+key_some [] m v r is = cc
+key_some (c ∷ k) m v r is = cc
+
+-- the last character of a pair that follows these
+abbrev pub last_of_pair : List Span → Stretches → ℕ
+last_of_pair xs q = last_or (last_or line_feed (joined span_source xs)) (pair_source q)
+
+-- into the lines of the pair before it, where no gap stands between them
+module _ {o : ParseOption} (on : o.enabled_indented_mutiline_value ≡ true) (xs : List Span) (q p : Stretches)
+    (key_q value_q b key value : Text) (zs : List Span) where
+  pub multiline_to_pair : AreSpans o line_feed (xs
+      ++ (pair q key_q value_q ∷ gap [] ∷ pair p key value ∷ gap b ∷ zs)) []
+      → BeginsWithNo is_comment_mark (joined span_source zs ++ [])
+      → AreSpans o line_feed (xs ++
+      (pair (with_lines (staying (last_of_pair xs q) p.trailing_lines b) q) key_q value_q ∷ gap b ∷ zs)) []
+  multiline_to_pair whole unmarked =
+      at (in_place-split span_source xs (pair q key_q value_q ∷ gap [] ∷ pair p key value ∷ gap b ∷ zs)
+      whole).1
+    where
+      c : ℕ
+      c = last_or line_feed (joined span_source xs)
+
+      rest : Text
+      rest = joined span_source zs
+
+      at : AreSpans o c (pair q key_q value_q ∷ gap [] ∷ pair p key value ∷ gap b ∷ zs) []
+          → AreSpans o line_feed (xs ++
+          (pair (with_lines (staying (last_of_pair xs q) p.trailing_lines b) q) key_q value_q ∷ gap b ∷ zs))
+          []
+      at (AreInPlace.more (IsSpan.is_pair before) (AreInPlace.more _ later)) =
+          let there = is_there zs later in
+          let lines = staying (last_of_pair xs q) p.trailing_lines b in
+          let some : (pair_source p ++ (b ++ rest)) ++ [] ≢ [] =
+          λ empty. key_some p.key p.separator (value_source p ++ (b ++ rest)) []
+          (sym (ap (λ t. t ++ []) (append_assoc p.key (p.separator ∷ value_source p) (b ++ rest))) ∙ empty) in
+          let ended : is_line_end (last_of_pair xs q) ≡ true =
+          subst (λ z. is_line_end z ≡ true) (sym (tail_last c q))
+          (line_last Ending.inside (last_or c (before_tail q)) q.trailing_lines
+          (λ inner. absurd (false≢true inner))
+          (trailing_ends some on before.are_trailing)) in
+          let more = kept_lines on there unmarked ended in
+          let new : IsPair o c (with_lines lines q) key_q value_q (b ++ (rest ++ [])) = record {
+            key_front = before.key_front;
+            some = before.some;
+            separates = before.separates;
+            gives = subst (λ s. Value o s (b ++ (rest ++ [])) value_q) (with_lines_source lines q)
+                (value_lengthened on more.are more.all some before.gives);
+            white_before = before.white_before;
+            white_after = before.white_after;
+            are_trailing = trailing_lengthened on more.are more.all some before.are_trailing;
+            own_lines = own_lengthened on more.are more.all some before.are_trailing before.own_lines;
+            closed = before.closed;
+          } in
+          let last_new : last_or c (pair_source (with_lines lines q)) ≡ last_or (last_of_pair xs q) lines =
+          ap (last_or c) (source_lines lines q) ∙ last_or-append c (pair_source q) lines in
+          let is_gap : IsGap o (last_or c (pair_source (with_lines lines q))) b (rest ++ []) =
+          subst (λ z. IsGap o z b (rest ++ [])) (sym last_new)
+          (gap_like (Agree-front (rest ++ []) (kept_agrees on there unmarked)) there.is_gap) in
+          in_place-exchanged span_source spans_local xs
+          (pair q key_q value_q ∷ gap [] ∷ pair p key value ∷ gap b ∷ [])
+          (pair (with_lines lines q) key_q value_q ∷ gap b ∷ []) zs whole
+          (AreInPlace.more
+          (IsSpan.is_pair (subst (IsPair o c (with_lines lines q) key_q value_q)
+          (ap (λ t. t ++ (rest ++ [])) (sym (append-nil b))) new))
+          (AreInPlace.more (IsSpan.is_gap is_gap) AreInPlace.none))
+          (keys_begin q.key q.separator (value_source q) (value_source (with_lines lines q))
+          (pair_source p ++ (b ++ [])) (b ++ []) (rest ++ []) (rest ++ []))
+          (ends lines there)
+        where
+          ends : (lines : Text) → IsThere o (last_of_pair xs q) p key value b (rest ++ [])
+              → Agree (last_or c (pair_source q ++ (pair_source p ++ (b ++ []))) ∷ [])
+              (last_or c (pair_source (with_lines (staying (last_of_pair xs q) p.trailing_lines b) q)
+              ++ (b ++ [])) ∷ []) rest
+          ends lines there =
+              let kept = staying (last_of_pair xs q) p.trailing_lines b in
+              let old : last_or c (pair_source q ++ (pair_source p ++ (b ++ [])))
+              ≡ last_or (last_or (last_of_pair xs q) (pair_source p)) b =
+              ap (λ t. last_or c (pair_source q ++ (pair_source p ++ t))) (append-nil b)
+              ∙ last_or-append c (pair_source q) (pair_source p ++ b)
+              ∙ last_or-append (last_of_pair xs q) (pair_source p) b in
+              let new : last_or c (pair_source (with_lines kept q) ++ (b ++ []))
+              ≡ last_or (last_of_pair xs q) (kept ++ b) =
+              ap (λ t. last_or c (pair_source (with_lines kept q) ++ t)) (append-nil b)
+              ∙ last_or-append c (pair_source (with_lines kept q)) b
+              ∙ ap (λ z. last_or z b) (ap (last_or c) (source_lines kept q)
+              ∙ last_or-append c (pair_source q) kept)
+              ∙ sym (last_or-append (last_of_pair xs q) kept b) in
+              subst (λ t. Agree (last_or c (pair_source q ++ (pair_source p ++ (b ++ []))) ∷ [])
+              (last_or c (pair_source (with_lines kept q) ++ (b ++ [])) ∷ []) t) (append-nil rest)
+              (subst (λ z. Agree (z ∷ []) (last_or c (pair_source (with_lines kept q) ++ (b ++ [])) ∷ [])
+              (rest ++ []))
+              (sym old)
+              (subst (λ z. Agree (last_or (last_or (last_of_pair xs q) (pair_source p)) b ∷ []) (z ∷ [])
+              (rest ++ []))
+              (sym new) (rest_agrees on there unmarked)))

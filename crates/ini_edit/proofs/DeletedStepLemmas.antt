@@ -1,0 +1,190 @@
+-- What the calls that take pairs out make, step by step.
+use Rattle.std.proofs.Common.{◌≡◌, ◌∙◌, ◌-◌, ◌<◌, ℕ, Bool, List, [], ◌∷◌, ◌++◌, None, Option}
+use Rattle.std.proofs.Common.{Some}
+use Rattle.std.proofs.Common.{ap, arith, drop, get_or, if◌then◌else◌, length, refl, set, subst, sym, take}
+use Rattle.std.proofs.lemmas.List.{length-append, length-map}
+use Rattle.std.specs.List.{count_by, remove}
+use Rattle.std.specs.Prelude.{option_and_then}
+use Rattle.ini_text.specs.Grammar.CharacterKinds.{line_feed}
+use Rattle.ini_text.specs.Grammar.Positions.{last_or}
+use Rattle.ini_text.specs.declared.option.ParseOption.{ParseOption}
+use Rattle.ini.specs.Texts.{Text, is_text}
+use Rattle.ini_edit.specs.Inside.SourceEnds.{IsPairAt, IsPlaceAt, IsWithout, end_put, end_put_at}
+use Rattle.ini_edit.specs.Inside.SourceEnds.{goes_after, last_before}
+use Rattle.ini_edit.specs.SourceEdits.{with_pairs}
+use Rattle.ini_edit.specs.SourceEditsDelete.{deleted_at, deleted_from, deleted_nth, deleted_times}
+use Rattle.ini_edit.specs.SourceEditsDelete.{gap_after, goes_with_line_end, line_end_after, lines_after}
+use Rattle.ini_edit.specs.SourceEditsDelete.{pair_taken_out, rest_put}
+use Rattle.ini_edit.specs.SourcePlaces.{Place, edited_at, exchanged, last_before_pair}
+use Rattle.ini_edit.specs.SourcePlaces.{last_before_section, nth_place, pair_place, section_place, text_up_to}
+use Rattle.ini_edit.specs.Sources.{PairPiece, Pieces, SectionPiece, given_pair, sections_text}
+use Rattle.ini_edit.specs.declared.source.pair.ends.NewEnd.{NewEnd}
+use Rattle.ini_edit.proofs.DeletedSourceLemmas.{IsMapped, mapped, none_above, nth_none, pair_within}
+use Rattle.ini_edit.proofs.DeletedSourceLemmas.{placed_in}
+use Rattle.ini_edit.proofs.DeletedSourceLemmas.{taken_given, times_there}
+use Rattle.ini_edit.proofs.DeletedSourceLemmas.{unmapped}
+use Rattle.ini_edit.proofs.SourcePlaceLemmas.{place_drop_put, place_remove, place_set, place_take}
+use Rattle.ini_edit.proofs.SourcePlaceLemmas.{place_read, place_take_put, place_within}
+
+end_put_bare : (e : NewEnd) (s : SectionPiece) (ps before after : List PairPiece)
+    → end_put e (with_pairs s ps) before after ≡ end_put e s before after
+end_put_bare e s ps [] after = refl
+end_put_bare e s ps (x ∷ xs) after = refl
+
+-- what stays of a pair: what the code puts together
+pub stays_put : (o : ParseOption) (t : SectionPiece) (front i : ℕ) (x : PairPiece) (p : Place PairPiece)
+    → IsPlaceAt t.pairs p i → x ≡ p.here → (last : ℕ) → last ≡ last_or front (text_up_to t (take i t.pairs))
+    → (end lines g : Text) → end ≡ line_end_after o x → lines ≡ lines_after o x → g ≡ gap_after o x
+    → (goes : Bool) → goes ≡ goes_after last lines g → (first all : Text)
+    → first ≡ (if goes then [] else end) → all ≡ first ++ lines
+    → all ≡ (if goes_with_line_end o (last_before_pair front t p) p.here then [] else line_end_after o p.here)
+    ++ lines_after o p.here
+stays_put o t front i x p at here last is_last end lines g is_end is_lines is_gap goes is_goes first all
+    is_first
+    is_all =
+    let up_to = last_before_pair front t p in
+    let put : ℕ → Text → Text → Text → Text = λ z e l h. (if goes_after z l h then [] else e) ++ l in
+    is_all ∙ ap (λ f. f ++ lines) is_first ∙ ap (λ b. (if b then [] else end) ++ lines) is_goes
+    ∙ ap (λ z. put z end lines g) (is_last ∙ ap (λ ps. last_or front (text_up_to t ps)) (place_take at))
+    ∙ ap (λ e. put up_to e lines g) is_end
+    ∙ ap (λ l. put up_to (line_end_after o x) l g) is_lines
+    ∙ ap (λ h. put up_to (line_end_after o x) (lines_after o x) h) is_gap
+    ∙ ap (λ y. put up_to (line_end_after o y) (lines_after o y) (gap_after o y)) here
+
+-- a pair out of its section's list, with what stays of it put after what stood before it
+pub out_of_section : (o : ParseOption) (t : SectionPiece) (p : Place PairPiece) (i : ℕ)
+    → IsPlaceAt t.pairs p i → (front : ℕ) (e : NewEnd) (lines g : Text) (left : List PairPiece)
+    → ((after : List PairPiece) → end_put e t (take i t.pairs) after
+    ≡ rest_put o lines g t (take i t.pairs) after)
+    → lines ≡ (if goes_with_line_end o (last_before_pair front t p) p.here then [] else line_end_after o
+    p.here)
+    ++ lines_after o p.here → g ≡ gap_after o p.here → left ≡ remove t.pairs i
+    → end_put_at e i (with_pairs t left) ≡ pair_taken_out o front t p
+out_of_section o t p i at front e lines g left put is_lines is_gap is_left =
+    let bare = with_pairs t (remove t.pairs i) in
+    let stays =
+    (if goes_with_line_end o (last_before_pair front t p) p.here then [] else line_end_after o p.here)
+    ++ lines_after o p.here in
+    ap (λ ps. end_put_at e i (with_pairs t ps)) is_left
+    ∙ ap (λ ps. end_put e bare (take i ps) (drop i ps)) (place_remove at)
+    ∙ ap (λ ps. end_put e bare ps (drop i (exchanged p []))) (place_take_put at [])
+    ∙ ap (end_put e bare p.before) (place_drop_put at [])
+    ∙ end_put_bare e t (remove t.pairs i) p.before p.after
+    ∙ ap (λ ps. end_put e t ps p.after) (sym (place_take at)) ∙ put p.after
+    ∙ ap (λ ps. rest_put o lines g t ps p.after) (place_take at)
+    ∙ ap (λ l. rest_put o l g t p.before p.after) is_lines
+    ∙ ap (λ l. rest_put o stays l t p.before p.after) is_gap
+
+-- the section has one pair fewer
+pub fewer_pairs : (o : ParseOption) (front : ℕ) (s : SectionPiece) (p : Place PairPiece)
+    → s.pairs ≡ p.before ++ p.here ∷ p.after
+    → length (pair_taken_out o front s p).pairs < length s.pairs
+fewer_pairs o front s p whole =
+    let new = (pair_taken_out o front s p).pairs in
+    let same : length new ≡ length (p.before ++ p.after) =
+    sym (length-map new given_pair) ∙ ap (λ g. length g.1) (taken_given o front s p)
+    ∙ length-map (p.before ++ p.after) given_pair in
+    omega (
+      arith,
+      same,
+      ap length whole,
+      length-append p.before p.after,
+      length-append p.before
+          (p.here ∷ p.after),
+    )
+
+module _ (o : ParseOption) (name : Option Text) (key : Text) (n : ℕ) {ss : List SectionPiece} {i j : ℕ}
+    (at : IsPairAt (pair_place name key n ss) ss i j) where
+  last_there : last_before ss i ≡ last_before_section at.place.section
+  last_there = ap (λ l. last_or line_feed (sections_text l)) (place_take at.section)
+
+  -- one pair out
+  pub nth_made : (new : SectionPiece)
+      → new ≡ pair_taken_out o (last_before ss i) at.place.section.here at.place.pair
+      → set ss i new ≡ deleted_nth o name key n ss
+  nth_made new is =
+      place_set at.section new
+      ∙ ap (λ s. exchanged at.place.section (s ∷ []))
+      (is ∙ ap (λ c. pair_taken_out o c at.place.section.here at.place.pair) last_there)
+      ∙ ap (λ p. edited_at (deleted_at o) p ss) (sym at.is)
+
+  section_there : section_place name ss ≡ Some at.place.section
+  section_there = by (section_place name ss) refl at.is
+    where
+      by : (s : Option (Place SectionPiece)) → section_place name ss ≡ s
+          → option_and_then (pair_within key n) s ≡ Some at.place
+          → section_place name ss ≡ Some at.place.section
+      by None is h = absurd (let other : None ≡ Some at.place = h in cc)
+      by (Some s) is h =
+          go (mapped (placed_in s) (nth_place (λ p. is_text key p.key) n s.here.pairs)
+          at.place h)
+        where
+          go : IsMapped (placed_in s)
+              (nth_place (λ p. is_text key p.key) n s.here.pairs) at.place
+              → section_place name ss ≡ Some at.place.section
+          go (IsMapped.to p there same) = is ∙ ap (λ p. Some p.section) same
+
+  -- all pairs out but for the first n
+  pub from_made : (new : SectionPiece) → IsWithout o (last_before ss i) key n at.place.section.here new
+      → set ss i new ≡ deleted_from o name key n ss
+  from_made new out =
+      place_set at.section new
+      ∙ times_there o name key n (last_before ss i) out.is ss at.place.section section_there refl
+      (sym last_there)
+      ∙ ap (λ s. deleted_times o name key n
+      (edited_at (λ s. count_by (λ p. is_text key p.key) s.here.pairs) s 0 - n) ss) (sym section_there)
+
+-- the sections that a call leaves, where it read the pieces v, which it was given as w
+module _ (name : Option Text) (key : Text) (n : ℕ) {v w : Pieces} (view : v ≡ w) {i j : ℕ}
+    (there : IsPairAt (pair_place name key n w.sections) w.sections i j) {y : SectionPiece}
+    (read : y ≡ get_or v.sections i y) where
+  pair_there : IsPairAt (pair_place name key n v.sections) v.sections i j
+  pair_there = subst (λ v. IsPairAt (pair_place name key n v.sections) v.sections i j) (sym view) there
+
+  section_read : y ≡ pair_there.place.section.here
+  section_read = place_read pair_there.section read
+
+  in_section : IsPlaceAt y.pairs pair_there.place.pair j
+  in_section = subst (λ s. IsPlaceAt s.pairs pair_there.place.pair j) (sym section_read) pair_there.pair
+
+  pub pair_within_section : j < length y.pairs
+  pair_within_section = place_within in_section
+
+  pub nth_set : (new : SectionPiece) (front : ℕ) → front ≡ last_before w.sections i
+      → ((p : Place PairPiece) → IsPlaceAt y.pairs p j → new ≡ pair_taken_out v.option front y p)
+      → set v.sections i new ≡ deleted_nth v.option name key n v.sections
+  nth_set new front before deleted =
+      let p = pair_there.place.pair in
+      nth_made v.option name key n pair_there new
+      (deleted p in_section
+      ∙ ap (λ f. pair_taken_out v.option f y p) (before ∙ ap (λ v. last_before v.sections i) (sym view))
+      ∙ ap (λ s. pair_taken_out v.option (last_before v.sections i) s p) section_read)
+
+  pub from_set : (new : SectionPiece) (front : ℕ) → front ≡ last_before w.sections i
+      → IsWithout v.option front key n y new → set v.sections i new
+      ≡ deleted_from v.option name key n v.sections
+  from_set new front before without =
+      from_made v.option name key n pair_there new
+      (subst (λ s. IsWithout v.option (last_before v.sections i) key n s new) section_read
+      (subst (λ f. IsWithout v.option f key n y new) (before ∙ ap (λ v. last_before v.sections i) (sym view))
+      without))
+
+-- where there is none, all stays
+pub nth_nowhere : (o : ParseOption) (name : Option Text) (key : Text) (n : ℕ) (ss : List SectionPiece)
+    → pair_place name key n ss ≡ None → deleted_nth o name key n ss ≡ ss
+nth_nowhere o name key n ss is = ap (λ p. edited_at (deleted_at o) p ss) is
+
+pub from_nowhere : (o : ParseOption) (name : Option Text) (key : Text) (n : ℕ) (ss : List SectionPiece)
+    → pair_place name key n ss ≡ None → deleted_from o name key n ss ≡ ss
+from_nowhere o name key n ss is = by (section_place name ss) is
+  where
+    by : (s : Option (Place SectionPiece))
+        → option_and_then (pair_within key n) s ≡ None
+        → deleted_times o name key n
+        (edited_at (λ s. count_by (λ p. is_text key p.key) s.here.pairs) s 0 - n) ss ≡ ss
+    by None gone = let nothing : 0 - n ≡ 0 = omega arith in ap (λ k. deleted_times o name key n k ss) nothing
+    by (Some s) gone =
+        let above = none_above (nth_none (λ p. is_text key p.key) s.here.pairs n
+        (unmapped (placed_in s) (nth_place (λ p. is_text key p.key) n s.here.pairs) gone)) in
+        let nothing : count_by (λ p. is_text key p.key) s.here.pairs - n ≡ 0 = omega (arith, above) in
+        ap (λ k. deleted_times o name key n k ss) nothing

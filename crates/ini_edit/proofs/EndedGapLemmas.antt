@@ -1,0 +1,171 @@
+-- Elements that give nothing, with a line end after them or LF at their end: they stand before any text.
+use Rattle.std.proofs.Common.{◌≡◌, ◌∙◌, ◌==◌, ℕ, Bool, true, not, List, [], ◌∷◌, ◌++◌, ap}
+use Rattle.std.proofs.Common.{append_assoc, append-nil, refl, subst, sym}
+use Rattle.std.proofs.lemmas.Bool.{and_from, both_ways, false≢true, not-true, or_left}
+use Rattle.std.proofs.lemmas.List.Folds.{list_all-append}
+use Rattle.std.specs.List.{list_all}
+use Rattle.ini_text.specs.Grammar.CharacterKinds.{BeginsWith, BeginsWithNo, is_blank, is_comment_mark}
+use Rattle.ini_text.specs.Grammar.CharacterKinds.{is_line_end, is_line_feed, line_feed, open_bracket}
+use Rattle.ini_text.specs.Grammar.Elements.{Element, Gap, Given}
+use Rattle.ini_text.specs.Grammar.Keys.{Indentation, begins_indented_key}
+use Rattle.ini_text.specs.Grammar.Pieces.{ArePieces, Piece, pieces_items, pieces_text}
+use Rattle.ini_text.specs.Grammar.Positions.{last_or}
+use Rattle.ini_text.specs.Laws.PieceLaws.{BeginAlike}
+use Rattle.ini_text.specs.declared.option.ParseOption.{ParseOption}
+use Rattle.ini_text.proofs.LawLemmas.LocalLemmas.{Element-before}
+use Rattle.ini_text.proofs.LawLemmas.PieceLemmas.{last_or-append}
+use Rattle.ini_text.proofs.PlainLemmas.PlainLineLemmas.{line_end_gap}
+use Rattle.ini.specs.Texts.{Text}
+use Rattle.ini_edit.specs.Endings.{IsIndentedKey}
+use Rattle.ini_edit.specs.Inside.Spans.{IsGap}
+use Rattle.ini_edit.proofs.DroppedKeyLemmas.{AreKeyless}
+use Rattle.ini_edit.proofs.EndingLemmas.{IsInner, inner_by}
+use Rattle.ini_edit.proofs.GapLemmas.{empty_front, gap_join}
+use Rattle.ini_edit.proofs.GapPartLemmas.{all_last, no_blank_end}
+use Rattle.ini_edit.proofs.SectionTakenLemmas.{IsFeed}
+
+abbrev is_other : ℕ → Bool
+is_other c = not (is_line_feed c)
+
+-- blanks, and a comment without LF, don't end with LF
+blank_last : {X : Type 0} (c : ℕ) (w : Text) → BeginsWith is_blank w → list_all is_blank w ≡ true
+    → is_line_feed (last_or c w) ≡ true → X
+blank_last c [] some all feed = absurd (false≢true (sym some))
+blank_last c (d ∷ w) some all feed =
+    no_blank_end (last_or d w) (or_left (is_line_feed (last_or d w)) _ feed) (all_last is_blank d w all)
+
+comment_last : {X : Type 0} (m : ℕ) (s : Text) → is_comment_mark m ≡ true → list_all is_other s ≡ true
+    → is_line_feed (last_or m s) ≡ true → X
+comment_last m s mark all feed =
+    let inner : IsInner m = inner_by is_comment_mark m refl refl mark in
+    absurd (both_ways (is_line_feed (last_or m s))
+    (not-true _ (all_last is_other m s (and_from (is_other m) (list_all is_other s)
+    (ap not inner.no_line_feed) all))) feed)
+
+no_bracket : {X : Type 0} (r : Text) → BeginsWithNo (λ c. c == open_bracket) (open_bracket ∷ r) → X
+no_bracket r h = absurd (false≢true (sym h))
+
+key_there : {w : Text} (s : Text) {b : Text} → Indentation b w → BeginsWith begins_indented_key s
+    → IsIndentedKey (w ++ s)
+key_there {w} s i begins = record {
+  blanks = w;
+  key = s;
+  whole = refl;
+  some = i.some;
+  blank = i.blank;
+  begins = begins;
+}
+
+module _ {o : ParseOption} where
+  one_gap : {c : ℕ} {s r : Text} → Element o (c ∷ []) s r [] → IsGap o c s r
+  one_gap {s = s} e = record {
+    pieces = record { source = s; gives = [] } ∷ [];
+    whole = sym (append-nil s);
+    nothing = refl;
+    are = ArePieces.more e ArePieces.none;
+  }
+
+  gap_after : {c : ℕ} {s t r : Text} → Element o (c ∷ []) s (t ++ r) [] → IsGap o (last_or c s) t r
+      → IsGap o c (s ++ t) r
+  gap_after e g = gap_join (one_gap e) g
+
+  one_end : {c : ℕ} {r : Text} (d : ℕ) → is_line_end d ≡ true → IsGap o c (d ∷ []) r
+  one_end d end = one_gap (Element.gap (line_end_gap d end))
+
+  pub feed_gap : {c : ℕ} {l r : Text} → IsFeed l → IsGap o c l r
+  feed_gap IsFeed.lf = one_end line_feed refl
+  feed_gap IsFeed.cr_lf = gap_after (Element.gap (line_end_gap 0x0D refl)) (one_end line_feed refl)
+
+  -- an element with a line end after it
+  blanks_ended : {c : ℕ} {w x l : Text} → IsFeed l → Indentation (c ∷ []) w → IsGap o c (w ++ l) x
+  blanks_ended IsFeed.lf i = one_gap (Element.gap (Gap.blank_line line_feed i refl))
+  blanks_ended {c} {w} {x} IsFeed.cr_lf i =
+      subst (λ t. IsGap o c t x) (append_assoc w (0x0D ∷ []) (line_feed ∷ []))
+      (gap_after (Element.gap (Gap.blank_line 0x0D i refl)) (one_end line_feed refl))
+
+  comment_ended : {c m : ℕ} (s : Text) {x l : Text} → IsFeed l → is_line_feed c ≡ true
+      → is_comment_mark m ≡ true → list_all is_other s ≡ true → IsGap o c (m ∷ (s ++ l)) x
+  comment_ended s IsFeed.lf one mark all = one_gap (Element.comment s one mark all)
+  comment_ended {c} {m} s {x} IsFeed.cr_lf one mark all =
+      subst (λ t. IsGap o c (m ∷ t) x) (append_assoc s (0x0D ∷ []) (line_feed ∷ []))
+      (one_gap (Element.comment (s ++ 0x0D ∷ []) one mark
+      (list_all-append is_other s (0x0D ∷ []) ∙ and_from (list_all is_other s) true all refl)))
+
+  element_ended : {c : ℕ} {s y x l : Text} {gives : List Given} → IsFeed l → Element o (c ∷ []) s y gives
+      → gives ≡ [] → ¬ IsIndentedKey s → BeginsWithNo (λ c. c == open_bracket) y → IsGap o c (s ++ l) x
+  element_ended feed (Element.gap (Gap.blank_line d i q)) empty key other =
+      gap_after (Element.gap (Gap.blank_line d i q)) (feed_gap feed)
+  element_ended feed (Element.gap (Gap.before_header {r = r} i)) empty key other = no_bracket r other
+  element_ended feed (Element.gap (Gap.white q n)) empty key other =
+      gap_after (Element.gap (Gap.white q n)) (feed_gap feed)
+  element_ended feed (Element.comment s one mark all) empty key other =
+      gap_after (Element.comment s one mark all) (feed_gap feed)
+  element_ended feed (Element.last_comment {s = s} one mark all) empty key other =
+      comment_ended s feed one mark all
+  element_ended feed (Element.header off str) empty key other = absurd (cc (empty))
+  element_ended feed (Element.bracketed_header on str i) empty key other = absurd (cc (empty))
+  element_ended feed (Element.pair front name sep value) empty key other = absurd (cc (empty))
+  element_ended feed (Element.dropped_blanks i) empty key other = blanks_ended feed i
+  element_ended feed (Element.dropped_key {s = s} i begins stops) empty key other =
+      absurd (key (key_there s i begins))
+
+  -- elements with a line end after them
+  pub pieces_ended : {c : ℕ} {y l : Text} (x : Text) (ps : List Piece) → IsFeed l → pieces_items ps ≡ []
+      → AreKeyless ps → BeginsWithNo (λ c. c == open_bracket) y → ArePieces o c ps y
+      → IsGap o c (pieces_text ps ++ l) x
+  pieces_ended x [] feed empty keyless other are = feed_gap feed
+  pieces_ended {c} {y} {l} x (p ∷ ps) feed empty keyless other (ArePieces.more e rest) =
+      let parts = empty_front p.gives (pieces_items ps) empty in
+      subst (λ t. IsGap o c t x) (sym (append_assoc p.source (pieces_text ps) l))
+      (at (pieces_text ps) parts.0 e
+      (pieces_ended {c = last_or c p.source} x ps feed parts.1 keyless.1 other rest))
+    where
+      at : (t : Text) → p.gives ≡ [] → Element o (c ∷ []) p.source (t ++ y) p.gives
+          → IsGap o (last_or c p.source) (t ++ l) x → IsGap o c (p.source ++ (t ++ l)) x
+      at [] empty e g = element_ended feed e empty keyless.0 other
+      at (d ∷ t) empty e g =
+          gap_after (Element-before BeginAlike.character
+          (subst (Element o (c ∷ []) p.source ((d ∷ t) ++ y)) empty e)) g
+
+  -- an element that ends with LF
+  element_stands : {c : ℕ} {s y x : Text} {gives : List Given} → Element o (c ∷ []) s y gives → gives ≡ []
+      → ¬ IsIndentedKey s → is_line_feed (last_or c s) ≡ true → Element o (c ∷ []) s x gives
+  element_stands (Element.gap (Gap.blank_line d i q)) empty key feed = Element.gap (Gap.blank_line d i q)
+  element_stands {c} (Element.gap (Gap.before_header {w = w} i)) empty key feed =
+      blank_last c w i.some i.blank feed
+  element_stands (Element.gap (Gap.white q n)) empty key feed = Element.gap (Gap.white q n)
+  element_stands (Element.comment s one mark all) empty key feed = Element.comment s one mark all
+  element_stands (Element.last_comment {m = m} {s = s} one mark all) empty key feed =
+      comment_last m s mark all feed
+  element_stands (Element.header off str) empty key feed = absurd (cc (empty))
+  element_stands (Element.bracketed_header on str i) empty key feed = absurd (cc (empty))
+  element_stands (Element.pair front name sep value) empty key feed = absurd (cc (empty))
+  element_stands {c} (Element.dropped_blanks {w = w} i) empty key feed = blank_last c w i.some i.blank feed
+  element_stands (Element.dropped_key {s = s} i begins stops) empty key feed =
+      absurd (key (key_there s i begins))
+
+  pieces_stand : {c : ℕ} {y : Text} (x : Text) (ps : List Piece) → pieces_items ps ≡ [] → AreKeyless ps
+      → is_line_feed (last_or c (pieces_text ps)) ≡ true → ArePieces o c ps y → ArePieces o c ps x
+  pieces_stand x [] empty keyless feed ArePieces.none = ArePieces.none
+  pieces_stand {c} {y} x (p ∷ ps) empty keyless feed (ArePieces.more e rest) =
+      let parts = empty_front p.gives (pieces_items ps) empty in
+      ArePieces.more (at (pieces_text ps) parts.0 feed e)
+      (pieces_stand {c = last_or c p.source} x ps parts.1 keyless.1
+      (ap is_line_feed (sym (last_or-append c p.source (pieces_text ps))) ∙ feed) rest)
+    where
+      at : (t : Text) → p.gives ≡ [] → is_line_feed (last_or c (p.source ++ t)) ≡ true
+          → Element o (c ∷ []) p.source (t ++ y) p.gives → Element o (c ∷ []) p.source (t ++ x) p.gives
+      at [] empty feed e =
+          element_stands e empty keyless.0
+          (ap (λ t. is_line_feed (last_or c t)) (sym (append-nil p.source)) ∙ feed)
+      at (d ∷ t) empty feed e = Element-before BeginAlike.character e
+
+  -- elements that end with LF
+  pub gap_stands : {c : ℕ} {y : Text} (x : Text) (ps : List Piece) → pieces_items ps ≡ [] → AreKeyless ps
+      → is_line_feed (last_or c (pieces_text ps)) ≡ true → ArePieces o c ps y → IsGap o c (pieces_text ps) x
+  gap_stands x ps empty keyless feed are = record {
+    pieces = ps;
+    whole = refl;
+    nothing = empty;
+    are = pieces_stand x ps empty keyless feed are;
+  }

@@ -1,0 +1,376 @@
+-- A pair put directly after another in a text in pieces where values may be multiline: the blank lines after
+-- that pair's own lines are the new pair's then.
+use Rattle.std.proofs.Common.{◌≡◌, ◌≢◌, ◌==◌, ◌≤◌, ◌∙◌, ◌&&◌, ℕ, Bool, true, false, not, List, [], ◌∷◌}
+use Rattle.std.proofs.Common.{◌++◌, ap, append_assoc, append-nil, arith, if◌then◌else◌, length, refl, subst}
+use Rattle.std.proofs.Common.{sym}
+use Rattle.std.proofs.lemmas.Bool.{both_ways, false≢true, or_left}
+use Rattle.ini_text.specs.Grammar.CharacterKinds.{BeginsWith, BeginsWithNo, carriage_return, is_blank}
+use Rattle.ini_text.specs.Grammar.CharacterKinds.{is_line_end, is_line_feed, line_feed}
+use Rattle.ini_text.specs.Grammar.Places.{Stretches, TrailingLines, pair_source, value_source}
+use Rattle.ini_text.specs.Grammar.Positions.{last_or, starts_line}
+use Rattle.ini_text.specs.Grammar.Values.{MoreLines, Value}
+use Rattle.ini_text.specs.Laws.PieceLaws.{Agree}
+use Rattle.ini_text.specs.Laws.Plain.{IsPlainKey, IsReadBack}
+use Rattle.ini_text.specs.Options.WriteOptions.{line_end}
+use Rattle.ini_text.specs.Parsing.Fronts.{front_of}
+use Rattle.ini_text.specs.declared.option.ParseOption.{ParseOption}
+use Rattle.ini_text.specs.declared.write.option.LineSeparator.{LineSeparator}
+use Rattle.ini_text.specs.declared.write.option.LineSeparator.TheVariants.{SystemDefault, CR, CRLF}
+use Rattle.ini_text.specs.declared.write.policy.EscapePolicy.{EscapePolicy}
+use Rattle.ini_text.proofs.LawLemmas.LocalLemmas.{Agree-front}
+use Rattle.ini_text.proofs.LawLemmas.OneAheadLemmas.{Alike, Alike-some}
+use Rattle.ini_text.proofs.LawLemmas.PieceLemmas.{last_or-append}
+use Rattle.ini_text.proofs.PlainLemmas.PlainPairLemmas.{line_end-is}
+use Rattle.ini_text.proofs.StringLemmas.FrontLemmas.{front_is}
+use Rattle.ini.specs.Texts.{Text}
+use Rattle.ini_edit.specs.Endings.{Closing, Ending, ending, ending_from}
+use Rattle.ini_edit.specs.Inside.InPlace.{AreInPlace}
+use Rattle.ini_edit.specs.Inside.SourceEnds.{IsPlaceAt}
+use Rattle.ini_edit.specs.Inside.Spans.{AreSections, AreSpans, IsPair, IsSpan, Span, gap, pair}
+use Rattle.ini_edit.specs.Inside.Spans.{span_source}
+use Rattle.ini_edit.specs.Places.{Follows}
+use Rattle.ini_edit.specs.SourceEditsAdd.{Maker, closed_value, ended_lines, pair_put_after, with_line_ended}
+use Rattle.ini_edit.specs.SourceLines.{blank_lines_at_end, blank_lines_from, ends_in_line, is_empty}
+use Rattle.ini_edit.specs.SourceLines.{is_line_from, line_end_at_end}
+use Rattle.ini_edit.specs.SourcePlaces.{Place, exchanged}
+use Rattle.ini_edit.specs.SourceWritten.{Style, new_pair}
+use Rattle.ini_edit.specs.Sources.{PairPiece, SectionPiece, joined}
+use Rattle.ini_edit.proofs.AheadLemmas.{value_follows}
+use Rattle.ini_edit.proofs.BlankLineLemmas.{Passes, line_last, passes_white, trailing_blank}
+use Rattle.ini_edit.proofs.ClosedLemmas.{own_ends}
+use Rattle.ini_edit.proofs.ClosedPairLemmas.{closed_is, closing_of, ending_from-append, pair_ended, stays_open}
+use Rattle.ini_edit.proofs.DeletedLinesLemmas.{end_last}
+use Rattle.ini_edit.proofs.EndingLemmas.{ending-white}
+use Rattle.ini_edit.proofs.GapLemmas.{gap_like, no_gap, spans_column}
+use Rattle.ini_edit.proofs.GluedLemmas.{lines_glued}
+use Rattle.ini_edit.proofs.InPlaceLemmas.{Agree-after, in_place-exchanged, in_place-split}
+use Rattle.ini_edit.proofs.NewPairLemmas.{IsPlainStyle, IsSourceFor, new_pair_follows, new_pair_is}
+use Rattle.ini_edit.proofs.OwnBeforeLemmas.{own_alike}
+use Rattle.ini_edit.proofs.SourceAddLemmas.{keys_alike}
+use Rattle.ini_edit.proofs.SourceLineLemmas.{blank_lines_at_end-rest}
+use Rattle.ini_edit.proofs.SourcePartLemmas.{source_last}
+use Rattle.ini_edit.proofs.SourceSpanLemmas.{pairs_put_in, spans_after_pairs, spans_before_pairs}
+use Rattle.ini_edit.proofs.SpanLemmas.{spans_local}
+use Rattle.ini_edit.proofs.ValueCutLemmas.{TrailingCut, own_passes, trailing_cut, value_cut}
+
+-- the options with values that may be multiline
+abbrev pub many_lines : ParseOption → ParseOption
+many_lines o = record o { enabled_indented_mutiline_value = true }
+
+end_feed : (sep : LineSeparator) (d : ℕ) → is_line_feed (last_or d (line_end sep)) ≡ true
+end_feed SystemDefault d = refl
+end_feed CR d = refl
+end_feed CRLF d = refl
+
+ends_same : (sep : LineSeparator) (d e : ℕ) → last_or d (line_end sep) ≡ last_or e (line_end sep)
+ends_same SystemDefault d e = refl
+ends_same CR d e = refl
+ends_same CRLF d e = refl
+
+feed_ends : (c : ℕ) → is_line_feed c ≡ true → is_line_end c ≡ true
+feed_ends c h = or_left (is_line_feed c) (c == carriage_return) h
+
+front_nothing : (s r : Text) → s ++ r ≡ [] → s ≡ []
+front_nothing [] r h = refl
+front_nothing (c ∷ s) r h = absurd (let no : c ∷ (s ++ r) ≡ [] = h in cc)
+
+no_both : (test : ℕ → Bool) (x : Text) → BeginsWith test x → ¬ BeginsWithNo test x
+no_both test [] h none = false≢true (sym h)
+no_both test (c ∷ x) h none = both_ways (test c) none h
+
+-- lines that end have a line end at their end
+end_some : (t : Text) → t ≢ [] → ends_in_line t ≡ true → is_empty (line_end_at_end t) ≡ false
+end_some t some ends = at (line_end_at_end t) (end_last 0 0 t some last)
+  where
+    last : is_line_end (last_or 0 t) ≡ true
+    last = line_last Ending.inside 0 t (λ h. absurd (false≢true h)) ends
+
+    at : (e : Text) → last_or 0 e ≡ last_or 0 t → is_empty e ≡ false
+    at [] same = absurd (false≢true (ap is_line_end same ∙ last))
+    at (c ∷ e) same = refl
+
+some_length : (t : Text) → t ≢ [] → 1 ≤ length t
+some_length [] some = absurd (some refl)
+some_length (c ∷ t) some = omega arith
+
+some_more : (t r : Text) → t ≢ [] → t ++ r ≢ []
+some_more [] r some h = some refl
+some_more (c ∷ t) r some h = cc
+
+not_empty : (t : Text) → t ≢ [] → is_empty t ≡ false
+not_empty [] some = absurd (some refl)
+not_empty (c ∷ t) some = refl
+
+module _ (o₀ : ParseOption) (sep : LineSeparator) where
+  abbrev o : ParseOption
+  o = many_lines o₀
+
+  abbrev end : Text
+  end = line_end sep
+
+  -- the ended lines of a pair in each case
+  module _ (p : PairPiece) where
+    abbrev t : Text
+    t = p.stretches.trailing_lines
+
+    abbrev ended : PairPiece
+    ended = with_line_ended o end p
+
+    abbrev lines_with : Text → Text
+    lines_with own =
+        own ++ (if is_empty (if not (ends_in_line own) then [] else line_end_at_end own) then end else [])
+
+    kept_value : t ≢ [] → closed_value o p ≡ p.stretches.raw_value
+    kept_value some = stays_open o p (ap (λ b. b && is_empty p.after) (not_empty t some))
+
+    cut_lines : (front : Text) → front ≢ [] → t ≡ front ++ blank_lines_at_end t → ends_in_line front ≡ true
+        → ended_lines o end p ≡ front
+    cut_lines front some whole ends =
+        ap lines_with (front_is front (blank_lines_at_end t) t (sym whole))
+        ∙ ap (λ b. front ++ (if is_empty (if not b then [] else line_end_at_end front) then end else
+        [])) ends
+        ∙ ap (λ b. front ++ (if b then end else [])) (end_some front some ends)
+        ∙ append-nil front
+
+    glued_lines : blank_lines_at_end t ≡ [] → ends_in_line t ≡ false → ended_lines o end p ≡ t ++ end
+    glued_lines none inside =
+        ap lines_with (front_is t (blank_lines_at_end t) t (ap (λ b. t ++ b) none ∙ append-nil t))
+        ∙ ap (λ b. t ++ (if is_empty (if not b then [] else line_end_at_end t) then end else [])) inside
+
+    no_lines : t ≡ [] → ended_lines o end p ≡ end
+    no_lines none = ap (λ z. lines_with (front_of z (blank_lines_at_end z))) none
+
+    -- the pair with its line ended, before what may follow it
+    module _ {c : ℕ} {r : Text} (is : IsPair o c p.stretches p.key p.value r) (x : Text)
+        (follows : Follows o x) where
+      abbrev with_trailing : Text → Stretches
+      with_trailing lines = record p.stretches { trailing_lines = lines }
+
+      source_of : Text → Text
+      source_of lines =
+          p.stretches.space_before ++ (p.stretches.raw_value ++ (p.stretches.space_after ++ lines))
+
+      -- up to its trailing lines the value is passed
+      passed : t ≢ [] → (z : Text)
+          → (blank_lines_from Ending.inside (value_source (with_trailing z)) ≡ blank_lines_at_end z)
+          × (is_line_from Ending.inside (value_source (with_trailing z)) ≡ ends_in_line z)
+      passed some z =
+          let own = p.stretches.raw_value ++ p.stretches.space_after in
+          let one : Passes p.stretches.space_before (own ++ z) =
+          passes_white p.stretches.space_before is.white_before in
+          let two = own_passes (some_more t r some) is.own_lines z in
+          let seam : value_source (with_trailing z) ≡ p.stretches.space_before ++ (own ++ z) =
+          simp append_assoc in (
+            ap (blank_lines_from Ending.inside) seam ∙ one.blank ∙ two.blank,
+            ap (is_line_from Ending.inside) seam ∙ one.line ∙ two.line,
+          )
+
+      ended_cut : (front : Text) → front ≢ [] → t ≡ front ++ blank_lines_at_end t
+          → ends_in_line front ≡ true
+          → TrailingLines o front x → IsPair o c (with_trailing front) p.key p.value x
+      ended_cut front some whole ends trailing =
+          let b = blank_lines_at_end t in
+          let there : t ≢ [] = λ none. some_more front b some (sym whole ∙ none) in
+          let seam : value_source p.stretches ≡ value_source (with_trailing front) ++ b =
+          ap (λ z. value_source (with_trailing z)) whole ∙ simp append_assoc in
+          let alike : Alike (t ++ r) (front ++ x) =
+          subst (λ z. Alike z (front ++ x))
+          (sym (ap (λ z. z ++ r) whole ∙ append_assoc front b r))
+          (Alike-some front (b ++ r) x (some_length front some)) in
+          record {
+            key_front = is.key_front;
+            some = is.some;
+            separates = is.separates;
+            gives = value_cut refl (value_source (with_trailing front)) is.gives
+                (seam ∙ ap (λ z. value_source (with_trailing front) ++ z) (sym (passed there t).0))
+                ((passed there front).1 ∙ ends) follows;
+            white_before = is.white_before;
+            white_after = is.white_after;
+            are_trailing = trailing;
+            own_lines = own_alike alike is.own_lines;
+            closed = is.closed;
+          }
+
+      ended_glued : t ≢ [] → Closing o (ending_from Ending.inside t) [] → TrailingLines o (t ++ end) x
+          → IsPair o c (with_trailing (t ++ end)) p.key p.value x
+      ended_glued some closing trailing =
+          let own = p.stretches.raw_value ++ p.stretches.space_after in
+          let source : value_source p.stretches ≡ p.stretches.space_before ++ (own ++ t) =
+          simp append_assoc in
+          let ends : ending_from Ending.inside (value_source p.stretches) ≡ ending_from Ending.inside t =
+          ap (ending_from Ending.inside) source
+          ∙ ending-white p.stretches.space_before (own ++ t) is.white_before
+          ∙ ending_from-append Ending.inside own t
+          ∙ ap (λ e. ending_from e t) (own_ends (some_more t r some) is.own_lines) in
+          let seam : value_source p.stretches ++ end ≡ value_source (with_trailing (t ++ end)) =
+          simp append_assoc in
+          let alike : Alike (t ++ r) ((t ++ end) ++ x) =
+          subst (Alike (t ++ r)) (sym (append_assoc t end x))
+          (Alike-some t r (end ++ x) (some_length t some)) in
+          record {
+            key_front = is.key_front;
+            some = is.some;
+            separates = is.separates;
+            gives = subst (λ s. Value o s x p.value) seam
+                (lines_glued sep follows refl [] is.gives (subst (λ e. Closing o e []) (sym ends) closing));
+            white_before = is.white_before;
+            white_after = is.white_after;
+            are_trailing = trailing;
+            own_lines = own_alike alike is.own_lines;
+            closed = is.closed;
+          }
+
+      -- in each case a line starts after it
+      pub record IsEnded : Type 0 where
+        pub is_pair : IsPair o c ended.stretches p.key p.value x
+        pub starts : (d : ℕ) → is_line_end (last_or d ended.stretches.trailing_lines) ≡ true
+
+      ended_so : (raw lines : Text) → closed_value o p ≡ raw → ended_lines o end p ≡ lines
+          → IsPair o c (record p.stretches { raw_value = raw; trailing_lines = lines }) p.key p.value x
+          → ((d : ℕ) → is_line_end (last_or d lines) ≡ true) → IsEnded
+      ended_so raw lines raw_is lines_is h starts = record {
+        is_pair = subst (λ s. IsPair o c s p.key p.value x)
+            (ap (λ v. record p.stretches { raw_value = v; trailing_lines = lines }) (sym raw_is)
+            ∙ ap (λ l. record p.stretches { raw_value = closed_value o p; trailing_lines = l }) (sym
+            lines_is))
+            h;
+        starts = λ d. ap (λ l. is_line_end (last_or d l)) lines_is ∙ starts d;
+      }
+
+      pub pair_line_ended : (r ≡ [] → p.after ≡ []) → IsEnded
+      pair_line_ended nothing_after = at (trailing_cut refl is.are_trailing)
+        where
+          raw : Text
+          raw = p.stretches.raw_value
+
+          at : TrailingCut o t r → IsEnded
+          at (TrailingCut.cut front some whole ends are) =
+              let b = blank_lines_at_end t in
+              let there : t ≢ [] = λ none. some_more front b some (sym whole ∙ none) in
+              ended_so raw front (kept_value there) (cut_lines front some whole ends)
+              (ended_cut front some whole ends (are x follows))
+              (λ d. line_last Ending.inside d front (λ h. absurd (false≢true h)) ends)
+          at (TrailingCut.unended some none empty inside closing are) =
+              ended_so raw (t ++ end) (kept_value some) (glued_lines none inside)
+              (ended_glued some closing (are sep x follows))
+              (λ d. ap is_line_end (last_or-append d t end)
+              ∙ feed_ends (last_or (last_or d t) end) (end_feed sep (last_or d t)))
+          at (TrailingCut.nothing none empty) =
+              ended_so (raw ++ closing_of o (ending raw)) end (closed_is o p none (nothing_after empty))
+              (no_lines none) (pair_ended is none sep x refl follows)
+              (λ d. feed_ends (last_or d end) (end_feed sep d))
+
+-- the pair that is put in
+module _ (o₀ : ParseOption) (sep : LineSeparator) {policy : EscapePolicy} {key value source : Text}
+    {style : Style}
+    (plain : IsPlainKey (many_lines o₀) policy key) (read_back : IsReadBack (many_lines o₀) policy key)
+    (is : IsPlainStyle (many_lines o₀) style) (given : IsSourceFor (many_lines o₀) source value) where
+  abbrev make : Maker
+  make indented lines rest =
+      new_pair (many_lines o₀) policy style indented key value source lines rest
+
+  module _ (xs zs : List Span) (p : PairPiece) where
+    abbrev o₁ : ParseOption
+    o₁ = many_lines o₀
+
+    abbrev blank : Text
+    blank = blank_lines_at_end p.stretches.trailing_lines
+
+    abbrev lines : Text
+    lines = line_end sep ++ blank
+
+    abbrev made : Stretches
+    made = (make false lines p.after).stretches
+
+    abbrev shut : PairPiece
+    shut = with_line_ended o₁ (line_end sep) p
+
+    -- the last characters of both pairs
+    last_made : (d : ℕ) → last_or d (pair_source made) ≡ last_or (last_or d (line_end sep)) blank
+    last_made d =
+        sym (source_last d made) ∙ last_or-append _ (line_end sep) blank ∙ ap (λ e. last_or e blank)
+        (ends_same sep _ d)
+
+    -- before what follows both the old pair's gap and the new one's are read alike
+    ends_feed : (d e : ℕ) (b f : Text) → p.stretches.trailing_lines ≡ f ++ b
+        → is_line_feed (last_or d p.stretches.trailing_lines) ≡ true
+        → is_line_feed (last_or (last_or e (line_end sep)) b) ≡ true
+    ends_feed d e [] f whole h = end_feed sep e
+    ends_feed d e (x ∷ b) f whole h =
+        sym (ap is_line_feed (ap (last_or d) whole ∙ last_or-append d f (x ∷ b))) ∙ h
+
+    spans_put_more : AreSpans o₁ line_feed (xs ++ (pair p.stretches p.key p.value ∷ gap p.after ∷ zs)) []
+        → AreSpans o₁ line_feed
+        (xs ++ (pair shut.stretches p.key p.value ∷ gap [] ∷ pair made key value ∷ gap p.after ∷ zs)) []
+    spans_put_more h =
+        at (in_place-split span_source xs (pair p.stretches p.key p.value ∷ gap p.after ∷ zs) h).1
+      where
+        c : ℕ
+        c = last_or line_feed (joined span_source xs)
+
+        at : AreSpans o₁ c (pair p.stretches p.key p.value ∷ gap p.after ∷ zs) []
+            → AreSpans o₁ line_feed
+            (xs ++ (pair shut.stretches p.key p.value ∷ gap [] ∷ pair made key value ∷ gap p.after ∷ zs)) []
+        at (AreInPlace.more (IsSpan.is_pair was) (AreInPlace.more (IsSpan.is_gap g) rest)) =
+            let z = joined span_source zs in
+            let gap_text = p.after in
+            let r = (gap_text ++ []) ++ (z ++ []) in
+            let x = (pair_source made ++ (gap_text ++ [])) ++ (z ++ []) in
+            let follows : Follows o₁ x =
+            subst (Follows o₁) (sym (append_assoc (pair_source made) (gap_text ++ []) (z ++ [])))
+            (new_pair_follows plain read_back is given lines gap_text r refl) in
+            let ended = pair_line_ended o₀ sep p was x follows
+            (λ e. front_nothing gap_text z (front_nothing (gap_text ++ z) [] e)) in
+            let cs = last_or c (pair_source shut.stretches) in
+            let cp = last_or c (pair_source p.stretches) in
+            let cq = last_or cs (pair_source made) in
+            let starts : starts_line (cs ∷ []) ≡ true =
+            ap is_line_end (sym (source_last c shut.stretches)) ∙ ended.starts _ in
+            let there = trailing_blank refl was.are_trailing in
+            let same : (gap_text ++ z) ++ [] ≡ r =
+            append_assoc gap_text z [] ∙ ap (λ t. t ++ (z ++ [])) (sym (append-nil gap_text)) in
+            let trailing : TrailingLines o₁ lines r =
+            TrailingLines.lines refl (line_end-is sep (blank ++ r))
+            (subst (λ y. MoreLines o₁ blank y there.value) same there.are) there.all in
+            let made_is : IsPair o₁ cs made key value r =
+            new_pair_is plain read_back is given false lines gap_text starts trailing in
+            let agree : Agree (cp ∷ []) (cq ∷ []) (gap_text ++ z) = record {
+              line = λ b. absurd (no_both is_blank ((gap_text ++ z) ++ [])
+                  (subst (BeginsWith is_blank) (sym (append-nil (gap_text ++ z))) b)
+                  ((value_follows refl was.gives).no_blank refl));
+              column = λ m.
+                  let feed = spans_column (gap gap_text ∷ zs) (AreInPlace.more (IsSpan.is_gap g) rest) m in
+                  feed ∙ sym (ap is_line_feed (last_made cs)
+                  ∙ ends_feed _ cs blank (front_of p.stretches.trailing_lines blank)
+                  (sym (blank_lines_at_end-rest p.stretches.trailing_lines))
+                  (ap is_line_feed (source_last c p.stretches) ∙ feed));
+            } in
+            in_place-exchanged span_source spans_local xs
+            (pair p.stretches p.key p.value ∷ gap gap_text ∷ [])
+            (pair shut.stretches p.key p.value ∷ gap [] ∷ pair made key value ∷ gap gap_text ∷ []) zs h
+            (AreInPlace.more (IsSpan.is_pair ended.is_pair)
+            (AreInPlace.more (IsSpan.is_gap no_gap)
+            (AreInPlace.more (IsSpan.is_pair made_is)
+            (AreInPlace.more (IsSpan.is_gap (gap_like (Agree-front z agree) g)) AreInPlace.none))))
+            (keys_alike p.stretches.key p.stretches.separator (value_source p.stretches)
+            (value_source shut.stretches) (gap_text ++ []) (pair_source made ++ (gap_text ++ [])) (z ++ [])
+            (z ++ []))
+            (subst (λ d. Agree (d ∷ []) (last_or c (pair_source shut.stretches
+            ++ (pair_source made ++ (gap_text ++ []))) ∷ []) z)
+            (sym (last_or-append c (pair_source p.stretches) (gap_text ++ [])
+            ∙ ap (last_or cp) (append-nil gap_text)))
+            (subst (λ d. Agree (last_or cp gap_text ∷ []) (d ∷ []) z)
+            (sym (last_or-append c (pair_source shut.stretches) (pair_source made ++ (gap_text ++ []))
+            ∙ last_or-append cs (pair_source made) (gap_text ++ [])
+            ∙ ap (last_or cq) (append-nil gap_text)))
+            (Agree-after gap_text z agree)))
+
+  -- and the sections
+  pub put_after_more : {ss : List SectionPiece} {s : Place SectionPiece} {i : ℕ} → IsPlaceAt ss s i
+      → (p : Place PairPiece) → s.here.pairs ≡ p.before ++ p.here ∷ p.after → AreSections (many_lines o₀) ss
+      → AreSections (many_lines o₀)
+      (exchanged s (pair_put_after (many_lines o₀) (line_end sep) make s.here p ∷ []))
+  put_after_more {s = s} at p whole are =
+      let new = make false (lines [] [] p.here) p.here.after in
+      pairs_put_in (many_lines o₀) at p.before (p.here ∷ []) (shut [] [] p.here ∷ new ∷ []) p.after whole
+      (spans_put_more (spans_before_pairs s p.before) (spans_after_pairs s p.after) p.here) are

@@ -1,0 +1,207 @@
+-- A pair put into a text in pieces where values are in one line: two spans more, after a line end.
+use Rattle.std.proofs.Common.{◌≡◌, ◌∙◌, ℕ, true, false, List, [], ◌∷◌, ◌++◌, ap, append_assoc, append-nil}
+use Rattle.std.proofs.Common.{refl, subst, sym}
+use Rattle.std.proofs.lemmas.Bool.{and_parts, both_ways}
+use Rattle.std.specs.List.{list_all}
+use Rattle.ini_text.specs.Grammar.CharacterKinds.{is_blank, is_line_end, is_line_feed, line_feed}
+use Rattle.ini_text.specs.Grammar.Elements.{Element, Gap}
+use Rattle.ini_text.specs.Grammar.Pieces.{ArePieces}
+use Rattle.ini_text.specs.Grammar.Places.{Stretches, TrailingLines, pair_source, value_source}
+use Rattle.ini_text.specs.Grammar.Positions.{last_or, starts_line}
+use Rattle.ini_text.specs.Grammar.Strings.{Closes, plain_ends}
+use Rattle.ini_text.specs.Grammar.Values.{LineEnd}
+use Rattle.ini_text.specs.Laws.PieceLaws.{BeginAlike}
+use Rattle.ini_text.specs.declared.option.ParseOption.{ParseOption}
+use Rattle.ini_text.proofs.GrammarLemmas.KindLemmas.{line_end_no_blank}
+use Rattle.ini_text.proofs.LawLemmas.PieceLemmas.{last_or-append}
+use Rattle.ini_text.proofs.PlainLemmas.PlainPairLemmas.{line_end_closes, line_starts}
+use Rattle.ini_text.proofs.PlainLemmas.PlainTrimLemmas.{line_end_is_white}
+use Rattle.ini.specs.Texts.{Text}
+use Rattle.ini_edit.specs.Inside.InPlace.{AreInPlace}
+use Rattle.ini_edit.specs.Inside.Spans.{AreSpans, IsGap, IsPair, IsSpan, Span, gap, pair, span_source}
+use Rattle.ini_edit.specs.Sources.{PairPiece, joined}
+use Rattle.ini_edit.proofs.AheadLemmas.{value_closes}
+use Rattle.ini_edit.proofs.GapLemmas.{gap_cut, gaps_joined, spans_column}
+use Rattle.ini_edit.proofs.InPlaceLemmas.{in_place-before, in_place-exchanged, in_place-join, in_place-put}
+use Rattle.ini_edit.proofs.InPlaceLemmas.{in_place-split, joined-append}
+use Rattle.ini_edit.proofs.ClosedPairLemmas.{closed_stretches, pair_closed}
+use Rattle.ini_edit.proofs.SourceSetLemmas.{closed_agrees}
+use Rattle.ini_edit.proofs.SpanLemmas.{spans_local}
+
+-- A line end of a new line: LF, or CR LF.
+pub record IsNewEnd (d : ℕ) (ds : Text) : Type 0 where
+  pub all : list_all is_line_end (d ∷ ds) ≡ true
+  pub feed : is_line_feed (last_or d ds) ≡ true
+  pub is_end : (r : Text) → LineEnd (d ∷ ds) r
+
+module _ {o : ParseOption} where
+  -- line ends are a gap wherever they stand
+  pub line_ends_gap : {c : ℕ} {r : Text} (e : Text) → list_all is_line_end e ≡ true → IsGap o c e r
+  line_ends_gap [] h = record { pieces = []; whole = refl; nothing = refl; are = ArePieces.none }
+  line_ends_gap {r = r} (d ∷ e) h =
+      let parts = and_parts (is_line_end d) (list_all is_line_end e) h in
+      let rest : IsGap o d e r = line_ends_gap e parts.1 in
+      record {
+        pieces = record { source = d ∷ []; gives = [] } ∷ rest.pieces;
+        whole = ap (λ t. d ∷ t) rest.whole;
+        nothing = rest.nothing;
+        are = ArePieces.more
+            (Element.gap (Gap.white (line_end_is_white d parts.0)
+            (λ b. absurd (both_ways (is_blank d) (line_end_no_blank d parts.0) b))))
+            rest.are;
+      }
+
+  -- Two spans put in where a line starts, and where what stands before stands before them.
+  pub spans_put_in : (xs : List Span) (p : Stretches) (key value : Text) {d : ℕ} {ds : Text} (zs : List
+      Span)
+      → IsNewEnd d ds → AreSpans o line_feed (xs ++ zs) []
+      → AreSpans o line_feed xs ((pair_source p ++ ((d ∷ ds) ++ [])) ++ (joined span_source zs ++ []))
+      → starts_line (last_or line_feed (joined span_source xs) ∷ []) ≡ true
+      → IsPair o (last_or line_feed (joined span_source xs)) p key value
+      (((d ∷ ds) ++ []) ++ (joined span_source zs ++ []))
+      → AreSpans o line_feed (xs ++ (pair p key value ∷ gap (d ∷ ds) ∷ zs)) []
+  spans_put_in xs p key value {d} {ds} zs end h front start is =
+      let c = last_or line_feed (joined span_source xs) in
+      let rest : AreSpans o c zs [] = (in_place-split span_source xs zs h).1 in
+      let last : last_or c (pair_source p ++ ((d ∷ ds) ++ [])) ≡ last_or d ds =
+      last_or-append c (pair_source p) ((d ∷ ds) ++ [])
+      ∙ ap (last_or (last_or c (pair_source p))) (append-nil (d ∷ ds)) in
+      let feed : is_line_feed (last_or c (pair_source p ++ ((d ∷ ds) ++ []))) ≡ true =
+      ap is_line_feed last ∙ end.feed in
+      in_place-put span_source spans_local xs [] (pair p key value ∷ gap (d ∷ ds) ∷ []) zs h front
+      (AreInPlace.more (IsSpan.is_pair is)
+      (AreInPlace.more (IsSpan.is_gap (line_ends_gap (d ∷ ds) end.all)) AreInPlace.none))
+      (record {
+        line = λ _. start ∙ sym (line_starts (last_or c (pair_source p ++ ((d ∷ ds) ++ [])) ∷ []) feed);
+        column = λ m. spans_column zs rest m ∙ sym feed;
+      })
+
+  -- a gap's first line end is a gap of its own
+  pub gap_parted : (xs : List Span) (e b : Text) {x : Text} (zs : List Span) → list_all is_line_end e ≡ true
+      → LineEnd e x → AreSpans o line_feed (xs ++ (gap (e ++ b) ∷ zs)) []
+      → AreSpans o line_feed (xs ++ (gap e ∷ gap b ∷ zs)) []
+  gap_parted xs e b zs all end h =
+      let split = in_place-split span_source xs (gap (e ++ b) ∷ zs) h in
+      at split.0 split.1
+    where
+      c : ℕ
+      c = last_or line_feed (joined span_source xs)
+
+      following : Text
+      following = joined span_source zs
+
+      at : AreSpans o line_feed xs (((e ++ b) ++ joined span_source zs) ++ [])
+          → AreSpans o c (gap (e ++ b) ∷ zs) []
+          → AreSpans o line_feed (xs ++ (gap e ∷ gap b ∷ zs)) []
+      at front (AreInPlace.more (IsSpan.is_gap g) rest) =
+          in_place-join span_source xs (gap e ∷ gap b ∷ zs)
+          (subst (λ t. AreSpans o line_feed xs (t ++ [])) (append_assoc e b following) front)
+          (AreInPlace.more (IsSpan.is_gap (line_ends_gap e all))
+          (AreInPlace.more (IsSpan.is_gap (gap_cut end g))
+          (subst (λ z. AreSpans o z zs []) (last_or-append c e b) rest)))
+
+pub no_tail : {o : ParseOption} {t r : Text} → o.enabled_indented_mutiline_value ≡ false
+    → TrailingLines o t r
+    → t ≡ []
+no_tail off (TrailingLines.line _ h) = refl
+no_tail {o} off (TrailingLines.end on) = absurd (both_ways o.enabled_indented_mutiline_value off on)
+no_tail {o} off (TrailingLines.lines on end more all) =
+    absurd (both_ways o.enabled_indented_mutiline_value off on)
+
+module _ {o : ParseOption} where
+  pub left : {c : ℕ} {r : Text} (xs ys zs : List Span) → AreSpans o c (xs ++ (ys ++ zs)) r
+      → AreSpans o c ((xs ++ ys) ++ zs) r
+  left {c} {r} xs ys zs h = subst (λ l. AreSpans o c l r) (sym (append_assoc xs ys zs)) h
+
+  pub right : {c : ℕ} {r : Text} (xs ys zs : List Span) → AreSpans o c ((xs ++ ys) ++ zs) r
+      → AreSpans o c (xs ++ (ys ++ zs)) r
+  right {c} {r} xs ys zs h = subst (λ l. AreSpans o c l r) (append_assoc xs ys zs) h
+
+-- keys and separators that are the same begin alike
+pub keys_alike : (k : Text) (m : ℕ) (v w a b x y : Text)
+    → BeginAlike (((k ++ m ∷ v) ++ a) ++ x) (((k ++ m ∷ w) ++ b) ++ y)
+keys_alike [] m v w a b x y = BeginAlike.character
+keys_alike (c ∷ k) m v w a b x y = BeginAlike.character
+
+ends_alike : {e r : Text} (a b x y : Text) → LineEnd e r → BeginAlike ((e ++ a) ++ x) ((e ++ b) ++ y)
+ends_alike a b x y LineEnd.lf = BeginAlike.character
+ends_alike a b x y LineEnd.cr_lf = BeginAlike.character
+ends_alike a b x y (LineEnd.cr n) = BeginAlike.character
+
+line_end_all : {e r : Text} → LineEnd e r → list_all is_line_end e ≡ true
+line_end_all LineEnd.lf = refl
+line_end_all LineEnd.cr_lf = refl
+line_end_all (LineEnd.cr n) = refl
+
+line_end_starts : {e r : Text} (c : ℕ) → LineEnd e r → starts_line (last_or c e ∷ []) ≡ true
+line_end_starts c LineEnd.lf = refl
+line_end_starts c LineEnd.cr_lf = refl
+line_end_starts c (LineEnd.cr n) = refl
+
+module _ {o : ParseOption} (off : o.enabled_indented_mutiline_value ≡ false) {d : ℕ} {ds : Text}
+    (end : IsNewEnd d ds) (q : Stretches) (key value : Text)
+    (fits : (c : ℕ) (r : Text) → starts_line (c ∷ []) ≡ true → Closes plain_ends r
+    → IsPair o c q key value r)
+  where
+    abbrev added : Span
+    added = pair q key value
+
+    -- a new line after a gap whose line ends
+    pub added_line : (ws : List Span) (zs : List Span) (e r : Text) → LineEnd e r
+        → AreSpans o line_feed (ws ++ (gap (e ++ r) ∷ zs)) []
+        → AreSpans o line_feed (ws ++ (gap e ∷ added ∷ gap ((d ∷ ds) ++ r) ∷ zs)) []
+    added_line ws zs e r le h =
+        let vs = ws ++ gap e ∷ [] in
+        let parted = gap_parted ws e r {x = r} zs (line_end_all le) le h in
+        let text = (pair_source q ++ ((d ∷ ds) ++ [])) ++ (joined span_source (gap r ∷ zs) ++ []) in
+        let front : AreSpans o line_feed vs text =
+        in_place-join span_source ws (gap e ∷ [])
+        (in_place-before span_source spans_local (ends_alike (r ++ joined span_source zs) [] [] text le)
+        (in_place-split span_source ws (gap e ∷ gap r ∷ zs) parted).0)
+        (AreInPlace.more (IsSpan.is_gap (line_ends_gap e (line_end_all le))) AreInPlace.none) in
+        let last : last_or line_feed (joined span_source vs)
+        ≡ last_or (last_or line_feed (joined span_source ws)) e =
+        ap (last_or line_feed) (joined-append span_source ws (gap e ∷ []))
+        ∙ last_or-append line_feed (joined span_source ws) (e ++ [])
+        ∙ ap (last_or (last_or line_feed (joined span_source ws))) (append-nil e) in
+        let starts : starts_line (last_or line_feed (joined span_source vs) ∷ []) ≡ true =
+        ap (λ c. starts_line (c ∷ [])) last
+        ∙ line_end_starts (last_or line_feed (joined span_source ws)) le in
+        let closes = line_end_closes d (and_parts (is_line_end d) (list_all is_line_end ds) end.all).0 in
+        let put = spans_put_in vs q key value (gap r ∷ zs) end (left ws (gap e ∷ []) (gap r ∷ zs)
+        parted) front
+        starts (fits _ _ starts closes) in
+        right ws (gap e ∷ []) (added ∷ gap ((d ∷ ds) ++ r) ∷ zs)
+        (right vs (added ∷ []) (gap ((d ∷ ds) ++ r) ∷ zs)
+        (gaps_joined (vs ++ added ∷ []) (d ∷ ds) r zs
+        (left vs (added ∷ []) (gap (d ∷ ds) ∷ gap r ∷ zs) put)))
+
+    -- a pair that nothing follows with its line ended
+    pub line_ended : (xs zs : List Span) (p : PairPiece)
+        → AreSpans o line_feed (xs ++ (pair p.stretches p.key p.value ∷ gap [] ∷ zs)) []
+        → AreSpans o line_feed (xs ++ (pair (closed_stretches o p.stretches) p.key p.value ∷ gap (d ∷
+        ds) ∷ zs)) []
+    line_ended xs zs p h =
+        at (in_place-split span_source xs (pair p.stretches p.key p.value ∷ gap [] ∷ zs) h).1
+      where
+        c : ℕ
+        c = last_or line_feed (joined span_source xs)
+
+        at : AreSpans o c (pair p.stretches p.key p.value ∷ gap [] ∷ zs) []
+            → AreSpans o line_feed
+            (xs ++ (pair (closed_stretches o p.stretches) p.key p.value ∷ gap (d ∷ ds) ∷ zs)) []
+        at (AreInPlace.more (IsSpan.is_pair is) rest) =
+            let following = joined span_source zs in
+            let closes : Closes plain_ends following =
+            subst (Closes plain_ends) (append-nil following) (value_closes off is.gives) in
+            let first = line_end_closes d (and_parts (is_line_end d) (list_all is_line_end ds) end.all).0 in
+            let new = closed_stretches o p.stretches in
+            in_place-exchanged span_source spans_local xs (pair p.stretches p.key p.value ∷ gap [] ∷ [])
+            (pair new p.key p.value ∷ gap (d ∷ ds) ∷ []) zs h
+            (AreInPlace.more
+            (IsSpan.is_pair (pair_closed is (no_tail off is.are_trailing) _ off first))
+            (AreInPlace.more (IsSpan.is_gap (line_ends_gap (d ∷ ds) end.all)) AreInPlace.none))
+            (keys_alike p.stretches.key p.stretches.separator (value_source p.stretches) (value_source
+            new) [] ((d ∷ ds) ++ [])
+            (following ++ []) (following ++ []))
+            (closed_agrees following closes)

@@ -1,0 +1,210 @@
+-- The parts of a pair and of a section, as the code puts them together.
+use Rattle.std.proofs.Common.{◌≡◌, ◌∙◌, ◌<◌, ◌≤◌, ◌+◌, ◌-◌, ◌&&◌, ℕ, true, false, cond, List, [], ◌∷◌, ◌++◌}
+use Rattle.std.proofs.Common.{length, None, Some, get_or, drop, set, take, ap, append-nil, append_assoc}
+use Rattle.std.proofs.Common.{arith, refl, suc, sym}
+use Rattle.std.proofs.lemmas.Bool.{cond-false, cond-true}
+use Rattle.std.proofs.lemmas.List.{get_or_default, set_split, take-append-drop, take_more}
+use Rattle.std.specs.Option.{option_or}
+use Rattle.ini_text.specs.Grammar.CharacterKinds.{is_line_end}
+use Rattle.ini_text.specs.Grammar.Places.{Stretches, pair_source, value_source}
+use Rattle.ini_text.specs.Grammar.Positions.{last_or, starts_line}
+use Rattle.ini_text.specs.Parsing.Fronts.{front_of}
+use Rattle.ini_text.specs.declared.option.ParseOption.{ParseOption}
+use Rattle.ini_text.proofs.LawLemmas.PieceLemmas.{last_or-append}
+use Rattle.ini_text.proofs.StringLemmas.FrontLemmas.{front_is}
+use Rattle.ini.specs.Texts.{Text}
+use Rattle.ini_edit.specs.Inside.SourceEnds.{end_put, end_put_at, with_new_end}
+use Rattle.ini_edit.specs.SourceEdits.{with_pairs}
+use Rattle.ini_edit.specs.SourceEditsDelete.{rest_put, with_rest}
+use Rattle.ini_edit.specs.SourceLines.{is_empty}
+use Rattle.ini_edit.specs.SourcePlaces.{last_before_gap, text_up_to, with_end}
+use Rattle.ini_edit.specs.SourceWritten.{last_that_begins}
+use Rattle.ini_edit.specs.Sources.{PairPiece, SectionPiece, pair_text, pairs_text}
+use Rattle.ini_edit.specs.declared.source.pair.ends.NewEnd.{NewEnd}
+use Rattle.ini_edit.proofs.InPlaceLemmas.{joined-append, joined-more}
+use Rattle.ini_edit.proofs.SourcePlaceLemmas.{end_put-end, gap_of-end, rest_put-end}
+
+-- the last character of a pair's source, one stretch after another
+pub source_last : (c : ℕ) (p : Stretches)
+    → last_or (last_or (last_or (last_or p.separator p.space_before) p.raw_value) p.space_after)
+    p.trailing_lines ≡ last_or c (pair_source p)
+source_last c p =
+    let value = last_or (last_or p.separator p.space_before) p.raw_value in
+    sym (last_or-append c p.key (p.separator ∷ value_source p)
+    ∙ last_or-append p.separator p.space_before (p.raw_value ++ (p.space_after ++ p.trailing_lines))
+    ∙ last_or-append (last_or p.separator p.space_before) p.raw_value (p.space_after ++ p.trailing_lines)
+    ∙ last_or-append value p.space_after p.trailing_lines)
+
+pub source_ends : (p : Stretches) {a b d e : ℕ} {value lines : Text}
+    → a ≡ last_or p.separator p.space_before → value ≡ p.raw_value → b ≡ last_or a value
+    → d ≡ last_or b p.space_after → lines ≡ p.trailing_lines → e ≡ last_or d lines
+    → (c : ℕ) → e ≡ last_or c (pair_source p)
+source_ends p {a} {b} {d} {e} is_a is_value is_b is_d is_lines is_e c =
+    is_e ∙ ap (last_or d) is_lines
+    ∙ ap (λ x. last_or x p.trailing_lines) (is_d ∙ ap (λ x. last_or x p.space_after)
+    (is_b ∙ ap (last_or a) is_value ∙ ap (λ x. last_or x p.raw_value) is_a))
+    ∙ source_last c p
+
+pub text_ends : (p : PairPiece) {e f : ℕ} {gap : Text} → ((c : ℕ) → e ≡ last_or c (pair_source p.stretches))
+    → gap ≡ p.after → f ≡ last_or e gap → (c : ℕ) → f ≡ last_or c (pair_text p)
+text_ends p {e} {f} source is_gap is_f c =
+    is_f ∙ ap (last_or e) is_gap ∙ ap (λ x. last_or x p.after) (source c)
+    ∙ sym (last_or-append c (pair_source p.stretches) p.after)
+
+-- a pair's text after a front, one stretch after another
+pub after_stretches : (front : Text) (p : PairPiece)
+    → (((((front ++ p.stretches.key) ++ p.stretches.separator ∷ []) ++ p.stretches.space_before)
+    ++ p.stretches.raw_value) ++ p.stretches.space_after) ++ p.stretches.trailing_lines
+    ≡ front ++ pair_source p.stretches
+after_stretches front p = simp append_assoc
+
+-- a list up to an index ends in the one before it
+pub take_before : {A : Type 0} (xs : List A) (i j : ℕ) (x : A) → j + 1 ≡ i → j < length xs
+    → x ≡ get_or xs j x → take i xs ≡ take j xs ++ x ∷ []
+take_before xs i j x next within is =
+    ap (λ n. take n xs) (sym next) ∙ take_more xs j x within ∙ ap (λ y. take j xs ++ y ∷ []) (sym is)
+
+pub before_index : {A : Type 0} {xs ys : List A} {i j : ℕ} {x : A} → (1 ≤ i) × (j ≡ i - 1) → i ≤ length ys
+    → xs ≡ ys → x ≡ get_or xs j x → take i ys ≡ take j ys ++ x ∷ []
+before_index {ys = ys} {i} {j} {x} at within same is =
+    take_before ys i j x (omega arith) (omega arith) (is ∙ ap (λ l. get_or l j x) same)
+
+pub search_parts : (front : Text) (p : PairPiece) {key separator before value after lines gap : Text}
+    → key ≡ p.stretches.key → separator ≡ p.stretches.separator ∷ [] → before ≡ p.stretches.space_before
+    → value ≡ p.stretches.raw_value → after ≡ p.stretches.space_after → lines ≡ p.stretches.trailing_lines
+    → gap ≡ p.after
+    → ((((((front ++ key) ++ separator) ++ before) ++ value) ++ after) ++ lines) ++ gap
+    ≡ front ++ pair_text p
+search_parts front p is_key is_separator is_before is_value is_after is_lines is_gap =
+    let all = ap (λ t. t ++ p.after) (after_stretches front p)
+    ∙ append_assoc front (pair_source p.stretches) p.after in cc
+
+-- up to the gap after a pair
+pub to_last : (s : SectionPiece) (ps : List PairPiece) (p : PairPiece)
+    → text_up_to s (ps ++ p ∷ []) ≡ (text_up_to s ps ++ pair_source p.stretches) ++ p.after
+to_last s ps p =
+    let source = pair_source p.stretches in
+    ap (λ t. s.header ++ (s.after ++ t))
+    (joined-append pair_text ps (p ∷ []) ∙ ap (λ t. pairs_text ps ++ t) (append-nil (pair_text p)))
+    ∙ sym (append_assoc (text_up_to s ps) source p.after
+    ∙ append_assoc s.header (s.after ++ pairs_text ps) (source ++ p.after)
+    ∙ ap (λ t. s.header ++ t) (append_assoc s.after (pairs_text ps) (source ++ p.after)))
+
+pub before_gap_last : (front c : ℕ) (s : SectionPiece) (ps : List PairPiece) (p : PairPiece)
+    → last_before_gap front s (ps ++ p ∷ []) ≡ last_or c (pair_source p.stretches)
+before_gap_last front c s ps p =
+    let up_to = text_up_to s ps in
+    let source = pair_source p.stretches in
+    ap (λ g. last_or front (front_of (text_up_to s (ps ++ p ∷ [])) g)) (gap_of-end s.after ps p)
+    ∙ ap (last_or front) (front_is (up_to ++ source) p.after (text_up_to s (ps ++ p ∷ []))
+    (sym (to_last s ps p)))
+    ∙ last_or-append front up_to source
+    ∙ sym (source_last (last_or front up_to) p.stretches) ∙ source_last c p.stretches
+
+pub before_gap_header : (front : ℕ) (s : SectionPiece) → last_before_gap front s [] ≡ last_or front s.header
+before_gap_header front s =
+    ap (last_or front) (front_is s.header s.after (text_up_to s [])
+    (ap (λ t. s.header ++ t) (sym (append-nil s.after))))
+
+-- the end of the pair before an index is put in
+module _ (e : NewEnd) (s : SectionPiece) where
+  pub rest_is_put : (o : ParseOption) (lines gap : Text) (xs ps : List PairPiece) (p : PairPiece)
+      → xs ≡ ps ++ p ∷ [] → with_new_end e p ≡ with_rest o lines gap p
+      → (after : List PairPiece) → end_put e s xs after ≡ rest_put o lines gap s xs after
+  rest_is_put o lines gap xs ps p is put after =
+      ap (λ l. end_put e s l after) is ∙ end_put-end s ps p after e
+      ∙ ap (λ q. with_pairs s (ps ++ q ∷ after)) put
+      ∙ sym (ap (λ l. rest_put o lines gap s l after) is ∙ rest_put-end s ps p after o lines gap)
+
+  pub end_is_put : (i j : ℕ) (p : PairPiece) → j + 1 ≡ i → j < length s.pairs → p ≡ get_or s.pairs j p
+      → with_pairs s (set s.pairs j (with_new_end e p)) ≡ end_put_at e i s
+  end_is_put i j p next within is =
+      let same : suc j ≡ i = omega arith in
+      ap (with_pairs s) (set_split s.pairs j (with_new_end e p) within)
+      ∙ ap (λ n. with_pairs s (take j s.pairs ++ with_new_end e p ∷ drop n s.pairs)) same
+      ∙ sym (ap (λ l. end_put e s l (drop i s.pairs)) (take_before s.pairs i j p next within is)
+      ∙ end_put-end s (take j s.pairs) p (drop i s.pairs) e)
+
+pub end_put_in : (e : NewEnd) {s t : SectionPiece} {i j : ℕ} {x y : PairPiece} → t ≡ s
+    → (1 ≤ i) × (j ≡ i - 1) → i ≤ length s.pairs → x ≡ get_or t.pairs j x → y ≡ with_new_end e x
+    → with_pairs t (set t.pairs j y) ≡ end_put_at e i s
+end_put_in e {s} {t} {i} {j} {x} {y} same at within is put =
+    ap (λ p. with_pairs t (set t.pairs j p)) put
+    ∙ ap (λ u. with_pairs u (set u.pairs j (with_new_end e x))) same
+    ∙ end_is_put e s i j x (omega arith) (omega arith) (is ∙ ap (λ u. get_or u.pairs j x) same)
+
+-- lines and a gap after a pair
+module _ (o : ParseOption) (lines gap : Text) (p : PairPiece) {t g : Text} where
+  pub rest_taken : (o.enabled_indented_mutiline_value && is_empty p.after) ≡ true
+      → t ≡ p.stretches.trailing_lines ++ lines → g ≡ p.after ++ gap
+      → with_end t g p ≡ with_rest o lines gap p
+  rest_taken taken is_t is_g =
+      ap (λ x. with_end x g p) is_t ∙ ap (λ x. with_end (p.stretches.trailing_lines ++ lines) x p) is_g
+      ∙ sym (cond-true (o.enabled_indented_mutiline_value && is_empty p.after) _ _ taken)
+
+  pub rest_after : (o.enabled_indented_mutiline_value && is_empty p.after) ≡ false
+      → t ≡ p.stretches.trailing_lines → g ≡ (p.after ++ lines) ++ gap
+      → with_end t g p ≡ with_rest o lines gap p
+  rest_after apart is_t is_g =
+      ap (λ x. with_end x g p) is_t
+      ∙ ap (λ x. with_end p.stretches.trailing_lines x p) (is_g ∙ append_assoc p.after lines gap)
+      ∙ sym (cond-false (o.enabled_indented_mutiline_value && is_empty p.after) _ _ apart)
+
+-- one pair more of a section's text, and those that are left
+module _ (front : Text) (s : SectionPiece) (xs : List PairPiece) (i : ℕ) (x : PairPiece) where
+  pub one_pair_on : i < length xs → x ≡ get_or xs i x
+      → (front ++ text_up_to s (take i xs)) ++ pair_text x ≡ front ++ text_up_to s (take (i + 1) xs)
+  one_pair_on within is =
+      let before = pairs_text (take i xs) in
+      append_assoc front (text_up_to s (take i xs)) (pair_text x)
+      ∙ ap (λ t. front ++ t) (append_assoc s.header (s.after ++ before) (pair_text x)
+      ∙ ap (λ t. s.header ++ t) (append_assoc s.after before (pair_text x)
+      ∙ ap (λ t. s.after ++ t) (sym (joined-more pair_text xs i x within is))))
+
+pub rest_of_pairs : (front : Text) (s : SectionPiece) (xs : List PairPiece) (i : ℕ)
+    → (front ++ text_up_to s (take i xs)) ++ pairs_text (drop i xs) ≡ front ++ text_up_to s xs
+rest_of_pairs front s xs i =
+    let before = pairs_text (take i xs) in
+    let rest = pairs_text (drop i xs) in
+    append_assoc front (text_up_to s (take i xs)) rest
+    ∙ ap (λ t. front ++ t) (append_assoc s.header (s.after ++ before) rest
+    ∙ ap (λ t. s.header ++ t) (append_assoc s.after before rest
+    ∙ ap (λ t. s.after ++ t) (sym (joined-append pair_text (take i xs) (drop i xs))
+    ∙ ap pairs_text (take-append-drop i xs))))
+
+-- the last of pairs that begins a line
+pub begins_last : (front : Text) (ps : List PairPiece) (p : PairPiece)
+    → starts_line (front ++ pairs_text ps) ≡ true → last_that_begins front (ps ++ p ∷ []) ≡ Some p
+begins_last front [] p h =
+    cond-true (starts_line front) (Some p) None (ap starts_line (sym (append-nil front)) ∙ h)
+begins_last front (q ∷ ps) p h =
+    ap (λ l. option_or l (cond (starts_line front) (Some q) None))
+    (begins_last (front ++ pair_text q) ps p
+    (ap starts_line (append_assoc front (pair_text q) (pairs_text ps)) ∙ h))
+
+pub begins_earlier : (front : Text) (ps : List PairPiece) (p : PairPiece)
+    → starts_line (front ++ pairs_text ps) ≡ false
+    → last_that_begins front (ps ++ p ∷ []) ≡ last_that_begins front ps
+begins_earlier front [] p h =
+    cond-false (starts_line front) (Some p) None (ap starts_line (sym (append-nil front)) ∙ h)
+begins_earlier front (q ∷ ps) p h =
+    ap (λ l. option_or l (cond (starts_line front) (Some q) None))
+    (begins_earlier (front ++ pair_text q) ps p
+    (ap starts_line (append_assoc front (pair_text q) (pairs_text ps)) ∙ h))
+
+pub begins_before : (front : Text) (xs : List PairPiece) (i j : ℕ) → (1 ≤ i) × (j ≡ i - 1) → i ≤ length xs
+    → starts_line (front ++ pairs_text (take j xs)) ≡ false
+    → last_that_begins front (take i xs) ≡ last_that_begins front (take j xs)
+begins_before front [] i j at within starts = absurd (omega (arith, at.0, within))
+begins_before front (x ∷ xs) i j at within starts =
+    let y = get_or (x ∷ xs) j x in
+    let inside : j < length (x ∷ xs) = omega (arith, at.0, at.1, within) in
+    ap (last_that_begins front)
+    (before_index {xs = x ∷ xs} at within refl (get_or_default (x ∷ xs) j x y inside))
+    ∙ begins_earlier front (take j (x ∷ xs)) y starts
+
+pub starts_after : (front : ℕ) (s : SectionPiece) (ps : List PairPiece)
+    → starts_line ((front ∷ (s.header ++ s.after)) ++ pairs_text ps)
+    ≡ is_line_end (last_or front (text_up_to s ps))
+starts_after front s ps =
+    ap (λ t. is_line_end (last_or front t)) (append_assoc s.header s.after (pairs_text ps))

@@ -1,0 +1,18 @@
+use Rattle.std.proofs.Common.{◌≡◌, length, chars}
+use denote.Shadow.{shadow}
+use denote.Text.{Utf8}
+use Rattle.ini_edit.specs.Inside.Lines.{ending_of}
+use Rattle.ini_edit.specs.SourceLines.{blank_lines_at_end}
+use Rattle.ini_edit.proofs.SourceLineWalkLemmas.{blank_lines_so_far}
+use Rattle.ini_edit.proofs.source.lines.blank_lines_at_end.Given as goal
+
+abbrev pub invariant-characters : goal.invariant-characters
+invariant-characters l = record {
+  lines : shadow (Utf8 l.lines);
+  rest : shadow (Utf8 l.rest);
+  so_far : blank_lines_so_far (ending_of l.end) l.is_blank_line (chars l.lines) (chars l.rest)
+      ≡ blank_lines_at_end (chars l.fn.text);
+}
+
+abbrev pub decreases-characters : goal.decreases-characters
+decreases-characters l = length (chars l.rest)

@@ -1,0 +1,23 @@
+use Rattle.std.proofs.Common.{ap, chars}
+use Rattle.std.proofs.lemmas.Str.{chars-nil}
+use Rattle.ini.specs.Texts.{Text}
+use Rattle.ini_text.specs.Parsing.Items.{string_text}
+use Rattle.ini_edit.specs.Sources.{PairPiece}
+use Rattle.ini_edit.proofs.source.pair.SourcePair.of_parts.Goals as goal
+
+pub returns : goal.returns
+returns c =
+    let with_space : Text → PairPiece = λ space. record {
+      stretches = record {
+        key = string_text c.args.raw_key;
+        separator = c.args.separator;
+        space_before = chars c.args.space_before.now;
+        raw_value = string_text c.args.raw_value;
+        space_after = space;
+        trailing_lines = string_text c.args.trailing_lines;
+      };
+      key = string_text c.args.key;
+      value = string_text c.args.value;
+      after = string_text c.args.after;
+    } in
+    ap with_space chars-nil

@@ -1,0 +1,75 @@
+//! Pairs taken out of a section. This file knows what follows a pair, and the mark of a comment.
+ghost use Rattle.std.specs.Prelude.{◌≡◌, ◌<◌, IfOk, IsOkUnless, OnErr, OnOk, alloc_error, chars, length};
+ghost use Rattle.ini_edit.specs.Inside.SourceEnds.{IsDeletedTimes, IsPlaceAt, goes_after};
+ghost use Rattle.ini_edit.specs.SourceEditsDelete.{pair_taken_out};
+ghost use Rattle.ini_edit.specs.SourcePlaces.{Place};
+ghost use Rattle.ini_edit.specs.Sources.{PairPiece};
+
+use crate::append::push_text;
+use crate::source::pair::ends::PairEnd;
+use crate::source::section::SourceSection;
+use crate::text::begins_with_comment;
+use ini_text::{Error, ParseOption, is_comment_mark, is_line_end, split_first};
+use std::alloc::Global;
+
+impl<'a> SourceSection<'a> {
+    /// Takes the pair at the index out, with its line end where a line starts before it and what follows
+    /// goes on as it was; `front` is the last character before the section. Refused, the section stays.
+    pub(crate) fn take_out(
+        &mut self,
+        alloc: Global,
+        front: char,
+        index: usize,
+        read: ParseOption,
+    ) -> Result<(), Error>
+        requires { index < length self.old.pairs }
+        ensures deleted { (p : Place PairPiece) → IsPlaceAt self.old.pairs p index
+            → OnOk result (self.new ≡ pair_taken_out read front self.old p) }
+        ensures unchanged { OnErr result (self.new ≡ self.old) }
+        ensures only { IsOkUnless result (Error.Memory alloc_error) }
+    {
+        let end = self.pairs[index].end(read);
+        let mut lines = String::new(alloc);
+        if !goes_with_line_end(self.last_before(front, index), end) {
+            push_text(&mut lines, end.line_end)?;
+        }
+        push_text(&mut lines, end.lines)?;
+        let rest = self.rest_put(alloc, index, lines.as_str(), end.gap, read)?;
+        let pair = self.pairs.remove(index);
+        drop(pair);
+        self.put_new_end(index, rest);
+        Ok(())
+    }
+
+    /// Takes the pairs of a key out, but for the first `kept` of them: whether there was one. Refused, some
+    /// may be out.
+    pub(crate) fn take_all_out(
+        &mut self,
+        alloc: Global,
+        front: char,
+        key: &str,
+        kept: usize,
+        read: ParseOption,
+    ) -> Result<bool, Error>
+        ensures deleted { IfOk result (IsDeletedTimes read front (chars key.now) kept self.old self.new) }
+        ensures only { IsOkUnless result (Error.Memory alloc_error) }
+    {
+        let mut found = false;
+        'pairs: while let Some(index) = self.nth(key, kept) {
+            self.take_out(alloc, front, index, read)?;
+            found = true;
+        }
+        Ok(found)
+    }
+}
+
+// Whether a pair's line end may go with it, after a front that ends so.
+fn goes_with_line_end(last: char, end: PairEnd<'_>) -> bool
+    ensures { result ≡ goes_after last (chars end.entry.lines.now) (chars end.entry.gap.now) }
+{
+    let is_marked = match split_first(end.lines) {
+        Some((c, _)) => is_comment_mark(c),
+        None => begins_with_comment(end.gap),
+    };
+    is_line_end(last) && (last == '\n' || !is_marked)
+}

@@ -1,0 +1,244 @@
+//! The parts of a section, one by one. This file knows no text of a part.
+ghost use Rattle.std.specs.Prelude.{◌≡◌, ◌++◌, ◌≤◌, ◌<◌, List, Some, IfOk, IsOkUnless, alloc_error, chars};
+ghost use Rattle.std.specs.Prelude.{length};
+ghost use Rattle.std.specs.Prelude.{get_or, set, take};
+ghost use Rattle.std.specs.Option.{option_map};
+ghost use Rattle.ini.specs.Texts.{Text, is_text, str_text};
+ghost use Rattle.ini_text.specs.Grammar.Positions.{last_or};
+ghost use Rattle.ini_text.specs.Parsing.Items.{cow_text, string_text};
+ghost use Rattle.ini_edit.specs.Inside.SourceEnds.{IsNthAt, end_put, end_put_at, style_before, style_of};
+ghost use Rattle.ini_edit.specs.Inside.SourceSearches.{IsSearched};
+ghost use Rattle.ini_edit.specs.SourceEdits.{with_pairs, with_value};
+ghost use Rattle.ini_edit.specs.SourceEditsDelete.{rest_put};
+ghost use Rattle.ini_edit.specs.SourcePlaces.{gap_of, last_before_gap, text_up_to, with_after};
+ghost use Rattle.ini_edit.specs.Sources.{PairPiece, section_text};
+
+use crate::append::push_text;
+use crate::source::lines::{LineEndSearch, last_or};
+use crate::source::pair::SourcePair;
+use crate::source::pair::ends::NewEnd;
+use crate::source::section::SourceSection;
+use crate::source::written::PairStyle;
+use ini_text::{Error, ParseOption, is_line_end, is_same_text};
+use std::alloc::{AllocError, Global};
+use std::borrow::CowStr;
+
+impl<'a> SourceSection<'a> {
+    /// A section of this name and header, of which all is new.
+    pub(crate) fn of_parts(
+        name: String,
+        header: String,
+        after: String,
+        pairs: Vec<SourcePair<'a>>,
+    ) -> Self
+        ensures { result ≡ record {
+          name = Some (string_text name);
+          header = string_text header;
+          after = string_text after;
+          pairs = pairs.entry.items;
+        } }
+    {
+        SourceSection {
+            name: Some(CowStr::Owned(name)),
+            header: CowStr::Owned(header),
+            after: CowStr::Owned(after),
+            pairs,
+        }
+    }
+
+    pub(crate) fn header(&self) -> &str
+        ensures { str_text result ≡ self.now.header }
+    {
+        self.header.as_str()
+    }
+
+    pub(crate) fn after(&self) -> &str
+        ensures { str_text result ≡ self.now.after }
+    {
+        self.after.as_str()
+    }
+
+    pub(crate) fn put_value_at(&mut self, index: usize, raw_value: String, value: String)
+        requires { index < length self.old.pairs }
+        ensures { (d : PairPiece) → self.new ≡ with_pairs self.old (set self.old.pairs index
+            (with_value (string_text raw_value) (string_text value) (get_or self.old.pairs index d))) }
+    {
+        self.pairs[index].put_value(raw_value, value);
+    }
+
+    pub(crate) fn put_after(&mut self, after: String)
+        ensures { self.new ≡ with_after (string_text after) self.old }
+    {
+        self.after = CowStr::Owned(after);
+    }
+
+    /// What follows the pair before the one at the index, or the header where there is none.
+    pub(crate) fn gap_before(&self, index: usize) -> &str
+        requires { index ≤ length self.now.pairs }
+        ensures { str_text result ≡ gap_of self.now.after (take index self.now.pairs) }
+    {
+        match index.checked_sub(1) {
+            Some(before) => self.pairs[before].after(),
+            None => self.after(),
+        }
+    }
+
+    /// The last character before that gap; `front` is that of what stands before the section.
+    pub(crate) fn last_before_gap(&self, front: char, index: usize) -> char
+        requires { index ≤ length self.now.pairs }
+        ensures { result ≡ last_before_gap front self.now (take index self.now.pairs) }
+    {
+        match index.checked_sub(1) {
+            Some(before) => self.pairs[before].last_of_source(),
+            None => last_or(front, self.header()),
+        }
+    }
+
+    /// The last character before the pair at the index.
+    pub(crate) fn last_before(&self, front: char, index: usize) -> char
+        requires { index ≤ length self.now.pairs }
+        ensures { result ≡ last_or front (text_up_to self.now (take index self.now.pairs)) }
+    {
+        last_or(self.last_before_gap(front, index), self.gap_before(index))
+    }
+
+    /// The last character of the section; `front` is that of what stands before it.
+    pub(crate) fn last_char(&self, front: char) -> char
+        ensures { result ≡ last_or front (section_text self.now) }
+    {
+        self.last_before(front, self.pairs.len())
+    }
+
+    /// Where the pair of a key stands before which so many others of the key stand.
+    pub(crate) fn nth(&self, key: &str, n: usize) -> Option<usize>
+        ensures { IsNthAt (λ p. is_text (chars key.now) p.key) n self.now.pairs result }
+    {
+        let mut left = n;
+        for (i, pair) in self.pairs.iter().enumerate() {
+            if is_same_text(key, pair.key()) {
+                if left == 0 {
+                    return Some(i);
+                }
+                left -= 1;
+            }
+        }
+        None
+    }
+
+    /// Lines and a gap that stood elsewhere, after the pair before the index, or after the header.
+    pub(crate) fn rest_put(
+        &self,
+        alloc: Global,
+        index: usize,
+        lines: &str,
+        gap: &str,
+        read: ParseOption,
+    ) -> Result<NewEnd, Error>
+        requires { index ≤ length self.now.pairs }
+        ensures put { IfOk result (λ new. (after : List PairPiece)
+            → end_put new self.now (take index self.now.pairs) after
+            ≡ rest_put read (chars lines.now) (chars gap.now) self.now (take index self.now.pairs) after) }
+        ensures only { IsOkUnless result (Error.Memory alloc_error) }
+    {
+        if let Some(before) = index.checked_sub(1) {
+            return self.pairs[before].with_rest(alloc, lines, gap, read);
+        }
+        let mut after = String::from_str(alloc, self.after())?;
+        push_text(&mut after, lines)?;
+        push_text(&mut after, gap)?;
+        Ok(NewEnd {
+            raw_value: None,
+            trailing_lines: String::new(alloc),
+            after,
+        })
+    }
+
+    /// Puts the new end after the pair before the index, or after the header.
+    pub(crate) fn put_new_end(&mut self, index: usize, end: NewEnd)
+        requires { index ≤ length self.old.pairs }
+        ensures { self.new ≡ end_put_at end index self.old }
+    {
+        match index.checked_sub(1) {
+            Some(before) => self.pairs[before].put_new_end(end),
+            None => {
+                let NewEnd {
+                    raw_value,
+                    trailing_lines,
+                    after,
+                } = end;
+                drop(raw_value);
+                drop(trailing_lines);
+                self.put_after(after);
+            }
+        }
+    }
+
+    /// A search for the text's first line end gone on over the section.
+    pub(crate) fn search_line_end(&self, search: LineEndSearch) -> LineEndSearch
+        ensures { (front : Text) → IsSearched front search
+            → IsSearched (front ++ section_text self.now) result }
+    {
+        let mut search = search.after(self.header()).after(self.after());
+        for pair in &self.pairs {
+            search = pair.search_line_end(search);
+            if search.found().is_some() {
+                return search;
+            }
+        }
+        search
+    }
+
+    pub(crate) fn copy(&self, alloc: Global) -> Result<SourceSection<'a>, Error>
+        ensures copied { IfOk result (λ copy. copy ≡ self.now) }
+        ensures only { IsOkUnless result (Error.Memory alloc_error) }
+    {
+        let name = copy_name(&self.name)?;
+        Ok(SourceSection {
+            name,
+            header: self.header.clone()?,
+            after: self.after.clone()?,
+            pairs: copy_pairs(alloc, &self.pairs)?,
+        })
+    }
+
+    /// How the last pair before the index is written that begins a line.
+    pub(crate) fn style_before(
+        &self,
+        front: char,
+        index: usize,
+        read: ParseOption,
+    ) -> Option<PairStyle<'a, '_>>
+        requires { index ≤ length self.now.pairs }
+        ensures { option_map style_of result ≡ style_before read front self.now index }
+    {
+        let mut left = index;
+        'pairs: while let Some(before) = left.checked_sub(1) {
+            if is_line_end(self.last_before(front, before)) {
+                return Some(self.pairs[before].style(read));
+            }
+            left = before;
+        }
+        None
+    }
+}
+
+fn copy_name<'a>(name: &Option<CowStr<'a>>) -> Result<Option<CowStr<'a>>, Error>
+    ensures copied { IfOk result (λ copy. option_map cow_text copy ≡ option_map cow_text name.now) }
+    ensures only { IsOkUnless result (Error.Memory alloc_error) }
+{
+    match name {
+        Some(name) => Ok(Some(name.clone()?)),
+        None => Ok(None),
+    }
+}
+
+fn copy_pairs<'a>(alloc: Global, pairs: &[SourcePair<'a>]) -> Result<Vec<SourcePair<'a>>, Error>
+    ensures copied { IfOk result (λ copy. copy.items ≡ pairs.now) }
+    ensures only { IsOkUnless result (Error.Memory alloc_error) }
+{
+    let mut copy = Vec::with_capacity(alloc, pairs.len())?;
+    for pair in pairs {
+        copy.push(pair.copy()?).map_err(AllocError::from)?;
+    }
+    Ok(copy)
+}

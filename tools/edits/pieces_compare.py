@@ -1,0 +1,165 @@
+#!/usr/bin/env python3
+"""Compares the bytes of edits of texts in pieces: `ini_replay pieces`, over the library's calls, and pieces_model.py.
+
+    pieces_compare.py ask FILE N [SEED]
+    pieces_compare.py judge FILE ANSWERS
+    pieces_compare.py random PROGRAM N [SEED]
+
+`ask` writes N random questions, each a text and edits made one after another, as `ini_replay pieces` reads them; `judge`
+compares what the program answered with the model, which edits the program's last text each time; `random` does both, where
+PROGRAM is the command `ini_replay pieces`. The status is 1 where there is a difference.
+"""
+import collections
+import random
+import shlex
+import subprocess
+import sys
+
+from compare import KEYS, NAMES, PIECES, SEPARATORS, UNPLAIN_SEPARATORS, VALUES
+from model import POLICIES, Option, Refused, Writing
+from pieces_model import Edit, Page, answer
+
+CALLS = ["set", "set", "set_first", "set_existing", "set_nth", "add", "add", "delete", "delete_nth", "delete_all", "rename_key"]
+CALLS += ["delete_section", "delete_section", "rename_section", "add_section", "comment_of", "set_comment", "set_comment"]
+CALLS += ["comment_out", "insert_before", "insert_before", "insert_after"]
+LINES = ["k = v\n", "  k = v\n", "k=1\n", "j : 2\n", "k='q'\n", "a=\"w\"\r\n", "k=v", "\tk\t=\t1 \n", "k=", "k =  \n", "j=\\\n", "j=\\"]
+LINES += ["# c\n", "; of k\n", "#\n", "# c", "#c\r  x\n", "\n", "\n", "\r\n", "  \n", "\r", " \r", "\x0b", "\xa0\n", "  "]
+LINES += ["[a]\n", "[b]\n", "  [a]\n", "[a]", "[a] [b]\n", "[ a ]\n", "[a]k=v\n", "[b]\r", "[a]\r\n", "  [b]"]
+LINES += ["k=v\n  w\n", "k=v\n\n\n", "k=v\n  \"\"\n", "k=v\n \\\n\n", "  junk", "  #junk\n x", "  more\n", "\\\n", "k=\n\n  v\n \n"]
+COMMENTS = ["# c\n", "; a\n# b\n", "", "#", "# c\r\n", "#a\r  b\n", "no", "# a\nb", " # a", "\n", "# a\n\n"]
+
+
+def digits(text):
+    return text.encode().hex()
+
+
+def name_word(name):
+    return "G" if name is None else "S" + digits(name)
+
+
+def word_of(edit):
+    texts = [digits(text) for text in (edit.key, edit.other, edit.value)]
+    return ",".join([edit.call, name_word(edit.name)] + texts + [str(edit.number)])
+
+
+def line_of(option, writing, text, edits):
+    flags = "".join(str(int(flag)) for flag in option)
+    end = "LF" if writing.line_end == "\n" else "CRLF"
+    words = [flags, writing.policy, end, digits(writing.separator), digits(text)]
+    return " ".join(words + [word_of(edit) for edit in edits])
+
+
+def random_text(chance):
+    pieces = LINES if chance.random() < 0.8 else PIECES
+    return "".join(chance.choices(pieces, k=chance.randrange(9)))
+
+
+def random_place(chance, page):
+    """A section and a key, mostly of those that the text has."""
+    sections = page.document()
+    name, pairs = chance.choice(sections) if chance.random() < 0.6 else (chance.choice(["a", "b", *NAMES]), [])
+    full = [section for section in sections if section[1]]
+    if full and chance.random() < 0.7:
+        name, pairs = chance.choice(full)
+    key = chance.choice(pairs)[0] if pairs and chance.random() < 0.85 else chance.choice(["k", "j", *KEYS])
+    return name, key
+
+
+def random_edit(chance, page, in_row):
+    call = chance.choice(CALLS)
+    name, key = random_place(chance, page)
+    if call == "delete_section" and name is None:
+        name = chance.choice(["a", "b"])
+    other = chance.choice(["k", "new", "j", chance.choice(KEYS), chance.choice(NAMES)])
+    value = chance.choice(["v", "w", "a b", chance.choice(VALUES)])
+    if call == "set_comment":
+        value = chance.choice(COMMENTS[:6] if chance.random() < 0.9 else COMMENTS)
+    elif in_row and (not value.strip() or value.endswith("\\")):
+        value = "v"
+    return Edit(call, name, key, other, value, chance.randrange(3))
+
+
+def random_question(chance):
+    """A text that the options read, and one edit or several."""
+    while True:
+        option = Option(*(chance.random() < p for p in (0.8, 0.8, 0.5, 0.2, 0.1)))
+        text = random_text(chance)
+        try:
+            page = Page(text, option)
+        except Refused:
+            continue
+        separator = chance.choice(UNPLAIN_SEPARATORS if chance.random() < 0.03 else SEPARATORS)
+        writing = Writing(chance.choice(POLICIES), chance.choice(["\n", "\r\n"]), separator)
+        number = chance.choice([1, 1, 1, 6])
+        return option, writing, text, [random_edit(chance, page, number > 1) for _ in range(number)]
+
+
+def questions(number, seed):
+    chance = random.Random(seed)
+    return [random_question(chance) for _ in range(number)]
+
+
+def parsed(line):
+    """A question from its line."""
+    flags, policy, end, separator, text, *edits = line.split(" ")
+    undone = lambda word: bytes.fromhex(word).decode()
+    writing = Writing(policy, "\n" if end == "LF" else "\r\n", undone(separator))
+    made = []
+    for edit in edits:
+        call, name, key, other, value, number = edit.split(",")
+        made.append(Edit(call, None if name == "G" else undone(name[1:]), undone(key), undone(other), undone(value), int(number)))
+    return Option(*(flag == "1" for flag in flags)), writing, undone(text), made
+
+
+def shown(word):
+    kind, _, hexed = word.partition(":")
+    return f"{kind} {bytes.fromhex(hexed).decode()!r}" if kind in ("new", "differs", "is") else word
+
+
+def judged(asked, answers):
+    counted, differences = collections.Counter(), []
+    for (option, writing, text, edits), line in zip(asked, answers):
+        words = line.split(" ")
+        for edit, theirs in zip(edits, words if len(words) == len(edits) else [line] * len(edits)):
+            ours = answer(option, writing, text, edit)
+            kind = ours.partition(":")[0] if ours.startswith(("new", "is")) else ours
+            counted[f"{edit.call} {kind}"] += 1
+            if ours != theirs:
+                differences.append((len(text), option, writing, text, edit, theirs, ours))
+                break
+            if theirs.startswith("new:"):
+                text = bytes.fromhex(theirs[4:]).decode()
+    for words, count in sorted(counted.items()):
+        print(f"{words}: {count:,}")
+    seen = collections.Counter()
+    for _, option, writing, text, edit, theirs, ours in sorted(differences, key=lambda d: d[0]):
+        if seen[edit.call] < 6:
+            seen[edit.call] += 1
+            print(f"{option}\n  {writing}\n  {text!r}\n  {edit}\n    the program: {shown(theirs)}\n    the model:   {shown(ours)}")
+    print(f"{len(asked):,} texts, {len(differences):,} differences")
+    return not differences
+
+
+def main():
+    match sys.argv[1:]:
+        case ["ask", file, number, *seed] if len(seed) < 2:
+            with open(file, "w") as out:
+                out.writelines(line_of(*question) + "\n" for question in questions(int(number), seed[0] if seed else "1"))
+        case ["judge", file, answers]:
+            with open(file) as asked, open(answers) as found:
+                lines = [line for line in found.read().splitlines() if line]
+                asked = [parsed(line) for line in asked.read().splitlines()]
+                if len(asked) != len(lines):
+                    sys.exit(f"{len(asked)} questions, {len(lines)} answers")
+                sys.exit(not judged(asked, lines))
+        case ["random", program, number, *seed] if len(seed) < 2:
+            asked = questions(int(number), seed[0] if seed else "1")
+            lines = "".join(line_of(*question) + "\n" for question in asked)
+            run = subprocess.run(shlex.split(program), input=lines, stdout=subprocess.PIPE, text=True, check=True)
+            sys.exit(not judged(asked, run.stdout.splitlines()))
+        case _:
+            sys.exit(__doc__)
+
+
+if __name__ == "__main__":
+    main()

@@ -1,0 +1,489 @@
+"""The bytes of edits of a text in pieces, as docs/EDITING.md has the rules, each made on the whole text.
+
+`edited(question, text, edit)` is the new text, None where there is nothing to edit, or `Refused`. Nothing here is taken from
+the library's code: the text is read anew for each edit, and whether a form or a place may be is asked of the reader.
+"""
+from typing import NamedTuple, Optional
+
+from model import BLANKS, LINE_ENDS, Reader, Refused, escaped, is_column_one, is_plain_key, is_plain_name
+from model import is_plain_separator, is_plain_unspaced_key, is_read_back, line_end_at, starts_line
+
+MARKS = ";#"
+
+
+class Edit(NamedTuple):
+    """An edit: a call, the section, the key, another key or the new name, the value, and a number."""
+
+    call: str
+    name: Optional[str]
+    key: str
+    other: str
+    value: str
+    number: int
+
+
+class Lines(Reader):
+    """A reader that keeps where the line ends of a multiline value stand."""
+
+    def __init__(self, text, option):
+        super().__init__(text, option)
+        self.line_ends = []
+
+    def take_line_end(self):
+        start = self.at
+        taken = super().take_line_end()
+        if taken:
+            self.line_ends.append((start, self.at))
+        return taken
+
+
+class Page:
+    """A text that was read."""
+
+    def __init__(self, text, option):
+        self.text, self.option = text, option
+        self.reader = Lines(text, option)
+        self.elements = self.reader.elements()
+
+    def document(self):
+        sections = [(None, [])]
+        for element in self.elements:
+            if element.kind == "header":
+                sections.append((element.text, []))
+            elif element.kind == "pair":
+                sections[-1][1].append((element.text, element.value))
+        return sections
+
+    def dropped(self):
+        """Where keys begin that the text's end cuts short: one, or none."""
+        return [element.start for element in self.elements if element.kind == "dropped"]
+
+    def bounds(self, name):
+        """Which elements are those of the first section of a name, its header among them."""
+        headers = [n for n, element in enumerate(self.elements) if element.kind == "header"]
+        starts = [0] + headers
+        names = [None] + [self.elements[n].text for n in headers]
+        if name not in names:
+            return None
+        number = names.index(name)
+        return starts[number], (headers + [len(self.elements)])[number], number
+
+    def pairs(self, name, key=None):
+        start, end, _ = self.bounds(name) or (0, 0, 0)
+        pairs = [element for element in self.elements[start:end] if element.kind == "pair"]
+        return [pair for pair in pairs if key is None or pair.text == key]
+
+    def line_end_of(self, pair):
+        """Where the line end stands after the last line of a pair that isn't blank; None where the text ends before one."""
+        text = self.text
+        if not self.option.multiline:
+            found = line_end_at(text, pair.end)
+            return (pair.end, pair.end + len(found)) if found else None
+        ends = [end for end in self.reader.line_ends if pair.lead <= end[0] and end[1] <= pair.end]
+        last = None
+        for number, end in enumerate(ends):
+            start = ends[number - 1][1] if number else pair.start
+            if number == 0 or text[start : end[0]].strip(BLANKS):
+                last = end
+        behind = text[ends[-1][1] : pair.end] if ends else text[pair.lead : pair.end]
+        return None if not ends or behind.strip(BLANKS) else last
+
+    def element_before(self, place):
+        """The last element that ends at a place."""
+        return next((element for element in self.elements if element.end == place and element.start < place), None)
+
+    def comments_above(self, place):
+        """Where the comment lines begin that stand directly above a place."""
+        while (element := self.element_before(place)) and element.kind == "comment" and self.text[element.end - 1] == "\n":
+            place = element.start
+        return place
+
+    def comments_below(self, place):
+        """Where the comment lines end that stand directly below a place."""
+        for element in self.elements:
+            if element.kind == "comment" and element.start == place:
+                place = element.end
+        return place
+
+    def indentation(self, place):
+        """Where the blanks begin that indent a header at a place."""
+        element = self.element_before(place)
+        is_blank = element and element.kind == "gap" and not self.text[element.start : place].strip(BLANKS)
+        return element.start if is_blank and starts_line(self.text[: element.start]) else place
+
+
+def reads_as(text, option, document):
+    try:
+        return Page(text, option).document() == document
+    except Refused:
+        return False
+
+
+# How things are written.
+
+
+def reads_back(source, value, option):
+    try:
+        page = Page(f"k={source}\n", option)
+    except Refused:
+        return False
+    first = page.elements[0]
+    alone = page.text[first.lead : first.pad] == source
+    return alone and page.document() == [(None, [("k", value)])]
+
+
+def form(quotes, value, policy, option):
+    bare = escaped(policy, value)
+    for quote in quotes + ["", '"', "'"]:
+        if reads_back(quote + bare + quote, value, option):
+            return quote + bare + quote
+    raise Refused("Value")
+
+
+def own_quotes(page, pair):
+    return [page.text[pair.lead]] if pair.part is not None and pair.part == pair.pad else []
+
+
+def line_end_of(page, writing):
+    line_feed = page.text.find("\n")
+    if line_feed < 0:
+        return writing.line_end
+    return "\r\n" if page.text[:line_feed].endswith("\r") else "\n"
+
+
+def style_of(page, pair):
+    source = page.text[pair.start : pair.key_end]
+    indent = "" if page.option.indent else source[: len(source) - len(source.lstrip(BLANKS))]
+    pad = source[len(source.rstrip(BLANKS)) :]
+    behind = page.text[pair.key_end + 1 : pair.lead]
+    return indent, pad + page.text[pair.key_end] + behind[: len(behind) - len(behind.lstrip(BLANKS))]
+
+
+def style(page, writing, before):
+    """What indents a new pair, and its separator: of the last of these pairs that begins a line, else of the text's, else as
+    the options say."""
+    everywhere = [element for element in page.elements if element.kind == "pair"]
+    for pairs in (before, everywhere):
+        begin = [pair for pair in pairs if starts_line(page.text[: pair.start])]
+        if begin:
+            return style_of(page, begin[-1])
+    return "", writing.separator
+
+
+def checked(page, writing, key, value):
+    if not is_plain_separator(writing.separator):
+        raise Refused("Separator")
+    source = form([], value, writing.policy, page.option)
+    if not is_plain_key(key, writing.policy, page.option):
+        raise Refused("Key")
+    return source
+
+
+def pair_text(page, writing, before, key, value, indented=True):
+    source = checked(page, writing, key, value)
+    indent, separator = style(page, writing, before)
+    line = escaped(writing.policy, key) + separator + source + line_end_of(page, writing)
+    return (indent if indented else "") + line
+
+
+def closing(page, place):
+    lone = page.reader.ends_in_backslash and place == len(page.text)
+    return ("\\" if page.option.escape else " ") * lone
+
+
+# Edits.
+
+
+def after_pair(page, writing, pair, before, key, value):
+    line = pair_text(page, writing, before, key, value, not page.option.multiline)
+    end = page.line_end_of(pair)
+    if end:
+        return page.text[: end[1]] + line + page.text[end[1] :]
+    glue = closing(page, pair.end) + line_end_of(page, writing)
+    return page.text[: pair.end] + glue + line + page.text[pair.end :]
+
+
+def with_pair(page, number, at, key, value):
+    document = page.document()
+    document[number][1].insert(at, (key, value))
+    return document
+
+
+def first_of_section(page, writing, bounds, key, value):
+    """The text with a pair in a section that has none."""
+    text, (start, end, number) = page.text, bounds
+    line = pair_text(page, writing, [], key, value)
+    header = page.elements[start].end if number else 0
+    gap_end = page.elements[end].start if end < len(page.elements) else len(text)
+    line_ends = [place for place in range(header, gap_end) if text[place] in LINE_ENDS]
+    below = line_ends[0] + len(line_end_at(text, line_ends[0])) if line_ends else gap_end
+    if number:
+        places = [page.comments_below(below), below]
+    else:
+        below = 0
+        comments = page.comments_below(0)
+        empty = line_end_at(text, comments)
+        places = [comments + len(empty)] * (comments > 0 and empty in ("\n", "\r\n")) + [0]
+    run = places[-1]
+    while run < gap_end and text[run] in BLANKS + LINE_ENDS:
+        run += 1
+    wanted = with_pair(page, number, 0, key, value)
+    dropped = page.dropped()
+    for place in places + [run] * (not dropped or run <= dropped[0]):
+        front = text[:place]
+        last = page.element_before(place)
+        is_ended = starts_line(front) and not (last and last.kind == "comment" and front[-1] != "\n")
+        is_ended = is_ended and not (place == header and number)
+        new = front + ("" if is_ended else line_end_of(page, writing)) + line + text[place:]
+        if reads_as(new, page.option, wanted) and len(Page(new, page.option).dropped()) == len(dropped):
+            return new
+    raise Refused("NoPlace")
+
+
+def new_section(page, writing, name, line):
+    """The text with a new section at its end, of a pair's line or of none."""
+    if not is_plain_name(name, writing.policy, page.option):
+        raise Refused("Name")
+    text = page.text
+    dropped = page.dropped()
+    place = dropped[0] if dropped else len(text)
+    if dropped and line and page.option.multiline:
+        items = [n for n, element in enumerate(page.elements) if element.kind in ("header", "pair")]
+        gap = page.elements[items[-1] + 1 :] if items else page.elements
+        solid = [e.start for e in gap if e.kind == "comment" or (e.kind == "gap" and text[e.start:e.end].strip(BLANKS + LINE_ENDS))]
+        if not solid:
+            raise Refused("NoPlace")
+        place = solid[-1]
+    front, last, end = text[:place], page.element_before(place), line_end_of(page, writing)
+    is_ended = front[-1:] == "\n"
+    if last and last.kind == "header" or last and last.kind == "pair" and (last.is_open or not page.option.multiline):
+        is_ended = False
+    if front and not is_ended:
+        front += closing(page, place) + end
+    if front and not (front.endswith(("\n\n", "\n\r\n")) or front in ("\n", "\r\n")):
+        front += end
+    return front + "[" + escaped(writing.policy, name) + "]" + end + line + text[place:]
+
+
+def add(page, writing, edit):
+    checked(page, writing, edit.key, edit.value)
+    bounds = page.bounds(edit.name)
+    if bounds is None:
+        line = pair_text(page, writing, [], edit.key, edit.value)
+        return new_section(page, writing, edit.name, line)
+    pairs = page.pairs(edit.name)
+    if pairs:
+        return after_pair(page, writing, pairs[-1], pairs, edit.key, edit.value)
+    return first_of_section(page, writing, bounds, edit.key, edit.value)
+
+
+def set_nth(page, writing, edit, number):
+    source = form([], edit.value, writing.policy, page.option)
+    pairs = page.pairs(edit.name, edit.key)
+    if number >= len(pairs):
+        return None
+    pair = pairs[number]
+    if pair.value == edit.value:
+        return page.text
+    source = form(own_quotes(page, pair), edit.value, writing.policy, page.option)
+    return page.text[: pair.lead] + source + page.text[pair.pad :]
+
+
+def delete_nth(page, name, key, number):
+    pairs = page.pairs(name, key)
+    if number >= len(pairs):
+        return None
+    pair, text = pairs[number], page.text
+    front, end = text[: pair.start], page.line_end_of(pair)
+    if end is None:
+        return front + text[pair.end :]
+    follows_mark = text[end[1] : end[1] + 1] in tuple(MARKS)
+    goes = starts_line(front) and (is_column_one(front) or not follows_mark)
+    return front + text[end[1] if goes else end[0] :]
+
+
+def delete_from(page, name, key, kept):
+    new = None
+    while (after := delete_nth(page, name, key, kept)) is not None:
+        new, page = after, Page(after, page.option)
+    return new
+
+
+def set_existing(page, writing, edit, keeps_later):
+    new = set_nth(page, writing, edit, 0)
+    if new is None or keeps_later:
+        return new
+    without = delete_from(Page(new, page.option), edit.name, edit.key, 1)
+    return new if without is None else without
+
+
+def insert_after(page, writing, edit):
+    checked(page, writing, edit.other, edit.value)
+    pairs, every = page.pairs(edit.name, edit.key), page.pairs(edit.name)
+    if not pairs:
+        return None
+    before = every[: every.index(pairs[0]) + 1]
+    return after_pair(page, writing, pairs[0], before, edit.other, edit.value)
+
+
+def insert_before(page, writing, edit):
+    checked(page, writing, edit.other, edit.value)
+    pairs, every = page.pairs(edit.name, edit.key), page.pairs(edit.name)
+    if not pairs:
+        return None
+    number = every.index(pairs[0])
+    place = page.comments_above(pairs[0].start)
+    above = page.element_before(place)
+    indented = not page.option.multiline or not (above and above.kind == "pair")
+    line = pair_text(page, writing, every[:number], edit.other, edit.value, indented)
+    front = page.text[:place]
+    new = front + ("" if starts_line(front) else line_end_of(page, writing)) + line + page.text[place:]
+    wanted = with_pair(page, page.bounds(edit.name)[2], number, edit.other, edit.value)
+    if not reads_as(new, page.option, wanted):
+        raise Refused("NoPlace")
+    return new
+
+
+def rename_key(page, writing, edit):
+    option, policy, new = page.option, writing.policy, edit.other
+    if not (is_plain_unspaced_key(new, policy, option) and is_read_back(new, policy, option)):
+        raise Refused("Key")
+    for pair in page.pairs(edit.name, edit.key)[:1]:
+        source = page.text[pair.start : pair.key_end]
+        own = source.rstrip() if option.indent else source.strip()
+        start = pair.start + source.index(own)
+        return page.text[:start] + escaped(policy, new) + page.text[start + len(own) :]
+    return None
+
+
+def delete_section(page, name):
+    bounds, text = page.bounds(name), page.text
+    if bounds is None:
+        return None
+    start, end, _ = bounds
+    header = page.elements[start].start
+    front = text[: page.indentation(header)]
+    if end < len(page.elements):
+        stays = page.comments_above(page.indentation(page.elements[end].start))
+        rest = text[stays : page.elements[end].start]
+        behind = text[page.elements[end].start :]
+    else:
+        dropped = [element.start for element in page.elements[start:] if element.kind == "dropped"]
+        stays = dropped[0] if dropped else len(text)
+        rest, behind = text[stays:], ""
+    goes = starts_line(front) and (is_column_one(front) or rest[:1] not in tuple(MARKS))
+    if not goes:
+        section = text[header:stays]
+        front += "\r\n" if section.endswith("\r\n") else section[-1] if section[-1] in LINE_ENDS else ""
+    above = page.element_before(page.indentation(header))
+    if page.option.multiline and goes and above and above.kind == "pair" and rest[:1] in tuple(BLANKS):
+        rest = ""
+    return front + rest + behind
+
+
+def rename_section(page, writing, edit):
+    if not is_plain_name(edit.other, writing.policy, page.option):
+        raise Refused("Name")
+    bounds = page.bounds(edit.name)
+    if bounds is None:
+        return None
+    header = page.elements[bounds[0]]
+    return page.text[: header.start] + "[" + escaped(writing.policy, edit.other) + "]" + page.text[header.end :]
+
+
+def add_section(page, writing, edit):
+    if not is_plain_name(edit.name, writing.policy, page.option):
+        raise Refused("Name")
+    if page.bounds(edit.name) is not None:
+        return None
+    return new_section(page, writing, edit.name, "")
+
+
+def comment_of(page, edit):
+    for pair in page.pairs(edit.name, edit.key)[:1]:
+        return page.text[page.comments_above(pair.start) : pair.start]
+    return None
+
+
+def set_comment(page, writing, edit):
+    comment, end = edit.value, line_end_of(page, writing)
+    lines = comment.split("\n")
+    if not all(line[:1] in tuple(MARKS) for line in (lines[:-1] if comment.endswith("\n") or not comment else lines)):
+        raise Refused("Value")
+    pairs = page.pairs(edit.name, edit.key)
+    if not pairs:
+        return None
+    start = page.comments_above(pairs[0].start)
+    front = page.text[:start]
+    if comment and not is_column_one(front):
+        front += end
+    if comment and not comment.endswith("\n"):
+        comment += end
+    new = front + comment + page.text[pairs[0].start :]
+    if not reads_as(new, page.option, page.document()):
+        raise Refused("NoPlace")
+    return new
+
+
+def comment_out(page, edit):
+    pairs = page.pairs(edit.name, edit.key)
+    if not pairs:
+        return None
+    pair, text = pairs[0], page.text
+    end = page.line_end_of(pair) or (pair.end, pair.end)
+    if not is_column_one(text[: pair.start]) or text[slice(*end)] == "\r":
+        raise Refused("NoPlace")
+    source = text[pair.start : end[0]]
+    return text[: pair.start] + "; " + source.replace("\n", "\n; ") + text[end[0] :]
+
+
+def edited(page, writing, edit):
+    """The new text, or None where there is nothing to edit."""
+    match edit.call:
+        case "set" | "set_first":
+            new = set_existing(page, writing, edit, edit.call == "set_first")
+            return add(page, writing, edit) if new is None else new
+        case "set_existing":
+            return set_existing(page, writing, edit, False)
+        case "set_nth":
+            return set_nth(page, writing, edit, edit.number)
+        case "add":
+            return add(page, writing, edit)
+        case "delete":
+            return delete_nth(page, edit.name, edit.key, 0)
+        case "delete_nth":
+            return delete_nth(page, edit.name, edit.key, edit.number)
+        case "delete_all":
+            return delete_from(page, edit.name, edit.key, 0)
+        case "insert_after":
+            return insert_after(page, writing, edit)
+        case "insert_before":
+            return insert_before(page, writing, edit)
+        case "rename_key":
+            return rename_key(page, writing, edit)
+        case "set_comment":
+            return set_comment(page, writing, edit)
+        case "comment_out":
+            return comment_out(page, edit)
+    if edit.name is None:
+        return None
+    match edit.call:
+        case "add_section":
+            return add_section(page, writing, edit)
+        case "delete_section":
+            return delete_section(page, edit.name)
+        case "rename_section":
+            return rename_section(page, writing, edit)
+
+
+def answer(option, writing, text, edit):
+    """The word that answers an edit."""
+    page = Page(text, option)
+    try:
+        if edit.call == "comment_of":
+            comment = comment_of(page, edit)
+            return "none" if comment is None else f"is:{comment.encode().hex()}"
+        new = edited(page, writing, edit)
+    except Refused as refused:
+        return f"refused:{refused}"
+    return "none" if new is None else f"new:{new.encode().hex()}"
