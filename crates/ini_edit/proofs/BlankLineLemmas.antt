@@ -23,7 +23,7 @@ use Rattle.ini_text.specs.Inside.PlainTests.{begins}
 use Rattle.ini_text.specs.declared.option.ParseOption.{ParseOption}
 use Rattle.ini.specs.Texts.{Text}
 use Rattle.ini_edit.specs.Endings.{Ending}
-use Rattle.ini_edit.specs.NoPlaces.{is_blank_or_line_end}
+use Rattle.ini_edit.specs.SourceLines.{is_blank_or_line_end}
 use Rattle.ini_edit.specs.SourceLines.{blank_lines_at_end, blank_lines_from, ends_in_line, is_line}
 use Rattle.ini_edit.specs.SourceLines.{is_line_from, next_line_end}
 

@@ -17,7 +17,7 @@ use Rattle.ini_text.specs.Inside.PlainTests.{begins}
 use Rattle.ini_text.specs.declared.option.ParseOption.{ParseOption}
 use Rattle.ini_text.proofs.GrammarLemmas.KindLemmas.{blank_inline, line_end_no_blank}
 use Rattle.ini.specs.Texts.{Text}
-use Rattle.ini_edit.specs.NoPlaces.{is_blank_or_line_end}
+use Rattle.ini_edit.specs.SourceLines.{is_blank_or_line_end}
 use Rattle.ini_edit.specs.SourceLines.{ends_line, has_lone_return}
 use Rattle.ini_edit.proofs.BlankLineLemmas.{AreBlank}
 

@@ -23,7 +23,7 @@ use Rattle.ini_edit.specs.SourceEditsComments.{marked, pair_line, pair_lines}
 use Rattle.ini_edit.specs.SourceEditsDelete.{gap_after, line_end_after, lines_after, own_lines}
 use Rattle.ini_edit.specs.SourceLines.{after_line_end, after_line_feed, blank_lines_at_end, blank_lines_from}
 use Rattle.ini_edit.specs.SourceLines.{ends_in_line, is_line, is_line_from, line_end_at_end, next_line_end}
-use Rattle.ini_edit.specs.NoPlaces.{is_blank_or_line_end}
+use Rattle.ini_edit.specs.SourceLines.{is_blank_or_line_end}
 use Rattle.ini_edit.specs.Sources.{PairPiece}
 use Rattle.ini_edit.proofs.AheadLemmas.{value_closes}
 use Rattle.ini_edit.proofs.BlankLineLemmas.{blank_all, line_last, lines_end, trailing_blank, trailing_ends}

@@ -19,7 +19,7 @@ use Rattle.ini.specs.Texts.{Text}
 use Rattle.ini_edit.specs.Endings.{Ending}
 use Rattle.ini_edit.specs.Inside.SourceEnds.{goes_after}
 use Rattle.ini_edit.specs.Inside.Spans.{IsGap}
-use Rattle.ini_edit.specs.NoPlaces.{is_blank_or_line_end}
+use Rattle.ini_edit.specs.SourceLines.{is_blank_or_line_end}
 use Rattle.ini_edit.specs.SourceLines.{after_line_end, after_line_feed, blank_lines_at_end, ends_in_line}
 use Rattle.ini_edit.specs.SourceLines.{is_empty, is_one_line_end, line_end_at_end}
 use Rattle.ini_edit.proofs.AheadLemmas.{more_follows}
@@ -27,7 +27,7 @@ use Rattle.ini_edit.proofs.BlankLineLemmas.{AreBlank, blank_all, line_last, line
 use Rattle.ini_edit.proofs.BlankLineLemmas.{trailing_blank, trailing_ends}
 use Rattle.ini_edit.proofs.CommentLemmas.{begins_front, begins_with}
 use Rattle.ini_edit.proofs.GapLemmas.{EndsThere, white_gap}
-use Rattle.ini_edit.proofs.NoPlaceLemmas.{mark_apart}
+use Rattle.ini_edit.proofs.MarkLemmas.{mark_apart}
 use Rattle.ini_edit.proofs.SourceLineLemmas.{blank_lines_at_end-rest}
 
 -- one line end, or none

@@ -1,28 +1,34 @@
--- An empty line put in at a place where a line may be put in: it gives nothing.
-use Rattle.std.proofs.Common.{◌≡◌, ◌≢◌, ◌∙◌, ◌||◌, ℕ, Bool, true, false, List, [], ◌∷◌, ◌++◌, ap, sym, subst, refl}
-use Rattle.std.proofs.Common.{append_assoc, append-nil}
-use Rattle.std.proofs.lemmas.Bool.{both_ways, and_parts, and_from, or_left, or_right}
-use Rattle.std.proofs.lemmas.List.{append_cancel_left}
+-- Sources of blanks and line ends, which are no key, and texts that no backslash ends.
+use Rattle.std.proofs.Common.{◌≡◌, ◌≢◌, ◌∙◌, ◌||◌, ◌==◌, ℕ, Bool, true, false, not, eqb, List, [], ◌∷◌, ◌++◌, ap}
+use Rattle.std.proofs.Common.{append-nil, eqb-true, if◌then◌else◌, refl, subst, sym}
+use Rattle.std.proofs.lemmas.Bool.{and_from, and_parts, both_ways, false≢true, false_from_ne_true, or_left}
+use Rattle.std.proofs.lemmas.Bool.{or_right}
 use Rattle.std.specs.List.{list_all}
-use Rattle.ini_text.specs.Grammar.CharacterKinds.{is_blank, is_line_end, is_line_feed, BeginsWith}
+use Rattle.ini_text.specs.Grammar.CharacterKinds.{BeginsWith, backslash, is_blank, is_line_end, line_feed}
+use Rattle.ini_text.specs.Grammar.CharacterKinds.{open_bracket}
+use Rattle.ini_text.specs.Grammar.Elements.{Element, Gap, Given}
 use Rattle.ini_text.specs.Grammar.Keys.{begins_indented_key}
-use Rattle.ini_text.specs.Grammar.Elements.{Given, Gap, Element}
-use Rattle.ini_text.specs.Grammar.Positions.{is_column_one, last_or, starts_line}
-use Rattle.ini_text.specs.Grammar.Texts.{Reads}
 use Rattle.ini_text.specs.Inside.PlainTests.{begins}
-use Rattle.ini_text.specs.Options.WriteOptions.{line_end}
 use Rattle.ini_text.specs.declared.option.ParseOption.{ParseOption}
-use Rattle.ini_text.specs.declared.write.option.LineSeparator.{LineSeparator}
-use Rattle.ini_text.proofs.GrammarLemmas.ItemLemmas.{reads-append}
 use Rattle.ini_text.proofs.GrammarLemmas.KindLemmas.{comment_mark-apart}
-use Rattle.ini_text.proofs.PlainLemmas.PlainPairLemmas.{line_starts}
 use Rattle.ini.specs.Texts.{Text}
-use Rattle.ini_edit.specs.Endings.{Closing, Ending, IsElementEnd, IsIndentedKey, ending, ending_from, next_ending}
-use Rattle.ini_edit.specs.LinePlaces.{IsPlace}
-use Rattle.ini_edit.specs.Places.{Follows}
-use Rattle.ini_edit.proofs.GlueLemmas.{no_backslash, no_escape}
-use Rattle.ini_edit.proofs.PlaceLemmas.{place_column, place_reached}
-use Rattle.ini_edit.proofs.PlaceWalkLemmas.{begins_yes, blanks_no_key}
+use Rattle.ini_edit.specs.Endings.{Closing, Ending, IsIndentedKey, ending_from, next_ending}
+
+begins_yes : (test : ℕ → Bool) (x y : Text) → BeginsWith test x → begins test (x ++ y) ≡ true
+begins_yes test [] y h = absurd (let no : true ≡ false = h in cc)
+begins_yes test (c ∷ x) y h = h
+
+-- blanks and line ends begin no indented key
+blanks_no_key : (key : Text) → list_all (λ c. is_blank c || is_line_end c) key ≡ true
+    → ¬ BeginsWith begins_indented_key key
+blanks_no_key [] all h = absurd (let no : true ≡ false = h in cc)
+blanks_no_key (c ∷ key) all h =
+    at (is_blank c) (is_line_end c) (and_parts (is_blank c || is_line_end c) _ all).0 h
+  where
+    at : (x y : Bool) → (x || y) ≡ true → not (x || y || c == open_bracket) ≡ true → ⊥
+    at true y all h = absurd (let no : false ≡ true = h in cc)
+    at false true all h = absurd (let no : false ≡ true = h in cc)
+    at false false all h = absurd (let no : false ≡ true = all in cc)
 
 -- an indented key's source begins with a blank
 pub key_blank : {c : ℕ} {s : Text} → IsIndentedKey (c ∷ s) → is_blank c ≡ true
@@ -77,59 +83,30 @@ nothing_no_key (Element.pair front name sep value) some none key = cc
 nothing_no_key (Element.dropped_blanks i) some none key = some refl
 nothing_no_key (Element.dropped_key i begins stops) some none key = some refl
 
--- after an element and those that follow it an element ends
-element_end : {o : ParseOption} {T a s r b c x : Text} {before gives more : List Given} → x ≢ [] → T ≡ c ++ x
-    → Reads o T [] before a → T ≡ a ++ (s ++ r) → Element o a s r gives → b ≡ a ++ s → Reads o T b more c
-    → IsElementEnd o T c (before ++ (gives ++ more))
-element_end {o} {T} {a} {s} {r} {x = x} {before} {gives} some last reads whole e at
-    (Reads.stay {b = b} z h) =
-    let rest : r ≡ x =
-    append_cancel_left (a ++ s) r x (append_assoc a s r ∙ sym whole ∙ last ∙ ap (λ z. z ++ x) at) in
-    subst (λ z. IsElementEnd o T z (before ++ (gives ++ []))) (sym at)
-    (subst (λ l. IsElementEnd o T (a ++ s) (before ++ l)) (sym (append-nil gives))
-    (IsElementEnd.following reads whole e (nothing_no_key e (λ none. some (sym rest ∙ none)))))
-element_end {o} {T} {a} {s} {r} {c = c} {x} {before} {gives} some last reads whole e at
-    (Reads.step {b = b} {gives = next} {items} h f following) =
-    let one : Reads o T [] (before ++ gives) (a ++ s) =
-    subst (λ l. Reads o T [] (before ++ l) (a ++ s)) (append-nil gives)
-    (reads-append reads (Reads.step whole e (Reads.stay r (whole ∙ sym (append_assoc a s r))))) in
-    subst (IsElementEnd o T c) (append_assoc before gives (next ++ items))
-    (element_end some last (subst (Reads o T [] (before ++ gives)) (sym at) one) h f refl following)
+-- only a backslash takes what follows it
+pub no_escape : (e : Ending) (X : List ℕ) (c : ℕ) → eqb c backslash ≡ false
+    → ending_from e (X ++ c ∷ []) ≢ Ending.escape
+no_escape e (x ∷ X) c h = no_escape (next_ending e x) X c h
+no_escape e [] c h = at e h
+  where
+    by : (x y : Bool) → x ≡ false
+        → (if x then Ending.escape else (if y then Ending.line else Ending.inside)) ≢ Ending.escape
+    by true y h is = cc
+    by false true h is = cc
+    by false false h is = cc
 
--- so it does after any row of elements but none
-some_element_end : {o : ParseOption} {T b c x : Text} {items : List Given} → x ≢ [] → T ≡ c ++ x → b ≡ []
-    → c ≢ []
-    → Reads o T b items c → IsElementEnd o T c items
-some_element_end some last first apart (Reads.stay z h) = absurd (apart first)
-some_element_end {o} {T} some last first apart
-    (Reads.step {b = b} {s} {r} {c} {gives} {items} h e following) =
-    element_end some last (subst (λ z. Reads o T [] [] z) (sym first) (Reads.stay T refl)) h e refl following
+    at : (e : Ending) → eqb c backslash ≡ false → next_ending e c ≢ Ending.escape
+    at Ending.escape h is = cc
+    at Ending.inside h is = by (eqb c backslash) (eqb c line_feed) h is
+    at Ending.line h is = by (eqb c backslash) (eqb c line_feed) h is
 
--- after an LF no backslash is alone
-no_lone : (e : Ending) (c : ℕ) (V : Text) → is_line_feed (last_or c V) ≡ true
-    → ending_from e (c ∷ V) ≢ Ending.escape
-no_lone e c [] feed = no_escape e [] c (no_backslash is_line_feed c refl feed)
-no_lone e c (d ∷ V) feed = no_lone (next_ending e c) d V feed
+pub no_backslash : (test : ℕ → Bool) (c : ℕ) → test backslash ≡ false → test c ≡ true
+    → eqb c backslash ≡ false
+no_backslash test c apart h =
+    false_from_ne_true (eqb c backslash)
+    (λ q. false≢true (sym apart ∙ subst (λ x. test x ≡ true) (eqb-true c backslash q) h))
 
 pub closing_nothing : {o : ParseOption} (e : Ending) → e ≢ Ending.escape → Closing o e []
 closing_nothing Ending.inside apart = Closing.within
 closing_nothing Ending.escape apart = absurd (apart refl)
 closing_nothing Ending.line apart = Closing.after_line
-
-closing_column : {o : ParseOption} (V : Text) → is_column_one V ≡ true → Closing o (ending V) []
-closing_column [] one = Closing.after_line
-closing_column (c ∷ V) one = closing_nothing (ending (c ∷ V)) (no_lone Ending.line c V one)
-
--- elements reach what stands after an empty line that is put in after the glue
-pub after_empty_line : {o : ParseOption} {end : LineSeparator} {W r glue : Text} {items : List Given}
-    → IsPlace o end W r glue items → (W ++ glue) ≢ [] → (x : Text) → x ≢ [] → Follows o x
-    → Reads o ((W ++ glue) ++ (line_end end ++ x)) [] items ((W ++ glue) ++ line_end end)
-after_empty_line {o} {end} {W} {glue = glue} {items} place apart x some follows =
-    let V = W ++ glue in
-    let one : is_column_one V ≡ true = place_column place in
-    let first : Reads o (V ++ x) [] items V =
-    subst (λ z. Reads o z [] items V) (sym (append_assoc W glue x)) (place_reached place x follows) in
-    let second : IsPlace o end V x (line_end end) items =
-    IsPlace.after_element (some_element_end some refl refl apart first) (closing_column V one)
-    (λ within. absurd (both_ways (starts_line V) within (line_starts V one))) in
-    place_reached second x follows

@@ -1,8 +1,9 @@
 -- Edits of two pairs that are there change places.
-use Rattle.std.proofs.Common.{◌≡◌, ◌∙◌, Bool, true, false, [], ◌∷◌, ◌++◌, ap, sym, subst, refl}
-use Rattle.std.proofs.Common.{Option, None, Some, IsSome, option_and_then, append_assoc, arith, inl, inr}
-use Rattle.std.proofs.lemmas.Bool.{cond-true, false≢true}
-use Rattle.ini_text.specs.Grammar.Elements.{Pair}
+use Rattle.std.proofs.Common.{◌≡◌, ◌∙◌, Bool, true, false, List, [], ◌∷◌, ap, sym, subst, refl, map}
+use Rattle.std.proofs.Common.{Option, None, Some, IsSome, option_and_then, arith, inl, inr}
+use Rattle.std.proofs.lemmas.Bool.{false≢true}
+use Rattle.std.specs.Option.{option_map}
+use Rattle.std.specs.Prelude.{is_some}
 use Rattle.ini_text.specs.declared.option.ParseOption.{ParseOption}
 use Rattle.ini_text.specs.declared.write.policy.EscapePolicy.{EscapePolicy}
 use Rattle.ini.specs.Texts.{Text, is_name, is_text}
@@ -10,15 +11,13 @@ use Rattle.ini.specs.Properties.{Pairs, all_removed, first_value, inserted, remo
 use Rattle.ini.specs.Documents.{Document, document_of, first_section, value_in}
 use Rattle.ini.specs.Edits.{delete_in, edit_section, set_in}
 use Rattle.ini.specs.Loading.{IsDocumentOf}
-use Rattle.ini.specs.SectionItems.{pair_items}
 use Rattle.ini.proofs.KeepingLemmas.{name_refl, names_equal, text_refl, texts_equal, there-edited}
 use Rattle.ini_edit.specs.Exchanges.{AreApart, EditsChangePlaces, IsPairEdited}
-use Rattle.ini_edit.specs.FirstPairs.{IsFirstPair}
-use Rattle.ini_edit.specs.Places.{Stretches}
-use Rattle.ini_edit.specs.Targets.{IsTarget}
-use Rattle.ini_edit.proofs.DocumentLemmas.{pair_items-append, section_made, sections_after}
-use Rattle.ini_edit.proofs.FindLemmas.{first_section-after}
-use Rattle.ini_edit.proofs.StandsLemmas.{derives_one, stands_derives}
+use Rattle.ini_edit.specs.SourcePlaces.{PairPlace, pair_place}
+use Rattle.ini_edit.specs.Sources.{SectionPiece, given_section}
+use Rattle.ini_edit.specs.WholeTexts.{LoadsEdited}
+use Rattle.ini_edit.proofs.SourceFoundLemmas.{value_found}
+use Rattle.ini_edit.proofs.StandsLemmas.{derives_one}
 
 -- keys that are different ones in either order
 keys_apart : (key other : Text) → is_text key other ≡ false → is_text other key ≡ false
@@ -184,67 +183,55 @@ module _ (name other : Option Text) (key other_key : Text) (value other_value : 
       at_other : IsSome (first_section other d)
       at_other = section_there other other_key d also
 
--- the first pair of a key in the first section of a name is one of the document
-first_after : (key value : Text) (earlier later : Pairs) → first_value key earlier ≡ None
-    → first_value key (earlier ++ (key, value) ∷ later) ≡ Some value
-first_after key value [] later lacks = grind (arith, text_refl key)
-first_after key value (p ∷ earlier) later lacks = grind (arith, first_after key value earlier later)
-
-module _ {o : ParseOption} {T : Text} {name : Option Text} {key : Text} {p : Stretches} {value : Text}
-    (first : IsFirstPair o T name key p value) where
-  abbrev target : IsTarget name key first.before first.after
-  target = first.target
-
-  items_are : first.before ++ Pair key value ∷ first.after
-      ≡ target.opening ++ (pair_items (target.earlier ++ (key, value) ∷ target.later) ++ target.rest)
-  items_are =
-      ap (λ l. l ++ Pair key value ∷ first.after) target.before_is
-      ∙ ap (λ l. (target.opening ++ pair_items target.earlier) ++ Pair key value ∷ l) target.after_is
-      ∙ append_assoc target.opening (pair_items target.earlier) _
-      ∙ ap (λ l. target.opening ++ l)
-      (sym (ap (λ l. l ++ target.rest) (pair_items-append target.earlier ((key, value) ∷ target.later))
-      ∙ append_assoc (pair_items target.earlier) (pair_items ((key, value) ∷ target.later)) target.rest))
-
-  value_there : (d : Document) → IsDocumentOf o T d → value_in name key d ≡ Some value
-  value_there d is =
-      let pairs = target.earlier ++ (key, value) ∷ target.later in
-      let made : d ≡ target.sections ++ (name, pairs) ∷ sections_after target.rest =
-      is.document ∙ ap document_of (derives_one is.derives (stands_derives first.stands) ∙ items_are)
-      ∙ section_made pairs target.rest target.opens target.header in
-      ap (value_in name key) made
-      ∙ ap (option_and_then (first_value key))
-      (first_section-after name target.sections
-      ((name, pairs) ∷ sections_after target.rest) target.opens.first
-      ∙ cond-true (is_name name name) (Some pairs) _ (name_refl name))
-      ∙ first_after key value target.earlier target.later target.lacks
-
 -- a text has one document
 one_document : {o : ParseOption} {T : Text} {d e : Document} → IsDocumentOf o T d → IsDocumentOf o T e
     → d ≡ e
 one_document is also = is.document ∙ ap document_of (derives_one is.derives also.derives) ∙ sym also.document
 
+-- a pair that stands in the pieces is one of the document
+value_there : (name : Option Text) (key : Text) (ss : List SectionPiece) → true ≡ is_some
+    (pair_place name key 0 ss)
+    → IsSome (value_in name key (map given_section ss))
+value_there name key ss there =
+    subst IsSome (sym (value_found name key ss)) (at (pair_place name key 0 ss) there)
+  where
+    at : (found : Option PairPlace) → true ≡ is_some found
+        → IsSome (option_map (λ p. p.pair.here.value) found)
+    at None there = absurd (false≢true (sym there))
+    at (Some p) there = refl
+
 module _ {o : ParseOption} (policy : EscapePolicy) {T : Text} (name : Option Text) (key : Text)
     (U : Text) where
+  pair_there : (value : Option Text) (edited : IsPairEdited o policy T name key value U)
+      → (ss : List SectionPiece) × ((true ≡ is_some (pair_place name key 0 ss))
+      × IsDocumentOf o T (map given_section ss))
+  pair_there (Some value) edited =
+      (edited.old.sections, (ap is_some (sym edited.made.1.is_set.was), edited.is_read.document))
+  pair_there None edited = (edited.old.sections, (edited.made.0, edited.is_read.document))
+
   edited_there : (value : Option Text) → IsPairEdited o policy T name key value U → (d : Document)
       → IsDocumentOf o T d → IsSome (value_in name key d)
-  edited_there (Some value) edited d is = rw (value_there edited.is_first d is) refl
-  edited_there None edited d is = rw (value_there edited.is_first d is) refl
+  edited_there value edited d is =
+      let there = pair_there value edited in
+      subst (λ d. IsSome (value_in name key d)) (one_document there.1.1 is)
+      (value_there name key there.0 there.1.0)
+
+  loads : (value : Option Text) → IsPairEdited o policy T name key value U
+      → LoadsEdited o T U (edit_of name key value)
+  loads (Some value) edited = edited.loads
+  loads None edited = edited.loads
 
   edited_loads : (value : Option Text) → IsPairEdited o policy T name key value U → (d : Document)
       → IsDocumentOf o T d → IsDocumentOf o U (edit_of name key value d)
-  edited_loads (Some value) edited d is =
-      subst (λ d. IsDocumentOf o U (set_in name key value d)) (one_document edited.was is) edited.is
-  edited_loads None edited d is =
-      subst (λ d. IsDocumentOf o U (delete_in name key d)) (one_document edited.was is) edited.is
-
-  with_document : {P : Type 0} → (value : Option Text) → IsPairEdited o policy T name key value U
-      → ((d : Document) → IsDocumentOf o T d → P) → P
-  with_document (Some value) edited f = f edited.document edited.was
-  with_document None edited f = f edited.document edited.was
+  edited_loads value edited d is =
+      let l = loads value edited in
+      subst (λ d. IsDocumentOf o U (edit_of name key value d)) (one_document l.was is) l.is
 
 pub edits_change : (o : ParseOption) (policy : EscapePolicy) (T : Text) → EditsChangePlaces o policy T
 edits_change o policy T name key value other other_key other_value apart V Y e =
-    with_document policy name key e.U value e.first (λ d is.
+    let l = loads policy name key e.U value e.first in
+    let d = l.document in
+    let is = l.was in
     let there = edited_there policy name key e.U value e.first d is in
     let also = edited_there policy other other_key e.X other_value e.other_first d is in
     let one_first = edited_loads policy other other_key V other_value e.then _
@@ -256,4 +243,4 @@ edits_change o policy T name key value other other_key other_value apart V Y e =
       first = subst (λ x. IsDocumentOf o V x)
           (sym (edits_commute name other key other_key value other_value d there also apart)) one_first;
       second = other_first;
-    })
+    }

@@ -26,16 +26,15 @@ use Rattle.ini.specs.Properties.{Pairs, first_value}
 use Rattle.ini.specs.Documents.{Document, document_of, first_section, value_in, with_item, with_pair}
 use Rattle.ini.specs.SectionItems.{pair_items}
 use Rattle.ini.proofs.KeepingLemmas.{name_refl}
-use Rattle.ini_edit.specs.NoPlaces.{SectionOpens}
 use Rattle.ini_edit.specs.Places.{pair_of}
 use Rattle.ini_edit.specs.Targets.{Lacks}
 use Rattle.ini_edit.specs.FirstPairs.{IsFirstPair, LacksPair, LacksSection, stretches_of}
-use Rattle.ini_edit.specs.Inside.Walks.{Boundary, EndsSection, IsPastLast, IsReading, OpensFirst, OpensNone}
+use Rattle.ini_edit.specs.Inside.Walks.{EndsSection, IsPastLast, IsReading, OpensFirst, OpensNone}
 use Rattle.ini_edit.specs.Inside.Walks.{PassesPairs, ReachesEnd, ReachesPair}
 use Rattle.ini_edit.specs.Inside.Walks.{ReadsOn, StandsWithin, Steps}
 use Rattle.ini_edit.specs.declared.find.FoundPair.{FoundPair}
 use Rattle.ini_edit.proofs.DocumentLemmas.{pair_items-append, section_made, sections_after}
-use Rattle.ini_edit.proofs.WalkLemmas.{Walked, item_boundary, stands_within, step_reads, stays, told}
+use Rattle.ini_edit.proofs.WalkLemmas.{Walked, stands_within, step_reads, stays, told}
 use Rattle.ini_edit.proofs.WalkLemmas.{walked_start, walked_step, walked_within}
 
 -- sections without one of the name, and another that has another name
@@ -112,12 +111,7 @@ module _ {o : ParseOption} {T : Text} {p : Place} where
     items = s.items ++ Header name ∷ [];
     sections = document_of s.items;
     opens = record { opened = document_of-append s.items (Header name ∷ []); first = s.none };
-    is_open =
-        subst (SectionOpens o T (Some name) (document_of s.items)) (sym t.stands.reaches)
-        (SectionOpens.header s.reads t.stands.whole
-        (subst (Element o p.front (chars e.source.now) t.stands.rest) is t.stands.is_element));
     reads = reads-append s.reads (subst (λ l. Reads o T p.front l q.front) is (step_reads t));
-    boundary = item_boundary s.reads t is;
   }
 
   pub sections_end : {name : Option Text} {q : Place} → PassesSections o T p name → IsPastLast o T p.front q
@@ -152,9 +146,7 @@ module _ {p : Place} (refusal : p.refusal ≡ None) (front : p.front ≡ []) whe
     items = [];
     sections = [];
     opens = record { opened = refl; first = refl };
-    is_open = subst (SectionOpens p.option p.text None []) (sym front) SectionOpens.general;
     reads = at_front;
-    boundary = subst (λ c. Boundary p.option p.text [] false c []) (sym front) Boundary.start;
   }
 
 -- the parser went over pairs without the key

@@ -22,7 +22,7 @@ use Rattle.ini_text.proofs.LawLemmas.PieceLemmas.{pieces_items-append, pieces_sp
 use Rattle.ini_text.proofs.StringLemmas.FrontLemmas.{front_is}
 use Rattle.ini.specs.Texts.{Text}
 use Rattle.ini_edit.specs.Inside.Spans.{IsGap}
-use Rattle.ini_edit.specs.NoPlaces.{is_blank_or_line_end}
+use Rattle.ini_edit.specs.SourceLines.{is_blank_or_line_end}
 use Rattle.ini_edit.specs.SourceLines.{after_blank_lines, after_comments, after_line, after_line_end}
 use Rattle.ini_edit.specs.SourceLines.{after_line_feed, blanks_at_end}
 use Rattle.ini_edit.proofs.CommentLemmas.{IsComment, marked_comment}

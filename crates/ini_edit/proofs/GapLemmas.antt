@@ -25,7 +25,7 @@ use Rattle.ini_text.proofs.PlainLemmas.PlainTrimLemmas.{line_end_is_white}
 use Rattle.ini.specs.Texts.{Text}
 use Rattle.ini_edit.specs.Inside.InPlace.{AreInPlace}
 use Rattle.ini_edit.specs.Inside.Spans.{AreSpans, IsGap, IsSpan, Span, gap, opening, span_source}
-use Rattle.ini_edit.specs.NoPlaces.{is_blank_or_line_end}
+use Rattle.ini_edit.specs.SourceLines.{is_blank_or_line_end}
 use Rattle.ini_edit.specs.Places.{Follows}
 use Rattle.ini_edit.specs.Sources.{joined}
 use Rattle.ini_edit.proofs.AheadLemmas.{FollowsFront, blank_no_column, key_follows, no_bracketed}

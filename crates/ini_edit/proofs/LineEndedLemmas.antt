@@ -19,7 +19,7 @@ use Rattle.ini_text.specs.declared.option.ParseOption.{ParseOption}
 use Rattle.ini_text.proofs.PlainLemmas.PlainTrimLemmas.{end_trimmed-after}
 use Rattle.ini.specs.Texts.{Text}
 use Rattle.ini_edit.specs.Endings.{Ending, ending_from, next_ending}
-use Rattle.ini_edit.specs.NoPlaces.{is_blank_or_line_end}
+use Rattle.ini_edit.specs.SourceLines.{is_blank_or_line_end}
 use Rattle.ini_edit.specs.SourceEditsDelete.{line_end_after, lines_after, own_lines}
 use Rattle.ini_edit.specs.Sources.{PairPiece}
 use Rattle.ini_edit.specs.SourceLines.{blank_lines_at_end, ends_in_line, is_empty}
@@ -27,7 +27,7 @@ use Rattle.ini_edit.proofs.SourceLineLemmas.{front_of_none}
 use Rattle.ini_edit.specs.SourceLines.{blank_lines_from, ends_line, is_line, is_line_from, next_line_end}
 use Rattle.ini_edit.proofs.EndedLemmas.{line_end-some-after}
 use Rattle.ini_edit.proofs.EndingLemmas.{ending-lead, ending-line, ending-quoted, ending-row}
-use Rattle.ini_edit.proofs.GlueLemmas.{no_backslash}
+use Rattle.ini_edit.proofs.EmptyLineLemmas.{no_backslash}
 
 -- ends after which a backslash takes nothing
 pub data IsFree : Ending → Type 0 where

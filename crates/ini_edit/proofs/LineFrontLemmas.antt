@@ -10,7 +10,7 @@ use Rattle.ini_text.specs.Grammar.Positions.{last_or}
 use Rattle.ini_text.specs.Parsing.Fronts.{front_of}
 use Rattle.ini_text.proofs.LawLemmas.PieceLemmas.{last_or-append}
 use Rattle.ini.specs.Texts.{Text}
-use Rattle.ini_edit.specs.NoPlaces.{is_blank_or_line_end}
+use Rattle.ini_edit.specs.SourceLines.{is_blank_or_line_end}
 use Rattle.ini_edit.specs.SourceLines.{after_comments, after_line}
 use Rattle.ini_edit.specs.SourceLines.{after_line_feed, blanks_at_end, is_empty, is_in_comment}
 use Rattle.ini_edit.specs.SourceLines.{line_end_at_end}

@@ -23,7 +23,7 @@ use Rattle.ini_edit.specs.Sources.{PairPiece}
 use Rattle.ini_edit.proofs.EndedGapLemmas.{feed_gap}
 use Rattle.ini_edit.proofs.GapLemmas.{gap_join, gap_like}
 use Rattle.ini_edit.proofs.SectionPlaceLemmas.{IsCutFor}
-use Rattle.ini_edit.proofs.SectionRenamedLemmas.{bracketed}
+use Rattle.ini_edit.proofs.HeaderLemmas.{bracketed}
 use Rattle.ini_edit.proofs.SectionTakenLemmas.{IsFeed, feed_last}
 
 -- what follows a place, after LF

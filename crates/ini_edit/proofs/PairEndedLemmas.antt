@@ -11,7 +11,7 @@ use Rattle.ini_text.proofs.LawLemmas.PieceLemmas.{last_or-append}
 use Rattle.ini.specs.Texts.{Text}
 use Rattle.ini_edit.specs.Endings.{Closing, Ending, ending_from, next_ending}
 use Rattle.ini_edit.proofs.EmptyLineLemmas.{closing_nothing}
-use Rattle.ini_edit.proofs.GlueLemmas.{no_backslash, no_escape}
+use Rattle.ini_edit.proofs.EmptyLineLemmas.{no_backslash, no_escape}
 
 line_end_last : (c : ℕ) {e r : Text} → LineEnd e r → is_line_end (last_or c e) ≡ true
 line_end_last c LineEnd.lf = refl

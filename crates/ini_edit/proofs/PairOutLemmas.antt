@@ -34,7 +34,7 @@ use Rattle.ini_edit.proofs.CommentPutLemmas.{no_end_begins, pair_then}
 use Rattle.ini_edit.proofs.CommentSectionLemmas.{Ended, ended}
 use Rattle.ini_edit.proofs.GapLemmas.{gaps_joined}
 use Rattle.ini_edit.proofs.InPlaceLemmas.{in_place-put, in_place-split, joined-append}
-use Rattle.ini_edit.proofs.SectionLemmas.{header_bracket}
+use Rattle.ini_edit.proofs.HeaderLemmas.{header_bracket}
 use Rattle.ini_edit.proofs.SourcePlaceLemmas.{gap_of-end, gap_put-end, rest_put-end}
 use Rattle.ini_edit.proofs.SourceSpanLemmas.{gap_put_in, last_after_gap, last_of_gap, spans_after_pairs}
 use Rattle.ini_edit.proofs.SourceSpanLemmas.{spans_before_gap}

@@ -23,7 +23,7 @@ use Rattle.ini_edit.proofs.GapLemmas.{gap_join, gap_like, pieces_column}
 use Rattle.ini_edit.proofs.InPlaceLemmas.{in_place-join, in_place-like, in_place-split}
 use Rattle.ini_edit.proofs.LineFrontLemmas.{kinds}
 use Rattle.ini_edit.proofs.MakerLemmas.{MakesReadPairs, made_last}
-use Rattle.ini_edit.proofs.SectionLemmas.{EmptyOrHeader}
+use Rattle.ini_edit.proofs.HeaderLemmas.{EmptyOrHeader}
 use Rattle.ini_edit.proofs.SectionTakenLemmas.{header_alike}
 use Rattle.ini_edit.proofs.SourceAddLemmas.{IsNewEnd, line_ends_gap}
 use Rattle.ini_edit.proofs.SourceSetLemmas.{before_tail}

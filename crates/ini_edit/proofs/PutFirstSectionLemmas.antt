@@ -20,7 +20,7 @@ use Rattle.ini_edit.specs.Inside.InPlace.{AreInPlace}
 use Rattle.ini_edit.specs.Inside.SourceEnds.{IsPlaceAt}
 use Rattle.ini_edit.specs.Inside.Spans.{AreSections, AreSpans, BeginGeneral, IsSpan, Span, gap, opening}
 use Rattle.ini_edit.specs.Inside.Spans.{sections_spans, span_source}
-use Rattle.ini_edit.specs.NoPlaces.{is_blank_or_line_end}
+use Rattle.ini_edit.specs.SourceLines.{is_blank_or_line_end}
 use Rattle.ini_edit.specs.SourceEditsAdd.{GapPlace, Maker, first_place, pair_put_first, pair_put_last}
 use Rattle.ini_edit.specs.SourceLines.{is_empty}
 use Rattle.ini_edit.specs.SourcePlaces.{Place, exchanged, is_nil}
@@ -33,7 +33,7 @@ use Rattle.ini_edit.proofs.InPlaceLemmas.{in_place-before, in_place-join, in_pla
 use Rattle.ini_edit.proofs.MakerLemmas.{MakesReadPairs, made_there}
 use Rattle.ini_edit.proofs.PutFirstLemmas.{first_after, header_closed, line_starts_there, spans_put_first}
 use Rattle.ini_edit.proofs.SectionBeginLemmas.{names_after, sections_begin}
-use Rattle.ini_edit.proofs.SectionLemmas.{EmptyOrHeader}
+use Rattle.ini_edit.proofs.HeaderLemmas.{EmptyOrHeader}
 use Rattle.ini_edit.proofs.SectionTakenLemmas.{same_start}
 use Rattle.ini_edit.proofs.SourceAddLemmas.{IsNewEnd}
 use Rattle.ini_edit.proofs.SourceSpanLemmas.{gap_put_in, spans_after_pairs, spans_before_gap}

@@ -22,7 +22,7 @@ use Rattle.ini_edit.specs.Sources.{SectionPiece, joined}
 use Rattle.ini_edit.proofs.DeletedLinesLemmas.{IsLineEnd}
 use Rattle.ini_edit.proofs.GapPartLemmas.{gap_nothing}
 use Rattle.ini_edit.proofs.PairEndedLemmas.{value_end}
-use Rattle.ini_edit.proofs.SectionLemmas.{EmptyOrHeader, header_follows}
+use Rattle.ini_edit.proofs.HeaderLemmas.{EmptyOrHeader, header_follows}
 use Rattle.ini_edit.proofs.SectionRestLemmas.{Rest, rest_at_end, rest_of_next}
 use Rattle.ini_edit.proofs.SectionTakenLemmas.{AreLike, IsFeed}
 

@@ -44,7 +44,7 @@ use Rattle.ini_edit.proofs.SectionEndedLemmas.{IsEnded, and_no, begin_more, begi
 use Rattle.ini_edit.proofs.SectionEndedLemmas.{empty_rest, ended_after, ended_end, is_ended}
 use Rattle.ini_edit.proofs.SectionEndedLemmas.{pair_closes, regroup_end, regroup_put, same_last}
 use Rattle.ini_edit.proofs.SectionEndedLemmas.{some_front, some_or}
-use Rattle.ini_edit.proofs.SectionLemmas.{EmptyOrHeader, header_follows}
+use Rattle.ini_edit.proofs.HeaderLemmas.{EmptyOrHeader, header_follows}
 use Rattle.ini_edit.proofs.SectionPlaceLemmas.{IsCutFor}
 use Rattle.ini_edit.proofs.SectionTakenLemmas.{IsFeed, with_trailing}
 use Rattle.ini_edit.proofs.SourcePlaceLemmas.{gap_of-end, last_changed-end}

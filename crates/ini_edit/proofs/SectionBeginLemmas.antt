@@ -17,7 +17,7 @@ use Rattle.ini_edit.specs.Inside.Spans.{AreSpans, BeginGeneral, IsSpan, Span, ga
 use Rattle.ini_edit.specs.Inside.Spans.{opening, pairs_spans, section_spans, sections_spans, span_source}
 use Rattle.ini_edit.specs.Sources.{SectionPiece, joined}
 use Rattle.ini_edit.proofs.AheadLemmas.{FollowsFront}
-use Rattle.ini_edit.proofs.SectionLemmas.{EmptyOrHeader, header_bracket}
+use Rattle.ini_edit.proofs.HeaderLemmas.{EmptyOrHeader, header_bracket}
 
 -- names
 abbrev pub has_name : SectionPiece → Bool

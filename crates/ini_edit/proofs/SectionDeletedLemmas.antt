@@ -39,7 +39,7 @@ use Rattle.ini_edit.proofs.SectionBeginLemmas.{header_begins, name_after, names_
 use Rattle.ini_edit.proofs.SectionEndLemmas.{LastOf, first_text, last_of, last_through, put_name, put_nothing}
 use Rattle.ini_edit.proofs.SectionEndLemmas.{put_one, regroup, regroup_last, regroup_lines, regroup_put}
 use Rattle.ini_edit.proofs.SectionEndLemmas.{spans_last, up_to_last}
-use Rattle.ini_edit.proofs.SectionLemmas.{EmptyOrHeader}
+use Rattle.ini_edit.proofs.HeaderLemmas.{EmptyOrHeader}
 use Rattle.ini_edit.proofs.SectionRestLemmas.{Rest, unindented}
 use Rattle.ini_edit.proofs.SectionTakenLemmas.{AreLike, IsFeed, IsKept, IsSplit, MayPrecede, between}
 use Rattle.ini_edit.proofs.SectionTakenLemmas.{following, fore_end, gap_taken, kept_of, lines_taken}

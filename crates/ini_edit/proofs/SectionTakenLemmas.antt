@@ -29,7 +29,7 @@ use Rattle.ini_edit.proofs.EndedLemmas.{line_end-some-after}
 use Rattle.ini_edit.proofs.GapPartLemmas.{LineStarts, gap_any, gap_nothing, gap_parts, some_before}
 use Rattle.ini_edit.proofs.InPlaceLemmas.{in_place-before, in_place-join, in_place-like, in_place-split}
 use Rattle.ini_edit.proofs.OwnBeforeLemmas.{own_ahead, own_before}
-use Rattle.ini_edit.proofs.SectionLemmas.{EmptyOrHeader, header_follows}
+use Rattle.ini_edit.proofs.HeaderLemmas.{EmptyOrHeader, header_follows}
 use Rattle.ini_edit.proofs.SectionRestLemmas.{Rest, Unindented, blanks_no_feed}
 use Rattle.ini_edit.proofs.GapLemmas.{gap_join, gap_like}
 use Rattle.ini_edit.proofs.SpanLemmas.{spans_local}

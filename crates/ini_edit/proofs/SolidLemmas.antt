@@ -17,7 +17,7 @@ use Rattle.ini_text.proofs.GrammarLemmas.ItemLemmas.{element-some}
 use Rattle.ini_text.proofs.GrammarLemmas.KindLemmas.{comment_mark-apart}
 use Rattle.ini_text.proofs.LawLemmas.PieceLemmas.{last_or-append}
 use Rattle.ini.specs.Texts.{Text}
-use Rattle.ini_edit.specs.NoPlaces.{is_blank_or_line_end}
+use Rattle.ini_edit.specs.SourceLines.{is_blank_or_line_end}
 use Rattle.ini_edit.specs.SourceLines.{from_last_solid, is_in_comment}
 use Rattle.ini_edit.proofs.DroppedKeyLemmas.{AreKeyless, blank_no_mark, no_comment_in, white_no_mark}
 use Rattle.ini_edit.proofs.DroppedKeyLemmas.{pieces_no_bracket}

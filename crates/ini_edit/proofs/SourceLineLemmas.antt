@@ -14,7 +14,7 @@ use Rattle.ini_text.specs.Inside.PlainTests.{begins}
 use Rattle.ini_text.specs.Parsing.Fronts.{IsRest, front_of}
 use Rattle.ini_text.proofs.StringLemmas.FrontLemmas.{front_grows, front_is}
 use Rattle.ini_edit.specs.Endings.{Ending}
-use Rattle.ini_edit.specs.NoPlaces.{is_blank_or_line_end}
+use Rattle.ini_edit.specs.SourceLines.{is_blank_or_line_end}
 use Rattle.ini_edit.specs.SourceLines.{after_blank_lines, after_blanks, after_comment, after_comments}
 use Rattle.ini_edit.specs.SourceLines.{after_line, after_line_end, after_line_feed, are_comments}
 use Rattle.ini_edit.specs.SourceLines.{blank_lines_at_end, blank_lines_from, blanks_at_end}

@@ -10,7 +10,7 @@ use Rattle.ini_text.specs.Grammar.CharacterKinds.{is_blank, is_comment_mark, is_
 use Rattle.ini_text.specs.Grammar.CharacterKinds.{line_feed, space, tab}
 use Rattle.ini_text.specs.Inside.PlainTests.{begins}
 use Rattle.ini_edit.specs.Endings.{Ending}
-use Rattle.ini_edit.specs.NoPlaces.{is_blank_or_line_end}
+use Rattle.ini_edit.specs.SourceLines.{is_blank_or_line_end}
 use Rattle.ini_edit.specs.SourceLines.{after_comment, after_comments, are_comments, blank_lines_from}
 use Rattle.ini_edit.specs.SourceLines.{blanks_at_end, comments_at_end, from_last_solid, indentation_at_end}
 use Rattle.ini_edit.specs.SourceLines.{is_in_comment, is_line, next_line_end}

@@ -42,9 +42,7 @@ module _ (w : WriteOption) (later : LaterPairs) where
       let taken : map editing_of (take (i + 1) edits) ≡ map editing_of (take i edits) ++ e ∷ [] =
       rw (add-one, take-suc edits i d within)
       (map-append editing_of (take i edits) (get_or edits i d ∷ [])) in
-      subst (λ es. AreMadeOf w later old es more new) (sym taken)
-      (subst (λ fs. AreMadeOf w later old (map editing_of (take i edits) ++ e ∷ []) fs new) (sym makes.kept)
-      (AreMadeOf.then e makes.is_found made makes.made))
+      subst (λ es. AreMadeOf w later old es more new) (sym taken) (AreMadeOf.then e made makes)
 
   -- of the edits the one at the index is refused
   pub one_refused : {old mid : Pieces} {found : List Bool} (edits : List Edit) (i : ℕ) (d : Edit)

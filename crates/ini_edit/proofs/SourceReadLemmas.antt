@@ -7,10 +7,10 @@ use Rattle.std.proofs.lemmas.List.{append_cancel_left}
 use Rattle.std.proofs.lemmas.List.Folds.{list_all-append}
 use Rattle.std.specs.List.{list_all}
 use Rattle.std.specs.Prelude.{is_some}
-use Rattle.ini_text.specs.Grammar.CharacterKinds.{is_inline_white, line_feed}
+use Rattle.ini_text.specs.Grammar.CharacterKinds.{line_feed}
 use Rattle.ini_text.specs.Grammar.Elements.{Given, Header, Element}
 use Rattle.ini_text.specs.Grammar.Pieces.{ArePieces}
-use Rattle.ini_text.specs.Grammar.Places.{SpaceAfter, ArePlaced, Stretches, pair_source}
+use Rattle.ini_text.specs.Grammar.Places.{ArePlaced, pair_source}
 use Rattle.ini_text.specs.Grammar.Positions.{last_or}
 use Rattle.ini_text.specs.Grammar.Texts.{Reads}
 use Rattle.ini_text.specs.Parsing.Parser.{Place}
@@ -22,29 +22,25 @@ use Rattle.ini_text.specs.declared.parser.placed.Content.TheVariants as contents
 use Rattle.ini_text.specs.declared.parser.placed.PlacedElement.{PlacedElement}
 use Rattle.ini_text.specs.declared.parser.placed.PlacedPair.{PlacedPair}
 use Rattle.ini_text.proofs.GrammarLemmas.ItemLemmas.{reads-append}
-use Rattle.ini_text.proofs.LawLemmas.LocalLemmas.{Element-like, KeyFront-like, by_last}
+use Rattle.ini_text.proofs.LawLemmas.LocalLemmas.{Element-like, by_last}
 use Rattle.ini_text.specs.Parsing.Fronts.{IsRest, front_of}
 use Rattle.ini_text.proofs.LawLemmas.ExportedLemmas.{front_is}
-use Rattle.ini_text.proofs.LawLemmas.OneAheadLemmas.{Alike, KeyFront-alike, Reads-front}
+use Rattle.ini_text.proofs.LawLemmas.OneAheadLemmas.{Reads-front}
 use Rattle.ini_text.proofs.LawLemmas.PieceLemmas.{last_or-append}
 use Rattle.ini.specs.Texts.{Text}
 use Rattle.ini_edit.specs.Inside.InPlace.{AreInPlace}
 use Rattle.ini_edit.specs.Inside.SourceWalks.{IsPastItem, ReachesItem, ReadsSpans}
-use Rattle.ini_edit.specs.Inside.Spans.{AreSections, AreSpans, BeginGeneral, IsGap, IsPair, IsSpan, Span}
+use Rattle.ini_edit.specs.Inside.Spans.{AreSections, BeginGeneral, IsGap, IsSpan, Span}
 use Rattle.ini_edit.specs.Inside.Spans.{opening, pair, gap, pairs_spans, section_spans, sections_spans}
 use Rattle.ini_edit.specs.Inside.Spans.{span_source}
 use Rattle.ini_edit.specs.Inside.Walks.{IsPastLast, IsReading, StandsWithin, Steps}
+use Rattle.ini_edit.specs.SourceReads.{ArePlacedSpans, AreRead, IsPlacedSpan}
 use Rattle.ini_edit.specs.Sources.{PairPiece, SectionPiece, joined, placed_piece, sections_text}
 use Rattle.ini_edit.specs.declared.source.gap.Reached.{Reached}
-use Rattle.ini_edit.proofs.ClosedLemmas.{closed_space}
 use Rattle.ini_edit.proofs.InPlaceLemmas.{in_place-join, joined-append}
+use Rattle.ini_edit.proofs.PlacedSpanLemmas.{placed_after, placed_spans}
 use Rattle.ini_edit.proofs.SpanLemmas.{spans_read, sections_joined}
 use Rattle.ini_edit.proofs.WalkLemmas.{reads_rest, stands_within, stays, step_reads}
-
-white_after : {raw_value space_after : Text} → SpaceAfter raw_value space_after
-    → list_all is_inline_white space_after ≡ true
-white_after (SpaceAfter.bare bare white) = white
-white_after (SpaceAfter.escaped front white all) = refl
 
 pub empty_parts : (xs ys : List Given) → xs ++ ys ≡ [] → (xs ≡ []) × (ys ≡ [])
 empty_parts [] ys h = (refl, h)
@@ -99,20 +95,6 @@ module _ {o : ParseOption} where
       let found = read_nothing r reads refl whole in
       subst (λ t. IsGap o (last_or line_feed b) t r) (sym (append_cancel_left b gap found.gap found.reaches))
       found.is
-
-  placed_pair : {b r key value : Text} {p : Stretches} → ArePlaced o b p r key value
-      → IsPair o (last_or line_feed b) p key value r
-  placed_pair {r = r} {p = p} h = record {
-    key_front = KeyFront-like by_last (KeyFront-alike Alike.same h.key_front);
-    some = h.some;
-    separates = h.separates;
-    gives = h.gives;
-    white_before = h.space_before.white;
-    white_after = white_after h.space_after;
-    are_trailing = h.trailing_lines;
-    own_lines = h.raw_value;
-    closed = closed_space h.space_after;
-  }
 
 -- after the front b the parser went over elements that give nothing
 pub record Skips (o : ParseOption) (T b : Text) (p : Place) : Type 0 where
@@ -203,15 +185,15 @@ module _ {o : ParseOption} {T : Text} where
         ∙ sym (joined-append span_source xs (x ∷ gap gap_text ∷ []))
 
     pub reads_more : (x : Span) → span_source x ≡ source
-        → IsSpan o (last_or line_feed (joined span_source xs)) x stands.0.rest
+        → IsPlacedSpan o (last_or line_feed (joined span_source xs)) x stands.0.rest
         → ReadsSpans o T q (with_next x) found.item
     reads_more x same is = record {
       is_reading = next.is_reading;
       rest = rest.0;
       whole = rest.1 ∙ ap (λ t. t ++ rest.0) (reaches x same);
       are = in_place-join span_source xs (x ∷ gap gap_text ∷ [])
-          (subst (AreSpans o line_feed xs) rest_is at.are)
-          (AreInPlace.more (subst (IsSpan o c x) following is)
+          (subst (ArePlacedSpans o line_feed xs) rest_is at.are)
+          (AreInPlace.more (subst (IsPlacedSpan o c x) following is)
           (AreInPlace.more (IsSpan.is_gap gap_is) AreInPlace.none));
       past = subst (λ f. IsPastItem o T f q found.item) (reaches x same) next.item;
     }
@@ -282,7 +264,7 @@ module _ {o : ParseOption} {T : Text} where
           found.item
       reads_pair =
           let p = pair (parsing.stretches_of placed.places) (cow_text placed.key) (cow_text placed.value) in
-          reads_more p (sym places.0) (IsSpan.is_pair (placed_pair places.1))
+          reads_more p (sym places.0) (placed_after places.1)
 
       pub pair_nearer : length T - length (joined span_source
           (with_next (pair (parsing.stretches_of placed.places) (cow_text placed.key)
@@ -300,7 +282,8 @@ module _ {o : ParseOption} {T : Text} where
       let past = subst (IsPastItem o T (joined span_source xs) p) some at.past in
       let steps : Steps o T
       (joined span_source xs) p e = record { is_reading = at.is_reading; stands = past.0 } in
-      stands_within at.is_reading (reads-append (spans_read xs at.are at.whole) (step_reads steps))
+      stands_within at.is_reading (reads-append (spans_read xs (placed_spans at.are) at.whole)
+      (step_reads steps))
 
   pub reads_start : {b : Text} {q : Place} {found : Reached} → b ≡ [] → ReachesItem o T b q found
       → ReadsSpans o T q (opening None [] ∷ gap (chars found.gap.now) ∷ []) found.item
@@ -469,11 +452,14 @@ module _ {o : ParseOption} {T : Text} where
     pub read_text : sections_text ss ≡ T
     read_text = sym (sections_joined ss) ∙ whole_text
 
-    pub read_sections : AreSections o ss
-    read_sections = record {
+    pub read_placed : AreRead o ss
+    read_placed = record {
       begin_general = at.begins;
-      spans = subst (AreSpans o line_feed (sections_spans ss))
+      placed = subst (ArePlacedSpans o line_feed (sections_spans ss))
           (append_cancel_left T at.spans.rest []
           (ap (λ t. t ++ at.spans.rest) (sym whole_text) ∙ sym at.spans.whole ∙ sym
           (append-nil T))) at.spans.are;
     }
+
+    pub read_sections : AreSections o ss
+    read_sections = record { begin_general = at.begins; spans = placed_spans read_placed.placed }

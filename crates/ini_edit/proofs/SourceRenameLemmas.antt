@@ -30,10 +30,9 @@ use Rattle.ini_edit.specs.SourceEdits.{RenamesKeyIn, RenamesNameIn, first_change
 use Rattle.ini_edit.specs.SourceEdits.{key_changed, pair_changed, with_header, with_key, with_pairs}
 use Rattle.ini_edit.specs.Sources.{PairPiece, Pieces, SectionPiece, given_pair, given_section, joined}
 use Rattle.ini_edit.proofs.FirstLemmas.{changed_first, first_stands, renamed_first, stands_there}
+use Rattle.ini_edit.proofs.HeaderLemmas.{header_anew, header_bracket, plain_closes, str_closes}
 use Rattle.ini_edit.proofs.InPlaceLemmas.{in_place-before, in_place-exchanged, in_place-put, in_place-split}
 use Rattle.ini_edit.proofs.NewKeyLemmas.{in_place}
-use Rattle.ini_edit.proofs.SectionLemmas.{header_bracket}
-use Rattle.ini_edit.proofs.SectionRenamedLemmas.{header_anew, plain_closes, str_closes}
 use Rattle.ini_edit.proofs.SourceReadLemmas.{sections_spans-append}
 use Rattle.ini_edit.proofs.SourceSetLemmas.{as_edit, changed_sections, closed_agrees, found_there}
 use Rattle.ini_edit.proofs.SourceSetLemmas.{last_agrees}

@@ -38,7 +38,7 @@ use Rattle.ini_edit.proofs.DeletedLinesLemmas.{begins_here, staying}
 use Rattle.ini_edit.proofs.DeletedPairLemmas.{gap_stands, last_of_pair, multiline_to_gap, multiline_to_pair}
 use Rattle.ini_edit.proofs.DeletedPairLemmas.{section_stands, with_lines}
 use Rattle.ini_edit.proofs.InPlaceLemmas.{in_place-split, joined-append}
-use Rattle.ini_edit.proofs.SectionLemmas.{header_bracket}
+use Rattle.ini_edit.proofs.HeaderLemmas.{header_bracket}
 use Rattle.ini_edit.proofs.SourceDeleteLemmas.{StandsBefore, StaysOf, spans_deleted}
 use Rattle.ini_edit.proofs.SourcePlaceLemmas.{rest_put-end}
 use Rattle.ini_edit.proofs.SourceReadLemmas.{begin-same, pairs_spans-append, sections_spans-append}

@@ -18,7 +18,7 @@ use Rattle.ini_text.proofs.LawLemmas.OneAheadLemmas.{EndedLine-before}
 use Rattle.ini_text.proofs.PlainLemmas.PlainPairLemmas.{inline_blanks, line_end_no_mark}
 use Rattle.ini.specs.Texts.{Text}
 use Rattle.ini_edit.specs.Endings.{Ending}
-use Rattle.ini_edit.specs.NoPlaces.{is_blank_or_line_end}
+use Rattle.ini_edit.specs.SourceLines.{is_blank_or_line_end}
 use Rattle.ini_edit.specs.Places.{Follows}
 use Rattle.ini_edit.specs.SourceLines.{blank_lines_from, is_line_from}
 use Rattle.ini_edit.proofs.AheadLemmas.{no_line_feed}

@@ -19,7 +19,7 @@ use Rattle.ini_text.proofs.LawLemmas.OneAheadLemmas.{Alike, Alike-some, EndedLin
 use Rattle.ini_text.proofs.PlainLemmas.PlainTrimLemmas.{end_trimmed-after}
 use Rattle.ini.specs.Texts.{Text}
 use Rattle.ini_edit.specs.Endings.{Closing, Ending, ending_from}
-use Rattle.ini_edit.specs.NoPlaces.{is_blank_or_line_end}
+use Rattle.ini_edit.specs.SourceLines.{is_blank_or_line_end}
 use Rattle.ini_edit.specs.Places.{Follows}
 use Rattle.ini_edit.specs.SourceLines.{blank_lines_at_end, blank_lines_from, ends_in_line, is_line_from}
 use Rattle.ini_edit.proofs.BlankLineLemmas.{Passes, last_passes, line_end_follows, not_all, passes_both}

@@ -1,11 +1,11 @@
 -- Walks over the elements of a text, element by element.
-use Rattle.std.proofs.Common.{◌≡◌, ◌∙◌, ◌<◌, ◌-◌, List, [], ◌∷◌, ◌++◌, length, ap, sym, subst, refl, Option}
+use Rattle.std.proofs.Common.{◌≡◌, ◌∙◌, ◌<◌, ◌-◌, List, [], ◌++◌, length, ap, sym, subst, refl, Option}
 use Rattle.std.proofs.Common.{None, Some}
 use Rattle.std.proofs.Common.{Result, Ok, Err, arith, append_assoc, append-nil, length-append, chars}
-use Rattle.std.proofs.Common.{MatchOption, false}
+use Rattle.std.proofs.Common.{MatchOption}
 use Rattle.std.specs.Cow.{cow_str_bytes}
 use Rattle.ini_text.specs.Errors.Messages.{HasMessage}
-use Rattle.ini_text.specs.Grammar.Elements.{Given, Element}
+use Rattle.ini_text.specs.Grammar.Elements.{Given}
 use Rattle.ini_text.specs.Grammar.Texts.{Reads, Stops}
 use Rattle.ini_text.specs.Parsing.Parser.{Place}
 use Rattle.ini_text.specs.Parsing.Places.{AnswersElement, StopsAfter, gives}
@@ -17,8 +17,7 @@ use Rattle.ini_text.specs.declared.parser.placed.PlacedElement.{PlacedElement}
 use Rattle.ini_text.proofs.GrammarLemmas.ItemLemmas.{reads-append}
 use Rattle.ini.specs.Texts.{Text}
 use Rattle.ini.specs.Loading.{IfParse, IsStopOf}
-use Rattle.ini_edit.proofs.CommentLemmas.{item_no_comment}
-use Rattle.ini_edit.specs.Inside.Walks.{Boundary, IsPastLast, IsReading, ReadsOn, StandsWithin, Steps}
+use Rattle.ini_edit.specs.Inside.Walks.{IsPastLast, IsReading, ReadsOn, StandsWithin, Steps}
 
 -- where reading stops after what was read
 stops_after : {o : ParseOption} {T b : Text} {items : List Given} (e : ParseError) → Reads o T [] items b
@@ -148,14 +147,3 @@ pub found_some : {X : Type 0} {found : Option X} {x : X} (none : Type 0) (some :
     → MatchOption found none some
     → found ≡ Some x → some x
 found_some none some h is = subst (λ x. MatchOption x none some) is h
-
--- an element that gives an item ends at a boundary
-pub item_boundary : {o : ParseOption} {T b : Text} {c : Text} {q : Place} {e : PlacedElement}
-    {items : List Given} {item : Given}
-    → Reads o T b items c → Steps o T c q e → gives e.content ≡ item ∷ []
-    → Boundary o T b false q.front (items ++ item ∷ [])
-item_boundary {o} {T} {b} {c} {q} {e} {items} {item} reads t is =
-    let element = subst (Element o c (chars e.source.now) t.stands.rest) is t.stands.is_element in
-    subst (λ d. Boundary o T b false d (items ++ item ∷ [])) (sym t.stands.reaches)
-    (subst (λ x. Boundary o T b x (c ++ chars e.source.now) (items ++ item ∷ [])) (item_no_comment element)
-    (Boundary.following reads t.stands.whole element (λ none. absurd (let no : item ∷ [] ≡ [] = none in cc))))

@@ -1,5 +1,4 @@
--- The test of a raw value holds exactly where a value is raw; which values are raw, and which aren't. And
--- the parts of a writable pair.
+-- The test of a raw value holds exactly where a value is raw; which values are raw, and which aren't.
 use Rattle.std.proofs.Common.{◌≡◌, ◌≢◌, ℕ, Bool, true, false, not, ◌||◌, List, [], ◌∷◌, refl, sym}
 use Rattle.std.specs.Prelude.{codes}
 use Rattle.std.proofs.lemmas.Bool.{false≢true, true≢false}
@@ -9,7 +8,6 @@ use Rattle.std.specs.Cmp.Lexicographic.{bytes_decides}
 use Rattle.ini_text.specs.Grammar.CharacterKinds.{is_quote_mark, BeginsWithNo}
 use Rattle.ini_text.specs.Grammar.WhiteSpace.{trimmed}
 use Rattle.ini_text.specs.Inside.PlainTests.{begins, escapes_nothing}
-use Rattle.ini_text.specs.Laws.Plain.{IsPlainPair}
 use Rattle.ini_text.specs.Options.ReadOptions.{without_escapes}
 use Rattle.ini_text.specs.declared.option.ParseOption.{ParseOption}
 use Rattle.ini_text.specs.declared.write.policy.EscapePolicy.{EscapePolicy}
@@ -19,8 +17,7 @@ use Rattle.ini_text.specs.declared.write.policy.EscapePolicy.TheVariants.{Reserv
 use Rattle.ini_text.specs.declared.write.policy.EscapePolicy.TheVariants.{ReservedUnicodeExtended, Everything}
 use Rattle.ini_edit.specs.Endings.{Ending, ending}
 use Rattle.ini_edit.specs.Inside.RawTests.{is_closed, is_raw_value}
-use Rattle.ini_edit.specs.Writable.{IsRawValue, IsWritablePair, IsWritableValue}
-use Rattle.ini_edit.proofs.PlainKeyLemmas.{empty_plain}
+use Rattle.ini_edit.specs.Writable.{IsRawValue}
 
 not_decides : (b : Bool) → Decides (not b) (b ≡ false)
 not_decides true = (λ e. sym e, λ e. sym e)
@@ -73,23 +70,6 @@ raw_decides o policy value =
     (Decides-and _ _ (bytes_decides (trimmed value) value)
     (Decides-and _ _ (no_mark_decides o.enabled_quote value)
     (Decides-and _ _ (itself _) (closed_decides (ending value)))))))
-
--- a writable pair has the key of a plain one
-module _ {o : ParseOption} {policy : EscapePolicy} {key value : List ℕ} where
-  pub writable_pair : {other : List ℕ} → IsPlainPair o policy key other → IsWritableValue o policy value
-      → IsWritablePair o policy key value
-  writable_pair plain value = record {
-    plain_key = plain.plain_key;
-    key_read_back = plain.key_read_back;
-    writable_value = value;
-  }
-
-  pub key_plain : IsWritablePair o policy key value → IsPlainPair o policy key []
-  key_plain pair = record {
-    plain_key = pair.plain_key;
-    key_read_back = pair.key_read_back;
-    plain_value = empty_plain;
-  }
 
 -- a folder of Windows
 folder : IsRawValue without_escapes Nothing (codes "C:\\new")

@@ -1,12 +1,9 @@
--- How a text ends, and where an element of it ends after which a line may be put in.
-use Rattle.std.specs.Prelude.{◌≡◌, ℕ, Bool, true, false, ◌==◌, if◌then◌else◌, List, [], ◌∷◌, ◌++◌}
+-- How a text ends, and what begins an indented key.
+use Rattle.std.specs.Prelude.{◌≡◌, ℕ, true, false, ◌==◌, if◌then◌else◌, List, [], ◌∷◌, ◌++◌}
 use Rattle.std.specs.List.{list_all}
-use Rattle.ini_text.specs.Grammar.CharacterKinds.{backslash, line_feed, space, is_blank, is_comment_mark}
+use Rattle.ini_text.specs.Grammar.CharacterKinds.{backslash, line_feed, space, is_blank}
 use Rattle.ini_text.specs.Grammar.CharacterKinds.{BeginsWith}
-use Rattle.ini_text.specs.Grammar.Positions.{is_column_one}
 use Rattle.ini_text.specs.Grammar.Keys.{begins_indented_key}
-use Rattle.ini_text.specs.Grammar.Elements.{Given, Element}
-use Rattle.ini_text.specs.Grammar.Texts.{Reads}
 use Rattle.ini_text.specs.declared.option.ParseOption.{ParseOption}
 
 -- a text's end: within a line; after a backslash that takes what follows it; or after an LF that no
@@ -32,11 +29,6 @@ ending_from e (c ∷ cs) = ending_from (next_ending e c) cs
 abbrev pub ending : List ℕ → Ending
 ending text = ending_from Ending.line text
 
--- the end of a front whose last element is a comment, or isn't: a comment has no escapes
-abbrev pub front_ending : (comment : Bool) → List ℕ → Ending
-front_ending true W = if is_column_one W then Ending.line else Ending.inside
-front_ending false W = ending W
-
 -- What goes before a line end after a text that ends so: a backslash is made one that stands for itself.
 -- With escapes off it takes a space, which no value keeps.
 pub data Closing (o : ParseOption) : Ending → List ℕ → Type 0 where
@@ -53,14 +45,3 @@ pub record IsIndentedKey (source : List ℕ) : Type 0 where
   pub some : BeginsWith is_blank blanks
   pub blank : list_all is_blank blanks ≡ true
   pub begins : BeginsWith begins_indented_key key
-
--- At the front W of the text T an element ends, and the elements up to it give the items. If it gives
--- nothing it isn't an indented key, which the text's end cuts short.
-pub data IsElementEnd (o : ParseOption) (T : List ℕ) : List ℕ → List Given → Type 0 where
-  following : {b s r : List ℕ} {items gives : List Given} → Reads o T [] items b → T ≡ b ++ (s ++ r)
-      → Element o b s r gives → (gives ≡ [] → ¬ IsIndentedKey s) → IsElementEnd o T (b ++ s) (items ++ gives)
-
--- At the front W of the text T a comment ends, and the elements up to it give the items.
-pub data IsCommentEnd (o : ParseOption) (T : List ℕ) : List ℕ → List Given → Type 0 where
-  following : {b s r : List ℕ} {items gives : List Given} → Reads o T [] items b → T ≡ b ++ (s ++ r)
-      → Element o b s r gives → BeginsWith is_comment_mark s → IsCommentEnd o T (b ++ s) (items ++ gives)

@@ -5,14 +5,14 @@ use Rattle.ini_text.specs.declared.write.policy.EscapePolicy.{EscapePolicy}
 use Rattle.ini.specs.Texts.{Text, is_name, is_text}
 use Rattle.ini.specs.Documents.{Document}
 use Rattle.ini.specs.Loading.{IsDocumentOf}
-use Rattle.ini_edit.specs.Edited.{IsDeleted, IsSetThere}
+use Rattle.ini_edit.specs.WholeTexts.{IsDeletedText, IsSetThereText}
 
 -- The text U is T with a pair edited that is there, the first of the key in the first section of the name:
 -- it has another value, or is taken out.
 abbrev pub IsPairEdited : ParseOption → EscapePolicy → Text → Option Text → Text → Option Text → Text
     → Type 0
-IsPairEdited o policy T name key (Some value) U = IsSetThere o policy T name key value U
-IsPairEdited o policy T name key None U = IsDeleted o T name key U
+IsPairEdited o policy T name key (Some value) U = IsSetThereText o policy T name key value U
+IsPairEdited o policy T name key None U = IsDeletedText o T name key U
 
 -- the keys are different ones, or those of sections with different names
 abbrev pub AreApart : Option Text → Text → Option Text → Text → Type 0

@@ -1,14 +1,8 @@
-pub mod Cuts
 pub mod InPlace
 pub mod KeyEdges
-pub mod Later
 pub mod Lines
-pub mod NoPlaceWalks
-pub mod PlaceWalks
 pub mod Quotes
 pub mod RawTests
-pub mod SectionWalks
-pub mod SetWalks
 pub mod SourceElementWalks
 pub mod SourceEnds
 pub mod SourceSearches

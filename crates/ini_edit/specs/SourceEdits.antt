@@ -36,7 +36,8 @@ key_changed key f s = with_pairs s (first_changed (λ p. is_text key p.key) f s.
 abbrev pub pair_in : Option Text → Text → List SectionPiece → Option PairPiece
 pair_in name key ss = option_and_then (pair_of_key key) (first_fitting (λ s. is_name name s.name) ss)
 
-abbrev pub pair_changed : Option Text → Text → (PairPiece → PairPiece) → List SectionPiece → List SectionPiece
+abbrev pub pair_changed : Option Text → Text → (PairPiece → PairPiece) → List SectionPiece
+    → List SectionPiece
 pair_changed name key f ss = first_changed (λ s. is_name name s.name) (key_changed key f) ss
 
 -- a pair with another value, which is written so

@@ -10,7 +10,9 @@ use Rattle.ini_text.specs.Grammar.CharacterKinds.{is_line_feed}
 use Rattle.ini_text.specs.Inside.PlainTests.{begins}
 use Rattle.ini.specs.Texts.{Text}
 use Rattle.ini_edit.specs.Endings.{Ending, next_ending}
-use Rattle.ini_edit.specs.NoPlaces.{is_blank_or_line_end}
+
+abbrev pub is_blank_or_line_end : ℕ → Bool
+is_blank_or_line_end c = is_blank c || is_line_end c
 
 abbrev pub is_empty : Text → Bool
 is_empty [] = true

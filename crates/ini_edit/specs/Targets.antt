@@ -30,12 +30,3 @@ pub record IsTarget (name : Option Text) (key : Text) (before after : List Given
   pub before_is : before ≡ opening ++ pair_items earlier
   pub after_is : after ≡ pair_items later ++ rest
   pub header : BeginsWithHeader rest
-
--- Between the items before and after the first section of the name ends.
-pub record IsSectionEnd (name : Option Text) (before after : List Given) : Type 0 where
-  pub opening : List Given
-  pub sections : Document
-  pub pairs : Pairs
-  pub opens : OpensSection name opening sections
-  pub before_is : before ≡ opening ++ pair_items pairs
-  pub header : BeginsWithHeader after

@@ -1,9 +1,9 @@
--- Values that an edit writes, and pairs of which it writes a line: those that are read back.
+-- Values that an edit writes: those that are read back.
 use Rattle.std.specs.Prelude.{◌≡◌, ◌≢◌, ◌⊎◌, true, false, not}
 use Rattle.std.specs.List.{list_all}
 use Rattle.ini_text.specs.Grammar.CharacterKinds.{is_line_end, is_quote_mark, BeginsWithNo}
 use Rattle.ini_text.specs.Grammar.WhiteSpace.{trimmed}
-use Rattle.ini_text.specs.Laws.Plain.{IsPlainKey, IsPlainValue, IsReadBack}
+use Rattle.ini_text.specs.Laws.Plain.{IsPlainValue}
 use Rattle.ini_text.specs.declared.option.ParseOption.{ParseOption}
 use Rattle.ini_text.specs.declared.write.policy.EscapePolicy.{EscapePolicy}
 use Rattle.ini_text.specs.declared.write.policy.EscapePolicy.TheVariants.{Nothing}
@@ -28,9 +28,3 @@ pub record IsRawValue (o : ParseOption) (policy : EscapePolicy) (value : Text) :
 -- a value that, written, is read back: a plain one, or a raw one
 abbrev pub IsWritableValue : ParseOption → EscapePolicy → Text → Type 0
 IsWritableValue o policy value = IsPlainValue o policy value ⊎ IsRawValue o policy value
-
--- a key and its value that can be written in a line of their own
-pub record IsWritablePair (o : ParseOption) (policy : EscapePolicy) (key value : Text) : Type 0 where
-  pub plain_key : IsPlainKey o policy key
-  pub key_read_back : IsReadBack o policy key
-  pub writable_value : IsWritableValue o policy value

@@ -1,20 +1,22 @@
-//! A list of edits made in a text, one after another. This file knows no edit, and of texts nothing.
-ghost use Rattle.std.specs.Prelude.{◌≡◌, ◌++◌, ◌∷◌, [], chars, map, alloc_error};
-ghost use Rattle.std.specs.Prelude.{IfErr, IfOk, IsOkUnless, OnOk};
+//! A list of edits made in a text, one after another. This file knows edits by their calls, and texts in
+//! pieces.
+ghost use Rattle.std.specs.Prelude.{◌≡◌, [], chars, map, alloc_error};
+ghost use Rattle.std.specs.Prelude.{IfErr, IfOk};
 ghost use Rattle.ini_text.specs.Parsing.Items.{string_text};
 ghost use Rattle.ini_text.specs.declared.error.Error.TheVariants.{Memory};
 ghost use Rattle.ini.specs.Documents.{Document};
 ghost use Rattle.ini.specs.Loading.{IsDocumentOf};
 ghost use Rattle.ini_edit.specs.Editings.{editing_of};
-ghost use Rattle.ini_edit.specs.Made.{HasUnwritableWord, Refuses};
-ghost use Rattle.ini_edit.specs.MadeLists.{AreMade, Makes, RefusesFirst, RefusesOneOf};
-ghost use Rattle.ini_edit.specs.MadeLists.{all_made_in};
+ghost use Rattle.ini_edit.specs.WholeTexts.{IsRefusalOf, MakesText, RefusesOfText, RefusesText};
+ghost use Rattle.ini_edit.specs.Made.{all_made_in};
 ghost use Rattle.ini_edit.specs.declared.error.EditError.TheVariants as EditErrors;
 
 use crate::edits::{Edit, make_edit};
 use crate::error::EditError;
-use ini_text::{ParseOption, WriteOption};
-use std::alloc::{AllocError, Global};
+use crate::source::Source;
+use crate::source::set::LaterPairs;
+use ini_text::{Error, ParseOption, WriteOption};
+use std::alloc::Global;
 use std::fmt;
 
 /// A text that edits were made in.
@@ -48,17 +50,17 @@ impl fmt::Display for RefusedEdit {
 
 impl std::error::Error for RefusedEdit {}
 
-/// The text with the edits made in it, one after another, each in the text that those before it made. An edit
-/// that finds nothing (a key to be deleted that isn't there) changes nothing, the others go on, and `found`
-/// tells. The new text loads as the document with the edits made in it. With no edit the text is answered as
-/// it is, and isn't read.
+/// The text with the edits made in it, one after another, each in the text that those before it made. An
+/// edit that finds nothing (a key to be deleted that isn't there) changes nothing, the others go on, and
+/// `found` tells. The new text loads as the document with the edits made in it. With no edit the text is
+/// answered as it is, and isn't read.
 ///
-/// Each edit costs what its call does: the text is read once or more for each, and copied.
+/// The text is read once.
 ///
 /// # Errors
 ///
-/// That of the first edit whose call refuses, with its index; a text that is refused is so by the first edit.
-/// Where memory is refused, the index is that of the edit to be made then.
+/// That of the first edit whose call refuses, with its index; a text that is refused is so by the first
+/// edit. Where memory is refused while the text is read or written, the index is 0.
 pub fn make_edits(
     alloc: Global,
     text: &str,
@@ -66,74 +68,68 @@ pub fn make_edits(
     write: &WriteOption,
     edits: &[Edit<'_>],
 ) -> Result<EditedText, RefusedEdit>
-    ensures made { IfOk result (λ new. AreMade read write.now (chars text.now) (map editing_of edits.now)
+    ensures made { IfOk result (λ new. MakesText read write.now (map editing_of edits.now) (chars text.now)
         new.found.items (string_text new.text)) }
     ensures loads { IfOk result (λ new. (d : Document) → IsDocumentOf read (chars text.now) d
         → IsDocumentOf read (string_text new.text)
         (all_made_in (map editing_of edits.now) new.found.items d)) }
-    ensures refused { IfErr result (RefusesOneOf read write.now (map editing_of edits.now) (chars text.now)) }
+    ensures refused { IfErr result (RefusesText read write.now (map editing_of edits.now) (chars text.now)) }
 {
-    let (mut new, mut found) = match copied(alloc, text) {
-        Ok(new) => (new, Vec::new(alloc)),
-        Err(refusal) => return Err(RefusedEdit { index: 0, refusal }),
+    let Some(first) = edits.first() else {
+        return copied(alloc, text);
     };
-    for (index, edit) in edits.iter().enumerate() {
-        if let Err(refusal) = go_on(alloc, &mut new, &mut found, read, write, *edit) {
-            return Err(RefusedEdit { index, refusal });
-        }
+    let mut source = match Source::read(alloc, text, read) {
+        Ok(source) => source,
+        Err(refusal) => return Err(refused_by(alloc, text, read, write, *first, refusal)),
+    };
+    let found = source.make_edits(alloc, write, LaterPairs::TakenOut, edits)?;
+    match source.to_text(alloc) {
+        Ok(text) => Ok(EditedText { text, found }),
+        Err(refusal) => Err(at_first(refusal.into())),
     }
-    Ok(EditedText { text: new, found })
 }
 
 // The text as it is.
-fn copied(alloc: Global, text: &str) -> Result<String, EditError>
-    ensures text { IfOk result (λ new. string_text new ≡ chars text.now) }
-    ensures only { IsOkUnless result (EditErrors.Text (Memory alloc_error)) }
+fn copied(alloc: Global, text: &str) -> Result<EditedText, RefusedEdit>
+    ensures text { IfOk result (λ new. (string_text new.text ≡ chars text.now) × (new.found.items ≡ [])) }
+    ensures only { IfErr result (λ refused. refused ≡ record {
+      index = 0;
+      refusal = EditErrors.Text (Memory alloc_error);
+    }) }
 {
-    Ok(String::from_str(alloc, text)?)
-}
-
-// Makes one edit more in the text, and keeps whether it found what it is about.
-fn go_on(
-    alloc: Global,
-    text: &mut String,
-    found: &mut Vec<bool>,
-    read: ParseOption,
-    write: &WriteOption,
-    edit: Edit<'_>,
-) -> Result<bool, EditError>
-    ensures found { IfOk result (λ is_found. found.new.items ≡ found.old.items ++ is_found ∷ []) }
-    ensures made { IfOk result (λ is_found. Makes read write.now (editing_of edit.entry)
-        (string_text text.old) is_found (string_text text.new)) }
-    ensures writable { OnOk result
-        (¬ HasUnwritableWord read write.now.escape_policy (editing_of edit.entry)) }
-    ensures refused { IfErr result
-        (RefusesFirst read write.now (editing_of edit.entry ∷ []) (string_text text.old)) }
-{
-    let is_found = make_in_place(alloc, text, read, write, edit)?;
-    found.push(is_found).map_err(AllocError::from)?;
-    Ok(is_found)
-}
-
-// Makes an edit in the text, and answers whether it found what it is about.
-fn make_in_place(
-    alloc: Global,
-    text: &mut String,
-    read: ParseOption,
-    write: &WriteOption,
-    edit: Edit<'_>,
-) -> Result<bool, EditError>
-    ensures made { IfOk result (λ is_found. Makes read write.now (editing_of edit.entry)
-        (string_text text.old) is_found (string_text text.new)) }
-    ensures writable { OnOk result
-        (¬ HasUnwritableWord read write.now.escape_policy (editing_of edit.entry)) }
-    ensures refused { IfErr result (Refuses read write.now (editing_of edit.entry) (string_text text.old)) }
-{
-    match make_edit(alloc, text.as_str(), read, write, edit)? {
-        Some(new) => {
-            *text = new;
-            Ok(true)
-        }
-        None => Ok(false),
+    match String::from_str(alloc, text) {
+        Ok(text) => Ok(EditedText {
+            text,
+            found: Vec::new(alloc),
+        }),
+        Err(refusal) => Err(at_first(refusal.into())),
     }
+}
+
+// How the first edit refuses a text that reading refuses so: for its own words first.
+fn refused_by(
+    alloc: Global,
+    text: &str,
+    read: ParseOption,
+    write: &WriteOption,
+    edit: Edit<'_>,
+    refusal: Error,
+) -> RefusedEdit
+    requires fault { IsRefusalOf read (chars text.now) refusal }
+    ensures index { result.index ≡ 0 }
+    ensures refused { RefusesOfText read write.now (editing_of edit.entry) (chars text.now) result.refusal }
+{
+    match make_edit(alloc, text, read, write, edit) {
+        Err(refusal) => at_first(refusal),
+        Ok(edited) => {
+            drop(edited);
+            at_first(refusal.into())
+        }
+    }
+}
+
+fn at_first(refusal: EditError) -> RefusedEdit
+    ensures { result ≡ record { index = 0; refusal = refusal } }
+{
+    RefusedEdit { index: 0, refusal }
 }

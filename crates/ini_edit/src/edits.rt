@@ -2,15 +2,13 @@
 ghost use Rattle.std.specs.Prelude.{chars, IfErr, IfOk, MatchOption, OnOk};
 ghost use Rattle.ini_text.specs.Parsing.Items.{string_text};
 ghost use Rattle.ini_edit.specs.Editings.{editing_of};
-ghost use Rattle.ini_edit.specs.Made.{HasNothing, HasUnwritableWord, IsMade, Refuses};
+ghost use Rattle.ini_edit.specs.Made.{HasNothing, HasUnwritableWord};
+ghost use Rattle.ini_edit.specs.WholeTexts.{IsMadeText, RefusesOfText};
 
-use crate::addition::add;
-use crate::deletion::delete;
 use crate::error::EditError;
-use crate::rename::rename_key;
-use crate::section_deletion::delete_section;
-use crate::section_renaming::rename_section;
-use crate::setting::{set, set_existing};
+use crate::whole_text::{
+    add, delete, delete_section, rename_key, rename_section, set, set_existing,
+};
 use ini_text::{ParseOption, WriteOption};
 use std::alloc::Global;
 
@@ -57,8 +55,9 @@ pub enum Edit<'a> {
     },
 }
 
-/// The text with the edit made in it, as the call of its name answers it; `None` where what it is about isn't
-/// there, which `Set` and `Add` never answer. The write options' policy is that of the calls which take one.
+/// The text with the edit made in it, as the call of its name answers it; `None` where what it is about
+/// isn't there, which `Set` and `Add` never answer. The write options' policy is that of the calls which
+/// take one.
 ///
 /// # Errors
 ///
@@ -72,10 +71,11 @@ pub fn make_edit(
 ) -> Result<Option<String>, EditError>
     ensures made { IfOk result (λ made. MatchOption made
         (HasNothing read (editing_of edit.entry) (chars text.now))
-        (λ new. IsMade read write.now (editing_of edit.entry) (chars text.now) (string_text new))) }
+        (λ new. IsMadeText read write.now (editing_of edit.entry) (chars text.now) (string_text new))) }
     ensures writable { OnOk result
         (¬ HasUnwritableWord read write.now.escape_policy (editing_of edit.entry)) }
-    ensures refused { IfErr result (Refuses read write.now (editing_of edit.entry) (chars text.now)) }
+    ensures refused { IfErr result
+        (RefusesOfText read write.now (editing_of edit.entry) (chars text.now)) }
 {
     let policy = write.escape_policy;
     match edit {

@@ -1,12 +1,17 @@
 //! A key's source: the white space around the key, and which keys can be written in any pair's place. This
 //! file knows white space, and no element.
-ghost use Rattle.std.specs.Prelude.{◌≡◌, ◌↔◌, ◌==◌, IsTrue, chars};
+ghost use Rattle.std.specs.Prelude.{◌≡◌, ◌↔◌, ◌==◌, IsOkUnless, IsTrue, OnOk, alloc_error, chars};
+ghost use Rattle.ini_text.specs.Parsing.Items.{string_text};
+ghost use Rattle.ini_text.specs.declared.error.Error.TheVariants.{Memory};
 ghost use Rattle.ini_text.specs.Grammar.CharacterKinds.{space};
 ghost use Rattle.ini_text.specs.Inside.PlainTests.{begins};
-ghost use Rattle.ini_edit.specs.Inside.KeyEdges.{IsKeyStart, IsSkipped, IsWhiteEnd};
+ghost use Rattle.ini_edit.specs.Inside.KeyEdges.{IsKeyStart, IsSkipped, IsWhiteEnd, PutsKey};
 ghost use Rattle.ini_edit.specs.Renamed.{HasEdges, IsPlainBareKey};
 
-use ini_text::{EscapePolicy, ParseOption, front_before, is_plain_pair, split_first};
+use crate::append::push_text;
+use crate::escape::push_escaped;
+use ini_text::{Error, EscapePolicy, ParseOption, front_before, is_plain_pair, split_first};
+use std::alloc::Global;
 
 /// The white space around a key in its source.
 #[derive(Debug, Clone, Copy)]
@@ -83,4 +88,24 @@ fn begins_with_space(key: &str) -> bool
         Some((c, _)) => c == ' ',
         None => false,
     }
+}
+
+/// Appends a key between the white space that stands around another one in its source.
+pub(crate) fn push_key(
+    alloc: Global,
+    out: &mut String,
+    source: &str,
+    key: &str,
+    policy: EscapePolicy,
+    read: ParseOption,
+) -> Result<(), Error>
+    ensures only { IsOkUnless result (Memory alloc_error) }
+    ensures put { OnOk result (PutsKey read policy (chars source.now) (chars key.now) (string_text out.old)
+        (string_text out.new)) }
+{
+    let edges = key_edges(source, read);
+    push_text(out, edges.indent)?;
+    push_escaped(alloc, out, key, policy)?;
+    push_text(out, edges.pad)?;
+    Ok(())
 }

@@ -3,10 +3,7 @@
 //! or as a list of edits.
 #![tactic(auto)]
 
-mod addition;
 mod append;
-mod cut;
-mod deletion;
 mod edit_list;
 mod edits;
 mod error;
@@ -15,34 +12,22 @@ mod find;
 mod glue;
 mod key;
 pub mod laws;
-mod line;
 mod line_end;
-mod new_section;
-mod place;
 mod quote;
-mod rename;
-mod section;
-mod section_deletion;
-mod section_renaming;
-mod setting;
 mod source;
 mod text;
 mod walk;
+mod whole_text;
 mod writable;
 
-pub use addition::add;
-pub use deletion::delete;
 pub use edit_list::{EditedText, RefusedEdit, make_edits};
 pub use edits::{Edit, make_edit};
 pub use error::EditError;
 pub use find::{FoundPair, find_pair};
-pub use rename::rename_key;
-pub use section_deletion::delete_section;
-pub use section_renaming::rename_section;
-pub use setting::{set, set_existing};
 pub use source::Source;
 pub use source::elements::{Position, SourceContent, SourceElement, SourceElements};
 pub use source::pair::SourcePair;
 pub use source::section::SourceSection;
 pub use source::set::LaterPairs;
+pub use whole_text::{add, delete, delete_section, rename_key, rename_section, set, set_existing};
 pub use writable::is_writable_value;

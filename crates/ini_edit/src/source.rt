@@ -14,6 +14,7 @@ ghost use Rattle.ini_text.specs.Parsing.Items.{string_text};
 ghost use Rattle.ini_edit.specs.Edited.{IsValueOrMemory};
 ghost use Rattle.ini_edit.specs.Inside.SourceSteps.{IsFirstAt};
 ghost use Rattle.ini_edit.specs.SourceEdits.{SetsValueIn, first_fitting};
+ghost use Rattle.ini_edit.specs.SourceReads.{AreRead};
 ghost use Rattle.ini_edit.specs.Sources.{document_in, given_pairs, sections_text, text_in};
 ghost use Rattle.ini_edit.specs.Writable.{IsWritableValue};
 ghost use Rattle.ini_edit.specs.declared.error.EditError.TheVariants as EditErrors;
@@ -31,7 +32,7 @@ use std::alloc::{AllocError, Global};
 use std::io::Write;
 use std::marker::Model;
 
-mod add;
+pub(crate) mod add;
 mod comments;
 mod delete;
 pub(crate) mod elements;
@@ -46,7 +47,7 @@ pub(crate) mod section;
 mod sections;
 mod sending;
 pub(crate) mod set;
-mod written;
+pub(crate) mod written;
 
 /// A text that was read once, in pieces: sections in order, of which the first is the general one, each with
 /// its pairs. Every byte is kept: comments, blank lines, white space, quotes.
@@ -76,7 +77,9 @@ impl<'a> Source<'a> {
     pub fn read(alloc: Global, text: &'a str, option: ParseOption) -> Result<Source<'a>, Error>
         ensures option { IfOk result (λ source. source.option ≡ option) }
         ensures text { IfOk result (λ source. text_in source ≡ chars text.now) }
-        ensures document { IfOk result (λ source. IsDocumentOf option (chars text.now) (document_in source)) }
+        ensures document { IfOk result (λ source. IsDocumentOf option (chars text.now)
+            (document_in source)) }
+        ensures placed { IfOk result (λ source. AreRead option source.sections) }
         ensures fault { IfParse result (IsStopOf option (chars text.now)) }
         ensures only { IfErr result IsParseOrMemory }
     {
@@ -120,7 +123,8 @@ impl<'a> Source<'a> {
 
     /// The first section of a name. No name is the general section's.
     pub fn section(&self, name: Option<&str>) -> Option<&SourceSection<'a>>
-        ensures { option_map given_pairs result ≡ first_section (str_name name.entry) (document_in self.now) }
+        ensures { option_map given_pairs result ≡ first_section (str_name name.entry)
+            (document_in self.now) }
     {
         match position(&self.sections, name) {
             Some(index) => Some(&self.sections[index]),
@@ -142,8 +146,8 @@ impl<'a> Source<'a> {
     /// Sets the value of the first pair of a key in the first section of a name, where there is one: whether
     /// there is. Later pairs of the key stay.
     ///
-    /// A value that is there already stays as it is written. Another one is written as the policy says: where
-    /// quotes are read, and the old value stands in one pair of quotes, in the same, unless it has the
+    /// A value that is there already stays as it is written. Another one is written as the policy says:
+    /// where quotes are read, and the old value stands in one pair of quotes, in the same, unless it has the
     /// quote's mark. White space around the value stays, and so does every other byte.
     ///
     /// # Errors

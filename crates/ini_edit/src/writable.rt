@@ -1,14 +1,14 @@
-//! Which values and pairs an edit writes. This file knows kinds of characters and a text's end, and no
+//! Which values an edit writes. This file knows kinds of characters and a text's end, and no
 //! element.
 ghost use Rattle.std.specs.Prelude.{◌≡◌, ◌↔◌, IsTrue, chars, not};
 ghost use Rattle.ini_text.specs.Grammar.CharacterKinds.{is_quote_mark};
 ghost use Rattle.ini_text.specs.Inside.PlainTests.{begins, escapes_nothing, is_trimmed};
 ghost use Rattle.ini_edit.specs.Endings.{ending};
 ghost use Rattle.ini_edit.specs.Inside.RawTests.{is_closed, is_one_line, is_raw_value};
-ghost use Rattle.ini_edit.specs.Writable.{IsWritablePair, IsWritableValue};
+ghost use Rattle.ini_edit.specs.Writable.{IsWritableValue};
 
 use crate::glue::{TextEnd, text_end};
-use ini_text::{EscapePolicy, ParseOption, is_plain_pair, is_plain_value, split_first};
+use ini_text::{EscapePolicy, ParseOption, is_plain_value, split_first};
 
 /// Whether a value can be written so that it is read back: it is plain; or escapes are neither read nor
 /// written, and it is trimmed, without a quote's mark at its front where quotes are read, without LF and CR,
@@ -17,19 +17,6 @@ pub fn is_writable_value(value: &str, policy: EscapePolicy, read: ParseOption) -
     ensures { IsTrue result ↔ IsWritableValue read policy (chars value.now) }
 {
     is_plain_value(value, policy, read) || is_raw_value(value, policy, read)
-}
-
-/// Whether a pair can be written in a line of its own so that it is read back: the key is plain, and the
-/// value writable.
-pub(crate) fn is_writable_pair(
-    key: &str,
-    value: &str,
-    policy: EscapePolicy,
-    read: ParseOption,
-) -> bool
-    ensures { IsTrue result ↔ IsWritablePair read policy (chars key.now) (chars value.now) }
-{
-    is_plain_pair(key, "", policy, read) && is_writable_value(value, policy, read)
 }
 
 fn is_raw_value(value: &str, policy: EscapePolicy, read: ParseOption) -> bool

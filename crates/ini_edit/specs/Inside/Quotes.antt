@@ -4,10 +4,7 @@ use Rattle.std.specs.Prelude.{Option, Some, None}
 use Rattle.ini_text.specs.Grammar.CharacterKinds.{backslash, is_quote_mark}
 use Rattle.ini_text.specs.Grammar.Places.{OwnLines}
 use Rattle.ini_text.specs.declared.option.ParseOption.{ParseOption}
-use Rattle.ini_text.specs.declared.write.policy.EscapePolicy.{EscapePolicy}
 use Rattle.ini.specs.Texts.{Text}
-use Rattle.ini_edit.specs.Places.{Stretches, pair_with}
-use Rattle.ini_edit.specs.Quotes.{IsPut}
 
 -- a raw value: with white space after it, it is the lines of a value
 pub record IsOwnSource (o : ParseOption) (raw_value : Text) : Type 0 where
@@ -27,18 +24,3 @@ pub record IsBetweenQuoteMarks (text : Text) (m : ℕ) : Type 0 where
   pub following : Text
   pub whole : text ≡ m ∷ following
   pub ends : after_quote_mark m false following ≡ Some []
-
--- The text `old` goes on with what stands in the place of a value's source.
-pub record PutsSource (o : ParseOption) (policy : EscapePolicy) (raw_value before value old new : Text)
-    : Type 0 where
-  pub source : Text
-  pub is_put : IsPut o policy raw_value before value source
-  pub is_new : new ≡ old ++ source
-
--- The text `old` goes on with what stands before a pair, and with the pair, whose value was `before`: there
--- the value is in its place.
-pub record PutsValue (o : ParseOption) (policy : EscapePolicy) (p : Stretches) (before value old new : Text)
-    : Type 0 where
-  pub source : Text
-  pub is_put : IsPut o policy p.raw_value before value source
-  pub is_new : new ≡ old ++ (p.front ++ pair_with p source)

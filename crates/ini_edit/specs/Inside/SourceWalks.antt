@@ -7,8 +7,9 @@ use Rattle.ini_text.specs.Parsing.Places.{StandsBetween, gives}
 use Rattle.ini_text.specs.declared.option.ParseOption.{ParseOption}
 use Rattle.ini_text.specs.declared.parser.placed.PlacedElement.{PlacedElement}
 use Rattle.ini.specs.Texts.{Text}
-use Rattle.ini_edit.specs.Inside.Spans.{AreSpans, Span, span_source}
+use Rattle.ini_edit.specs.Inside.Spans.{Span, span_source}
 use Rattle.ini_edit.specs.Inside.Walks.{IsReading}
+use Rattle.ini_edit.specs.SourceReads.{ArePlacedSpans}
 use Rattle.ini_edit.specs.Sources.{joined}
 use Rattle.ini_edit.specs.declared.source.gap.Reached.{Reached}
 
@@ -30,5 +31,5 @@ module _ (o : ParseOption) (T : Text) where
     pub is_reading : IsReading o T p
     pub rest : Text
     pub whole : T ≡ joined span_source spans ++ rest
-    pub are : AreSpans o line_feed spans rest
+    pub are : ArePlacedSpans o line_feed spans rest
     pub past : IsPastItem (joined span_source spans) p item

@@ -1,8 +1,6 @@
 -- Walks over the elements of a text: from a front b of the text T to where a parser stands then.
-use Rattle.std.specs.Prelude.{◌≡◌, ◌∷◌, ◌++◌, [], Bool, false, List, Option, None, Some, chars}
-use Rattle.ini_text.specs.Grammar.CharacterKinds.{is_comment_mark}
-use Rattle.ini_text.specs.Grammar.Elements.{Given, Header, Pair, Element}
-use Rattle.ini_text.specs.Inside.PlainTests.{begins}
+use Rattle.std.specs.Prelude.{◌≡◌, ◌∷◌, [], false, List, Option, None, Some, chars}
+use Rattle.ini_text.specs.Grammar.Elements.{Given, Header, Pair}
 use Rattle.ini_text.specs.Grammar.Texts.{Reads}
 use Rattle.ini_text.specs.Grammar.Places.{ArePlaced}
 use Rattle.ini_text.specs.Parsing.Items.{cow_text}
@@ -14,8 +12,6 @@ use Rattle.ini.specs.Texts.{Text, is_name}
 use Rattle.ini.specs.Documents.{Document}
 use Rattle.ini.specs.Properties.{Pairs}
 use Rattle.ini.specs.SectionItems.{pair_items}
-use Rattle.ini_edit.specs.Endings.{IsIndentedKey}
-use Rattle.ini_edit.specs.NoPlaces.{SectionOpens}
 use Rattle.ini_edit.specs.Places.{up_to_end, text_with}
 use Rattle.ini_edit.specs.Targets.{Lacks, OpensSection}
 use Rattle.ini_edit.specs.FirstPairs.{source_of, stretches_of}
@@ -31,14 +27,6 @@ pub record StandsWithin (p : Place) : Type 0 where
 pub data EndsSection (o : ParseOption) (T c : Text) : Text → Type 0 where
   end : c ≡ T → EndsSection o T c c
   header : {d : Text} (name : Text) → Reads o T c (Header name ∷ []) d → EndsSection o T c d
-
--- The front is b, or at it an element ends, a comment or another one, after items from b on; if the element
--- gives nothing it isn't an indented key, which the text's end cuts short.
-pub data Boundary (o : ParseOption) (T b : Text) : (comment : Bool) → Text → List Given → Type 0 where
-  start : Boundary o T b false b []
-  following : {a s r : Text} {items gives : List Given} → Reads o T b items a → T ≡ a ++ (s ++ r)
-      → Element o a s r gives → (gives ≡ [] → ¬ IsIndentedKey s)
-      → Boundary o T b (begins is_comment_mark s) (a ++ s) (items ++ gives)
 
 -- items of which none opens a section of the name
 pub data OpensNone (name : Option Text) : List Given → Type 0 where
@@ -70,9 +58,7 @@ module _ (o : ParseOption) (T : Text) where
     pub items : List Given
     pub sections : Document
     pub opens : OpensSection name items sections
-    pub is_open : SectionOpens o T name sections q.front
     pub reads : Reads o T [] items q.front
-    pub boundary : Boundary o T [] false q.front items
 
   -- between the fronts b and c stand pairs without the key
   pub record PassesPairs (b c key : Text) : Type 0 where

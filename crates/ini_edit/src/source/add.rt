@@ -16,12 +16,12 @@ use ini_text::{ParseOption, WriteOption, is_plain_pair, is_plain_separator};
 use std::alloc::Global;
 
 impl<'a> Source<'a> {
-    /// Adds a pair to the first section of a name, whatever pairs of the key are there; where there is no such
-    /// section, in a new one, as `add_section` makes one. No name is the general section's.
+    /// Adds a pair to the first section of a name, whatever pairs of the key are there; where there is no
+    /// such section, in a new one, as `add_section` makes one. No name is the general section's.
     ///
-    /// The pair stands in a line of its own, directly after the section's last pair. In a section without pairs
-    /// that is after the header and the comments directly below it. In the general one it is after the comments
-    /// at the text's front where an empty line ends these, else at the front.
+    /// The pair stands in a line of its own, directly after the section's last pair. In a section without
+    /// pairs that is after the header and the comments directly below it. In the general one it is after the
+    /// comments at the text's front where an empty line ends these, else at the front.
     ///
     /// The pair is indented, and its separator has the blanks, as those of the last pair before it in the
     /// section that begins a line, else of the text's last one; else the options say. Its value is written
@@ -224,4 +224,20 @@ fn checked_pair(
         return Err(EditError::Key);
     }
     Ok(raw_value)
+}
+
+/// Whether a new pair can be written.
+pub(crate) fn check_pair(
+    alloc: Global,
+    key: &str,
+    value: &str,
+    read: ParseOption,
+    write: &WriteOption,
+) -> Result<(), EditError>
+    ensures writable { OnOk result (IsWritableNew read write.now (chars key.now) (chars value.now)) }
+    ensures refused { IfErr result (RefusesNew read write.now (chars key.now) (chars value.now)) }
+{
+    let raw_value = checked_pair(alloc, key, value, read, write)?;
+    drop(raw_value);
+    Ok(())
 }

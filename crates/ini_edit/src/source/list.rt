@@ -4,8 +4,9 @@ ghost use Rattle.std.specs.Prelude.{map};
 ghost use Rattle.ini.specs.Texts.{str_name, str_text};
 ghost use Rattle.ini_edit.specs.Editings.{editing_of};
 ghost use Rattle.ini_edit.specs.SourceEditsAdded.{AreAllSet, IsPut, RefusesOneValue, RefusesToPut};
-ghost use Rattle.ini_edit.specs.SourceEditsList.{AreMadeOf, MakesNext, MakesOf, RefusesFirstOf, RefusesOf};
-ghost use Rattle.ini_edit.specs.SourceEditsList.{RefusesOneOfThem};
+ghost use Rattle.ini_edit.specs.SourceEditsList.{AreMadeOf, MakesDocument, MakesNext, MakesOf};
+ghost use Rattle.ini_edit.specs.SourceEditsList.{RefusesFirstOf, RefusesOf, RefusesOneOfThem};
+ghost use Rattle.ini_edit.specs.declared.source.set.LaterPairs.TheVariants as later_pairs;
 
 use crate::edit_list::RefusedEdit;
 use crate::edits::Edit;
@@ -212,6 +213,9 @@ impl<'a> Source<'a> {
         edit: Edit<'_>,
     ) -> Result<bool, EditError>
         ensures made { IfOk result (MakesOf write.now later (editing_of edit.entry) self.old self.new) }
+        ensures option { OnOk result (self.new.option ≡ self.old.option) }
+        ensures document { later ≡ later_pairs.TakenOut
+            → IfOk result (MakesDocument (editing_of edit.entry) self.old self.new) }
         ensures unchanged { OnErr result (self.new ≡ self.old) }
         ensures refused { IfErr result (RefusesOf write.now later (editing_of edit.entry) self.old) }
     {

@@ -10,8 +10,8 @@ ghost use Rattle.ini_edit.specs.Sources.{pair_text, placed_piece};
 
 use crate::append::{push, push_text};
 use crate::escape::push_in_quote;
+use crate::key::push_key;
 use crate::quote::kept_quote;
-use crate::rename::push_key;
 use crate::source::sending::{put_before, put_both};
 use ini_text::{Error, EscapePolicy, Gatherer, ParseOption, PlacedPair, Watched, is_same_text};
 use std::alloc::Global;

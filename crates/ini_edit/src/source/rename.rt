@@ -23,8 +23,8 @@ impl<'a> Source<'a> {
     /// # Errors
     ///
     /// `Key` where the new key can't be written in any pair's place so that it is read back: it isn't plain
-    /// (`is_plain_pair`), or a space begins it; whatever the text is. `Text` where memory is refused. Nothing
-    /// is changed then.
+    /// (`is_plain_pair`), or a space begins it; whatever the text is. `Text` where memory is refused.
+    /// Nothing is changed then.
     pub fn rename_key(
         &mut self,
         alloc: Global,

@@ -1,6 +1,6 @@
 //! Values set in a text in pieces. This file knows sections by their calls, and how values are written.
-ghost use Rattle.std.specs.Prelude.{◌≡◌, ◌<◌, Err, IfErr, IfOk, IsOkUnless, OnErr, OnOk, alloc_error};
-ghost use Rattle.std.specs.Prelude.{chars, length};
+ghost use Rattle.std.specs.Prelude.{◌≡◌, ◌<◌, Err, IfErr, IfOk, IsOkUnless, Ok, OnErr, OnOk, alloc_error};
+ghost use Rattle.std.specs.Prelude.{chars, length, true};
 ghost use Rattle.std.specs.Option.{option_map};
 ghost use Rattle.ini_text.specs.Parsing.Items.{string_text};
 ghost use Rattle.ini_text.specs.declared.error.Error.TheVariants.{Memory};
@@ -61,6 +61,8 @@ impl<'a> Source<'a> {
             (str_name name.entry)
             (chars key.now) (chars value.now)) }
         ensures unchanged { OnErr result (self.new ≡ self.old) }
+        ensures document { later ≡ later_pairs.TakenOut → result ≡ Ok true → document_in self.new
+            ≡ set_in (str_name name.entry) (chars key.now) (chars value.now) (document_in self.old) }
         ensures value { result ≡ Err EditErrors.Value → ¬ HasForm self.old.option policy (chars value.now) }
         ensures writable { OnOk result (HasForm self.old.option policy (chars value.now)) }
         ensures only { IfErr result IsValueOrMemory }

@@ -2,7 +2,7 @@ use Rattle.std.proofs.Common.{◌∙◌, ap, chars, subst, sym}
 use Rattle.std.proofs.lemmas.Bool.{both_ways}
 use Rattle.ini.proofs.WritingLemmas.{chars-line_end}
 use Rattle.ini_edit.specs.NewSections.{EmptyLine}
-use Rattle.ini_edit.proofs.GlueTextLemmas.{chars-none}
+use Rattle.ini_edit.proofs.CharsLemmas.{chars-none}
 use Rattle.ini_edit.proofs.line_end.empty_line.Goals as goal
 
 pub returns-then-ends_empty : goal.returns-then-ends_empty

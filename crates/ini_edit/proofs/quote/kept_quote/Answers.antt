@@ -1,7 +1,7 @@
 use Rattle.std.proofs.Common.{subst, sym, ◌∙◌}
 use Rattle.std.proofs.lemmas.Bool.{not-false, not-true}
 use Rattle.ini_edit.specs.Quotes.{KeepsQuote}
-use Rattle.ini_edit.proofs.GlueTextLemmas.{chars-none}
+use Rattle.ini_edit.proofs.CharsLemmas.{chars-none}
 use Rattle.ini_edit.proofs.QuoteLemmas.{bare_none, mark_kept, mark_none, off_none}
 use Rattle.ini_edit.proofs.quote.kept_quote.Goals as goal
 

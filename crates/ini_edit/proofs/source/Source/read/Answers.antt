@@ -2,10 +2,11 @@ use Rattle.std.proofs.Common.{◌∙◌, ◌++◌, ◌∷◌, [], ap, chars, map
 use Rattle.ini_text.specs.Parsing.Places.{gives}
 use Rattle.ini.specs.Loading.{IsDocumentOf}
 use Rattle.ini_edit.specs.Inside.Spans.{AreSections}
+use Rattle.ini_edit.specs.SourceReads.{AreRead}
 use Rattle.ini_edit.specs.Sources.{given_section, sections_text}
-use Rattle.ini_edit.proofs.SourceReadLemmas.{front_within, reached, read_sections, read_text, reads_within}
-use Rattle.ini_edit.proofs.SourceReadLemmas.{sections_header, sections_pair, sections_some, sections_start}
-use Rattle.ini_edit.proofs.SourceReadLemmas.{with_pair}
+use Rattle.ini_edit.proofs.SourceReadLemmas.{front_within, reached, read_placed, read_sections, read_text}
+use Rattle.ini_edit.proofs.SourceReadLemmas.{reads_within, sections_header, sections_pair, sections_some}
+use Rattle.ini_edit.proofs.SourceReadLemmas.{sections_start, with_pair}
 use Rattle.ini_edit.proofs.SpanLemmas.{sections_load}
 use Rattle.ini_edit.proofs.source.Source.read.Goals.{in-Header+in_ok-push_section-in-Header, in-Nothing}
 use Rattle.ini_edit.proofs.source.Source.read.Goals.{in-Pair+in_ok-push-in-Pair}
@@ -77,6 +78,11 @@ returns-clause-document c =
     (sym c.in_ok-push_section.ensures.pushed)
     (subst (λ t. IsDocumentOf o t (map given_section ss)) (read_text c.in_default.is at)
     (sections_load ss (read_sections c.in_default.is at)))
+
+pub returns-clause-placed : goal.returns-clause-placed
+returns-clause-placed c =
+    subst (AreRead c.args.option) (sym c.in_ok-push_section.ensures.pushed)
+    (read_placed c.in_default.is c.items.invariant)
 
 pub invariant_of-result : goal.invariant_of-result
 invariant_of-result c =

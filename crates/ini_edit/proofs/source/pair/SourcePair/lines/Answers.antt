@@ -5,7 +5,7 @@ use Rattle.ini_text.specs.Parsing.Items.{string_text}
 use Rattle.ini_edit.specs.SourceEditsComments.{pair_line}
 use Rattle.ini_edit.specs.SourceEditsDelete.{line_end_after, own_lines}
 use Rattle.ini_edit.proofs.CommentPartLemmas.{line_end_rest}
-use Rattle.ini_edit.proofs.GlueTextLemmas.{chars-none}
+use Rattle.ini_edit.proofs.CharsLemmas.{chars-none}
 use Rattle.ini_edit.proofs.source.pair.SourcePair.lines.Goals as goal
 use Rattle.ini_edit.proofs.source.pair.SourcePair.lines.Goals.{then-read+in_ok-push_text, else-read}
 

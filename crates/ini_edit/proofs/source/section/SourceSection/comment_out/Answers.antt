@@ -9,7 +9,7 @@ use Rattle.ini_edit.specs.SourceEditsDelete.{line_end_after, rest_put}
 use Rattle.ini_edit.specs.SourcePlaces.{last_before_pair, text_up_to}
 use Rattle.ini_edit.specs.Sources.{SectionPiece}
 use Rattle.ini_edit.proofs.CommentPartLemmas.{chars-return, end_put_out, not_out, out_is}
-use Rattle.ini_edit.proofs.GlueTextLemmas.{chars-none}
+use Rattle.ini_edit.proofs.CharsLemmas.{chars-none}
 use Rattle.ini_edit.proofs.SourcePlaceLemmas.{place_read, place_take}
 use Rattle.ini_edit.proofs.source.section.SourceSection.comment_out.Goals as goal
 

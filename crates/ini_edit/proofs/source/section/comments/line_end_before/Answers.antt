@@ -4,7 +4,7 @@ use Rattle.ini.proofs.WritingLemmas.{chars-line_end}
 use Rattle.ini_text.specs.Grammar.CharacterKinds.{is_line_feed}
 use Rattle.ini_text.specs.Options.WriteOptions.{line_end}
 use Rattle.ini_edit.specs.SourceLines.{is_empty}
-use Rattle.ini_edit.proofs.GlueTextLemmas.{chars-none}
+use Rattle.ini_edit.proofs.CharsLemmas.{chars-none}
 use Rattle.ini_edit.proofs.source.section.comments.line_end_before.Goals as goal
 
 pub returns-then-is_empty : goal.returns-then-is_empty

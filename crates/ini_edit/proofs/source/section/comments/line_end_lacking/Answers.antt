@@ -4,7 +4,7 @@ use Rattle.ini_text.specs.Grammar.CharacterKinds.{line_feed}
 use Rattle.ini_text.specs.Grammar.Positions.{last_or}
 use Rattle.ini_text.specs.Options.WriteOptions.{line_end}
 use Rattle.ini_edit.proofs.CommentPartLemmas.{none_lacking, one_lacking}
-use Rattle.ini_edit.proofs.GlueTextLemmas.{chars-none}
+use Rattle.ini_edit.proofs.CharsLemmas.{chars-none}
 use Rattle.ini_edit.proofs.source.section.comments.line_end_lacking.Goals as goal
 
 pub returns-then-last_or-eq10 : goal.returns-then-last_or-eq10
