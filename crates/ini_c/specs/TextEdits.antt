@@ -1,17 +1,15 @@
 -- What an edit of a text gives, as C gets it.
 use Rattle.std.specs.Prelude.{◌≡◌, ℕ, List, Option, length, chars, ⊤}
 use Rattle.std.specs.Str.{IsUtf8}
-use Rattle.ini.specs.Edits.{add_in, set_in}
 use Rattle.ini.specs.Texts.{Text}
 use Rattle.ini_text.specs.declared.error.Error.TheVariants.{Parse}
 use Rattle.ini_text.specs.declared.error.ParseError.{ParseError}
 use Rattle.ini_text.specs.declared.option.ParseOption.{ParseOption}
 use Rattle.ini_text.specs.declared.write.option.WriteOption.{WriteOption}
 use Rattle.ini_text.specs.declared.write.policy.EscapePolicy.{EscapePolicy}
-use Rattle.ini_edit.specs.Added.{IsAdded, LoadsEdited, RefusesToAdd}
-use Rattle.ini_edit.specs.NewLines.{like_lines_of}
-use Rattle.ini_edit.specs.Settings.{IsSet, RefusesToSet}
-use Rattle.ini_edit.specs.Writable.{IsWritablePair, IsWritableValue}
+use Rattle.ini_edit.specs.Made.{IsWritableLine}
+use Rattle.ini_edit.specs.SourceWritten.{HasForm}
+use Rattle.ini_edit.specs.WholeTexts.{IsAddedText, IsSetText, RefusesToAddTo, RefusesToSetOf}
 use Rattle.ini_edit.specs.declared.error.EditError.{EditError}
 use Rattle.ini_edit.specs.declared.error.EditError.TheVariants.{Text as TextError}
 use Rattle.ini_c.specs.Choices.{IsWriteOption}
@@ -26,8 +24,8 @@ AreEdit text section key = IsUtf8 text × AreTexts section key
 
 -- a line of the key and the value can't be written, and not for the value
 pub record HasUnwritableKey (o : ParseOption) (policy : EscapePolicy) (key value : Text) : Type 0 where
-  pub writable_value : IsWritableValue o policy value
-  pub no_pair : ¬ IsWritablePair o policy key value
+  pub has_form : HasForm o policy value
+  pub no_line : ¬ IsWritableLine o policy key value
 
 -- a text of which P holds has so many bytes
 pub record IsCountOfText (P : Text → Type 0) (count : ℕ) : Type 0 where
@@ -47,32 +45,30 @@ pub record TellsEditError (refusal : EditError) (f : Fault) : Type 0 where
   pub is : refusal ≡ TextError (Parse stop)
   pub tells : TellsParseError stop f
 
--- The text U is T with the key set, by the option that the choice asks for, and loads so.
+-- the text U is T with the key set, by the option that the choice asks for
 pub record IsSetBy (o : ParseOption) (choice : WriteChoice) (T : Text) (name : Option Text)
     (key value U : Text) : Type 0 where
   pub option : WriteOption
   pub asked : IsWriteOption choice option
-  pub is_set : IsSet o (like_lines_of T option) T key value U name
-  pub loads : LoadsEdited o T U (set_in name key value)
+  pub is_set : IsSetText o option T name key value U
 
 -- setting the key, by the option that the choice asks for, is refused so
 pub record RefusesToSetBy (o : ParseOption) (choice : WriteChoice) (T : Text) (name : Option Text)
     (key value : Text) (e : EditError) : Type 0 where
   pub option : WriteOption
   pub asked : IsWriteOption choice option
-  pub refuses : RefusesToSet o option T name key value e
+  pub refuses : RefusesToSetOf o option T name key value e
 
--- The text U is T to which the pair is added, by the option that the choice asks for, and loads so.
+-- the text U is T to which the pair is added, by the option that the choice asks for
 pub record IsAddedBy (o : ParseOption) (choice : WriteChoice) (T : Text) (name : Option Text)
     (key value U : Text) : Type 0 where
   pub option : WriteOption
   pub asked : IsWriteOption choice option
-  pub is_added : IsAdded o (like_lines_of T option) T key value U name
-  pub loads : LoadsEdited o T U (add_in name key value)
+  pub is_added : IsAddedText o option T name key value U
 
 -- adding the pair, by the option that the choice asks for, is refused so
 pub record RefusesToAddBy (o : ParseOption) (choice : WriteChoice) (T : Text) (name : Option Text)
     (key value : Text) (e : EditError) : Type 0 where
   pub option : WriteOption
   pub asked : IsWriteOption choice option
-  pub refuses : RefusesToAdd o option T name key value e
+  pub refuses : RefusesToAddTo o option T name key value e

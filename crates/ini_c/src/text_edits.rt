@@ -1,18 +1,17 @@
 //! Edits of a text itself, which keep every byte that they aren't about. No document is kept between these
 //! calls: a text comes in as bytes, and the new one goes into the caller's buffer.
-ghost use Rattle.std.specs.Prelude.{◌≡◌, ◌∷◌, [], ◌≤◌, ◌↔◌, Err, IfErr, IfOk, IsTrue, Some, length};
+ghost use Rattle.std.specs.Prelude.{◌≡◌, ◌∷◌, [], ◌≤◌, ◌↔◌, Err, IfErr, IfOk, IsTrue, OnOk, Some, length};
 ghost use Rattle.std.specs.Prelude.{slice_get, take};
 ghost use Rattle.std.specs.Str.{IsUtf8, chars};
-ghost use Rattle.ini.specs.Edits.{add_in, set_in};
 ghost use Rattle.ini.specs.Loading.{IsStopOf, IsTextWith};
 ghost use Rattle.ini.specs.Texts.{str_name, text_of};
 ghost use Rattle.ini_text.specs.Laws.Plain.{IsPlainSeparator};
-ghost use Rattle.ini_edit.specs.Added.{IsAdded, LoadsEdited, RefusesToAdd};
-ghost use Rattle.ini_edit.specs.Edited.{IfEditParse, IsDeleted};
+ghost use Rattle.ini_edit.specs.Edited.{IfEditParse};
 ghost use Rattle.ini_edit.specs.FirstPairs.{LacksPair};
-ghost use Rattle.ini_edit.specs.NewLines.{like_lines_of};
-ghost use Rattle.ini_edit.specs.Settings.{IsSet, RefusesToSet};
-ghost use Rattle.ini_edit.specs.Writable.{IsWritableValue};
+ghost use Rattle.ini_edit.specs.Made.{IsWritableLine};
+ghost use Rattle.ini_edit.specs.SourceWritten.{HasForm};
+ghost use Rattle.ini_edit.specs.WholeTexts.{IsAddedText, IsDeletedText, IsSetText, RefusesToAddTo};
+ghost use Rattle.ini_edit.specs.WholeTexts.{RefusesToSetOf};
 ghost use Rattle.ini_edit.specs.declared.error.EditError.TheVariants.{Key, Name, NoPlace, Value};
 ghost use Rattle.ini_c.specs.Choices.{parse_option, policy_of};
 ghost use Rattle.ini_c.specs.Faults.{IsStopAt};
@@ -41,13 +40,14 @@ fn with_set(
     key: &str,
     value: &str,
 ) -> Result<String, EditError>
-    ensures edited { IfOk result (λ new. IsSet read (like_lines_of (chars text.now) write.now)
-        (chars text.now) (chars key.now) (chars value.now) (text_of new) (str_name name.entry)) }
-    ensures loads { IfOk result (λ new. LoadsEdited read (chars text.now) (text_of new)
-        (set_in (str_name name.entry) (chars key.now) (chars value.now))) }
-    ensures refused { IfErr result (RefusesToSet read write.now (chars text.now) (str_name name.entry)
+    ensures edited { IfOk result (λ new. IsSetText read write.now (chars text.now) (str_name name.entry)
+        (chars key.now) (chars value.now) (text_of new)) }
+    ensures refused { IfErr result (RefusesToSetOf read write.now (chars text.now) (str_name name.entry)
         (chars key.now) (chars value.now)) }
-    ensures value { (result ≡ Err Value) ↔ ¬ IsWritableValue read write.now.escape_policy (chars value.now) }
+    ensures value { result ≡ Err Value → ¬ HasForm read write.now.escape_policy (chars value.now) }
+    ensures writable { OnOk result (HasForm read write.now.escape_policy (chars value.now)) }
+    ensures fault { IfEditParse result
+        (λ e. HasForm read write.now.escape_policy (chars value.now) × IsStopOf read (chars text.now) e) }
 {
     set(alloc, text, read, write, name, key, value)
 }
@@ -84,8 +84,9 @@ pub extern "C" fn bigrosk_ini_edit_set(
         (name_if named section.now) (chars key.now) (chars value.now)) count.new }
     ensures no_room { result ≡ no_room → length out.old ≤ count.new }
     ensures unplain_value { result ≡ unplain_value
-        ↔ ((AreEdit text.now section.now key.now × IsUtf8 value.now)
-        × ¬ IsWritableValue (parse_option read.now) (policy_of write.now.policy) (chars value.now)) }
+        → ¬ HasForm (parse_option read.now) (policy_of write.now.policy) (chars value.now) }
+    ensures writable { IsTrue (is_among result (ok ∷ no_room ∷ broken ∷ []))
+        → HasForm (parse_option read.now) (policy_of write.now.policy) (chars value.now) }
     ensures unplain_key { result ≡ unplain_key → RefusesToSetBy (parse_option read.now) write.now
         (chars text.now) (name_if named section.now) (chars key.now) (chars value.now) Key }
     ensures unplain_name { result ≡ unplain_name → RefusesToSetBy (parse_option read.now) write.now
@@ -122,22 +123,28 @@ fn added(
     value: &str,
 ) -> Result<String, EditError>
     requires { IsPlainSeparator (chars write.now.kv_separator.now) }
-    ensures added { IfOk result (λ new. IsAdded read (like_lines_of (chars text.now) write.now)
-        (chars text.now) (chars key.now) (chars value.now) (text_of new) (str_name name.entry)) }
-    ensures loads { IfOk result (λ new. LoadsEdited read (chars text.now) (text_of new)
-        (add_in (str_name name.entry) (chars key.now) (chars value.now))) }
-    ensures refused { IfErr result (RefusesToAdd read write.now (chars text.now) (str_name name.entry)
+    ensures added { IfOk result (λ new. IsAddedText read write.now (chars text.now) (str_name name.entry)
+        (chars key.now) (chars value.now) (text_of new)) }
+    ensures refused { IfErr result (RefusesToAddTo read write.now (chars text.now) (str_name name.entry)
         (chars key.now) (chars value.now)) }
-    ensures value { (result ≡ Err Value) ↔ ¬ IsWritableValue read write.now.escape_policy (chars value.now) }
-    ensures key { (result ≡ Err Key)
-        ↔ HasUnwritableKey read write.now.escape_policy (chars key.now) (chars value.now) }
-    ensures fault { IfEditParse result (IsStopOf read (chars text.now)) }
+    ensures value { result ≡ Err Value → ¬ HasForm read write.now.escape_policy (chars value.now) }
+    ensures key { result ≡ Err Key
+        → HasUnwritableKey read write.now.escape_policy (chars key.now) (chars value.now) }
+    ensures writable { OnOk result
+        (IsWritableLine read write.now.escape_policy (chars key.now) (chars value.now)) }
+    ensures name { result ≡ Err Name
+        → IsWritableLine read write.now.escape_policy (chars key.now) (chars value.now) }
+    ensures no_place { result ≡ Err NoPlace
+        → IsWritableLine read write.now.escape_policy (chars key.now) (chars value.now) }
+    ensures fault { IfEditParse result
+        (λ e. IsWritableLine read write.now.escape_policy (chars key.now) (chars value.now)
+        × IsStopOf read (chars text.now) e) }
 {
     add(alloc, text, read, write, name, key, value)
 }
 
-/// Copies the text out with a further pair, whatever pairs of the key are there: in a new line after the
-/// last item of the first section of the name, or, where the text lacks the section, in a new one at its
+/// Copies the text out with a further pair, whatever pairs of the key are there: in a new line directly after
+/// the last pair of the first section of the name, or, where the text lacks the section, in a new one at its
 /// end. Every byte stays.
 ///
 /// `NOT_UTF8`, then `UNPLAIN_VALUE` or `UNPLAIN_KEY`, in this order, where that, written, isn't read back,
@@ -167,11 +174,12 @@ pub extern "C" fn bigrosk_ini_edit_add(
         (name_if named section.now) (chars key.now) (chars value.now)) count.new }
     ensures no_room { result ≡ no_room → length out.old ≤ count.new }
     ensures unplain_value { result ≡ unplain_value
-        ↔ ((AreEdit text.now section.now key.now × IsUtf8 value.now)
-        × ¬ IsWritableValue (parse_option read.now) (policy_of write.now.policy) (chars value.now)) }
-    ensures unplain_key { result ≡ unplain_key ↔ ((AreEdit text.now section.now key.now × IsUtf8 value.now)
-        × HasUnwritableKey (parse_option read.now) (policy_of write.now.policy) (chars key.now)
-        (chars value.now)) }
+        → ¬ HasForm (parse_option read.now) (policy_of write.now.policy) (chars value.now) }
+    ensures unplain_key { result ≡ unplain_key → HasUnwritableKey (parse_option read.now)
+        (policy_of write.now.policy) (chars key.now) (chars value.now) }
+    ensures writable { IsTrue (is_among result (ok ∷ no_room ∷ broken ∷ unplain_name ∷ no_place ∷ []))
+        → IsWritableLine (parse_option read.now) (policy_of write.now.policy) (chars key.now)
+        (chars value.now) }
     ensures unplain_name { result ≡ unplain_name → RefusesToAddBy (parse_option read.now) write.now
         (chars text.now) (name_if named section.now) (chars key.now) (chars value.now) Name }
     ensures no_place { result ≡ no_place → RefusesToAddBy (parse_option read.now) write.now
@@ -212,10 +220,10 @@ pub extern "C" fn bigrosk_ini_edit_delete(
     fault: &mut Fault,
 ) -> u32
     ensures not_utf8 { result ≡ not_utf8 ↔ ¬ (AreEdit text.now section.now key.now) }
-    ensures edited { result ≡ ok → IsTextWith (IsDeleted (parse_option read.now) (chars text.now)
+    ensures edited { result ≡ ok → IsTextWith (IsDeletedText (parse_option read.now) (chars text.now)
         (name_if named section.now) (chars key.now)) (take count.new out.new) }
     ensures zero { result ≡ ok → slice_get out.new count.new ≡ Some 0 }
-    ensures count { result ≡ no_room → IsCountOfText (IsDeleted (parse_option read.now) (chars text.now)
+    ensures count { result ≡ no_room → IsCountOfText (IsDeletedText (parse_option read.now) (chars text.now)
         (name_if named section.now) (chars key.now)) count.new }
     ensures no_room { result ≡ no_room → length out.old ≤ count.new }
     ensures absent { result ≡ absent → LacksPair (parse_option read.now) (chars text.now)

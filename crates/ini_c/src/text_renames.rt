@@ -4,8 +4,8 @@ ghost use Rattle.std.specs.Str.{IsUtf8, chars};
 ghost use Rattle.ini.specs.Loading.{IsTextWith};
 ghost use Rattle.ini_text.specs.Laws.Plain.{IsPlainName};
 ghost use Rattle.ini_edit.specs.FirstPairs.{LacksPair, LacksSection};
-ghost use Rattle.ini_edit.specs.Renamed.{IsPlainBareKey, IsRenamed};
-ghost use Rattle.ini_edit.specs.Sections.{IsSectionRenamed};
+ghost use Rattle.ini_edit.specs.Renamed.{IsPlainBareKey};
+ghost use Rattle.ini_edit.specs.WholeTexts.{IsKeyRenamedText, IsNameRenamedText};
 ghost use Rattle.ini_c.specs.Choices.{parse_option, policy_of};
 ghost use Rattle.ini_c.specs.Faults.{IsStopAt};
 ghost use Rattle.ini_c.specs.LookUps.{name_if};
@@ -44,11 +44,11 @@ pub extern "C" fn bigrosk_ini_edit_rename_key(
     ensures unplain_key { result ≡ unplain_key ↔ ((AreEdit text.now section.now key.now × IsUtf8 new_key.now)
         × ¬ IsPlainBareKey (parse_option read.now) (policy_of write.now.policy) (chars new_key.now)) }
     ensures edited { result ≡ ok → IsTextWith
-        (IsRenamed (parse_option read.now) (policy_of write.now.policy) (chars text.now)
+        (IsKeyRenamedText (parse_option read.now) (policy_of write.now.policy) (chars text.now)
         (name_if named section.now) (chars key.now) (chars new_key.now)) (take count.new out.new) }
     ensures zero { result ≡ ok → slice_get out.new count.new ≡ Some 0 }
     ensures count { result ≡ no_room → IsCountOfText
-        (IsRenamed (parse_option read.now) (policy_of write.now.policy) (chars text.now)
+        (IsKeyRenamedText (parse_option read.now) (policy_of write.now.policy) (chars text.now)
         (name_if named section.now) (chars key.now) (chars new_key.now)) count.new }
     ensures no_room { result ≡ no_room → length out.old ≤ count.new }
     ensures absent { result ≡ absent → LacksPair (parse_option read.now) (chars text.now)
@@ -94,11 +94,11 @@ pub extern "C" fn bigrosk_ini_edit_rename_section(
     ensures unplain_name { result ≡ unplain_name ↔ (AreEdit text.now section.now new_name.now
         × ¬ IsPlainName (parse_option read.now) (policy_of write.now.policy) (chars new_name.now)) }
     ensures edited { result ≡ ok → IsTextWith
-        (IsSectionRenamed (parse_option read.now) (policy_of write.now.policy) (chars text.now)
+        (IsNameRenamedText (parse_option read.now) (policy_of write.now.policy) (chars text.now)
         (chars section.now) (chars new_name.now)) (take count.new out.new) }
     ensures zero { result ≡ ok → slice_get out.new count.new ≡ Some 0 }
     ensures count { result ≡ no_room → IsCountOfText
-        (IsSectionRenamed (parse_option read.now) (policy_of write.now.policy) (chars text.now)
+        (IsNameRenamedText (parse_option read.now) (policy_of write.now.policy) (chars text.now)
         (chars section.now) (chars new_name.now)) count.new }
     ensures no_room { result ≡ no_room → length out.old ≤ count.new }
     ensures absent { result ≡ absent → LacksSection (parse_option read.now) (chars text.now)

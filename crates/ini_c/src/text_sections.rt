@@ -3,7 +3,7 @@ ghost use Rattle.std.specs.Prelude.{◌≡◌, ◌∷◌, [], ◌≤◌, ◌↔�
 ghost use Rattle.std.specs.Str.{chars};
 ghost use Rattle.ini.specs.Loading.{IsTextWith};
 ghost use Rattle.ini_edit.specs.FirstPairs.{LacksSection};
-ghost use Rattle.ini_edit.specs.Sections.{IsSectionOut};
+ghost use Rattle.ini_edit.specs.WholeTexts.{IsSectionDeletedText};
 ghost use Rattle.ini_c.specs.Choices.{parse_option};
 ghost use Rattle.ini_c.specs.Faults.{IsStopAt};
 ghost use Rattle.ini_c.specs.LookUps.{AreTexts};
@@ -18,9 +18,9 @@ use crate::{ABSENT, NOT_UTF8};
 use ini_edit::delete_section;
 use std::alloc::Global;
 
-/// Copies the text out without the first section of the name, from its header's bracket up to the next
-/// header or the text's end, but for comments after its last pair, which stay. Every other byte stays.
-/// `ABSENT` where the text has no such section; the general one, which has no name, doesn't go.
+/// Copies the text out without the first section of the name and all that follows it, but for the comments
+/// directly above the next header, and what indents that, which stay. Every other byte stays. `ABSENT` where
+/// the text has no such section; the general one, which has no name, doesn't go.
 ///
 /// `NOT_UTF8`, and then `BROKEN` where reading the text stops. `count` is as with `bigrosk_ini_edit_set`.
 #[unsafe(no_mangle)]
@@ -34,11 +34,11 @@ pub extern "C" fn bigrosk_ini_edit_delete_section(
     fault: &mut Fault,
 ) -> u32
     ensures not_utf8 { result ≡ not_utf8 ↔ ¬ (AreTexts text.now section.now) }
-    ensures edited { result ≡ ok → IsTextWith (IsSectionOut (parse_option read.now) (chars text.now)
+    ensures edited { result ≡ ok → IsTextWith (IsSectionDeletedText (parse_option read.now) (chars text.now)
         (chars section.now)) (take count.new out.new) }
     ensures zero { result ≡ ok → slice_get out.new count.new ≡ Some 0 }
-    ensures count { result ≡ no_room → IsCountOfText (IsSectionOut (parse_option read.now) (chars text.now)
-        (chars section.now)) count.new }
+    ensures count { result ≡ no_room → IsCountOfText (IsSectionDeletedText (parse_option read.now)
+        (chars text.now) (chars section.now)) count.new }
     ensures no_room { result ≡ no_room → length out.old ≤ count.new }
     ensures absent { result ≡ absent → LacksSection (parse_option read.now) (chars text.now)
         (Some (chars section.now)) }

@@ -4,7 +4,7 @@ ghost use Rattle.std.specs.Prelude.{IfOk, Some, chars, codes};
 ghost use Rattle.ini_text.specs.Options.ReadOptions.{default_parse_option};
 ghost use Rattle.ini_text.specs.Parsing.Items.{string_text};
 ghost use Rattle.ini.specs.Edits.{set_in};
-ghost use Rattle.ini_edit.specs.Added.{LoadsEdited};
+ghost use Rattle.ini_edit.specs.WholeTexts.{LoadsEdited};
 
 use ini::{ParseOption, WriteOption};
 use ini_edit::{EditError, set};

@@ -6,7 +6,7 @@ use Rattle.ini_text.specs.declared.error.Error.TheVariants.{Memory}
 use Rattle.ini_text.specs.declared.write.option.WriteOption.{WriteOption}
 use Rattle.ini.specs.Texts.{Text}
 use Rattle.ini_edit.specs.Editings.{Editing}
-use Rattle.ini_edit.specs.Made.{IsMade, Refuses}
+use Rattle.ini_edit.specs.WholeTexts.{IsMadeText, RefusesOfText}
 use Rattle.ini_edit.specs.declared.error.EditError.{EditError}
 use Rattle.ini_edit.specs.declared.error.EditError.TheVariants.{Key, Text as TextError}
 use Rattle.ini_options.specs.Words.{Word}
@@ -23,7 +23,7 @@ pub record IsChanged (o : Options) (separator : Option Word) (e : Editing) (byte
   pub new : List ℕ
   pub whole : bytes ≡ byte_order_mark ++ new
   pub is_utf8 : IsUtf8 new
-  pub is_made : IsMade o.reading option e T (chars new)
+  pub is_made : IsMadeText o.reading option e T (chars new)
   -- a file that has no mark gets none, which reading would drop
   pub gets_none : byte_order_mark ≡ [] → has_byte_order_mark new ≡ false
 
@@ -34,7 +34,7 @@ pub record GetsMark (o : Options) (separator : Option Word) (e : Editing) (byte_
   pub is_option : IsWriting o separator option
   pub new : List ℕ
   pub is_utf8 : IsUtf8 new
-  pub is_made : IsMade o.reading option e T (chars new)
+  pub is_made : IsMadeText o.reading option e T (chars new)
   pub has_none : byte_order_mark ≡ []
   pub gets : has_byte_order_mark new ≡ true
 
@@ -43,7 +43,7 @@ pub record IsEditRefused (o : Options) (separator : Option Word) (e : Editing) (
     (refused : EditError) : Type 0 where
   pub option : WriteOption
   pub is_option : IsWriting o separator option
-  pub is_refused : Refuses o.reading option e T refused
+  pub is_refused : RefusesOfText o.reading option e T refused
 
 -- what an edit of the text T after this mark is refused with: memory may be refused to each; and as a key
 -- that isn't read back that the file would get a mark

@@ -11,7 +11,7 @@ use Rattle.ini_text.specs.declared.write.option.WriteOption.{WriteOption}
 use Rattle.ini.specs.Documents.{Document}
 use Rattle.ini.specs.Loading.{IsDocumentOf, IsStopOf, IsTextWith}
 use Rattle.ini.specs.Texts.{Text}
-use Rattle.ini_edit.specs.MadeLists.{AreMade, RefusesOneOf}
+use Rattle.ini_edit.specs.WholeTexts.{MakesText, RefusesText}
 use Rattle.ini_edit.specs.declared.edit_list.RefusedEdit.{RefusedEdit}
 use Rattle.ini_options.specs.Words.{IsWriteOption}
 use Rattle.ini_options.specs.declared.options.Options.{Options}
@@ -68,7 +68,7 @@ pub record IsMerged (o : Options) (documents : List Document) (byte_order_mark :
   pub whole : bytes ≡ byte_order_mark ++ new
   pub is_utf8 : IsUtf8 new
   pub found : List Bool
-  pub are_made : AreMade o.reading option T (flat_map settings_of documents) found (chars new)
+  pub are_made : MakesText o.reading option (flat_map settings_of documents) T found (chars new)
   pub is_read : flat_map settings_of documents ≡ [] → HasDocument o.reading T
   -- a file that has no mark gets none, which reading would drop
   pub gets_none : byte_order_mark ≡ [] → has_byte_order_mark new ≡ false
@@ -81,7 +81,7 @@ pub record GetsMarkMerged (o : Options) (documents : List Document) (byte_order_
   pub new : List ℕ
   pub is_utf8 : IsUtf8 new
   pub found : List Bool
-  pub are_made : AreMade o.reading option T (flat_map settings_of documents) found (chars new)
+  pub are_made : MakesText o.reading option (flat_map settings_of documents) T found (chars new)
   pub has_none : byte_order_mark ≡ []
   pub gets : has_byte_order_mark new ≡ true
 
@@ -90,7 +90,7 @@ pub record RefusesMerge (o : Options) (documents : List Document) (T : Text) (re
     : Type 0 where
   pub option : WriteOption
   pub is_option : IsWriteOption o option
-  pub is_refused : RefusesOneOf o.reading option (flat_map settings_of documents) T refused
+  pub is_refused : RefusesText o.reading option (flat_map settings_of documents) T refused
 
 -- how a merge of documents into a text after a mark ends
 abbrev pub EndsOnText : Options → List Document → List ℕ → Text → MergeEnd → Type 0
