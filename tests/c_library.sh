@@ -125,7 +125,7 @@ sed -n '/^```c$/,/^```$/p' "$top/docs/C.md" | sed '/^```/d' >"$room/page.c"
 run 'compile the program of docs/C.md' gcc $warnings $include -o "$room/page" "$room/page.c" "$room/it/lib/libbigrosk_ini.a"
 cp "$top/examples/settings.ini" "$room/settings.ini"
 run 'the program of docs/C.md' "$room/page" "$room/settings.ini"
-sed -e 's/8080/9090/' -e '$a tmp=/tmp' "$top/examples/settings.ini" >"$room/wanted.ini"
+sed -e 's/8080/9090/' -e '$a tmp = /tmp' "$top/examples/settings.ini" >"$room/wanted.ini"
 run 'what it saved' diff "$room/settings.ini" "$room/wanted.ini"
 
 if has g++ 'the unit of C++'; then

@@ -24,7 +24,8 @@ failed=0
 skipped=0
 # what ends the answer to a mistake in the words; tests/words.sh has the sentences before it
 usage="Try 'ini_file --help'."
-# why a value with white space at an end can't be written
+# a value that can't be written, since white space begins it and it has the marks of both quotes; and why
+unwritable=" \"'"
 edges='
 note: white space begins or ends it'
 source='; a server\nname = one\n[server]\nport = 8080\nhost = a\\tb\nport = 9090\n[client]\n[server]\nlast = 1\n'
@@ -217,9 +218,11 @@ editing() {
         '\357\273\277# by hand\r\n\r\nk\t= a"b  \r\n# old\r\nj=2' set --existing settings.ini k 'a"b'
     refused 'set --existing of a key that is not there' 1 '' set --existing settings.ini other 1
     refused 'set --existing of a value that would not be read back' 2 \
-        "ini_file: settings.ini: this value can't be written so that it is read back$edges" set --existing settings.ini k ' v'
+        "ini_file: settings.ini: this value can't be written so that it is read back$edges" set --existing settings.ini k "$unwritable"
     refused 'such a value for a key that is not there' 2 \
-        "ini_file: settings.ini: this value can't be written so that it is read back$edges" set --existing settings.ini x ' v'
+        "ini_file: settings.ini: this value can't be written so that it is read back$edges" set --existing settings.ini x "$unwritable"
+    edit 'set --existing: white space at an end stands in quotes' \
+        '\357\273\277# by hand\r\n\r\nk\t= " v"  \r\n# old\r\nj=2' set --existing settings.ini k ' v'
     refused 'too few words' 2 "$usage" set --existing settings.ini k
     refused 'too many words' 2 "$usage" delete settings.ini k a b
     printf 'k = 1\n  =v\n' >settings.ini
@@ -245,21 +248,21 @@ adding() {
         set settings.ini port 443 server
     fresh
     edit 'set: a new line after the last pair of the first section of the name' \
-        '; a server\nname = one\n[server]\nport = 8080\nhost = a\\tb\nport = 9090\nlast=2\n[client]\n[server]\nlast = 1\n' \
+        '; a server\nname = one\n[server]\nport = 8080\nhost = a\\tb\nport = 9090\nlast = 2\n[client]\n[server]\nlast = 1\n' \
         set settings.ini last 2 server
     fresh
     edit 'set: a new line in the general section' \
-        '; a server\nname = one\nother=x\n[server]\nport = 8080\nhost = a\\tb\nport = 9090\n[client]\n[server]\nlast = 1\n' \
+        '; a server\nname = one\nother = x\n[server]\nport = 8080\nhost = a\\tb\nport = 9090\n[client]\n[server]\nlast = 1\n' \
         set settings.ini other x
     fresh
-    edit 'set: a new section' "$source\n[new]\nk=v\n" set settings.ini k v new
+    edit 'set: a new section' "$source\n[new]\nk = v\n" set settings.ini k v new
     fresh
     printf '\357\273\277# by hand\r\n[a]\r\nk\t= 1  \r\n# next\r\n[b]\r\n' >settings.ini
     edit 'set: mark, comments and line ends stay' \
-        '\357\273\277# by hand\r\n[a]\r\nk\t= 1  \r\nj=a\\;b\r\n# next\r\n[b]\r\n' \
+        '\357\273\277# by hand\r\n[a]\r\nk\t= 1  \r\nj\t= a\\;b\r\n# next\r\n[b]\r\n' \
         --policy Reserved set settings.ini j 'a;b' a
     refused 'set of a value that would not be read back' 2 \
-        "ini_file: settings.ini: this value can't be written so that it is read back$edges" set settings.ini k ' v'
+        "ini_file: settings.ini: this value can't be written so that it is read back$edges" set settings.ini k "$unwritable"
     refused 'set of a key that would not be read back' 2 \
         "ini_file: settings.ini: this key can't be written so that it is read back
 note: = or : stands in it: use --policy Reserved" set settings.ini a=b v
@@ -272,11 +275,11 @@ note: it has ]: use --brackets" set settings.ini k v 'a]b'
         --multiline set settings.ini k v a
     fresh
     edit 'add: whatever pairs of the key are there' \
-        '; a server\nname = one\n[server]\nport = 8080\nhost = a\\tb\nport = 9090\nport=443\n[client]\n[server]\nlast = 1\n' \
+        '; a server\nname = one\n[server]\nport = 8080\nhost = a\\tb\nport = 9090\nport = 443\n[client]\n[server]\nlast = 1\n' \
         add settings.ini port 443 server
     fresh
     edit 'add: in the general section' \
-        '; a server\nname = one\nname=two\n[server]\nport = 8080\nhost = a\\tb\nport = 9090\n[client]\n[server]\nlast = 1\n' \
+        '; a server\nname = one\nname = two\n[server]\nport = 8080\nhost = a\\tb\nport = 9090\n[client]\n[server]\nlast = 1\n' \
         add settings.ini name two
     refused 'add of a key that would not be read back' 2 \
         "ini_file: settings.ini: this key can't be written so that it is read back
@@ -302,7 +305,7 @@ making() {
     case_of 'set in a folder that is not there' 4 '' 'ini_file: far/new.ini: No such file or directory (os error 2)' \
         set far/new.ini k v
     case_of 'set of a value that would not be read back' 2 '' \
-        "ini_file: settings.ini: this value can't be written so that it is read back$edges" set settings.ini k ' v'
+        "ini_file: settings.ini: this value can't be written so that it is read back$edges" set settings.ini k "$unwritable"
     ls -A >"$room/have"
     : >"$room/want"
     count 'no file is made where a run is refused'
@@ -474,7 +477,7 @@ filtering() {
         case_of "$words: nothing is found, and nothing is written" 1 '' '' $words <filter.ini
     done
     case_of 'set of standard input, with a value that would not be read back' 2 '' \
-        "ini_file: -: this value can't be written so that it is read back$edges" set - k ' v' a <filter.ini
+        "ini_file: -: this value can't be written so that it is read back$edges" set - k "$unwritable" a <filter.ini
     printf '=\n' >refused.ini
     case_of 'delete in standard input, of a refused text' 3 '' '-:1:1: no key stands before this
 =
@@ -616,19 +619,19 @@ choosing() {
 # what stands between key and value of new lines
 separating() {
     fresh
-    edit 'set --separator: a new line' \
-        '; a server\nname = one\nother : x\n[server]\nport = 8080\nhost = a\\tb\nport = 9090\n[client]\n[server]\nlast = 1\n' \
+    edit 'set --separator: a new line looks like the one before it' \
+        '; a server\nname = one\nother = x\n[server]\nport = 8080\nhost = a\\tb\nport = 9090\n[client]\n[server]\nlast = 1\n' \
         set --separator ' : ' settings.ini other x
+    printf '[a]\n' >settings.ini
+    edit 'set --separator: the first line' '[a]\nother : x\n' set --separator ' : ' settings.ini other x a
     fresh
     edit 'set --separator: the line that is there stays' \
         '; a server\nname = two\n[server]\nport = 8080\nhost = a\\tb\nport = 9090\n[client]\n[server]\nlast = 1\n' \
         set --separator ' : ' settings.ini name two
-    fresh
-    edit 'set --separator: a new section' "$source\n[new]\nk\t=v\n" set --separator "$(printf '\t=')" settings.ini k v new
-    fresh
-    edit 'add --separator: the last of two' \
-        '; a server\nname = one\nname: two\n[server]\nport = 8080\nhost = a\\tb\nport = 9090\n[client]\n[server]\nlast = 1\n' \
-        add --separator = --separator ': ' settings.ini name two
+    printf '; c\n' >settings.ini
+    edit 'set --separator: a new section' '; c\n\n[new]\nk\t=v\n' set --separator "$(printf '\t=')" settings.ini k v new
+    printf '[a]\n' >settings.ini
+    edit 'add --separator: the last of two' '[a]\nname: two\n' add --separator = --separator ': ' settings.ini name two a
     fresh
     edit 'format --separator' "$(printf '%s' "$written" | sed 's/=/ = /g')" format --separator ' = ' settings.ini
     fresh
@@ -693,14 +696,14 @@ nulls() {
 # what other files set, set in a file
 merging() {
     fresh
-    new='; a server\nname = two\n[server]\nport = 1\nhost = c\n[client]\n[server]\nlast = 1\n\n[new]\nk=v\n'
+    new='; a server\nname = two\n[server]\nport = 1\nhost = c\n[client]\n[server]\nlast = 1\n\n[new]\nk = v\n'
     printf '# of the users\nname = two\n[server]\nport=1\nport=2\nhost = c\n[server]\nlast = 9\n[new]\nk = v\n' \
         >../other.ini
     edit 'merge: values in their places, a new section; the first values of the first sections' "$new" \
         merge settings.ini ../other.ini
     printf '# of a user\r\n[new]\r\nk = x\r\n' >../first.ini
     printf '[new]\nk = w\n[client]\nid = 7\n' >../later.ini
-    two='; a server\nname = two\n[server]\nport = 1\nhost = c\n[client]\nid=7\n[server]\nlast = 1\n\n[new]\nk='
+    two='; a server\nname = two\n[server]\nport = 1\nhost = c\n[client]\nid = 7\n[server]\nlast = 1\n\n[new]\nk = '
     case_of 'merge of two files: the later one counts' 0 "${two}w\n" '' \
         merge --output - settings.ini ../first.ini ../later.ini
     case_of 'merge of two files, the other way round' 0 "${two}x\n" '' \
@@ -708,7 +711,7 @@ merging() {
     stands 'merge --output: the file stands' "$new"
     printf '\357\273\277[a]\r\n; c\r\nk = 1 \r\nk = 2\r\n' >settings.ini
     printf '\357\273\277[a]\nj = 3\nk = 4\n' >../other.ini
-    edit 'merge: a mark and line ends stay' '\357\273\277[a]\r\n; c\r\nk = 4 \r\nj=3\r\n' \
+    edit 'merge: a mark and line ends stay' '\357\273\277[a]\r\n; c\r\nk = 4 \r\nj = 3\r\n' \
         merge settings.ini ../other.ini
     printf '[a]\nk=1\n' >../one.ini
     rm settings.ini
@@ -738,7 +741,7 @@ unmerged() {
     printf 'k = 1\n' >../plain.ini
     printf 'a = 1\n  =v\n' >../refused.ini
     printf '\377' >../bytes.ini
-    printf "[new]\nk = ' 1'\n" >../unplain.ini
+    printf "[new]\nk = ' \"'\"'\"\n" >../unplain.ini
     refused 'merge of a file that is not there' 4 'ini_file: none.ini: No such file or directory (os error 2)' \
         merge settings.ini ../plain.ini none.ini
     refused 'merge of a refused text' 3 '../refused.ini:2:3: no key stands before this
@@ -903,7 +906,7 @@ previewing() {
         set settings.ini port 443 server
     preview 'set --dry-run: nothing would change' 0 '' set settings.ini name one
     preview 'set --existing --dry-run: of a key that is not there' 1 '' set --existing settings.ini other 1
-    preview 'add --dry-run: a line comes' 0 "$of@@ -6,0 +7,1 @@\n+port=443\n" add settings.ini port 443 server
+    preview 'add --dry-run: a line comes' 0 "$of@@ -6,0 +7,1 @@\n+port = 443\n" add settings.ini port 443 server
     preview 'delete --dry-run: a line goes' 0 "$of@@ -4,1 +3,0 @@\n-port = 8080\n" delete settings.ini port server
     preview 'delete --dry-run: of a key that is not there' 1 '' delete settings.ini other server
     preview 'delete-section --dry-run' 0 \
@@ -933,7 +936,7 @@ previewing() {
     : >settings.ini
     preview 'set --dry-run: an empty file' 0 "$of@@ -0,0 +1,2 @@\n+[a]\n+k=v\n" set settings.ini k v a
     refused 'set --dry-run of a value that would not be read back' 2 \
-        "ini_file: settings.ini: this value can't be written so that it is read back$edges" set --dry-run settings.ini k ' v'
+        "ini_file: settings.ini: this value can't be written so that it is read back$edges" set --dry-run settings.ini k "$unwritable"
     case_of 'get --dry-run' 2 '' "$usage" get --dry-run settings.ini k
     case_of 'keys --dry-run' 2 '' "$usage" keys --dry-run settings.ini
     printf 'k=1\n' >settings.ini

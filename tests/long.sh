@@ -125,7 +125,8 @@ def edits(name, lines, header, pairs, end="\n", mark=""):
     make("delete-last", lines[:last - 1], [], lines[last:])
     make("rename-key", lines[:header + 4], ["another=" + value], lines[header + 5:])
     make("rename-section", lines[:header], ["[another name]"], lines[header + 1:])
-    make("delete-section", lines[:header], [], lines[last:])
+    # comments stay that stand directly above the next header
+    make("delete-section", lines[:header], [], lines[last:] if any(line[0] == "[" for line in lines[last:]) else [])
 
 def reads(name, lines, section, key):
     """what each reader answers, by the name of the command; keys of one section, and one value"""
@@ -242,7 +243,7 @@ put("files.check", [f"f{i}:2:1: warning: {there}" for i in range(n)])
 put("files.merge", [f"k{i}={n - 10 + i}" for i in range(10)])
 # a pair on its header's line, with empty lines after it; values go on over indented lines
 put("tail", ["; a"] * 1000 + ["[a]key=v"] + [""] * 100 + ["; b", "[b]", "k=v"], "\r\n")
-put("tail.delete", ["; a"] * 1000 + ["[a]", "; b", "[b]", "k=v"], "\r\n")
+put("tail.delete", ["; a"] * 1000 + ["[a]"] + [""] * 100 + ["; b", "[b]", "k=v"], "\r\n")
 END
 n=$((10000 / part))
 mid=$((n / 2))

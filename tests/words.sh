@@ -152,7 +152,8 @@ set settings.ini name two -n|\055-- settings.ini\n+++ settings.ini\n@@ -2,1 +2,1
 -n delete settings.ini id -s client|\055-- settings.ini\n+++ settings.ini\n@@ -6,1 +5,0 @@\n-id=7\n
 -n delete-section settings.ini -s client|\055-- settings.ini\n+++ settings.ini\n@@ -5,2 +4,0 @@\n-[client]\n-id=7\n
 -n rename-key settings.ini id key -s client|\055-- settings.ini\n+++ settings.ini\n@@ -6,1 +6,1 @@\n-id=7\n+key=7\n
-set settings.ini k v --output=- --separator=:|; a server\nname=one\nk:v\n[server]\nport=8080\n[client]\nid=7\n
+set settings.ini k v --output=- --separator=:|; a server\nname=one\nk=v\n[server]\nport=8080\n[client]\nid=7\n
+set none.ini k v --output=- --separator=:|k:v\n
 END
 }
 
@@ -297,11 +298,12 @@ set_words() {
 # Each reason why a word can't be written, and the option that helps, with which it is written. OPTIONS|WORD|WHY
 reasons() {
     unwritten value <<'END'
-| v|white space begins or ends it
-|v\t|white space begins or ends it
-|"v"|a quote begins it: use --noquote
---policy Nothing|'v|a quote begins it: use --noquote
---policy Nothing|a\nb|it has a line end: use --policy Basics
+| "'|white space begins or ends it
+--noquote| v|white space begins or ends it
+--noquote|v\t|white space begins or ends it
+|"v'|a quote begins it: use --noquote
+--policy Nothing|'v"|a quote begins it: use --noquote
+--noquote --policy Nothing|a\nb|it has a line end: use --policy Basics
 --noescape|a\nb|it has a line end
 --policy Nothing|a\\b|it has a backslash: use --policy Basics
 --noescape|a\\b|it has a backslash: use --policy Nothing
@@ -345,8 +347,8 @@ END
         echo 'status 0' >"$room/want"
         count "a $what that $options helps to write: '$word'"
     done <<'END'
---noquote|value|"v"
---policy Basics|value|a\nb
+--noquote|value|"v'
+--noquote --policy Basics|value|a\nb
 --noescape --policy Nothing|value|a\\b
 --policy Nothing|value|a\013b
 --indent|key| k
@@ -356,7 +358,7 @@ END
 END
     # others: of a merge, of another key's or section's name, of a format, and of what would be a file's mark
     fresh
-    printf '[new]\nk = " v"\n' >other.ini
+    printf "[new]\nk = ' \"'\"'\"\n" >other.ini
     ends 'a value of another file' 2 '' "ini_file: settings.ini: [new] k: this value can't be written so that it is read back
 note: white space begins or ends it" merge settings.ini other.ini
     ends "another key that can't be written" 2 '' "ini_file: settings.ini: this key can't be written so that it is read back

@@ -410,26 +410,27 @@ static void text_edits(void)
     CHECK(is_edited(set, "host=h\n", "server", "port", "443", "host=h\n\n[server]\nport=443\n"));
     CHECK(is_left(set, "host=h\n", "a\nb", "", "443", BIGROSK_INI_UNPLAIN_KEY));
     CHECK(is_left(set, "host=h\n", " s", "port", "443", BIGROSK_INI_UNPLAIN_NAME));
-    CHECK(is_left(set, "a=1\n", NULL, "a", " 1", BIGROSK_INI_UNPLAIN_VALUE));
-    CHECK(is_left(set, "= no key", NULL, "a", "'1", BIGROSK_INI_UNPLAIN_VALUE));
+    CHECK(is_edited(set, "a=1\n", NULL, "a", " 1", "a=\" 1\"\n"));
+    CHECK(is_left(set, "a=1\n", NULL, "a", " \"'", BIGROSK_INI_UNPLAIN_VALUE));
+    CHECK(is_left(set, "= no key", NULL, "a", "'1\"", BIGROSK_INI_UNPLAIN_VALUE));
     CHECK(is_left(set, "a=1\n", NULL, "a", "\xff", BIGROSK_INI_NOT_UTF8));
     CHECK(is_left(set, "a=1\n\xff", NULL, "a", " ", BIGROSK_INI_NOT_UTF8));
     /* a pair taken out */
     CHECK(is_edited(del, "[a]\nk=v\n# c\n", "a", "k", NULL, "[a]\n# c\n"));
     CHECK(is_edited(del, "[a]k=v\n# c", "a", "k", NULL, "[a]\n# c"));
     CHECK(is_edited(del, "k=1\nk=2\n", NULL, "k", NULL, "k=2\n"));
-    CHECK(is_edited_by(del, &lines, &plain, "[a]\nk=v\n  w\n\nj=w", "a", "k", NULL, "[a]\nj=w", 0));
+    CHECK(is_edited_by(del, &lines, &plain, "[a]\nk=v\n  w\n\nj=w", "a", "k", NULL, "[a]\n\nj=w", 0));
     CHECK(is_left(del, "[a]\nk=v\n", "a", "v", NULL, BIGROSK_INI_ABSENT));
     CHECK(is_left(del, "[a]\nk=v\n", "\xff", "k", NULL, BIGROSK_INI_NOT_UTF8));
     /* a new line */
     CHECK(is_edited(set, "[a]\nj=w\n# of b\n[b]", "a", "k", "v", "[a]\nj=w\nk=v\n# of b\n[b]"));
     CHECK(is_edited(set, "[a][b]", "a", "k", "v", "[a]\nk=v\n[b]"));
     CHECK(is_edited(set, "", NULL, "k", "v", "k=v\n"));
-    CHECK(is_edited_by(set, &usual, &spaced, "[a]\r\nj=w\r\n", "a", "k", "v", "[a]\r\nj=w\r\nk = v\r\n", 0));
+    CHECK(is_edited_by(set, &usual, &spaced, "[a]\r\nj=w\r\n", "a", "k", "v", "[a]\r\nj=w\r\nk=v\r\n", 0));
     CHECK(is_edited(set, "[a]\nj=w", "b", "k", "v", "[a]\nj=w\n\n[b]\nk=v\n"));
     CHECK(is_left(set, "[a]\n", " b", "k", "v", BIGROSK_INI_UNPLAIN_NAME));
     CHECK(is_left(set, "[a]\n", "a", "", "v", BIGROSK_INI_UNPLAIN_KEY));
-    CHECK(is_left(set, "[a]\n", "a", "", " v", BIGROSK_INI_UNPLAIN_VALUE));
+    CHECK(is_left(set, "[a]\n", "a", "", " \"'", BIGROSK_INI_UNPLAIN_VALUE));
     CHECK(is_left(set, "[a]\n", "a", "\xff", "v", BIGROSK_INI_NOT_UTF8));
     CHECK(is_edited_by(set, &lines, &plain, "[a]\n  k", "a", "j", "v", NULL, BIGROSK_INI_NO_PLACE));
 }
@@ -446,9 +447,9 @@ static void more_text_edits(void)
     CHECK(is_edited(add, "[a][b]", "a", "k", "v", "[a]\nk=v\n[b]"));
     CHECK(is_edited(add, "[a]j=\\", "a", "k", "v", "[a]j=\\\\\nk=v\n"));
     CHECK(is_edited(add, "host=h\n", "server", "port", "443", "host=h\n\n[server]\nport=443\n"));
-    CHECK(is_edited_by(add, &usual, &spaced, "k=u\n", NULL, "k", "\xc3\xbc", "k=u\nk = \\x00fc\n", 0));
+    CHECK(is_edited_by(add, &usual, &spaced, "k=u\n", NULL, "k", "\xc3\xbc", "k=u\nk=\\x00fc\n", 0));
     CHECK(is_edited_by(add, &usual, &spaced, "", NULL, "k", "v", "k = v\r\n", 0));
-    CHECK(is_left(add, "= no key", "a", "", " v", BIGROSK_INI_UNPLAIN_VALUE));
+    CHECK(is_left(add, "= no key", "a", "", " \"'", BIGROSK_INI_UNPLAIN_VALUE));
     CHECK(is_left(add, "= no key", "a", "", "v", BIGROSK_INI_UNPLAIN_KEY));
     CHECK(is_left(add, "[a]\nk=u\n", " a", "k", "v", BIGROSK_INI_UNPLAIN_NAME));
     CHECK(is_left(add, "[a]\n", "a", "k", "\xff", BIGROSK_INI_NOT_UTF8));
@@ -467,7 +468,7 @@ static void more_text_edits(void)
     /* a section taken out */
     CHECK(is_edited(del_section, "[a]\n# of k\nk=v\n\n# of b\n[b]", "a", NULL, NULL, "# of b\n[b]"));
     CHECK(is_edited(del_section, "[a] [b]\nk=v", "a", NULL, NULL, "[b]\nk=v"));
-    CHECK(is_edited(del_section, "[b] [a]\nk=v\n# of c\n[c]", "a", NULL, NULL, "[b] [c]"));
+    CHECK(is_edited(del_section, "[b] [a]\nk=v\n# of c\n[c]", "a", NULL, NULL, "[b] \n# of c\n[c]"));
     CHECK(is_edited(del_section, "  [a]\nk=v\n  [b]", "a", NULL, NULL, "  [b]"));
     CHECK(is_left(del_section, "a=1\n[a]\n", "", NULL, NULL, BIGROSK_INI_ABSENT));
     CHECK(is_left(del_section, "[a]\n", "\xff", NULL, NULL, BIGROSK_INI_NOT_UTF8));

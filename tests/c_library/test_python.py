@@ -111,6 +111,7 @@ def text_edits():
     assert edit_set("a=1\n", None, "a", "b\tc", ReadOption(), WriteOption(policy=0x99)) == "a=b\\tc\n"
     assert edit_set(text, "s", "host", "h") == text + "host=h\n"
     assert edit_set(text, "t", "host", "h") == text + "\n[t]\nhost=h\n"
+    assert edit_set("a=1\n", None, "a", " b") == 'a=" b"\n'
     assert edit_add(text, "s", "port", "82") == text + "port=82\n"
     assert edit_add(b"\xef\xbb\xbf", None, "a", "1", ReadOption(), WriteOption(crlf=True)) == b"\xef\xbb\xbfa=1\r\n"
     assert edit_rename_key(text, "s", "port", "ports") == "; head\n[s]\n  ports\t= 80   # no comment\n# d\nport=81\n"
@@ -123,12 +124,12 @@ def text_edits():
     assert is_raised(KeyError, lambda: edit_rename_section(text, None, "t"))
     assert is_raised(UnicodeError, lambda: edit_delete(b"\xff", None, "port"))
     for what, call in (
-        ("value", lambda: edit_set(text, "s", "port", " 1")),
-        ("value", lambda: edit_set(text, "s", "", "'1")),
+        ("value", lambda: edit_set(text, "s", "port", " \"'")),
+        ("value", lambda: edit_set(text, "s", "", "'1\"")),
         ("key", lambda: edit_set(text, "s", "", "1")),
         ("name", lambda: edit_set(text, " s", "port", "1")),
         ("place", lambda: edit_set("[a]\n  junk", "a", "k", "v", ReadOption(multiline=True))),
-        ("value", lambda: edit_add("= no key", "s", "", " 1")),
+        ("value", lambda: edit_add("= no key", "s", "", " \"'")),
         ("key", lambda: edit_add("= no key", "s", "", "1")),
         ("name", lambda: edit_add(text, " s", "port", "1")),
         ("place", lambda: edit_add("[a]\n  junk", "a", "k", "v", ReadOption(multiline=True))),

@@ -1,5 +1,5 @@
 #!/usr/bin/env python3
-"""Compares the bytes of edits: `ini_replay edits`, over the library's calls, and the model in model.py.
+"""Compares the bytes of edits: `ini_replay edits`, over the library's calls, and the model in pieces_model.py.
 
     compare.py random PROGRAM N [SEED]
     compare.py carried PROGRAM
@@ -22,7 +22,8 @@ import subprocess
 import sys
 
 import cases
-from model import POLICIES, Option, Question, Writing, answer
+from model import POLICIES, Option, Question, Writing
+from pieces_model import whole_answer as answer
 
 BATCH = 20_000
 CALLS = ["set_existing", "delete", "set", "add", "rename_key", "delete_section", "rename_section"]

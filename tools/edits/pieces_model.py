@@ -487,3 +487,27 @@ def answer(option, writing, text, edit):
     except Refused as refused:
         return f"refused:{refused}"
     return "none" if new is None else f"new:{new.encode().hex()}"
+
+
+# The words that a call over a whole text is refused with before the text is read.
+FIRST_FAULTS = {
+    "set": ("Value",),
+    "set_existing": ("Value",),
+    "add": ("Separator", "Value", "Key"),
+    "rename_key": ("Key",),
+    "rename_section": ("Name",),
+}
+
+
+def whole_answer(question):
+    """The line that answers an edit of a whole text."""
+    call, renames = question.call, question.call.startswith("rename")
+    if call in ("delete_section", "rename_section") and question.name is None:
+        return "none"
+    edit = Edit(call, question.name, question.key, question.value if renames else "", question.value, 0)
+    try:
+        Page(question.text, question.option)
+    except Refused as refused:
+        words = answer(question.option, question.writing, "", edit).removeprefix("refused:")
+        return f"refused {words if words in FIRST_FAULTS.get(call, ()) else refused}"
+    return answer(question.option, question.writing, question.text, edit).replace(":", " ", 1)
