@@ -239,8 +239,9 @@ bool bigrosk_ini_is_plain(struct bigrosk_ini_document *document, const struct bi
  * anything but OK the buffer is as it was. */
 
 /* Sets the key's value: in the place of that of its first pair, and the key's later pairs in that section go; where the section
- * lacks the key, in a new line after its last item, before comments there; and where no section has the name (the general one is
- * always there), in a new one at the text's end, after an empty line. Every other byte stays. The new text loads as the document in
+ * lacks the key, in a new line directly after its last pair, which looks like that; and where no section has the name (the general
+ * one is always there), in a new one at the text's end, after an empty line. The value is written in the first form that is read
+ * back: in the quotes of the old one, bare, in double quotes, in single ones. Every other byte stays. The new text loads as the document in
  * which the key is set.
  * OK; UNPLAIN_VALUE, before the text is read; where the key is not there UNPLAIN_KEY, UNPLAIN_NAME where no section has the name, and
  * NO_PLACE, with multiline values alone, before an indented key that the text's end cuts short; and those above. */
@@ -250,8 +251,8 @@ uint32_t bigrosk_ini_edit_set(const uint8_t *text, size_t text_count, const stru
                               size_t value_count, uint8_t *out, size_t room, size_t *count,
                               struct bigrosk_ini_fault *fault);
 
-/* Adds a further pair, whatever pairs of the key are there: in a new line after the section's last item, before comments there; and
- * where no section has the name, in a new one at the text's end, after an empty line. Every byte stays. The new text loads as the
+/* Adds a further pair, whatever pairs of the key are there: in a new line directly after the section's last pair; and where no section
+ * has the name, in a new one at the text's end, after an empty line. Every byte stays. The new text loads as the
  * document to which the pair is added.
  * OK; UNPLAIN_VALUE and UNPLAIN_KEY, in this order, before the text is read; UNPLAIN_NAME where no section has the name; NO_PLACE,
  * as above; and those above. */
@@ -278,8 +279,8 @@ uint32_t bigrosk_ini_edit_rename_key(const uint8_t *text, size_t text_count, con
                                      const uint8_t *new_key, size_t new_key_count, uint8_t *out, size_t room,
                                      size_t *count, struct bigrosk_ini_fault *fault);
 
-/* Takes the first section of the name out, from its header's bracket up to the next header or the text's end; comments after its
- * last pair stay, from the first one on. The general section has no name and does not go.
+/* Takes the first section of the name out, with all that follows it but the comments directly above the next header, and what
+ * indents that. The general section has no name and does not go.
  * OK; ABSENT where no section has the name; and those above. */
 uint32_t bigrosk_ini_edit_delete_section(const uint8_t *text, size_t text_count,
                                          const struct bigrosk_ini_read_option *read, const uint8_t *section,

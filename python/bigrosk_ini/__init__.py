@@ -267,8 +267,8 @@ def edit_rename_key(
 
 
 def edit_delete_section(text: AnyStr, section: Optional[str], read: Optional[ReadOption] = None) -> AnyStr:
-    """The text without the first section of the name, but for comments after its last pair. KeyError where
-    it isn't there, as the general section, which doesn't go."""
+    """The text without the first section of the name, but for comments directly above the next header. KeyError
+    where it isn't there, as the general section, which doesn't go."""
     if section is None:
         raise KeyError(section)
     options = (read or ReadOption(),)
