@@ -82,7 +82,7 @@ pub fn make_edits(
         Ok(source) => source,
         Err(refusal) => return Err(refused_by(alloc, text, read, write, *first, refusal)),
     };
-    let found = source.make_edits(alloc, write, LaterPairs::TakenOut, edits)?;
+    let found = source.make_each(alloc, write, LaterPairs::TakenOut, edits)?;
     match source.to_text(alloc) {
         Ok(text) => Ok(EditedText { text, found }),
         Err(refusal) => Err(at_first(refusal.into())),

@@ -147,36 +147,36 @@ impl<'a> Source<'a> {
         ensures refused { IfErr result (RefusesOneOfThem write.now later self.old
             (map editing_of edits.now)) }
     {
-        let mut found = Vec::new(alloc);
-        let new = self.all_made(alloc, write, later, edits, &mut found)?;
-        self.put_back(new);
-        Ok(found)
-    }
-
-    // A copy in which the edits are made; whether each found what it is about comes last.
-    fn all_made(
-        &self,
-        alloc: Global,
-        write: &WriteOption,
-        later: LaterPairs,
-        edits: &[Edit<'_>],
-        found: &mut Vec<bool>,
-    ) -> Result<Source<'a>, RefusedEdit>
-        ensures made { found.old.items ≡ [] → IfOk result (λ new. AreMadeOf write.now later self.now
-            (map editing_of edits.now) found.new.items new) }
-        ensures refused { found.old.items ≡ [] → IfErr result (RefusesOneOfThem write.now later self.now
-            (map editing_of edits.now)) }
-    {
         let mut new = match self.copy(alloc) {
             Ok(new) => new,
             Err(refusal) => return Err(refused_at(0, refusal.into())),
         };
+        let found = new.make_each(alloc, write, later, edits)?;
+        self.put_back(new);
+        Ok(found)
+    }
+
+    /// Makes the edits one after another. Those before one that is refused stay made, so this is for pieces
+    /// that are dropped then.
+    pub(crate) fn make_each(
+        &mut self,
+        alloc: Global,
+        write: &WriteOption,
+        later: LaterPairs,
+        edits: &[Edit<'_>],
+    ) -> Result<Vec<bool>, RefusedEdit>
+        ensures made { IfOk result (λ found. AreMadeOf write.now later self.old (map editing_of edits.now)
+            found.items self.new) }
+        ensures refused { IfErr result (RefusesOneOfThem write.now later self.old
+            (map editing_of edits.now)) }
+    {
+        let mut found = Vec::new(alloc);
         for (index, edit) in edits.iter().enumerate() {
-            if let Err(refusal) = new.go_on(alloc, write, later, *edit, found) {
+            if let Err(refusal) = self.go_on(alloc, write, later, *edit, &mut found) {
                 return Err(refused_at(index, refusal));
             }
         }
-        Ok(new)
+        Ok(found)
     }
 
     // Makes one edit more, and keeps whether it found what it is about.

@@ -42,7 +42,7 @@ returns-in_err-found-clause-refused c =
 pub returns-in-Ok-to_text-clause-made : goal.returns-in-Ok-to_text-clause-made
 returns-in-Ok-to_text-clause-made c =
     let read = c.in-Ok.ensures in
-    MakesText.some c.in-Ok.source c.make_edits.new.self
+    MakesText.some c.in-Ok.source c.make_each.new.self
     (read_in_pieces read.option read.text read.placed read.document)
     c.in_ok-found.ensures.made c.in-Ok-to_text.ensures.text
 
@@ -54,7 +54,7 @@ returns-in-Ok-to_text-clause-loads c = λ d is.
     let edit = all_made_in (map editing_of c.args.edits.now) c.in_ok-found.found.items in
     loads_any edit d read.document is
     (subst (IsDocumentOf c.args.read U) made.1
-    (subst (λ x. IsDocumentOf x U (document_in c.make_edits.new.self)) (made.0 ∙ read.option)
+    (subst (λ x. IsDocumentOf x U (document_in c.make_each.new.self)) (made.0 ∙ read.option)
     c.in-Ok-to_text.ensures.document))
 
 pub returns-clause-refused : goal.returns-clause-refused

@@ -43,8 +43,11 @@ add_new_section-requires c =
     let value = chars c.args.value.now in
     let w = c.args.write.now in
     let source = string_text c.in_ok-raw_value.raw_value in
-    let count : c.len.result ≡ length v.sections = omega (arith, ap (λ (t : Pieces). length t.sections)
-    c.self.view_is) in
+    let count : c.len.result ≡ length v.sections = omega (
+      arith,
+      ap (λ (t : Pieces). length t.sections)
+          c.self.view_is,
+    ) in
     record {
       pair = anew_makes v.option w v.sections 0 c.in_ok-pair.pair
           (c.style-style.ensures ∙ ap (λ n. style_at v.option w v.sections n 0) count)
@@ -63,8 +66,11 @@ returns-in_default-clause-added c =
     let value = chars c.args.value.now in
     let w = c.args.write.now in
     let source = string_text c.in_ok-raw_value.raw_value in
-    let count : c.len.result ≡ length v.sections = omega (arith, ap (λ (t : Pieces). length t.sections)
-    c.self.view_is) in
+    let count : c.len.result ≡ length v.sections = omega (
+      arith,
+      ap (λ (t : Pieces). length t.sections)
+          c.self.view_is,
+    ) in
     let named = ap str_name c.in_ok-name.ensures.ok_part in
     subst (λ (n : Option Text). IsAddedIn v.option w v c.add_new_section.new.self n key value) (sym named)
     (anew_put v.option w v.sections 0 c.in_ok-pair.pair
@@ -85,8 +91,11 @@ returns-in_err-add_new_section-clause-refused c =
     let value = chars c.args.value.now in
     let w = c.args.write.now in
     let source = string_text c.in_ok-raw_value.raw_value in
-    let count : c.len.result ≡ length v.sections = omega (arith, ap (λ (t : Pieces). length t.sections)
-    c.self.view_is) in
+    let count : c.len.result ≡ length v.sections = omega (
+      arith,
+      ap (λ (t : Pieces). length t.sections)
+          c.self.view_is,
+    ) in
     let named = ap str_name c.in_ok-name.ensures.ok_part in
     let e = c.in_err-add_new_section.field-0.0 in
     let r = c.from_residual-in_err-add_new_section in
