@@ -121,14 +121,9 @@ fn is_alike(
     }
 }
 
-fn push_text_word(
-    alloc: Global,
-    line: &mut String,
-    source: &Source<'_>,
-    read: ParseOption,
-) -> Result<(), Error> {
+fn push_text_word(alloc: Global, line: &mut String, source: &Source<'_>) -> Result<(), Error> {
     let text = source.to_text(alloc)?;
-    if is_alike(alloc, source, text.as_str(), read)? {
+    if is_alike(alloc, source, text.as_str(), source.option())? {
         line.push_str("new:")?;
     } else {
         line.push_str("differs:")?;
@@ -141,11 +136,11 @@ fn push_answer(
     alloc: Global,
     line: &mut String,
     source: &mut Source<'_>,
+    write: &WriteOption,
     asked: &EditAsked,
-    question: &Question,
 ) -> Result<(), Error> {
-    match edited(alloc, source, &question.write, asked) {
-        Ok(Found::Done(true)) => push_text_word(alloc, line, source, question.read),
+    match edited(alloc, source, write, asked) {
+        Ok(Found::Done(true)) => push_text_word(alloc, line, source),
         Ok(Found::Done(false)) | Ok(Found::Comment(None)) => Ok(line.push_str("none")?),
         Ok(Found::Comment(Some(comment))) => {
             line.push_str("is:")?;
@@ -159,16 +154,21 @@ fn push_answer(
 
 /// The answer to a question, without a line end.
 pub(crate) fn answer(alloc: Global, line: &str) -> Result<String, Error> {
-    let question = Question::parse(alloc, line)?;
+    let Question {
+        read,
+        write,
+        text,
+        edits,
+    } = Question::parse(alloc, line)?;
     let mut out = String::new(alloc);
-    match Source::read(alloc, question.text.as_str(), question.read) {
+    match Source::read(alloc, text.as_str(), read) {
         Ok(source) => {
             let mut source = source;
-            for (number, asked) in question.edits.iter().enumerate() {
+            for (number, asked) in edits.iter().enumerate() {
                 if number > 0 {
                     out.push(' ')?;
                 }
-                push_answer(alloc, &mut out, &mut source, asked, &question)?;
+                push_answer(alloc, &mut out, &mut source, &write, asked)?;
             }
             Ok(out)
         }
