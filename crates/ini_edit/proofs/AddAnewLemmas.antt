@@ -2,7 +2,8 @@
 use Rattle.std.proofs.Common.{◌≡◌, ◌∙◌, ℕ, Bool, true, List, [], ◌∷◌, ◌++◌, None, Option, Some, ap, length, map}
 use Rattle.std.proofs.Common.{refl, subst, sym}
 use Rattle.std.specs.Option.{option_map}
-use Rattle.ini_text.specs.Options.WriteOptions.{line_end}
+use Rattle.std.specs.Prelude.{IsSomeAnd}
+use Rattle.ini_text.specs.Laws.Plain.{IsPlainName}
 use Rattle.ini_text.specs.declared.option.ParseOption.{ParseOption}
 use Rattle.ini_text.specs.declared.write.option.WriteOption.{WriteOption}
 use Rattle.ini_text.specs.declared.write.policy.EscapePolicy.{EscapePolicy}
@@ -18,7 +19,7 @@ use Rattle.ini_edit.specs.SourceEditsSections.{after_new_section, ended_for_sect
 use Rattle.ini_edit.specs.SourcePlaces.{Place, edited_at, last_before_gap, last_before_section, last_gap}
 use Rattle.ini_edit.specs.SourcePlaces.{last_place, section_place}
 use Rattle.ini_edit.specs.SourceWritten.{IsFirstReadAs, IsWritableNew, Style, new_pair, new_style, value_forms}
-use Rattle.ini_edit.specs.Sources.{Pieces, SectionPiece}
+use Rattle.ini_edit.specs.Sources.{Pieces, SectionPiece, given_section}
 use Rattle.ini_edit.specs.declared.error.EditError.{EditError}
 use Rattle.ini_edit.specs.declared.source.written.NewPair.{NewPair}
 use Rattle.ini_edit.proofs.DeletedSourceLemmas.{nth_none}
@@ -59,68 +60,89 @@ same_put o policy end name {make} {other} (s ∷ ss) same =
           pairs = n ∷ [];
         } ∷ []))) (same true end g)
 
-module _ (o : ParseOption) (w : WriteOption) {key value source : Text} (ss : List SectionPiece)
-    {style : Style} (j : ℕ) (pair : NewPair) (styled : style ≡ style_at o w ss (length ss) j)
-    (is : IsNewPair w.escape_policy style key value source pair) (writable : IsWritableNew o w key value)
-    (first : IsFirstReadAs o value (value_forms w.escape_policy [] value) source) where
+-- what the code makes of its own pieces t, which are v
+module _ {t v : Pieces} (same : t ≡ v) (w : WriteOption) {key value source : Text} {style : Style} {count : ℕ}
+    (j : ℕ) (pair : NewPair) (styled : style ≡ style_at v.option w v.sections count j)
+    (counts : count ≡ length t.sections) (is : IsNewPair w.escape_policy style key value source pair)
+    (writable : IsWritableNew t.option w key value)
+    (first : IsFirstReadAs t.option value (value_forms w.escape_policy [] value) source) where
+  style_there : style ≡ new_style v.option w [] [] v.sections
+  style_there =
+      styled
+      ∙ ap (λ n. style_at v.option w v.sections n j) (counts ∙ ap (λ t. length t.sections) same)
+      ∙ style_anew v.option w v.sections j
+
+  writable_there : IsWritableNew v.option w key value
+  writable_there = subst (λ t. IsWritableNew t.option w key value) same writable
+
+  first_there : IsFirstReadAs v.option value (value_forms w.escape_policy [] value) source
+  first_there = subst (λ t. IsFirstReadAs t.option value (value_forms w.escape_policy [] value) source) same first
+
   -- the pair is one that a new section may take
-  pub anew_makes : AreSections o ss → MakesPairs o (made_pair o pair)
+  pub anew_makes : AreSections t.option t.sections → MakesPairs v.option (made_pair v.option pair)
   anew_makes are =
-      new_pair_makes pair writable.plain_key writable.key_read_back
-      (subst (IsPlainStyle o) (sym (styled ∙ style_anew o w ss j))
-      (new_style_anew o w writable.plain_separator are))
-      (source_for first) is
+      new_pair_makes pair writable_there.plain_key writable_there.key_read_back
+      (subst (IsPlainStyle v.option) (sym style_there)
+      (new_style_anew v.option w writable_there.plain_separator
+      (subst (λ t. AreSections t.option t.sections) same are)))
+      (source_for first_there) is
 
   abbrev maker_anew : Maker
-  maker_anew = made o w key value source (new_style o w [] [] ss)
+  maker_anew = made v.option w key value source (new_style v.option w [] [] v.sections)
 
   made_anew : (indented : Bool) (lines rest : Text)
-      → made_pair o pair indented lines rest ≡ maker_anew indented lines rest
+      → made_pair v.option pair indented lines rest ≡ maker_anew indented lines rest
   made_anew indented lines rest =
-      is o indented lines rest
-      ∙ ap (λ z. new_pair o w.escape_policy z indented key value source lines rest)
-      (styled ∙ style_anew o w ss j)
+      is v.option indented lines rest
+      ∙ ap (λ z. new_pair v.option w.escape_policy z indented key value source lines rest) style_there
 
-  module _ (name : Text) {end : Text} (none : section_place (Some name) ss ≡ None)
-      (ends : end ≡ new_line_end w ss) where
+  module _ (named : Option Text) {name end : Text} (is_name_of : named ≡ Some name)
+      (none : section_place named v.sections ≡ None) (ends : end ≡ new_line_end w v.sections) where
     put_anew : {q : Option (List SectionPiece)}
-        → section_put o w.escape_policy end name (Some (made_pair o pair)) ss ≡ q
-        → section_put o w.escape_policy (new_line_end w ss) name (Some maker_anew) ss ≡ q
+        → section_put v.option w.escape_policy end name (Some (made_pair v.option pair)) v.sections ≡ q
+        → section_put v.option w.escape_policy (new_line_end w v.sections) name (Some maker_anew) v.sections ≡ q
     put_anew put =
-        ap (λ e. section_put o w.escape_policy e name (Some maker_anew) ss) (sym ends)
-        ∙ sym (same_put o w.escape_policy end name ss made_anew)
+        ap (λ e. section_put v.option w.escape_policy e name (Some maker_anew) v.sections) (sym ends)
+        ∙ sym (same_put v.option w.escape_policy end name v.sections made_anew)
         ∙ put
 
     added_anew : {q : Option (List SectionPiece)}
-        → section_put o w.escape_policy end name (Some (made_pair o pair)) ss ≡ q
-        → added o w key value source (Some name) ss ≡ q
+        → section_put v.option w.escape_policy end name (Some (made_pair v.option pair)) v.sections ≡ q
+        → added v.option w key value source named v.sections ≡ q
     added_anew put =
-        ap (λ f. edited_at (added_at o w key value source ss) f (added_new o w key value source (Some name)
-        ss)) none
+        ap (λ f. edited_at (added_at v.option w key value source v.sections) f
+        (added_new v.option w key value source named v.sections)) none
+        ∙ ap (λ n. added_new v.option w key value source n v.sections) is_name_of
         ∙ put_anew put
 
     pub anew_put : {new : Pieces}
-        → IsSectionPut (Some (made_pair o pair)) o w.escape_policy end name
-        (record { option = o; sections = ss }) new
-        → IsAddedIn o w (record { option = o; sections = ss }) new (Some name) key value
+        → IsSectionPut (Some (made_pair v.option pair)) v.option w.escape_policy end name v new
+        → IsAddedIn v.option w v new named key value
     anew_put {new} put = record {
-      writable = writable;
+      writable = writable_there;
       source = source;
-      is_first = first;
+      is_first = first_there;
       option = put.option;
       sections = added_anew put.sections;
-      document = document_put o w.escape_policy (new_line_end w ss) name (Some maker_anew) ss new.sections
-          (λ g. refl) (put_anew put.sections)
-          ∙ sym (edit_nowhere (Some name) (λ pairs. pairs ++ (key, value) ∷ [])
-          ((Some name, (key, value) ∷ []) ∷ [])
-          (nth_none (λ s. is_name (Some name) s.name) ss 0 none));
+      document = document_put v.option w.escape_policy (new_line_end w v.sections) name (Some maker_anew)
+          v.sections new.sections (λ g. refl) (put_anew put.sections)
+          ∙ ap (λ n. map given_section v.sections ++ (n, (key, value) ∷ []) ∷ []) (sym is_name_of)
+          ∙ sym (edit_nowhere named (λ pairs. pairs ++ (key, value) ∷ []) ((named, (key, value) ∷ []) ∷ [])
+          (nth_none (λ s. is_name named s.name) v.sections 0 none));
     }
 
     pub anew_refused : (e : EditError)
-        → RefusesSection (Some (made_pair o pair)) o w.escape_policy end name ss e
-        → RefusesAdding o w ss (Some name) key value e
+        → RefusesSection (Some (made_pair v.option pair)) v.option w.escape_policy end name v.sections e
+        → RefusesAdding v.option w v.sections named key value e
     anew_refused e (RefusesSection.unplain_name unplain) =
-        RefusesAdding.unplain_name writable (record { writable_section = none; unplain = unplain })
+        RefusesAdding.unplain_name writable_there (record {
+          writable_section = none;
+          unplain = λ plain. unplain (subst (λ n. IsSomeAnd n (IsPlainName v.option w.escape_policy)) is_name_of
+              plain);
+        })
     anew_refused e (RefusesSection.no_place plain nowhere) =
-        RefusesAdding.no_place writable (λ lacks. lacks.unplain plain) first (added_anew nowhere)
+        RefusesAdding.no_place writable_there
+        (λ lacks. lacks.unplain (subst (λ n. IsSomeAnd n (IsPlainName v.option w.escape_policy))
+        (sym is_name_of) plain))
+        first_there (added_anew nowhere)
     anew_refused e (RefusesSection.no_memory plain) = RefusesAdding.unwritable tt

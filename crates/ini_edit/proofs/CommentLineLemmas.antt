@@ -2,9 +2,8 @@
 -- end first.
 use Rattle.std.proofs.Common.{◌≡◌, ◌≢◌, ◌∙◌, ℕ, Bool, true, false, List, [], ◌∷◌, ◌++◌, ap, append_assoc}
 use Rattle.std.proofs.Common.{append-nil, if◌then◌else◌, refl, subst, sym}
-use Rattle.std.proofs.lemmas.Bool.{false≢true}
 use Rattle.std.specs.List.{list_all}
-use Rattle.ini_text.specs.Grammar.CharacterKinds.{BeginsWith, BeginsWithNo, carriage_return, is_blank}
+use Rattle.ini_text.specs.Grammar.CharacterKinds.{BeginsWithNo, carriage_return, is_blank}
 use Rattle.ini_text.specs.Grammar.CharacterKinds.{is_comment_mark, is_line_end, is_line_feed, line_feed}
 use Rattle.ini_text.specs.Grammar.Elements.{Element}
 use Rattle.ini_text.specs.Grammar.Pieces.{ArePieces}

@@ -1,15 +1,15 @@
 -- Rows of comment lines: which texts are such, that they are a gap, and where one begins at a gap's end.
-use Rattle.std.proofs.Common.{◌≡◌, ◌≢◌, ◌∙◌, ℕ, Bool, true, false, not, ◌&&◌, ◌||◌, List, [], ◌∷◌, ◌++◌, ap}
+use Rattle.std.proofs.Common.{◌≡◌, ◌≢◌, ◌∙◌, ℕ, Bool, true, false, not, ◌&&◌, ◌||◌, [], ◌∷◌, ◌++◌, ap}
 use Rattle.std.proofs.Common.{◌==◌, append_assoc, append-nil, eqb-true, inl, inr, refl, subst, sym}
-use Rattle.std.proofs.lemmas.Bool.{and_from, and_parts, both_ways, cases_Bool, false≢true, not-false}
+use Rattle.std.proofs.lemmas.Bool.{and_from, and_parts, cases_Bool, false≢true, not-false}
 use Rattle.std.proofs.lemmas.Bool.{not-true, or_cases}
 use Rattle.std.specs.List.{list_all}
 use Rattle.std.specs.Prelude.{if◌then◌else◌}
 use Rattle.ini_text.specs.Grammar.CharacterKinds.{BeginsWith, carriage_return, is_comment_mark, is_line_feed}
 use Rattle.ini_text.specs.Grammar.CharacterKinds.{hash, line_feed, semicolon, space}
 use Rattle.ini_text.specs.Grammar.Elements.{Element}
-use Rattle.ini_text.specs.Grammar.Pieces.{ArePieces, pieces_text}
-use Rattle.ini_text.specs.Grammar.Positions.{is_column_one, last_or}
+use Rattle.ini_text.specs.Grammar.Pieces.{ArePieces}
+use Rattle.ini_text.specs.Grammar.Positions.{last_or}
 use Rattle.ini_text.specs.declared.option.ParseOption.{ParseOption}
 use Rattle.ini_text.proofs.LawLemmas.PieceLemmas.{last_or-append}
 use Rattle.ini.specs.Texts.{Text}

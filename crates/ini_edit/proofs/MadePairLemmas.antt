@@ -1,5 +1,5 @@
 -- A new pair of the code, as a style has it written, is one that a new section may take.
-use Rattle.std.proofs.Common.{◌≡◌, refl, subst, sym}
+use Rattle.std.proofs.Common.{refl, subst, sym}
 use Rattle.ini_text.specs.Grammar.Places.{TrailingLines}
 use Rattle.ini_text.specs.Laws.Plain.{IsPlainKey, IsReadBack}
 use Rattle.ini_text.specs.declared.option.ParseOption.{ParseOption}

@@ -1,5 +1,5 @@
 -- New pairs, as they are made, in their place: where a line starts, before lines and a gap.
-use Rattle.std.proofs.Common.{◌≡◌, ◌∙◌, ℕ, Bool, true, false, cond, if◌then◌else◌, [], ◌∷◌, ◌++◌, ap}
+use Rattle.std.proofs.Common.{◌≡◌, ◌∙◌, ℕ, Bool, true, false, cond, [], ◌∷◌, ◌++◌, ap}
 use Rattle.std.proofs.Common.{inl, inr, refl, subst, sym}
 use Rattle.std.proofs.lemmas.Bool.{and_parts, cases_Bool, cond-false, cond-true}
 use Rattle.std.specs.List.{list_all}

@@ -1,6 +1,6 @@
 -- Lists of edits of a text in pieces, one edit on; and values of a key, one value on.
 use Rattle.std.proofs.Common.{◌≡◌, ◌<◌, ◌+◌, ◌∙◌, ℕ, Bool, List, [], ◌∷◌, ◌++◌, length, subst, sym, ap, refl}
-use Rattle.std.proofs.Common.{take, drop, map, arith, add-one, alloc_error, drop-cons, get_or, length-append}
+use Rattle.std.proofs.Common.{take, drop, map, arith, add-one, alloc_error, drop-cons, get_or}
 use Rattle.std.proofs.Common.{None, Option, length-take, take-append-drop, take-suc}
 use Rattle.std.proofs.lemmas.List.{map-append, length-map}
 use Rattle.ini_text.specs.declared.error.Error.TheVariants.{Io, Memory, NoProgress, NotUtf8, Parse}
@@ -14,7 +14,6 @@ use Rattle.ini_edit.specs.SourceEditsList.{AreMadeOf, MakesNext, RefusesFirstOf,
 use Rattle.ini_edit.specs.SourcePlaces.{pair_place}
 use Rattle.ini_edit.specs.SourceWritten.{HasForm, RefusesNew}
 use Rattle.ini_edit.specs.Sources.{Pieces, SectionPiece}
-use Rattle.ini_edit.specs.declared.edit_list.RefusedEdit.{RefusedEdit}
 use Rattle.ini_edit.specs.declared.edits.Edit.{Edit}
 use Rattle.ini_edit.specs.declared.error.EditError.{EditError}
 use Rattle.ini_edit.specs.declared.error.EditError.TheVariants.{Key, Name, NoPlace, Separator, Value}

@@ -1,5 +1,5 @@
 -- New pairs in a text in pieces, in a section that is there.
-use Rattle.std.specs.Prelude.{◌≡◌, Bool, true, false, not, ◌&&◌, ◌||◌, if◌then◌else◌, ℕ, List, [], ◌∷◌, ◌++◌}
+use Rattle.std.specs.Prelude.{Bool, true, false, not, ◌&&◌, ◌||◌, if◌then◌else◌, ℕ, List, [], ◌∷◌, ◌++◌}
 use Rattle.std.specs.Prelude.{Option, None, Some, is_none}
 use Rattle.std.specs.Option.{option_map}
 use Rattle.std.specs.Option.{option_or}

@@ -34,6 +34,8 @@ mod scarce;
 #[cfg(test)]
 mod show;
 #[cfg(test)]
+mod sources;
+#[cfg(test)]
 mod view;
 #[cfg(test)]
 mod watched;

@@ -1,4 +1,4 @@
-use Rattle.std.proofs.Common.{◌≡◌, ◌∙◌, ap, chars}
+use Rattle.std.proofs.Common.{◌∙◌, ap, chars}
 use Rattle.std.proofs.lemmas.Result.{err_from_is_err_and}
 use Rattle.ini.specs.Texts.{str_name, str_text}
 use Rattle.ini_edit.specs.SourceEditsAdded.{ArePut, RefusesOneValue}

@@ -1,4 +1,4 @@
-use Rattle.std.proofs.Common.{◌≡◌, ◌∙◌, ◌+◌, None, ap, arith, chars, subst, sym}
+use Rattle.std.proofs.Common.{◌≡◌, ◌∙◌, ◌+◌, None, arith, chars, subst, sym}
 use Rattle.std.proofs.lemmas.Result.{IfErr-weaker, err_from_is_err_and, on_ok_weaker}
 use Rattle.ini.specs.Texts.{str_name}
 use Rattle.ini_edit.specs.SourceEditsAdded.{InsertsAfter, IsAddedIn, IsPut, RefusesAdding, RefusesToPut}
