@@ -4,40 +4,7 @@
 # turn (its own, and malloc's), a unit of C++, the program of docs/C.md and the Python module use it. Header, module and sources
 # are compared, what look-ups cost is counted, and a library that is older than its sources must be built anew. What is
 # skipped, since a tool isn't there, is reported. The last line is 'N passed, M failed', and the status is 1 if something failed.
-set -u
-top=$(cd "$(dirname "$0")/.." && pwd)
-room=$(mktemp -d)
-trap 'rm -rf "$room"' EXIT
-passed=0
-failed=0
-
-# run NAME COMMAND..: counts whether the command ends well, and shows what it wrote if it doesn't
-run() {
-    name=$1
-    shift
-    if "$@" >"$room/log" 2>&1; then
-        passed=$((passed + 1))
-        last=$(tail -n 1 "$room/log")
-        printf '%s: %s\n' "$name" "${last:-done}"
-    else
-        failed=$((failed + 1))
-        echo "FAILED: $name"
-        tail -n 40 "$room/log"
-    fi
-}
-
-# has TOOL WHAT: whether the tool is there; if not, what is skipped is reported
-has() {
-    command -v "$1" >/dev/null 2>&1 && return 0
-    echo "skipped: $2, since $1 isn't there"
-    return 1
-}
-
-finish() {
-    echo "$passed passed, $failed failed"
-    [ "$failed" -eq 0 ]
-    exit
-}
+. "$(dirname "$0")/cases.sh"
 
 # look_ups SECTIONS: what 200 rounds of look-ups take among so many sections, beside their loading, in thousands of instructions
 look_ups() {

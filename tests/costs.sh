@@ -8,29 +8,10 @@
 #     tests/costs.sh [INI_TOOL [INI_REPLAY]]
 #
 # The programs are by default those that tools/run.sh builds.
-set -u
-LC_ALL=C
-export LC_ALL
-top=$(cd "$(dirname "$0")/.." && pwd)
-room=$(mktemp -d)
-trap 'rm -rf "$room"' EXIT
-passed=0
-failed=0
-if ! command -v valgrind >/dev/null 2>&1; then
-    echo "skipped: all, since valgrind isn't there"
-    echo '0 passed, 0 failed'
-    exit 0
-fi
-tool=${1:-}
-calls=${2:-}
-if [ -z "$tool" ]; then
-    "$top/tools/run.sh" ini_tool fmt </dev/null || exit 1
-    tool=$top/crates/ini_tool/out/ini_tool
-fi
-if [ -z "$calls" ]; then
-    "$top/tools/run.sh" --build ini_replay || exit 1
-    calls=$top/crates/ini_replay/out/ini_replay
-fi
+. "$(dirname "$0")/cases.sh"
+has valgrind all || finish
+tool=$(program_of ini_tool "${1:-}") || exit 1
+calls=$(program_of ini_replay "${2:-}") || exit 1
 
 # instructions STATUS COMMAND ..: how many the command takes over the file `in`, in thousands; nothing where it
 # ends otherwise, or takes two minutes
@@ -140,5 +121,4 @@ escapes 50000 >"$room/in"
 short=$(instructions 0 "$tool" fmt)
 at_most '100,000 escapes' "${short:+$((short - own))}" 44000
 
-echo "$passed passed, $failed failed"
-[ "$failed" -eq 0 ]
+finish

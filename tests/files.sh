@@ -7,20 +7,8 @@
 #     tests/files.sh [INI_FILE]
 #
 # The program is by default the one that its script builds.
-set -u
-LC_ALL=C
-export LC_ALL
-top=$(cd "$(dirname "$0")/.." && pwd)
-room=$(mktemp -d)
-trap 'chmod -R u+w "$room"; rm -rf "$room"' EXIT
-program=${1:-}
-if [ -z "$program" ]; then
-    "$top/ini_file.sh" list - </dev/null || exit 1
-    program=$top/crates/ini_file/out/ini_file
-fi
-program=$(readlink -f "$program") || exit 1
-passed=0
-failed=0
+. "$(dirname "$0")/cases.sh"
+program=$(program_of ini_file "${1:-}") || exit 1
 skipped=0
 # what ends the answer to a mistake in the words; tests/words.sh has the sentences before it
 usage="Try 'ini_file --help'."
@@ -30,27 +18,6 @@ edges='
 note: white space begins or ends it'
 source='; a server\nname = one\n[server]\nport = 8080\nhost = a\\tb\nport = 9090\n[client]\n[server]\nlast = 1\n'
 written='name=one\n\n[server]\nport=8080\nhost=a\\tb\nport=9090\n[client]\n\n[server]\nlast=1\n'
-
-# says what a case wants and what it has, where these differ
-count() {
-    if cmp -s "$room/want" "$room/have"; then
-        passed=$((passed + 1))
-    else
-        failed=$((failed + 1))
-        echo "FAILED: $1"
-        diff "$room/want" "$room/have" | head -n 20
-    fi
-}
-
-# a folder with one file of the source, in which the next case runs
-fresh() {
-    cd "$room" || exit 1
-    chmod -R u+w case 2>/dev/null
-    rm -rf case
-    mkdir case
-    cd case || exit 1
-    printf "$source" >settings.ini
-}
 
 # case NAME STATUS OUTPUT ERRORS WORD..: a run of the program on these words
 case_of() {
@@ -1060,5 +1027,4 @@ at_once
 if [ "$skipped" -gt 0 ]; then
     echo "$skipped skipped: patch or git isn't here, or may not be used"
 fi
-echo "$passed passed, $failed failed"
-[ "$failed" -eq 0 ]
+finish

@@ -7,34 +7,8 @@
 #
 # What is skipped, since a tool isn't there, is reported. An input that breaks a promise is kept in the
 # folder that is named then. The last line is 'N passed, M failed', and the status is 1 if something failed.
-set -u
-LC_ALL=C
-export LC_ALL
-top=$(cd "$(dirname "$0")/.." && pwd)
+. "$(dirname "$0")/cases.sh"
 seconds=${1:-60}
-room=$(mktemp -d)
-trap 'rm -rf "$room"' EXIT
-passed=0
-failed=0
-
-# run NAME COMMAND..: counts whether the command ends well, and shows what it wrote if it doesn't
-run() {
-    name=$1
-    shift
-    if "$@" >"$room/log" 2>&1; then
-        passed=$((passed + 1))
-    else
-        failed=$((failed + 1))
-        echo "FAILED: $name"
-        tail -n 30 "$room/log"
-    fi
-}
-
-finish() {
-    echo "$passed passed, $failed failed"
-    [ "$failed" -eq 0 ]
-    exit
-}
 
 # finds WRONG: counts whether the corpus finds the wrong body
 finds() {
@@ -48,10 +22,7 @@ finds() {
     fi
 }
 
-if ! command -v gcc >/dev/null; then
-    echo "skipped: the fuzz target, since gcc isn't there"
-    finish
-fi
+has gcc 'the fuzz target' || finish
 CC=gcc
 export CC
 run 'install' "$top/tools/c_library.sh" "$room/it"

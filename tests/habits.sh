@@ -3,31 +3,7 @@
 # that installs them. Pages are read by man and mandoc, completions are asked of bash, and options, commands
 # and statuses are compared wherever they are documented; what has no such tool here is skipped and reported. Each
 # case that fails is reported. The last line is 'N passed, M failed', and the status is 1 if a case failed.
-set -u
-LC_ALL=C
-export LC_ALL
-top=$(cd "$(dirname "$0")/.." && pwd)
-room=$(mktemp -d)
-trap 'rm -rf "$room"' EXIT
-passed=0
-failed=0
-
-# is NAME WANTED HAD
-is() {
-    if [ "$2" = "$3" ]; then
-        passed=$((passed + 1))
-    else
-        failed=$((failed + 1))
-        printf 'FAILED: %s\nwanted: %s\nhad: %s\n' "$1" "$2" "$3"
-    fi
-}
-
-# has TOOL CASES: whether the tool is here
-has() {
-    command -v "$1" >/dev/null && return
-    echo "skipped: $2 (no $1)"
-    return 1
-}
+. "$(dirname "$0")/cases.sh"
 
 # Pages.
 programs='ini_tool ini_merge ini_file'
@@ -225,5 +201,4 @@ is 'a program that is not built' 'status 1, nothing there' "status $?, $([ -e "$
 "$copy/tools/install.sh" >"$room/told" 2>&1
 is 'no folder' 'status 2, usage: tools/install.sh PREFIX' "status $?, $(cat "$room/told")"
 
-echo "$passed passed, $failed failed"
-[ "$failed" -eq 0 ]
+finish

@@ -3,52 +3,9 @@
 # static one, pkg-config and CMake over a folder that was moved, and the object file of a program that was
 # compiled with the header of version 0.3.0 (tests/c_library/old). What is skipped, since a tool isn't there,
 # is reported. The last line is 'N passed, M failed', and the status is 1 if something failed.
-set -u
-LC_ALL=C
-export LC_ALL
-top=$(cd "$(dirname "$0")/.." && pwd)
-room=$(mktemp -d)
-trap 'rm -rf "$room"' EXIT
+. "$(dirname "$0")/cases.sh"
 clients=$top/tests/c_library
 warnings='-O1 -g -Wall -Wextra -Werror'
-passed=0
-failed=0
-
-# is NAME WANTED HAD
-is() {
-    if [ "$2" = "$3" ]; then
-        passed=$((passed + 1))
-    else
-        failed=$((failed + 1))
-        printf 'FAILED: %s\nwanted: %s\nhad: %s\n' "$1" "$2" "$3"
-    fi
-}
-
-# run NAME COMMAND..: counts whether the command ends well, and shows what it wrote if it doesn't
-run() {
-    name=$1
-    shift
-    if "$@" >"$room/log" 2>&1; then
-        passed=$((passed + 1))
-    else
-        failed=$((failed + 1))
-        echo "FAILED: $name"
-        tail -n 20 "$room/log"
-    fi
-}
-
-# has TOOL WHAT: whether the tool is there; if not, what is skipped is reported
-has() {
-    command -v "$1" >/dev/null 2>&1 && return 0
-    echo "skipped: $2, since $1 isn't there"
-    return 1
-}
-
-finish() {
-    echo "$passed passed, $failed failed"
-    [ "$failed" -eq 0 ]
-    exit
-}
 
 # line WORD..: the words in one line
 line() {

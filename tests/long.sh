@@ -9,27 +9,11 @@
 # The program is by default the one that its script builds. The texts' sizes are divided by PART, for a build that is slow.
 #
 # tests/memory.sh has the size at which each call is asked once, PART being 1, beside those of 2 MB and 100,000 lines.
-set -u
-LC_ALL=C
-export LC_ALL
-top=$(cd "$(dirname "$0")/.." && pwd)
-if ! command -v python3 >/dev/null 2>&1; then
-    echo "skipped: all, since python3 isn't there"
-    echo '0 passed, 0 failed'
-    exit 0
-fi
-room=$(mktemp -d)
-trap 'rm -rf "$room"' EXIT
-program=${1:-}
+. "$(dirname "$0")/cases.sh"
+has python3 all || finish
+program=$(program_of ini_file "${1:-}") || exit 1
 part=${2:-1}
-if [ -z "$program" ]; then
-    "$top/ini_file.sh" list - </dev/null || exit 1
-    program=$top/crates/ini_file/out/ini_file
-fi
-program=$(readlink -f "$program") || exit 1
 cd "$room" || exit 1
-passed=0
-failed=0
 
 # bounded WORD..: the program within $bound kilobytes of memory, a megabyte of stack and half a minute
 bounded() (
@@ -462,5 +446,4 @@ else
     echo "skipped: 33 counts of instructions, since valgrind isn't there"
 fi
 
-echo "$passed passed, $failed failed"
-[ "$failed" -eq 0 ]
+finish

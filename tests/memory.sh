@@ -35,37 +35,11 @@
 #     words                                    10,000 options
 #     each call of the C library               4.7 MB, 200,000 pairs; a value of 3,000,000 bytes (tests/c_library/large.c)
 # shellcheck disable=SC3045
-set -u
-LC_ALL=C
-export LC_ALL
-top=$(cd "$(dirname "$0")/.." && pwd)
-room=$(mktemp -d)
-trap 'rm -rf "$room"' EXIT
-passed=0
-failed=0
-
-# built NAME PROGRAM: the program that was given, or the one that is built
-built() {
-    if [ -n "$2" ]; then
-        readlink -f "$2"
-    else
-        "$top/tools/run.sh" --build "$1" >&2 && echo "$top/crates/$1/out/$1"
-    fi
-}
-calls=$(built ini_replay "${1:-}") || exit 1
-tool=$(built ini_tool "${2:-}") || exit 1
-merge=$(built ini_merge "${3:-}") || exit 1
-file=$(built ini_file "${4:-}") || exit 1
-
-# is NAME WANTED HAD: whether these are the same
-is() {
-    if [ "$2" = "$3" ]; then
-        passed=$((passed + 1))
-    else
-        failed=$((failed + 1))
-        echo "FAILED: $1: '$(echo "$3" | head -c 300)', and not '$(echo "$2" | head -c 300)'"
-    fi
-}
+. "$(dirname "$0")/cases.sh"
+calls=$(program_of ini_replay "${1:-}") || exit 1
+tool=$(program_of ini_tool "${2:-}") || exit 1
+merge=$(program_of ini_merge "${3:-}") || exit 1
+file=$(program_of ini_file "${4:-}") || exit 1
 
 # at_most NAME MOST NUMBER: whether the number is one, and no larger
 at_most() {
@@ -421,5 +395,4 @@ mkdir "$room/files"
 is 'ini_merge of 5,000 files with 64 descriptors' "$(sums "$room/merged")" \
     "$(cd "$room/files" && ulimit -n 64 && bounded "$merge" ./* 2>&1 | cksum)"
 
-echo "$passed passed, $failed failed"
-[ "$failed" -eq 0 ]
+finish

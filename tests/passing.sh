@@ -6,18 +6,8 @@
 #     tests/passing.sh [INI_TOOL]
 #
 # INI_TOOL is by default the program that ini_tool.sh builds.
-set -u
-LC_ALL=C
-export LC_ALL
-top=$(cd "$(dirname "$0")/.." && pwd)
-room=$(mktemp -d)
-trap 'rm -rf "$room"' EXIT
-program=${1:-}
-if [ -z "$program" ]; then
-    "$top/ini_tool.sh" fmt </dev/null || exit 1
-    program=$top/crates/ini_tool/out/ini_tool
-fi
-program=$(readlink -f "$program")
+. "$(dirname "$0")/cases.sh"
+program=$(program_of ini_tool "${1:-}") || exit 1
 
 # bounded KILOBYTES WORD..: runs the program in that much memory
 bounded() {
@@ -117,5 +107,4 @@ done | short 'comments of a megabyte' 0 '' ''
 
 passed=$(grep -c passed "$room/cases")
 failed=$(grep -c failed "$room/cases")
-echo "$passed passed, $failed failed"
-[ "$failed" -eq 0 ]
+finish

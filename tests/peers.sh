@@ -7,36 +7,12 @@
 #     tests/peers.sh [INI_FILE]
 #
 # The program is by default the one that ini_file.sh builds.
-set -u
-LC_ALL=C
-export LC_ALL
-top=$(cd "$(dirname "$0")/.." && pwd)
-room=$(mktemp -d)
-trap 'rm -rf "$room"' EXIT
-program=${1:-}
-if [ -z "$program" ]; then
-    "$top/ini_file.sh" list - </dev/null || exit 1
-    program=$top/crates/ini_file/out/ini_file
-fi
-program=$(readlink -f "$program")
-passed=0
-failed=0
-
-# is NAME WANTED HAD
-is() {
-    if [ "$2" = "$3" ]; then
-        passed=$((passed + 1))
-    else
-        failed=$((failed + 1))
-        printf 'FAILED: %s\nthe peer: %s\nini_file: %s\n' "$1" "$2" "$3"
-    fi
-}
+. "$(dirname "$0")/cases.sh"
+program=$(program_of ini_file "${1:-}") || exit 1
 
 # peer NAME: whether it is here
 peer() {
-    command -v "$1" >/dev/null && return
-    echo "skipped: what is compared with $1 (it isn't here)"
-    return 1
+    has "$1" "what is compared with $1"
 }
 
 # answer COMMAND..: what it writes, and whether it found what it was asked for
@@ -152,5 +128,4 @@ for edit in 'set' delete; do
     done
 done
 
-echo "$passed passed, $failed failed"
-[ "$failed" -eq 0 ]
+finish

@@ -6,51 +6,19 @@
 #     tests/program.sh [INI_TOOL [INI_MERGE [INI_FILE]]]
 #
 # Each is by default the one that its script builds; one that is given stands for its script too, where a page shows that.
-set -u
-LC_ALL=C
-export LC_ALL
-top=$(cd "$(dirname "$0")/.." && pwd)
-room=$(mktemp -d)
-trap 'rm -rf "$room"' EXIT
-program=${1:-}
-merge=${2:-}
-file=${3:-}
+. "$(dirname "$0")/cases.sh"
 tool_script=$(readlink -f "${1:-"$top/ini_tool.sh"}")
 merge_script=$(readlink -f "${2:-"$top/ini_merge.sh"}")
-if [ -z "$program" ]; then
-    "$top/ini_tool.sh" fmt </dev/null || exit 1
-    program=$top/crates/ini_tool/out/ini_tool
-fi
-if [ -z "$merge" ]; then
-    "$top/ini_merge.sh" /dev/null || exit 1
-    merge=$top/crates/ini_merge/out/ini_merge
-fi
-if [ -z "$file" ]; then
-    "$top/ini_file.sh" list - </dev/null || exit 1
-    file=$top/crates/ini_file/out/ini_file
-fi
-program=$(readlink -f "$program")
-merge=$(readlink -f "$merge")
+program=$(program_of ini_tool "${1:-}") || exit 1
+merge=$(program_of ini_merge "${2:-}") || exit 1
+file=$(program_of ini_file "${3:-}") || exit 1
 mkdir "$room/bin"
 ln -s "$program" "$room/bin/ini_tool"
 ln -s "$merge" "$room/bin/ini_merge"
-ln -s "$(readlink -f "$file")" "$room/bin/ini_file"
-passed=0
-failed=0
+ln -s "$file" "$room/bin/ini_file"
 options='[--noescape] [--noquote] [--multiline] [--indent] [--brackets] [--crlf] [--policy NAME]'
 usage="usage: ini_tool $options fmt|list|get KEY [SECTION]|set KEY VALUE [SECTION]|del KEY [SECTION]"
 merge_usage="usage: ini_merge $options [--] FILE.."
-
-# says what a case wants and what it has, where these differ
-count() {
-    if cmp -s "$room/want" "$room/have"; then
-        passed=$((passed + 1))
-    else
-        failed=$((failed + 1))
-        echo "FAILED: $1"
-        diff "$room/want" "$room/have" | head -n 20
-    fi
-}
 
 # told NAME STATUS WANTED ERROR: the last run's status, and what it wrote on standard error
 told() {
@@ -465,5 +433,4 @@ examples() {
 examples "$top/README.md"
 examples "$top/docs/PROGRAM.md"
 
-echo "$passed passed, $failed failed"
-[ "$failed" -eq 0 ]
+finish

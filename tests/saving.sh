@@ -9,38 +9,15 @@
 #
 # The program is by default the one that its script builds; a PART is the name of one of the functions below, or of those in
 # tests/saving/meanwhile.sh, by default all.
-set -u
-LC_ALL=C
-export LC_ALL
+. "$(dirname "$0")/cases.sh"
 umask 022
-top=$(cd "$(dirname "$0")/.." && pwd)
-room=$(mktemp -d)
-trap 'rm -rf "$room"' EXIT
-program=${1:-}
-if [ -z "$program" ]; then
-    "$top/ini_file.sh" list - </dev/null || exit 1
-    program=$top/crates/ini_file/out/ini_file
-fi
-program=$(readlink -f "$program") || exit 1
+program=$(program_of ini_file "${1:-}") || exit 1
 [ $# -gt 0 ] && shift
 parts=$*
-passed=0
-failed=0
 skipped=0
 source='; a server\nname=one\n[server]\nport=8080\n[client]\nid=7\n'
 unwritable="this value can't be written so that it is read back
 note: white space begins or ends it"
-
-# says what a case wants and what it has, where these differ
-count() {
-    if cmp -s "$room/want" "$room/have"; then
-        passed=$((passed + 1))
-    else
-        failed=$((failed + 1))
-        echo "FAILED: $1"
-        diff "$room/want" "$room/have" | head -n 20
-    fi
-}
 
 # a folder with a file of the source, and with another one, `other.ini`; the next case runs in it
 fresh() {
@@ -50,17 +27,6 @@ fresh() {
     cd case || exit 1
     printf "$source" >settings.ini
     printf '[client]\nid=8\n[new]\nk=v\n' >other.ini
-}
-
-# ends NAME STATUS OUTPUT ERRORS WORD..: a run of the program on these words
-ends() {
-    name=$1
-    { printf -- "$3"; printf '%s\n' "$4" "status $2"; } >"$room/want"
-    shift 4
-    "$program" "$@" >"$room/out" 2>"$room/err"
-    status=$?
-    { cat "$room/out"; printf '%s\n' "$(cat "$room/err")" "status $status"; } >"$room/have"
-    count "$name"
 }
 
 # ended NAME STATUS WORD..: a run ends with this status; its words stay in `out` and `err`
@@ -1076,5 +1042,4 @@ done
 if [ "$skipped" -gt 0 ]; then
     echo "$skipped skipped: strace, setpriv, flock or unshare isn't here or may not be used, or there is no other file system"
 fi
-echo "$passed passed, $failed failed"
-[ "$failed" -eq 0 ]
+finish

@@ -6,34 +6,10 @@
 #     tests/scripts.sh [TOP]
 #
 # TOP is the folder whose scripts are run, by default this repository.
-set -u
-LC_ALL=C
-export LC_ALL
+. "$(dirname "$0")/cases.sh"
 from=$(cd "${1:-"$(dirname "$0")/.."}" && pwd)
-room=$(mktemp -d)
-trap 'chmod -R u+w "$room"; rm -rf "$room"' EXIT
 top="$room/a checkout"
 calls=$room/calls
-passed=0
-failed=0
-
-# says what a case wants and what it has, where these differ
-count() {
-    if cmp -s "$room/want" "$room/have"; then
-        passed=$((passed + 1))
-    else
-        failed=$((failed + 1))
-        echo "FAILED: $1"
-        diff "$room/want" "$room/have" | head -n 20
-    fi
-}
-
-# is NAME WANTED HAD
-is() {
-    printf '%s\n' "$2" >"$room/want"
-    printf '%s\n' "$3" >"$room/have"
-    count "$1"
-}
 
 # The `rt` of the test: it writes down its words and its folder, and does what the file `mode` says. The program that it makes
 # shows which build it is, its words, and its input, and ends with status 3.
@@ -404,5 +380,4 @@ for signal in HUP INT TERM ctrl_c; do
     built "the run after an interrupted build ($signal)" 2
 done
 
-echo "$passed passed, $failed failed"
-[ "$failed" -eq 0 ]
+finish

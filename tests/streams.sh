@@ -7,38 +7,10 @@
 #     tests/streams.sh [INI_TOOL [INI_MERGE]]
 #
 # The programs are by default those that ini_tool.sh and ini_merge.sh build.
-set -u
-LC_ALL=C
-export LC_ALL
-top=$(cd "$(dirname "$0")/.." && pwd)
-room=$(mktemp -d)
-trap 'rm -rf "$room"' EXIT
-tool=${1:-}
-merge=${2:-}
-if [ -z "$tool" ]; then
-    "$top/ini_tool.sh" fmt </dev/null || exit 1
-    tool=$top/crates/ini_tool/out/ini_tool
-fi
-if [ -z "$merge" ]; then
-    "$top/ini_merge.sh" /dev/null || exit 1
-    merge=$top/crates/ini_merge/out/ini_merge
-fi
-tool=$(readlink -f "$tool")
-merge=$(readlink -f "$merge")
-passed=0
-failed=0
+. "$(dirname "$0")/cases.sh"
+tool=$(program_of ini_tool "${1:-}") || exit 1
+merge=$(program_of ini_merge "${2:-}") || exit 1
 skipped=0
-
-# says what a case wants and what it has, where these differ
-count() {
-    if cmp -s "$room/want" "$room/have"; then
-        passed=$((passed + 1))
-    else
-        failed=$((failed + 1))
-        echo "FAILED: $1"
-        diff "$room/want" "$room/have" | head -n 20
-    fi
-}
 
 # The files: a pair, 20,000 pairs, a text that is refused, a folder. A pair that is written like this stays as it is.
 printf 'k=v\n' >"$room/pair"
@@ -231,5 +203,4 @@ fi
 if [ "$skipped" -gt 0 ]; then
     echo "$skipped skipped: strace isn't here, or may trace no program"
 fi
-echo "$passed passed, $failed failed"
-[ "$failed" -eq 0 ]
+finish

@@ -3,52 +3,14 @@
 # in a fresh environment, where its tests run without compiler and kit. Type hints are looked at, by mypy too
 # where that is there. What is skipped, since a tool isn't there, is reported. The last line is 'N passed, M
 # failed', and the status is 1 if something failed.
-set -u
+. "$(dirname "$0")/cases.sh"
 LC_ALL=C.UTF-8
 export LC_ALL
 # a library of the caller's is none of the wheel's
 unset BIGROSK_INI_LIBRARY
-top=$(cd "$(dirname "$0")/.." && pwd)
-room=$(mktemp -d)
-trap 'rm -rf "$room"' EXIT
 clients=$top/tests/c_library
-passed=0
-failed=0
 
-# is NAME WANTED HAD
-is() {
-    if [ "$2" = "$3" ]; then
-        passed=$((passed + 1))
-    else
-        failed=$((failed + 1))
-        printf 'FAILED: %s\nwanted: %s\nhad: %s\n' "$1" "$2" "$3"
-    fi
-}
-
-# run NAME COMMAND..: counts whether the command ends well, and shows what it wrote if it doesn't
-run() {
-    name=$1
-    shift
-    if "$@" >"$room/log" 2>&1; then
-        passed=$((passed + 1))
-    else
-        failed=$((failed + 1))
-        echo "FAILED: $name"
-        tail -n 20 "$room/log"
-    fi
-}
-
-finish() {
-    echo "$passed passed, $failed failed"
-    [ "$failed" -eq 0 ]
-    exit
-}
-
-for tool in python3 gcc; do
-    command -v "$tool" >/dev/null && continue
-    echo "skipped: the wheel, since $tool isn't there"
-    finish
-done
+has python3 'the wheel' && has gcc 'the wheel' || finish
 CC=gcc
 export CC
 version=$(sed -n 's/^#define BIGROSK_INI_VERSION "\(.*\)"$/\1/p' "$top/c/bigrosk_ini.h")

@@ -7,20 +7,8 @@
 #     tests/words.sh [INI_FILE]
 #
 # The program is by default the one that its script builds.
-set -u
-LC_ALL=C
-export LC_ALL
-top=$(cd "$(dirname "$0")/.." && pwd)
-room=$(mktemp -d)
-trap 'rm -rf "$room"' EXIT
-program=${1:-}
-if [ -z "$program" ]; then
-    "$top/ini_file.sh" list - </dev/null || exit 1
-    program=$top/crates/ini_file/out/ini_file
-fi
-program=$(readlink -f "$program") || exit 1
-passed=0
-failed=0
+. "$(dirname "$0")/cases.sh"
+program=$(program_of ini_file "${1:-}") || exit 1
 source='; a server\nname=one\n[server]\nport=8080\n[client]\nid=7\n'
 policies='Nothing Basics BasicsUnicode BasicsUnicodeExtended Reserved ReservedUnicode ReservedUnicodeExtended Everything'
 traps='unclosed-bracket, unclosed-quote, joined-line, runs-on, comment-runs-on, dropped-line, lone-cr, header-in-value'
@@ -28,37 +16,6 @@ traps="$traps, pair-in-value, repeated-key, repeated-section, after-header, empt
 traps="$traps, mark-begins-key, colon-separates, escape-in-name, escape-in-key, escape, mark-in-value, text-after-quote"
 traps="$traps, half-quote, odd-space, not-plain"
 commands='get keys sections list set add delete delete-section rename-key rename-section merge format check'
-
-# says what a case wants and what it has, where these differ
-count() {
-    if cmp -s "$room/want" "$room/have"; then
-        passed=$((passed + 1))
-    else
-        failed=$((failed + 1))
-        echo "FAILED: $1"
-        diff "$room/want" "$room/have" | head -n 20
-    fi
-}
-
-# a folder with a file of the source; the next case runs in it
-fresh() {
-    cd "$room" || exit 1
-    rm -rf case
-    mkdir case
-    cd case || exit 1
-    printf "$source" >settings.ini
-}
-
-# ends NAME STATUS OUTPUT ERRORS WORD..: a run of the program on these words
-ends() {
-    name=$1
-    { printf -- "$3"; printf '%s\n' "$4" "status $2"; } >"$room/want"
-    shift 4
-    "$program" "$@" >"$room/out" 2>"$room/err"
-    status=$?
-    { cat "$room/out"; printf '%s\n' "$(cat "$room/err")" "status $status"; } >"$room/have"
-    count "$name"
-}
 
 # Each mistake is reported by one sentence, and where help is; nothing is read or written. WORDS|TOLD
 mistakes() {
@@ -421,5 +378,4 @@ refused
 bytes
 reasons
 hints
-echo "$passed passed, $failed failed"
-[ "$failed" -eq 0 ]
+finish
