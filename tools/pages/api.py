@@ -3,9 +3,9 @@
 
     tools/pages/api.py > docs/API.md
 
-Each public function, method and constant has a line: its signature, and the first sentence of its doc comment. A type or a function is
-public where its crate's lib.rt hands it out by `pub use`, or where it stands in a module that is `pub mod`. It reads the
-layout that `rt fmt` writes, and ends with status 1 and a line on standard error where it meets something that it does not
+Each public function, method and constant has a line: its signature, the names of what it ensures, and the first sentence of
+its doc comment; each public field and variant has one too. A type or a function is public where its crate's lib.rt hands it
+out by `pub use`, or where it stands in a module that is `pub mod`. It reads the layout that `rt fmt` writes, and ends with status 1 and a line on standard error where it meets something that it does not
 know, such as a public function without a doc comment, or a name that is handed out and found nowhere.
 """
 import re
@@ -21,9 +21,9 @@ ITEM = re.compile(r"pub (struct|enum|trait|type|fn|const fn) (\w+)")
 AFTER = re.compile(r"\s*(requires|ensures|decreases|where|\{|;|$)")
 HEAD = """# Public calls
 
-Every public function, method and constant of the libraries, with the first sentence of its comment. The contracts, which
-say the rest, stand below the signatures in the sources. `tools/pages/api.py` makes this page, and `tests/pages.sh` compares
-it.
+Every public function, method, field, variant and constant of the libraries, with the first sentence of its comment, and the
+names of the clauses that say what a call ensures. These stand below the signatures in the sources. `tools/pages/api.py` makes this page, and
+`tests/pages.sh` compares it.
 """
 
 
@@ -92,6 +92,17 @@ def signature(lines, at, where):
     return text.removeprefix("pub ")
 
 
+def ensured(lines, at):
+    """The names of the clauses of what the function on the line `at` ensures."""
+    found = []
+    for line in lines[at + 1 :]:
+        if line.strip() in ("", "{") or line.strip().startswith(("}", "///", "fn ", "pub ")):
+            break
+        clause = re.match(r"\s*ensures\*? (\w+) \{", line)
+        found += [clause[1]] if clause else []
+    return f" ({', '.join(found)})" if found else ""
+
+
 def owner(line):
     """The type of an `impl` line, and its trait, if it has one."""
     found = re.fullmatch(r"impl\b(.*)\{\}?", line)
@@ -107,7 +118,21 @@ def owner(line):
     first, of, kind = rest.partition(" for ")
     name = re.match(r"(?:&(?:'\w+ )?(?:mut )?)?\[?(\w+)", kind if of else first)
     trait = re.search(r"(\w+)(<.*>)?$", first) if of else None
-    return name and name[1], trait and trait[1]
+    return name and name[1], trait and (trait[0] if trait[1] == "From" else trait[1])
+
+
+def parts(lines, at, kind):
+    """The public fields of a struct, or the variants of an enum, that begins on the line `at`, each with its first sentence."""
+    found = []
+    if lines[at].endswith("{"):
+        pattern = r"    pub (\w+: .*?),?$" if kind == "struct" else r"    (\w+(?:\(.*\)| \{.*\})?),?$"
+        for number in range(at + 1, lines.index("}", at)):
+            part = re.match(pattern, lines[number])
+            if part:
+                above = next(it for it in lines[number - 1 :: -1] if not it.lstrip().startswith("#["))
+                says = sentence(lines, number, f"line {number + 1}") if above.lstrip().startswith("///") else ""
+                found.append((re.sub(r"#\[\w+\] ", "", part[1]), "", says))
+    return found
 
 
 def derived(lines, at):
@@ -150,22 +175,24 @@ def calls(crate):
                 seen.add(item[2])
                 name = item[2] if item[2] in own else f"{file.removesuffix('.rt').replace('/', '::')}::{item[2]}"
                 heads[name] = f"{item[1]}: {sentence(lines, at, where)}"
-                given.setdefault(name, [])
+                given.setdefault(name, [])[:0] = parts(lines, at, item[1])
                 traits.setdefault(name, []).extend(derived(lines, at))
                 if item[1] == "trait" and line.endswith("{"):
                     inside, in_trait = name, True
             elif item and "fn" in item[1] and (item[2] in own or module in modules):
                 seen.add(item[2])
                 name = file.removesuffix(".rt").replace("/", "::") if module in modules else ""
-                given.setdefault(name, []).append((signature(lines, at, where), sentence(lines, at, where)))
+                call = signature(lines, at, where), ensured(lines, at), sentence(lines, at, where)
+                given.setdefault(name, []).append(call)
             constant = CONSTANT.match(line)
             if constant and constant[2] in own:
                 seen.add(constant[2])
-                given.setdefault("", []).append((constant[1], sentence(lines, at, where)))
+                given.setdefault("", []).append((constant[1], "", sentence(lines, at, where)))
             method = FUNCTION.match(line.strip())
             if line.startswith("    ") and not line.startswith("     ") and method:
                 if (method[1] and inside in own) or (in_trait and inside in own):
-                    given.setdefault(inside, []).append((signature(lines, at, where), sentence(lines, at, where)))
+                    call = signature(lines, at, where), ensured(lines, at), sentence(lines, at, where)
+                    given.setdefault(inside, []).append(call)
                 elif method[1] and inside is None:
                     raise Unknown(f"{where}: a public function that stands in no type: {line.strip()}")
             elif line.startswith("    pub ") and inside and not re.match(r"    pub (const \w+:|ghost )", line):
@@ -194,8 +221,8 @@ def page():
                 text += f"{'An' if kind == 'enum' else 'A'} {kind}. {says}"
                 text += f" Traits: {', '.join(sorted(set(traits[name])))}." if traits[name] else ""
                 text += "\n" + "\n" * bool(given[name])
-            for call, says in given[name]:
-                text += f"- `{call}`: {says}\n"
+            for call, clauses, says in given[name]:
+                text += f"- `{call}`{clauses}{': ' * bool(says)}{says}\n"
     return text
 
 

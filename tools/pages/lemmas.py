@@ -1,21 +1,29 @@
 #!/usr/bin/env python3
-"""Prints docs/LEMMAS.md: which lemmas a crate's proofs cite of another crate of this repository.
+"""Prints docs/LEMMAS.md: the files of lemmas, and which lemmas a crate's proofs cite of another crate of this repository.
 
     tools/pages/lemmas.py > docs/LEMMAS.md
 
-It reads the lines `use Rattle.CRATE.proofs..` of all sources, specifications and proofs. It ends with status 1 and a line on
-standard error where such a line has a form that it does not know, or no list of names and no use of the name that it is
-brought in under.
+Of a file of lemmas it takes the first sentence of its head. It reads the lines `use Rattle.CRATE.proofs..` of all sources,
+specifications and proofs. It ends with status 1 and a line on standard error where such a line has a form that it does not know,
+or no list of names and no use of the name that it is brought in under, and where a file of lemmas has no head.
 """
 import re
 import sys
 from pathlib import Path
 
 TOP = Path(__file__).resolve().parents[2]
-HEAD = """# Lemmas cited across crates
+HEAD = """# Lemmas
 
-Which lemmas the proofs of one crate cite of another. `tools/pages/lemmas.py` makes this page, and `tests/pages.sh` compares it.
+Which lemmas the proofs of one crate cite of another, and what each file of lemmas is about. `tools/pages/lemmas.py` makes this
+page, and `tests/pages.sh` compares it.
+
+## Cited across crates
 """
+FILES = """
+## Files of lemmas
+
+| Crate | File | About |
+|---|---|---|"""
 USE = re.compile(r"^[ \t]*(?:pub[ \t]+|ghost[ \t]+)*use[ \t]+Rattle\.(ini\w*)\.proofs\.([\w.-]+?)(?:\.\{([^}]*)\}|[ \t]+as[ \t]+(\S+))[ \t;]*$", re.M)
 
 
@@ -37,6 +45,17 @@ def cited(path, text):
     return own, found
 
 
+def head(path):
+    """The first sentence of the comment with which a file begins."""
+    lines = path.read_text(encoding="utf-8").split("\n")
+    end = next((at for at, line in enumerate(lines) if not line.startswith("--")), len(lines))
+    text = " ".join(line.removeprefix("--").strip() for line in lines[:end])
+    found = re.match(r"(.*?[.!?:])(?:\s|$)", text)
+    if not found:
+        sys.exit(f"lemmas.py: {path.relative_to(TOP)}: no head")
+    return found[1].replace("|", "\\|")
+
+
 def main():
     by_crate = {}
     for path in sorted((TOP / "crates").rglob("*")):
@@ -52,6 +71,10 @@ def main():
         for (crate, file), names in sorted(rows.items()):
             listed = ", ".join(f"`{it}`" for it in sorted(names))
             print(f"| `{own}` | `{crate}` | `{file}` | {listed} |")
+    print(FILES)
+    for path in sorted((TOP / "crates").glob("*/proofs/**/*Lemmas.antt")):
+        crate, _, *inner = path.relative_to(TOP / "crates").with_suffix("").parts
+        print(f"| `{crate}` | `{'/'.join(inner)}` | {head(path)} |")
 
 
 main()
