@@ -9,6 +9,7 @@
 . "$(dirname "$0")/cases.sh"
 tool_script=$(readlink -f "${1:-"$top/ini_tool.sh"}")
 merge_script=$(readlink -f "${2:-"$top/ini_merge.sh"}")
+file_script=$(readlink -f "${3:-"$top/ini_file.sh"}")
 program=$(program_of ini_tool "${1:-}") || exit 1
 merge=$(program_of ini_merge "${2:-}") || exit 1
 file=$(program_of ini_file "${3:-}") || exit 1
@@ -410,6 +411,7 @@ examples() {
     cp -r "$top/examples" "$here/examples"
     ln -s "$tool_script" "$here/ini_tool.sh"
     ln -s "$merge_script" "$here/ini_merge.sh"
+    ln -s "$file_script" "$here/ini_file.sh"
     awk -v to="$here/shown" '
         /^```console$/ { inside = 1; next }
         /^```/ { inside = 0 }
