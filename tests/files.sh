@@ -505,7 +505,7 @@ streaming() {
     bounded get /dev/stdin a <"$room/text" | cat >"$room/have"
     cat "$room/text" | bounded set --output - /dev/stdin a 2 >>"$room/have"
     cat "$room/text" | bounded merge --output - settings.ini /dev/stdin | sed -n '/^a/p' >>"$room/have"
-    printf '1\na = 2\na=1\n' >"$room/want"
+    printf '1\na = 2\na = 1\n' >"$room/want"
     count 'a pipe is read where it is not written'
     { printf "$source"; echo settings.ini; } >"$room/want"
     { cat settings.ini; ls -A; } >"$room/have"
@@ -524,7 +524,7 @@ bounded() {
 telling() {
     fresh
     escape=$(printf '\033')
-    printf '[n%s]\nk\\x001b[2J\\nz = '"' v'\\n" "$escape" >../odd.ini
+    printf '[n%s]\nk\\x001b[2J\\nz = " \\"'"'"'"\n' "$escape" >../odd.ini
     case_of 'control characters of a key and a name' 2 '' \
         "ini_file: settings.ini: [n\\x001b] k\\x001b[2J\\x000az: this value can't be written so that it is read back$edges" \
         merge settings.ini ../odd.ini
