@@ -64,9 +64,14 @@ def part(text, head):
     return text.split(f".SH {head}\n")[1].split("\n.SH ")[0]
 
 
+def below(head):
+    """What docs/PROGRAM.md has below a head."""
+    return (TOP / "docs/PROGRAM.md").read_text().split(f"\n## {head}\n")[1].split("\n## ")[0]
+
+
 def documented(program):
-    """What docs/PROGRAM.md has of the program."""
-    return (TOP / "docs/PROGRAM.md").read_text().split(f"\n## `{program}`\n")[1].split("\n## ")[0]
+    """What it has of the program."""
+    return below(f"`{program}`")
 
 
 def rows(text):
@@ -125,7 +130,7 @@ def options():
         document=before | options_in(documented("ini_file")) & options_in(shown),
         completions=offered("ini_file", "-") | by_commands,
     )
-    table = {row.strip("`").split()[0] for row in rows(documented("ini_tool")) if row.startswith("`--")}
+    table = {row.strip("`").split()[0] for row in rows(below("Options")) if row.startswith("`--")}
     same("options in the table", help=before, document=table)
 
 
@@ -136,7 +141,7 @@ def policies():
     same(
         "policies",
         page=set(re.findall(r"^\.BR? ([A-Z]\w*)", named, re.M)),
-        document=set(re.findall(r"`([A-Z]\w*)`", " ".join(rows(documented("ini_tool"))))),
+        document=set(re.findall(r"`([A-Z]\w*)`", " ".join(rows(below("Options"))))),
         completions=names,
         program={name for name in names if run("ini_tool", "--policy", name, "fmt")[0] == 0},
     )
