@@ -21,7 +21,7 @@ static size_t make(char *to, enum edit what)
             end += it == rename_key ? sprintf(end, "another") : sprintf(end, "key%d", k);
             end += it == set ? sprintf(end, " = another\n") : sprintf(end, " = a value of %d\n", s);
         }
-        if (here == add) end += sprintf(end, "key50=another\n");
+        if (here == add) end += sprintf(end, "key50 = another\n");
     }
     return (size_t)(end - to);
 }

@@ -241,7 +241,7 @@ def faults():
 
 def unwritable():
     for what, call in (
-        ("value", lambda: edit_set("k=1", None, "k", " 1")),
+        ("value", lambda: edit_set("k=1", None, "k", " 1", ReadOption(quotes=False))),
         ("key", lambda: edit_add("k=1", None, "", "1")),
         ("name", lambda: edit_rename_section("[s]", "s", " t")),
         ("place", lambda: edit_set("[a]\n  junk", "a", "k", "v", ReadOption(multiline=True))),
