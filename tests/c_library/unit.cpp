@@ -56,7 +56,7 @@ int main()
     bool good = settings.get(nullptr, "port") == "8080" && settings.get("paths", "log") == "/var/log/app"
         && settings.get("paths", "port").empty();
     good = good && without("# c\n[s]\na=1\nb=2\n", "s", "a") == "# c\n[s]\nb=2\n" && without("a=1", "s", "a") == "a=1"
-        && with("# c\n[s]\na = 1 \n", "s", "a", "2") == "# c\n[s]\na = 2 \nnew=2\n";
+        && with("# c\n[s]\na = 1 \n", "s", "a", "2") == "# c\n[s]\na = 2 \nnew = 2\n";
     std::puts(good ? "good" : "FAILED");
     return !good;
 }

@@ -60,7 +60,7 @@ static void edits_of_a_text(void)
     CHECK(bigrosk_ini_edit_set_str(text, NULL, "a", "2", out, sizeof out, &count, &f) == BIGROSK_INI_OK);
     CHECK(!strcmp(out, "; c\na = 2\n[s]\nk = x\nk = y\n") && count == strlen(out));
     CHECK(bigrosk_ini_edit_add_str(text, NULL, "b", "2", out, sizeof out, &count, &f) == BIGROSK_INI_OK);
-    CHECK(!strcmp(out, "; c\na = 1\nb=2\n[s]\nk = x\nk = y\n"));
+    CHECK(!strcmp(out, "; c\na = 1\nb = 2\n[s]\nk = x\nk = y\n"));
     CHECK(bigrosk_ini_edit_delete_str(text, "s", "k", out, sizeof out, &count, &f) == BIGROSK_INI_OK);
     CHECK(!strcmp(out, "; c\na = 1\n[s]\nk = y\n"));
     CHECK(bigrosk_ini_edit_rename_key_str(text, "s", "k", "j", out, sizeof out, &count,
@@ -71,7 +71,7 @@ static void edits_of_a_text(void)
     CHECK(!strcmp(out, "; c\na = 1\n[t]\nk = x\nk = y\n"));
     CHECK(bigrosk_ini_edit_delete_section_str(text, "s", out, sizeof out, &count, &f) == BIGROSK_INI_OK);
     CHECK(!strcmp(out, "; c\na = 1\n"));
-    CHECK(bigrosk_ini_edit_set_str(text, NULL, "a", " 2", out, 5, &count, &f) == BIGROSK_INI_UNPLAIN_VALUE);
+    CHECK(bigrosk_ini_edit_set_str(text, NULL, "a", " \"'", out, 5, &count, &f) == BIGROSK_INI_UNPLAIN_VALUE);
     CHECK(bigrosk_ini_edit_set_str(text, NULL, "a", "2", out, 5, &count, &f) == BIGROSK_INI_NO_ROOM
         && count == 26);
 }
