@@ -1,3 +1,4 @@
+pub mod Dialects
 pub mod Inside
 pub mod LookupLaws
 pub mod Lookups

@@ -8,12 +8,14 @@
 mod edit;
 mod get;
 pub mod laws;
+mod presets;
 mod rule;
 #[cfg(test)]
 mod tests;
 mod typed;
 mod walk;
 
+pub use presets::{Dialect, NamedDialect, dialects};
 pub use rule::{CaseRule, Lookup, SectionRule, ValueRule};
 pub use typed::{as_bool, as_duration, as_float, as_integer, as_size};
 pub use walk::AnyDocument;

@@ -1,9 +1,10 @@
-//! Rows of questions with their answers: look-ups and edits under each rule, and values with types. The
-//! answers are read from the definitions by hand.
+//! Rows of questions with their answers: look-ups and edits under each rule, dialects, and values with types. The
+//! answers are read from the definitions by hand; what a dialect answers, from the manuals of its programs.
+use crate::presets::{Dialect, dialects};
 use crate::rule::{CaseRule, Lookup, SectionRule, ValueRule};
 use crate::typed::{as_bool, as_duration, as_float, as_integer, as_size};
 use crate::walk::AnyDocument;
-use ini::Ini;
+use ini::{Ini, WriteOption};
 use ini_view::View;
 use std::fmt::Write;
 use std::panic::Expect;
@@ -211,6 +212,124 @@ fn all_pairs_that_are_looked_at_are_deleted(rt: HostRuntime) {
                 .is_ok()
         );
         expect_shown(&rt, &document, want);
+    }
+}
+
+/// Asks a text of a dialect for a value.
+fn expect_read(
+    rt: &(impl Abort + AllocGlobal),
+    (name, text, section, key, want): (&str, &str, &str, &str, Option<&str>),
+) {
+    let dialect = Dialect::of_name(name).expect(rt, "a dialect");
+    let document = Ini::load_from_str_opt(rt.alloc(), text, dialect.read).expect(rt, "a document");
+    let asked = (Some(section), key, want);
+    let found = answers(dialect.lookup, AnyDocument::Ini(&document), asked);
+    assert!(rt; found, "{name} {key}, and not {want:?}");
+}
+
+#[test]
+fn a_dialect_reads_as_its_program_does(rt: HostRuntime) {
+    for row in [
+        ("crate", "[a]\nk=1\nk=2\n[a]\nk=3\n", "a", "k", Some("1")),
+        (
+            "git",
+            "[core]\n\teditor = vi\n[Core]\n\tEditor = ed\n",
+            "core",
+            "editor",
+            Some("ed"),
+        ),
+        (
+            "systemd",
+            "[Unit]\nA=\"a\"\n[Unit]\nB=C:\\x\n",
+            "Unit",
+            "A",
+            Some("\"a\""),
+        ),
+        (
+            "systemd",
+            "[Unit]\nA=1\n[Unit]\nB=C:\\x\n",
+            "Unit",
+            "B",
+            Some("C:\\x"),
+        ),
+        ("systemd", "[Unit]\nA=1\n", "Unit", "a", None),
+        (
+            "desktop",
+            "[Desktop Entry]\nName=\"a\"\n",
+            "Desktop Entry",
+            "Name",
+            Some("\"a\""),
+        ),
+        ("python", "[a]\nK = 1\n  2\n", "a", "k", Some("1\n2")),
+        (
+            "windows",
+            "[A]\nk=C:\\new\n[a]\nK=2\n",
+            "a",
+            "K",
+            Some("C:\\new"),
+        ),
+        ("kde", "[a][b]\nk=1\n", "a][b", "k", Some("1")),
+        (
+            "editorconfig",
+            "[[ab].c]\nindent_size = 4\n",
+            "[ab].c",
+            "Indent_Size",
+            Some("4"),
+        ),
+        (
+            "openttd",
+            "[a]\nk = \"1\"\nk = 2\n",
+            "a",
+            "k",
+            Some("\"1\""),
+        ),
+    ] {
+        expect_read(&rt, row);
+    }
+}
+
+/// Writes one pair by a dialect.
+fn expect_written(rt: &(impl Abort + AllocGlobal), name: &str, want: &str) {
+    let dialect = Dialect::of_name(name).expect(rt, "a dialect");
+    let mut document = Ini::new(rt.alloc()).expect(rt, "a document");
+    let lookup = dialect.lookup;
+    assert!(rt;
+        lookup
+            .set(rt.alloc(), &mut document, None, "k", "a\tb")
+            .is_ok()
+    );
+    let option = WriteOption {
+        escape_policy: dialect.write.escape_policy,
+        line_separator: dialect.write.line_separator,
+        kv_separator: dialect.write.kv_separator,
+    };
+    let text = document.to_text(rt.alloc(), option).expect(rt, "a text");
+    assert!(rt; text.as_str() == want, "{name}: {text:?}");
+}
+
+#[test]
+fn a_dialect_writes_as_its_program_reads(rt: HostRuntime) {
+    for (name, want) in [
+        ("crate", "k=a\\tb\n"),
+        ("git", "k = a\\tb\n"),
+        ("samba", "k = a\tb\n"),
+        ("windows", "k=a\tb\r\n"),
+    ] {
+        expect_written(&rt, name, want);
+    }
+}
+
+#[test]
+fn other_names_are_none(rt: HostRuntime) {
+    for name in ["", "Git", "git ", "ini", "strict"] {
+        assert!(rt; Dialect::of_name(name).is_none(), "{name:?}");
+    }
+    for named in dialects() {
+        let name = named.name;
+        assert!(rt;
+            Dialect::of_name(name).is_some() && !named.files.is_empty(),
+            "{name:?}"
+        );
     }
 }
 

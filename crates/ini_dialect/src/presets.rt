@@ -1,0 +1,266 @@
+//! Dialects by name: how the files of a program are read, written and looked up. What each name stands for is
+//! said in one table. This file knows no text.
+ghost use Rattle.std.specs.Prelude.{◌≡◌, map};
+ghost use Rattle.std.specs.Option.{option_map};
+ghost use Rattle.ini_dialect.specs.Dialects.{dialect_of, named_shown, presets, shown};
+
+use crate::rule::{CaseRule, Lookup, SectionRule, ValueRule};
+use ini_text::{EscapePolicy, LineSeparator, ParseOption, WriteOption};
+
+/// How the files of a program are read, written and looked up.
+#[derive(Clone, Drop)]
+pub struct Dialect {
+    /// How they are read.
+    pub read: ParseOption,
+    /// How new lines are written, so that the program reads back what was set.
+    pub write: WriteOption,
+    /// Which sections and values count.
+    pub lookup: Lookup,
+}
+
+impl Dialect {
+    /// The dialect of a name, if there is one.
+    pub fn of_name(name: &str) -> Option<&'static Dialect>
+        ensures { option_map (λ dialect. shown dialect.now) result ≡ dialect_of name.now }
+    {
+        let all = dialects();
+        for named in all {
+            if name == named.name {
+                return Some(&named.dialect);
+            }
+        }
+        None
+    }
+}
+
+/// A dialect with its name.
+#[derive(Clone, Drop)]
+pub struct NamedDialect {
+    /// The name, as users give it.
+    pub name: &'static str,
+    /// The files that it is for, in a few words.
+    pub files: &'static str,
+    /// What the name stands for.
+    pub dialect: Dialect,
+}
+
+/// The dialects, each with its name.
+pub fn dialects() -> &'static [NamedDialect]
+    ensures { map named_shown result.now ≡ presets }
+{
+    &DIALECTS
+}
+
+// Ways to read: the default one; one in which a backslash is a character like others; in which quotes are; in
+// which both are; so with values of several lines, or with brackets in names; and brackets in names alone.
+const STANDARD: ParseOption = ParseOption {
+    enabled_quote: true,
+    enabled_escape: true,
+    enabled_indented_mutiline_value: false,
+    enabled_preserve_key_leading_whitespace: false,
+    enabled_brackets_in_section_names: false,
+};
+
+const RAW: ParseOption = ParseOption {
+    enabled_escape: false,
+    ..STANDARD
+};
+
+const UNQUOTED: ParseOption = ParseOption {
+    enabled_quote: false,
+    ..STANDARD
+};
+
+const VERBATIM: ParseOption = ParseOption {
+    enabled_quote: false,
+    ..RAW
+};
+
+const INDENTED: ParseOption = ParseOption {
+    enabled_indented_mutiline_value: true,
+    ..VERBATIM
+};
+
+const PATTERNS: ParseOption = ParseOption {
+    enabled_brackets_in_section_names: true,
+    ..VERBATIM
+};
+
+const BRACKETED: ParseOption = ParseOption {
+    enabled_brackets_in_section_names: true,
+    ..STANDARD
+};
+
+// Rules: the first section and value; the same in any case; all sections joined, and the last value; that in
+// any case.
+const FIRST: Lookup = Lookup {
+    sections: SectionRule::First,
+    values: ValueRule::First,
+    case: CaseRule::Kept,
+};
+
+const FIRST_ANY_CASE: Lookup = Lookup {
+    case: CaseRule::Ignored,
+    ..FIRST
+};
+
+const LAST: Lookup = Lookup {
+    sections: SectionRule::Joined,
+    values: ValueRule::Last,
+    case: CaseRule::Kept,
+};
+
+const LAST_ANY_CASE: Lookup = Lookup {
+    case: CaseRule::Ignored,
+    ..LAST
+};
+
+// A row of the table: name, way to read, policy, separator, rule, files. Lines end with LF.
+macro_rules! preset {
+    ($name:literal, $read:expr, $policy:ident, $separator:literal, $lookup:expr, $files:literal) => {
+        preset!($name, $read, $policy, $separator, SystemDefault, $lookup, $files)
+    };
+    (
+        $name:literal,
+        $read:expr,
+        $policy:ident,
+        $separator:literal,
+        $line_separator:ident,
+        $lookup:expr,
+        $files:literal
+    ) => {
+        NamedDialect {
+            name: $name,
+            files: $files,
+            dialect: Dialect {
+                read: $read,
+                write: WriteOption {
+                    escape_policy: EscapePolicy::$policy,
+                    line_separator: LineSeparator::$line_separator,
+                    kv_separator: $separator,
+                },
+                lookup: $lookup,
+            },
+        }
+    };
+}
+
+static DIALECTS: [NamedDialect; 25] = [
+    preset!(
+        "crate",
+        STANDARD,
+        Basics,
+        "=",
+        FIRST,
+        "files of this library, read by its defaults"
+    ),
+    preset!(
+        "git",
+        STANDARD,
+        Basics,
+        " = ",
+        LAST_ANY_CASE,
+        ".gitconfig, .gitmodules"
+    ),
+    preset!(
+        "systemd",
+        VERBATIM,
+        Nothing,
+        "=",
+        LAST,
+        "units, timers, networks"
+    ),
+    preset!(
+        "desktop",
+        UNQUOTED,
+        Basics,
+        "=",
+        LAST,
+        "desktop entries, what GKeyFile reads"
+    ),
+    preset!(
+        "python",
+        INDENTED,
+        Nothing,
+        " = ",
+        LAST_ANY_CASE,
+        "setup.cfg, tox.ini, what configparser reads"
+    ),
+    preset!("php", STANDARD, Nothing, " = ", LAST, "php.ini"),
+    preset!("mysql", RAW, Basics, "=", LAST, "my.cnf"),
+    preset!("samba", RAW, Nothing, " = ", LAST_ANY_CASE, "smb.conf"),
+    preset!(
+        "windows",
+        RAW,
+        Nothing,
+        "=",
+        CRLF,
+        FIRST_ANY_CASE,
+        "desktop.ini, .inf, .url"
+    ),
+    preset!("kde", BRACKETED, Basics, "=", LAST, "KDE's rc files"),
+    preset!(
+        "supervisor",
+        RAW,
+        Nothing,
+        "=",
+        LAST_ANY_CASE,
+        "supervisord.conf"
+    ),
+    preset!(
+        "fail2ban",
+        INDENTED,
+        Nothing,
+        " = ",
+        LAST_ANY_CASE,
+        "jail.conf, jail.local"
+    ),
+    preset!(
+        "aws",
+        INDENTED,
+        Nothing,
+        " = ",
+        LAST_ANY_CASE,
+        ".aws/config, .aws/credentials"
+    ),
+    preset!(
+        "editorconfig",
+        PATTERNS,
+        Nothing,
+        " = ",
+        LAST_ANY_CASE,
+        ".editorconfig"
+    ),
+    preset!("npm", RAW, Basics, "=", LAST, ".npmrc"),
+    preset!("qt", STANDARD, Basics, "=", LAST, "what QSettings writes"),
+    preset!("hg", RAW, Nothing, " = ", LAST, ".hgrc"),
+    preset!(
+        "pulseaudio",
+        STANDARD,
+        Nothing,
+        " = ",
+        LAST,
+        "daemon.conf, client.conf"
+    ),
+    preset!(
+        "odbc",
+        STANDARD,
+        Nothing,
+        " = ",
+        FIRST_ANY_CASE,
+        "odbc.ini, odbcinst.ini"
+    ),
+    preset!(
+        "freetds",
+        STANDARD,
+        Nothing,
+        " = ",
+        LAST_ANY_CASE,
+        "freetds.conf"
+    ),
+    preset!("sssd", RAW, Nothing, " = ", LAST, "sssd.conf"),
+    preset!("openssl", STANDARD, Basics, " = ", LAST, "openssl.cnf"),
+    preset!("uwsgi", STANDARD, Nothing, " = ", LAST, "uwsgi.ini"),
+    preset!("xrdp", STANDARD, Nothing, "=", LAST, "xrdp.ini, sesman.ini"),
+    preset!("openttd", UNQUOTED, Nothing, " = ", FIRST, "openttd.cfg"),
+];
