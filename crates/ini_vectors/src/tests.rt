@@ -2,6 +2,7 @@
 //! as values. What a row can ask stands in the case files of `ini_cases`.
 mod borrowed;
 mod calls;
+mod differences;
 mod edits;
 mod files;
 mod large;

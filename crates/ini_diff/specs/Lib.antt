@@ -1,0 +1,3 @@
+pub mod Settings
+pub mod Differences
+pub mod Inside

@@ -1,0 +1,28 @@
+-- Settings, and what documents answer of them.
+use Rattle.std.specs.Prelude.{◌≡◌, Bool, ◌&&◌, List, [], map, flat_map, Option, unwrap_or}
+use Rattle.ini.specs.Documents.{Document, first_section, names, value_in}
+use Rattle.ini.specs.Properties.{distinct}
+use Rattle.ini.specs.Texts.{Text, is_name, is_text}
+
+-- a setting: the name of its section, and its key
+abbrev pub Setting : Type 0
+Setting = Option Text × Text
+
+abbrev pub is_setting : Setting → Setting → Bool
+is_setting s t = is_name s.0 t.0 && is_text s.1 t.1
+
+-- its value: the first one of the key in the first section of the name
+abbrev pub value_of : Setting → Document → Option Text
+value_of s d = value_in s.0 s.1 d
+
+-- every look-up answers the same
+abbrev pub AnswerAlike : Document → Document → Type 0
+AnswerAlike d e = (name : Option Text) (key : Text) → value_in name key d ≡ value_in name key e
+
+-- the settings of the first section of the name, each once, in order
+abbrev pub settings_in : Document → Option Text → List Setting
+settings_in d name = map (λ key. (name, key)) (distinct (unwrap_or (first_section name d) []))
+
+-- the settings of a document, each once: name by name, in order
+abbrev pub settings : Document → List Setting
+settings d = flat_map (settings_in d) (names d)
