@@ -62,10 +62,10 @@ module _ (o : ParseOption) (w : WriteOption) (key value source : Text) (ss : Lis
   maker_there = made o w key value source (style_after o w ss p p.here.pairs)
 
   -- the pair at the end of the section
-  abbrev put_there : Text → Option SectionPiece
+  abbrev pub put_there : Text → Option SectionPiece
   put_there end = pair_put_last o end maker_there (is_nil p.after) p.here p.here.pairs
 
-  made_there : {style : Style} (pair : NewPair) {count : ℕ} → style ≡ style_at o w ss i count
+  pub made_there : {style : Style} (pair : NewPair) {count : ℕ} → style ≡ style_at o w ss i count
       → IsNewPair w.escape_policy style key value source pair → count ≡ length p.here.pairs
       → (indented : Bool) (lines rest : Text)
       → made_pair o pair indented lines rest ≡ maker_there indented lines rest
@@ -74,7 +74,7 @@ module _ (o : ParseOption) (w : WriteOption) (key value source : Text) (ss : Lis
       ∙ ap (λ z. new_pair o w.escape_policy z indented key value source lines rest)
       (styled ∙ style_is_new o w count at (take_all count p.here.pairs (omega (arith, counts))))
 
-  put_so : (end : Text) (pair : NewPair) {here : SectionPiece} {is_last : Bool} {q : Option SectionPiece}
+  pub put_so : (end : Text) (pair : NewPair) {here : SectionPiece} {is_last : Bool} {q : Option SectionPiece}
       → ((indented : Bool) (lines rest : Text)
       → made_pair o pair indented lines rest ≡ maker_there indented lines rest)
       → here ≡ p.here → is_last ≡ (i + 1 == length ss)
@@ -93,7 +93,7 @@ module _ (o : ParseOption) (w : WriteOption) (key value source : Text) (ss : Lis
       ∙ ap (option_map (λ t. exchanged p (t ∷ []))) (ap put_there (sym end) ∙ put)
 
   -- what the sections are then, and what the call gives
-  stands_so : (sep : LineSeparator) (new : SectionPiece) → IsWritableNew o w key value
+  pub stands_so : (sep : LineSeparator) (new : SectionPiece) → IsWritableNew o w key value
       → IsFirstReadAs o value (value_forms w.escape_policy [] value) source
       → put_there (line_end sep) ≡ Some new → AreSections o ss → AreSections o (set ss i new)
   stands_so sep new writable first put are =

@@ -101,6 +101,7 @@ pub mod SourceFindLemmas
 pub mod SourceFoundLemmas
 pub mod SourceLineLemmas
 pub mod SourceLineWalkLemmas
+pub mod SourceIndexLemmas
 pub mod SourceListLemmas
 pub mod SourcePartLemmas
 pub mod SourcePlaceLemmas

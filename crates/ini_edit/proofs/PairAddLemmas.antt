@@ -82,7 +82,7 @@ module _ (o : ParseOption) (w : WriteOption) (ss : List SectionPiece) {key value
       (source_for first) at (last_place p ps) whole are)
 
   -- and give the pair last
-  gives_last : (end : Text) (is_last : Bool) (new : SectionPiece) (pairs : List PairPiece)
+  pub gives_last : (end : Text) (is_last : Bool) (new : SectionPiece) (pairs : List PairPiece)
       → s.here.pairs ≡ pairs
       → pair_put_last o end maker_there is_last s.here pairs ≡ Some new
       → given_section new ≡ (s.here.name, map given_pair s.here.pairs ++ (key, value) ∷ [])

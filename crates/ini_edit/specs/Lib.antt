@@ -16,6 +16,7 @@ pub mod Sections
 pub mod SourceEdits
 pub mod SourceEditsAdd
 pub mod SourceEditsAdded
+pub mod SourceEditsAt
 pub mod SourceEditsComments
 pub mod SourceEditsDelete
 pub mod SourceEditsList

@@ -33,6 +33,7 @@ use std::io::Write;
 use std::marker::Model;
 
 pub(crate) mod add;
+mod at;
 mod comments;
 mod delete;
 pub(crate) mod elements;

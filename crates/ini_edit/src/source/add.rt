@@ -167,8 +167,8 @@ impl<'a> Source<'a> {
         Ok(true)
     }
 
-    // How a pair before the one at the index in a section is written.
-    fn style(&self, section: usize, index: usize, write: &WriteOption) -> PairStyle<'a, '_>
+    /// How a pair before the one at the index in a section is written.
+    pub(crate) fn style(&self, section: usize, index: usize, write: &WriteOption) -> PairStyle<'a, '_>
         requires { IsPlainSeparator (chars write.now.kv_separator.now) }
         ensures { style_of result ≡ style_at self.now.option write.now self.now.sections section index }
     {
@@ -201,8 +201,8 @@ impl<'a> Source<'a> {
     }
 }
 
-// The raw value of a pair that can be written.
-fn checked_pair(
+/// The raw value of a pair that can be written.
+pub(crate) fn checked_pair(
     alloc: Global,
     key: &str,
     value: &str,

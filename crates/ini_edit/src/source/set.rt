@@ -208,8 +208,8 @@ impl<'a> Source<'a> {
 }
 
 impl<'a> SourceSection<'a> {
-    // Sets the value of the pair at the index. Refused, the section stays.
-    fn set_at(
+    /// Sets the value of the pair at the index. Refused, the section stays.
+    pub(crate) fn set_at(
         &mut self,
         alloc: Global,
         index: usize,
