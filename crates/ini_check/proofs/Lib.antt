@@ -3,3 +3,4 @@ pub mod NoteLemmas
 pub mod WalkLemmas
 pub mod Worked
 pub mod OneListLemmas
+pub mod MendLemmas

@@ -7,7 +7,7 @@ use Rattle.ini_text.specs.Errors.Messages.{HasMessage}
 use Rattle.ini_text.specs.Grammar.Elements.{Given}
 use Rattle.ini_text.specs.Grammar.Texts.{Reads, Stops}
 use Rattle.ini_text.specs.Parsing.Parser.{Place}
-use Rattle.ini_text.specs.Parsing.Places.{AnswersElement, StopsAfter, gives}
+use Rattle.ini_text.specs.Parsing.Places.{AnswersElement, StandsBetween, StopsAfter, gives}
 use Rattle.ini_text.specs.declared.error.Error.{Error}
 use Rattle.ini_text.specs.declared.error.Error.TheVariants.{Parse}
 use Rattle.ini_text.specs.declared.error.ParseError.{ParseError}
@@ -68,15 +68,29 @@ module _ {o : ParseOption} {T : Text} where
         (subst (λ x. MatchOption x (IsPastLast p.option p.text p.front q)
         (Steps p.option p.text p.front q)) same h)
 
+  pub stands_read : {b c : Text} {e : PlacedElement} → StandsBetween o T b c e
+      → Reads o T b (gives e.content) c
+  stands_read {b} {e = e} stands =
+      let source = chars e.source.now in
+      subst (Reads o T b (gives e.content)) (sym stands.reaches)
+      (subst (λ l. Reads o T b l (b ++ source)) (append-nil (gives e.content))
+      (Reads.step stands.whole stands.is_element
+      (Reads.stay stands.rest (stands.whole ∙ sym (append_assoc b source stands.rest)))))
+
+  -- what was read up to where the parser stands
+  pub reads_within : {p : Place} {items : List Given} → IsReading o T p → Reads o T [] items p.front
+      → StandsWithin p
+  reads_within {p} {items} is reads = record {
+    refusal = is.refusal;
+    items = items;
+    reads =
+        subst (λ x. Reads x p.text [] items p.front) (sym is.option)
+        (subst (λ x. Reads o x [] items p.front) (sym is.text) reads);
+  }
+
   module _ {b : Text} {q : Place} {e : PlacedElement} (s : Steps o T b q e) where
     pub step_reads : Reads o T b (gives e.content) q.front
-    step_reads =
-        let stands = s.stands in
-        let source = chars e.source.now in
-        subst (Reads o T b (gives e.content)) (sym stands.reaches)
-        (subst (λ l. Reads o T b l (b ++ source)) (append-nil (gives e.content))
-        (Reads.step stands.whole stands.is_element
-        (Reads.stay stands.rest (stands.whole ∙ sym (append_assoc b source stands.rest)))))
+    step_reads = stands_read s.stands
 
     pub step_nearer : length T - length q.front < length T - length b
     step_nearer =
@@ -94,13 +108,7 @@ module _ {o : ParseOption} {T : Text} where
 
   module _ {p : Place} {m : Position} {seen : Seen} {ws : List Warning} (s : Checks o T p m seen ws) where
     pub checks_within : StandsWithin p
-    checks_within = record {
-      refusal = s.is_reading.refusal;
-      items = s.items;
-      reads =
-          subst (λ x. Reads x p.text [] s.items p.front) (sym s.is_reading.option)
-          (subst (λ x. Reads o x [] s.items p.front) (sym s.is_reading.text) s.reads);
-    }
+    checks_within = reads_within s.is_reading s.reads
 
     pub checks_end : {q : Place} → IsPastLast o T p.front q → AreWarningsOf o T ws
     checks_end h = record {

@@ -5,6 +5,7 @@
 pub mod laws;
 mod lexical;
 mod lower;
+mod mends;
 mod note;
 mod position;
 mod seen;
@@ -13,5 +14,6 @@ mod walk;
 mod warn;
 mod warning;
 
+pub use mends::{mend, mended_traps};
 pub use walk::check;
 pub use warning::{Level, TRAPS, Trap, Warning};

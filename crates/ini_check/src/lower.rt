@@ -19,8 +19,8 @@ pub(crate) fn lowered(alloc: Global, text: &str) -> Result<String, AllocError>
     Ok(made)
 }
 
-// Appends a character.
-fn push(out: &mut String, c: char) -> Result<(), AllocError>
+/// Appends a character.
+pub(crate) fn push(out: &mut String, c: char) -> Result<(), AllocError>
     ensures { OnOk result (string_text out.new ≡ string_text out.old ++ c ∷ []) }
 {
     out.push(c)

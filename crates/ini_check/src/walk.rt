@@ -36,8 +36,8 @@ pub fn check(alloc: Global, text: &str, read: ParseOption) -> Result<Vec<Warning
     Ok(warnings)
 }
 
-// The next element, and `None` at the text's end.
-fn step<'a>(parser: &mut Parser<'a>) -> Result<Option<PlacedElement<'a>>, Error>
+/// The next element, and `None` at the text's end.
+pub(crate) fn step<'a>(parser: &mut Parser<'a>) -> Result<Option<PlacedElement<'a>>, Error>
     requires { StandsWithin parser.old }
     ensures element { IfOk result (λ found. MatchOption found
         (IsPastLast parser.old.option parser.old.text parser.old.front parser.new)

@@ -149,8 +149,8 @@ fn warn_pair(
     Ok(())
 }
 
-// What stands in a pair's source after its key and the separator.
-fn after_separator<'a>(source: &'a str, key: &str) -> &'a str
+/// What stands in a pair's source after its key and the separator.
+pub(crate) fn after_separator<'a>(source: &'a str, key: &str) -> &'a str
     ensures { chars result.now ≡ drop 1 (drop (length (chars key.now)) (chars source.now)) }
 {
     match split_first(after_front(source, key)) {

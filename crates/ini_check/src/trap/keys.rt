@@ -90,8 +90,8 @@ fn begins_escape(in_name: bool, source: &str) -> bool
     false
 }
 
-// Whether a backslash before the character is meant.
-fn is_meant(in_name: bool, c: char) -> bool
+/// Whether a backslash before the character is meant.
+pub(crate) fn is_meant(in_name: bool, c: char) -> bool
     ensures { result ≡ is_meant in_name c }
 {
     matches!(c, '\\' | '"' | '\'' | '=' | ':' | ';' | '#') || (in_name && c == ']')

@@ -93,8 +93,8 @@ fn ends_with_first(mark: char, text: &str) -> bool
     false
 }
 
-// Whether there is white space alone up to the line's end.
-fn is_white_to_line_end(text: &str) -> bool
+/// Whether there is white space alone up to the line's end.
+pub(crate) fn is_white_to_line_end(text: &str) -> bool
     ensures { result ≡ is_white_to_line_end (chars text.now) }
 {
     let mut rest = text;

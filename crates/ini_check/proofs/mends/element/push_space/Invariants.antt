@@ -1,0 +1,15 @@
+use Rattle.std.proofs.Common.{◌≡◌, ◌++◌, length, chars}
+use denote.Text.{Utf8}
+use denote.Shadow.{shadow}
+use Rattle.ini_text.specs.Parsing.Items.{string_text}
+use Rattle.ini_check.specs.Traps.Values.{space_of}
+use Rattle.ini_check.proofs.mends.element.push_space.Given as goal
+
+abbrev pub decreases-characters : goal.decreases-characters
+decreases-characters l = length (chars l.rest)
+
+abbrev pub invariant-characters : goal.invariant-characters
+invariant-characters l = record {
+  text : shadow (Utf8 l.rest);
+  made : string_text l.out ++ space_of (chars l.rest) ≡ string_text l.fn.out ++ space_of (chars l.source);
+}
