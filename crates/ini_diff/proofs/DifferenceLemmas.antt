@@ -27,7 +27,7 @@ module _ (from to : Document) (name : Option Text) (key : Text) where
 
   module _ (test : SettingChange → Bool) where
     -- the change of the setting is found where the setting is among those gone through, and passes
-    find-listed : (ss : List Setting) → find (is_of name key) (filter test (map (change_of from to) ss))
+    pub find-listed : (ss : List Setting) → find (is_of name key) (filter test (map (change_of from to) ss))
         ≡ found_if (list_any (is_setting (name, key)) ss && test here)
     find-listed [] = refl
     find-listed (s ∷ ss) =

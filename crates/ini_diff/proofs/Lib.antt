@@ -1,3 +1,6 @@
 pub mod SettingLemmas
 pub mod DifferenceLemmas
 pub mod ListingLemmas
+pub mod AfterLemmas
+pub mod MadeLemmas
+pub mod MergeLemmas

@@ -1,3 +1,6 @@
 pub mod Settings
 pub mod Differences
+pub mod Applying
+pub mod SourceChanges
+pub mod Merging
 pub mod Inside

@@ -4,8 +4,13 @@
 //! difference. Documents know nothing of it, and texts in pieces are asked by their public calls.
 #![tactic(auto)]
 
+mod applying;
 mod change;
 mod difference;
+pub mod laws;
+mod merging;
 
+pub use applying::apply;
 pub use change::Change;
 pub use difference::diff;
+pub use merging::{Conflict, Side, conflicts, merge, taken};
