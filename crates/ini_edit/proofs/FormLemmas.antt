@@ -116,12 +116,12 @@ module _ (o : ParseOption) (policy : EscapePolicy) (value : Text) where
 
 -- a pair of these parts
 abbrev piece_of : ParseOption → Style → (indented : Bool)
-    → (indent raw_key key value source lines gap : Text) → PairPiece
-piece_of o style indented indent raw_key key value source lines gap = record {
+    → (indent raw_key space key value source lines gap : Text) → PairPiece
+piece_of o style indented indent raw_key space key value source lines gap = record {
   stretches = record {
     key = (if indented then indent else []) ++ raw_key;
     separator = style.separator;
-    space_before = style.space_before;
+    space_before = space;
     raw_value = source;
     space_after = [];
     trailing_lines = if o.enabled_indented_mutiline_value then lines else [];
@@ -133,14 +133,16 @@ piece_of o style indented indent raw_key key value source lines gap = record {
 
 -- it is the new one
 pub made_is : (o : ParseOption) (policy : EscapePolicy) (style : Style) (indented : Bool)
-    {key value written_key written_value indent raw_key : Text} (source lines gap : Text)
+    {key value written_key written_value indent raw_key space : Text} (source lines gap : Text)
     → written_key ≡ key → written_value ≡ value → indent ≡ style.indent
-    → raw_key ≡ escaped policy key ++ style.pad
-    → piece_of o style indented indent raw_key written_key written_value source lines gap
+    → raw_key ≡ escaped policy key ++ style.pad → space ≡ style.space_before
+    → piece_of o style indented indent raw_key space written_key written_value source lines gap
     ≡ new_pair o policy style indented key value source lines gap
-made_is o policy style indented {key} {value} {written_value = written} {indent} {raw_key} source lines gap
-    at_key at_value at_indent at_raw =
-    ap (λ t. piece_of o style indented indent raw_key t written source lines gap) at_key
-    ∙ ap (λ t. piece_of o style indented indent raw_key key t source lines gap) at_value
-    ∙ ap (λ t. piece_of o style indented t raw_key key value source lines gap) at_indent
-    ∙ ap (λ t. piece_of o style indented style.indent t key value source lines gap) at_raw
+made_is o policy style indented {key} {value} {written_key = written_key} {written_value = written} {indent}
+    {raw_key} source lines gap at_key at_value at_indent at_raw at_space =
+    let before = style.space_before in
+    ap (λ t. piece_of o style indented indent raw_key t written_key written source lines gap) at_space
+    ∙ ap (λ t. piece_of o style indented indent raw_key before t written source lines gap) at_key
+    ∙ ap (λ t. piece_of o style indented indent raw_key before key t source lines gap) at_value
+    ∙ ap (λ t. piece_of o style indented t raw_key before key value source lines gap) at_indent
+    ∙ ap (λ t. piece_of o style indented style.indent t before key value source lines gap) at_raw

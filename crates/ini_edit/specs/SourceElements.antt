@@ -1,10 +1,12 @@
 -- The elements of a text in pieces in order, each with its section and where it begins.
 use Rattle.std.specs.Prelude.{Bool, ℕ, ◌-◌, ◌^◌, filter, map, min, not, List, [], ◌∷◌, ◌++◌, Option}
-use Rattle.ini_text.specs.Grammar.Places.{pair_source}
+use Rattle.std.specs.Option.{option_map}
+use Rattle.ini_text.specs.Grammar.Places.{Stretches, pair_source}
 use Rattle.ini_text.specs.Grammar.Positions.{column_of, line_of}
 use Rattle.ini.specs.Texts.{Text, str_name, str_text}
 use Rattle.ini_edit.specs.SourceLines.{is_empty}
-use Rattle.ini_edit.specs.Sources.{PairPiece, Pieces, SectionPiece}
+use Rattle.ini_edit.specs.SourcePlaces.{PairPlace, pair_place, text_up_to}
+use Rattle.ini_edit.specs.Sources.{PairPiece, Pieces, SectionPiece, sections_text}
 use Rattle.ini_edit.specs.declared.source.elements.Position.{Position}
 use Rattle.ini_edit.specs.declared.source.elements.SourceContent.{SourceContent}
 use Rattle.ini_edit.specs.declared.source.elements.SourceContent.TheVariants as contents
@@ -63,6 +65,19 @@ has_characters e = not (is_empty (content_text e.content))
 -- the elements, but for those without any character
 abbrev pub elements_in : Pieces → List ElementPiece
 elements_in pieces = filter has_characters (placed_contents [] (sections_contents pieces.sections))
+
+-- the text of a pair up to its value
+abbrev pub up_to_value : Stretches → Text
+up_to_value p = p.key ++ (p.separator ∷ p.space_before)
+
+-- the text up to the value of a pair, and where that begins, of the first pair of a key
+abbrev pub text_before_value : PairPlace → Text
+text_before_value p =
+    sections_text p.section.before
+    ++ (text_up_to p.section.here p.pair.before ++ up_to_value p.pair.here.stretches)
+
+abbrev pub value_position : Option Text → Text → List SectionPiece → Option Position
+value_position name key ss = option_map (λ p. position_of (text_before_value p)) (pair_place name key 0 ss)
 
 -- what an element of a walk shows
 abbrev pub shown_content : SourceContent → ContentPiece

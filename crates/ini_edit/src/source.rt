@@ -41,6 +41,7 @@ mod find;
 mod gap;
 pub(crate) mod lines;
 mod list;
+mod owned;
 pub(crate) mod pair;
 mod place;
 mod rename;
@@ -48,6 +49,7 @@ pub(crate) mod section;
 mod sections;
 mod sending;
 pub(crate) mod set;
+mod values;
 pub(crate) mod written;
 
 /// A text that was read once, in pieces: sections in order, of which the first is the general one, each with

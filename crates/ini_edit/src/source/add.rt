@@ -168,7 +168,7 @@ impl<'a> Source<'a> {
     }
 
     /// How a pair before the one at the index in a section is written.
-    pub(crate) fn style(&self, section: usize, index: usize, write: &WriteOption) -> PairStyle<'a, '_>
+    pub(crate) fn style(&self, section: usize, index: usize, write: &WriteOption) -> PairStyle<'_>
         requires { IsPlainSeparator (chars write.now.kv_separator.now) }
         ensures { style_of result ≡ style_at self.now.option write.now self.now.sections section index }
     {
@@ -188,7 +188,7 @@ impl<'a> Source<'a> {
     }
 
     // How the last pair before the index is written that begins a line of a section.
-    fn style_in(&self, section: usize, index: usize, read: ParseOption) -> Option<PairStyle<'a, '_>>
+    fn style_in(&self, section: usize, index: usize, read: ParseOption) -> Option<PairStyle<'_>>
         ensures { option_map style_of result ≡ style_in read self.now.sections section index }
     {
         if section >= self.sections.len() {

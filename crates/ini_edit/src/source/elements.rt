@@ -7,7 +7,7 @@ ghost use Rattle.ini_text.specs.Grammar.Places.{pair_source};
 ghost use Rattle.ini_edit.specs.Inside.SourceElementWalks.{GoesOn, GoesOverPair, elements_left, passed};
 ghost use Rattle.ini_edit.specs.Inside.SourceElementWalks.{passed_character};
 ghost use Rattle.ini_edit.specs.SourceElements.{content_text, elements_in, position_of, shown_content};
-ghost use Rattle.ini_edit.specs.SourceElements.{shown_element};
+ghost use Rattle.ini_edit.specs.SourceElements.{shown_element, up_to_value};
 ghost use Rattle.ini_edit.specs.SourceLines.{is_empty};
 
 use crate::source::Source;
@@ -27,7 +27,7 @@ pub struct Position {
 }
 
 impl Position {
-    fn first() -> Self
+    pub(crate) fn first() -> Self
         ensures { result ≡ position_of [] }
     {
         Position { line: 1, column: 1 }
@@ -50,7 +50,7 @@ impl Position {
     }
 
     // The position after a text.
-    fn after(self, text: &str) -> Self
+    pub(crate) fn after(self, text: &str) -> Self
         ensures { result ≡ passed self (chars text.now) }
     {
         let mut position = self;
@@ -97,8 +97,18 @@ impl<'s, 'a> SourceContent<'s, 'a> {
     }
 }
 
+// Where the value of a pair begins that begins at the position.
+pub(crate) fn value_of_pair(pair: &SourcePair<'_>, position: Position) -> Position
+    ensures { result ≡ passed position (up_to_value pair.now.stretches) }
+{
+    position
+        .after(pair.raw_key())
+        .next(pair.separator())
+        .after(pair.space_before())
+}
+
 // Where a pair ends that begins at the position.
-fn end_of_pair(pair: &SourcePair<'_>, position: Position) -> Position
+pub(crate) fn end_of_pair(pair: &SourcePair<'_>, position: Position) -> Position
     ensures { result ≡ passed position (pair_source pair.now.stretches) }
 {
     let value = position.after(pair.raw_key()).next(pair.separator());

@@ -20,6 +20,7 @@ use std::io::Write;
 use std::marker::Model;
 
 pub(crate) mod ends;
+pub(crate) mod owned;
 mod parts;
 
 /// A pair of a `Source`: its key and its value, its source, and what follows that up to the next pair or
@@ -30,15 +31,14 @@ pub struct SourcePair<'a> {
     value: CowStr<'a>,
     raw_key: CowStr<'a>,
     separator: char,
-    space_before: &'a str,
+    space_before: CowStr<'a>,
     raw_value: CowStr<'a>,
-    space_after: &'a str,
+    space_after: CowStr<'a>,
     trailing_lines: CowStr<'a>,
     after: CowStr<'a>,
 }
 
 impl<'a> Model for SourcePair<'a> {
-    ghost use Rattle.std.specs.Prelude.{chars};
     ghost use Rattle.ini_text.specs.Parsing.Items.{cow_text};
     ghost use Rattle.ini_edit.specs.Sources.{PairPiece};
 
@@ -48,9 +48,9 @@ impl<'a> Model for SourcePair<'a> {
       stretches = record {
         key = cow_text p.raw_key;
         separator = p.separator;
-        space_before = chars p.space_before.now;
+        space_before = cow_text p.space_before;
         raw_value = cow_text p.raw_value;
-        space_after = chars p.space_after.now;
+        space_after = cow_text p.space_after;
         trailing_lines = cow_text p.trailing_lines;
       };
       key = cow_text p.key;
@@ -70,9 +70,9 @@ impl<'a> SourcePair<'a> {
             value: pair.value,
             raw_key: CowStr::Borrowed(places.key),
             separator: places.separator,
-            space_before: places.space_before,
+            space_before: CowStr::Borrowed(places.space_before),
             raw_value: CowStr::Borrowed(places.raw_value),
-            space_after: places.space_after,
+            space_after: CowStr::Borrowed(places.space_after),
             trailing_lines: CowStr::Borrowed(places.trailing_lines),
             after: CowStr::Borrowed(after),
         }
@@ -153,9 +153,9 @@ impl<'a> SourcePair<'a> {
     {
         push_text(out, self.raw_key.as_str())?;
         push(out, self.separator)?;
-        push_text(out, self.space_before)?;
+        push_text(out, self.space_before.as_str())?;
         push_text(out, self.raw_value.as_str())?;
-        push_text(out, self.space_after)?;
+        push_text(out, self.space_after.as_str())?;
         push_text(out, self.trailing_lines.as_str())?;
         push_text(out, self.after.as_str())
     }
@@ -170,8 +170,18 @@ impl<'a> SourcePair<'a> {
         ensures { Sends W.contents out.old out.new lines.old lines.new result (pair_text self.now) }
     {
         put_before(lines, self.raw_key.as_str(), self.separator, out)?;
-        put_both(lines, self.space_before, self.raw_value.as_str(), out)?;
-        put_both(lines, self.space_after, self.trailing_lines.as_str(), out)?;
+        put_both(
+            lines,
+            self.space_before.as_str(),
+            self.raw_value.as_str(),
+            out,
+        )?;
+        put_both(
+            lines,
+            self.space_after.as_str(),
+            self.trailing_lines.as_str(),
+            out,
+        )?;
         lines.put(self.after.as_str(), out)
     }
 }

@@ -26,6 +26,7 @@ mod comments;
 mod delete;
 mod ends;
 mod insert;
+mod owned;
 mod parts;
 
 /// A section of a `Source`: its name, and its pairs in order.

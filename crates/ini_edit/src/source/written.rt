@@ -20,6 +20,7 @@ use ini_text::{
     split_first,
 };
 use std::alloc::Global;
+use std::borrow::CowStr;
 
 /// The first of the forms of a value that is read back: in the quote that is kept, bare, in double quotes,
 /// in single quotes. `None` where none is.
@@ -116,16 +117,16 @@ fn gives_value(element: PlacedElement<'_>, source: &str, value: &str) -> bool
 
 /// What stands around a key: what indents it, and the separator with its blanks.
 #[derive(Clone, Copy, Debug)]
-pub(crate) struct PairStyle<'a, 's> {
+pub(crate) struct PairStyle<'s> {
     pub(crate) indent: &'s str,
     pub(crate) pad: &'s str,
     pub(crate) separator: char,
-    pub(crate) space_before: &'a str,
+    pub(crate) space_before: &'s str,
 }
 
 impl<'a> SourcePair<'a> {
     /// How a pair like this one is written. Where keys keep the blanks that indent them, none are.
-    pub(crate) fn style(&self, read: ParseOption) -> PairStyle<'a, '_>
+    pub(crate) fn style(&self, read: ParseOption) -> PairStyle<'_>
         ensures { style_of result ≡ style_like read self.now }
     {
         let (blanks, _) = split_blanks(self.raw_key());
@@ -144,7 +145,7 @@ impl<'a> SourcePair<'a> {
 }
 
 /// How the options write a pair, whose separator is plain.
-pub(crate) fn option_style<'a, 's>(write: &WriteOption) -> PairStyle<'a, 's>
+pub(crate) fn option_style<'s>(write: &WriteOption) -> PairStyle<'s>
     requires { IsPlainSeparator (chars write.now.kv_separator.now) }
     ensures { style_of result ≡ option_style (chars write.now.kv_separator.now) }
 {
@@ -173,14 +174,14 @@ pub(crate) struct NewPair<'a> {
     indent: String,
     raw_key: String,
     separator: char,
-    space_before: &'a str,
+    space_before: CowStr<'a>,
     raw_value: String,
 }
 
 impl<'a> NewPair<'a> {
     pub(crate) fn new(
         alloc: Global,
-        style: PairStyle<'a, '_>,
+        style: PairStyle<'_>,
         key: &str,
         value: &str,
         raw_value: String,
@@ -199,7 +200,7 @@ impl<'a> NewPair<'a> {
             indent: String::from_str(alloc, style.indent)?,
             raw_key,
             separator: style.separator,
-            space_before: style.space_before,
+            space_before: CowStr::Owned(String::from_str(alloc, style.space_before)?),
             raw_value,
         })
     }

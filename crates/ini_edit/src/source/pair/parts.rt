@@ -1,9 +1,9 @@
 //! The parts of a pair, one by one. This file knows no text of a part.
-ghost use Rattle.std.specs.Prelude.{◌≡◌, ◌++◌, ℕ, [], IfOk, IsOkUnless, OnOk, alloc_error, chars};
+ghost use Rattle.std.specs.Prelude.{◌≡◌, ◌++◌, ℕ, [], IfOk, IsOkUnless, OnOk, alloc_error};
 ghost use Rattle.ini.specs.Texts.{Text, str_text};
 ghost use Rattle.ini_text.specs.Grammar.Places.{pair_source};
 ghost use Rattle.ini_text.specs.Grammar.Positions.{last_or};
-ghost use Rattle.ini_text.specs.Parsing.Items.{string_text};
+ghost use Rattle.ini_text.specs.Parsing.Items.{cow_text, string_text};
 ghost use Rattle.ini_edit.specs.Inside.SourceSearches.{IsSearched};
 ghost use Rattle.ini_edit.specs.SourceEdits.{with_value};
 ghost use Rattle.ini_edit.specs.SourceEditsComments.{pair_line};
@@ -23,7 +23,7 @@ impl<'a> SourcePair<'a> {
         value: String,
         raw_key: String,
         separator: char,
-        space_before: &'a str,
+        space_before: CowStr<'a>,
         raw_value: String,
         trailing_lines: String,
         after: String,
@@ -32,7 +32,7 @@ impl<'a> SourcePair<'a> {
           stretches = record {
             key = string_text raw_key;
             separator = separator;
-            space_before = chars space_before.now;
+            space_before = cow_text space_before.entry;
             raw_value = string_text raw_value;
             space_after = [];
             trailing_lines = string_text trailing_lines;
@@ -49,7 +49,7 @@ impl<'a> SourcePair<'a> {
             separator,
             space_before,
             raw_value: CowStr::Owned(raw_value),
-            space_after: "",
+            space_after: CowStr::Borrowed(""),
             trailing_lines: CowStr::Owned(trailing_lines),
             after: CowStr::Owned(after),
         }
@@ -67,10 +67,10 @@ impl<'a> SourcePair<'a> {
         self.separator
     }
 
-    pub(crate) fn space_before(&self) -> &'a str
+    pub(crate) fn space_before(&self) -> &str
         ensures { str_text result ≡ self.now.stretches.space_before }
     {
-        self.space_before
+        self.space_before.as_str()
     }
 
     pub(crate) fn raw_value(&self) -> &str
@@ -79,10 +79,10 @@ impl<'a> SourcePair<'a> {
         self.raw_value.as_str()
     }
 
-    pub(crate) fn space_after(&self) -> &'a str
+    pub(crate) fn space_after(&self) -> &str
         ensures { str_text result ≡ self.now.stretches.space_after }
     {
-        self.space_after
+        self.space_after.as_str()
     }
 
     pub(crate) fn trailing_lines(&self) -> &str
@@ -102,10 +102,10 @@ impl<'a> SourcePair<'a> {
         ensures { (c : ℕ) → result ≡ last_or c (pair_text self.now) }
     {
         let value = last_or(
-            last_or(self.separator, self.space_before),
+            last_or(self.separator, self.space_before()),
             self.raw_value.as_str(),
         );
-        let line = last_or(value, self.space_after);
+        let line = last_or(value, self.space_after());
         last_or(
             last_or(line, self.trailing_lines.as_str()),
             self.after.as_str(),
@@ -117,11 +117,11 @@ impl<'a> SourcePair<'a> {
         ensures { (c : ℕ) → result ≡ last_or c (pair_source self.now.stretches) }
     {
         let value = last_or(
-            last_or(self.separator, self.space_before),
+            last_or(self.separator, self.space_before()),
             self.raw_value.as_str(),
         );
         last_or(
-            last_or(value, self.space_after),
+            last_or(value, self.space_after()),
             self.trailing_lines.as_str(),
         )
     }
@@ -153,9 +153,9 @@ impl<'a> SourcePair<'a> {
             → IsSearched (front ++ pair_text self.now) result }
     {
         let search = search.after(self.raw_key()).after_char(self.separator);
-        let search = search.after(self.space_before).after(self.raw_value());
+        let search = search.after(self.space_before()).after(self.raw_value());
         search
-            .after(self.space_after)
+            .after(self.space_after())
             .after(self.trailing_lines())
             .after(self.after())
     }
@@ -178,9 +178,9 @@ impl<'a> SourcePair<'a> {
     {
         push_text(out, self.raw_key.as_str())?;
         push(out, self.separator)?;
-        push_text(out, self.space_before)?;
+        push_text(out, self.space_before())?;
         push_text(out, self.raw_value.as_str())?;
-        push_text(out, self.space_after)
+        push_text(out, self.space_after())
     }
 
     pub(crate) fn copy(&self) -> Result<SourcePair<'a>, Error>
@@ -192,9 +192,9 @@ impl<'a> SourcePair<'a> {
             value: self.value.clone()?,
             raw_key: self.raw_key.clone()?,
             separator: self.separator,
-            space_before: self.space_before,
+            space_before: self.space_before.clone()?,
             raw_value: self.raw_value.clone()?,
-            space_after: self.space_after,
+            space_after: self.space_after.clone()?,
             trailing_lines: self.trailing_lines.clone()?,
             after: self.after.clone()?,
         })

@@ -207,7 +207,7 @@ impl<'a> SourceSection<'a> {
         front: char,
         index: usize,
         read: ParseOption,
-    ) -> Option<PairStyle<'a, '_>>
+    ) -> Option<PairStyle<'_>>
         requires { index ≤ length self.now.pairs }
         ensures { option_map style_of result ≡ style_before read front self.now index }
     {

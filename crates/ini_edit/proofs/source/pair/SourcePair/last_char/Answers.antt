@@ -8,8 +8,9 @@ returns c =
     let view = c.self.view_is in
     text_ends c.args.self.now
     (source_ends c.args.self.now.stretches
-    (c.last_or.ensures ∙ ap (λ p. last_or p.stretches.separator p.stretches.space_before) view)
+    (c.last_or.ensures ∙ ap (last_or c.self.inside.separator) c.space_before.ensures
+    ∙ ap (λ p. last_or p.stretches.separator c.args.self.now.stretches.space_before) view)
     (ap chars c.as_str.ensures.value ∙ ap (λ p. p.stretches.raw_value) view) c.last_or-value.ensures
-    (c.last_or-line.ensures ∙ ap (λ p. last_or c.last_or-value.result p.stretches.space_after) view)
+    (c.last_or-line.ensures ∙ ap (last_or c.last_or-value.result) c.space_after.ensures)
     (ap chars c.as_str-2.ensures.value ∙ ap (λ p. p.stretches.trailing_lines) view) c.last_or-2.ensures)
     (ap chars c.as_str-3.ensures.value ∙ ap (λ p. p.after) view) c.last_or-3.ensures

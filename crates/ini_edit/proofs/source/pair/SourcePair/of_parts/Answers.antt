@@ -1,7 +1,7 @@
-use Rattle.std.proofs.Common.{ap, chars}
+use Rattle.std.proofs.Common.{ap}
 use Rattle.std.proofs.lemmas.Str.{chars-nil}
 use Rattle.ini.specs.Texts.{Text}
-use Rattle.ini_text.specs.Parsing.Items.{string_text}
+use Rattle.ini_text.specs.Parsing.Items.{cow_text, string_text}
 use Rattle.ini_edit.specs.Sources.{PairPiece}
 use Rattle.ini_edit.proofs.source.pair.SourcePair.of_parts.Goals as goal
 
@@ -11,7 +11,7 @@ returns c =
       stretches = record {
         key = string_text c.args.raw_key;
         separator = c.args.separator;
-        space_before = chars c.args.space_before.now;
+        space_before = cow_text c.args.space_before;
         raw_value = string_text c.args.raw_value;
         space_after = space;
         trailing_lines = string_text c.args.trailing_lines;

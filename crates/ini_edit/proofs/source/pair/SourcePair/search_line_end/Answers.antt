@@ -8,7 +8,7 @@ returns c = λ front searched.
     let view = c.self.view_is in
     subst (λ t. IsSearched t c.after-6.result)
     (search_parts front c.args.self.now c.raw_key.ensures (ap (λ p. p.stretches.separator ∷ []) view)
-    (ap (λ p. p.stretches.space_before) view) c.raw_value.ensures (ap (λ p. p.stretches.space_after) view)
+    c.space_before.ensures c.raw_value.ensures c.space_after.ensures
     c.trailing_lines.ensures c.after-5.ensures)
     (c.after-6.ensures _ (c.after-4.ensures _ (c.after-3.ensures _ (c.after-search.ensures _
     (c.after-2.ensures _ (c.after_char-search.ensures _ (c.after.ensures front searched)))))))

@@ -20,11 +20,12 @@ returns-in_err-put_both g c =
     err_from_is_err_and c.from_residual-in_err-put_both.result c.from_residual-in_err-put_both.ensures.1 in
     let view = c.self.view_is in
     let key = ap chars c.as_str.ensures.value ∙ ap (λ p. p.stretches.key) view in
-    let value = ap chars c.as_str-2.ensures.value ∙ ap (λ p. p.stretches.raw_value) view in
+    let value = ap chars c.as_str-3.ensures.value ∙ ap (λ p. p.stretches.raw_value) view in
     rw (e.1, e.2) (subst (Sends _ _ _ _ _ _) (pair_parts c.args.self.now)
     (Sends-cut _ (Sends-cut _ (Sends-then c.requires
     (sent_as key (ap (λ p. p.stretches.separator ∷ []) view) c.in_ok-put_before.ensures)
-    (sent_as (ap (λ p. p.stretches.space_before) view) value c.in_err-put_both.ensures)))))
+    (sent_as (ap chars c.as_str-2.ensures.value ∙ ap (λ p. p.stretches.space_before) view) value
+    c.in_err-put_both.ensures)))))
 
 pub returns-in_err-put_both-2 : goal.returns-in_err-put_both-2
 returns-in_err-put_both-2 g c =
@@ -33,23 +34,27 @@ returns-in_err-put_both-2 g c =
     c.from_residual-in_err-put_both-2.ensures.1 in
     let view = c.self.view_is in
     let key = ap chars c.as_str.ensures.value ∙ ap (λ p. p.stretches.key) view in
-    let value = ap chars c.as_str-2.ensures.value ∙ ap (λ p. p.stretches.raw_value) view in
-    let lines = ap chars c.as_str-3.ensures.value ∙ ap (λ p. p.stretches.trailing_lines) view in
+    let value = ap chars c.as_str-3.ensures.value ∙ ap (λ p. p.stretches.raw_value) view in
+    let lines = ap chars c.as_str-5.ensures.value ∙ ap (λ p. p.stretches.trailing_lines) view in
     rw (e.1, e.2) (subst (Sends _ _ _ _ _ _) (pair_parts c.args.self.now)
     (Sends-cut _ (Sends-then c.requires (Sends-then c.requires
     (sent_as key (ap (λ p. p.stretches.separator ∷ []) view) c.in_ok-put_before.ensures)
-    (sent_as (ap (λ p. p.stretches.space_before) view) value c.in_ok-put_both.ensures))
-    (sent_as (ap (λ p. p.stretches.space_after) view) lines c.in_err-put_both-2.ensures))))
+    (sent_as (ap chars c.as_str-2.ensures.value ∙ ap (λ p. p.stretches.space_before) view) value
+    c.in_ok-put_both.ensures))
+    (sent_as (ap chars c.as_str-4.ensures.value ∙ ap (λ p. p.stretches.space_after) view) lines
+    c.in_err-put_both-2.ensures))))
 
 pub returns : goal.returns
 returns g c =
     let view = c.self.view_is in
     let key = ap chars c.as_str.ensures.value ∙ ap (λ p. p.stretches.key) view in
-    let value = ap chars c.as_str-2.ensures.value ∙ ap (λ p. p.stretches.raw_value) view in
-    let lines = ap chars c.as_str-3.ensures.value ∙ ap (λ p. p.stretches.trailing_lines) view in
+    let value = ap chars c.as_str-3.ensures.value ∙ ap (λ p. p.stretches.raw_value) view in
+    let lines = ap chars c.as_str-5.ensures.value ∙ ap (λ p. p.stretches.trailing_lines) view in
     subst (Sends _ _ _ _ _ _) (pair_parts c.args.self.now)
     (Sends-then c.requires (Sends-then c.requires (Sends-then c.requires
     (sent_as key (ap (λ p. p.stretches.separator ∷ []) view) c.in_ok-put_before.ensures)
-    (sent_as (ap (λ p. p.stretches.space_before) view) value c.in_ok-put_both.ensures))
-    (sent_as (ap (λ p. p.stretches.space_after) view) lines c.in_ok-put_both-2.ensures))
-    (subst (Sends _ _ _ _ _ _) (ap chars c.as_str-4.ensures.value ∙ ap (λ p. p.after) view) c.put.ensures))
+    (sent_as (ap chars c.as_str-2.ensures.value ∙ ap (λ p. p.stretches.space_before) view) value
+    c.in_ok-put_both.ensures))
+    (sent_as (ap chars c.as_str-4.ensures.value ∙ ap (λ p. p.stretches.space_after) view) lines
+    c.in_ok-put_both-2.ensures))
+    (subst (Sends _ _ _ _ _ _) (ap chars c.as_str-6.ensures.value ∙ ap (λ p. p.after) view) c.put.ensures))

@@ -14,4 +14,4 @@ returns-clause-new c = λ o indented lines gap.
     (c.in_ok-push_text.ensures.pushed ∙ ap (λ t. t ++ chars c.args.style.pad.now)
     (c.in_ok-push_escaped.ensures.pushed
     ∙ ap (λ t. t ++ escaped c.args.policy (chars c.args.key.now)) (ap chars c.new-raw_key.ensures.bytes
-    ∙ chars-nil)))
+    ∙ chars-nil))) (ap chars c.in_ok-from_str-4.ensures.ok)
