@@ -10,12 +10,12 @@ use Rattle.ini_multimap.specs.Pairs.{without}
 use Rattle.ini.specs.Texts.{Text}
 use Rattle.ini.specs.Properties.{Pairs}
 use Rattle.ini.specs.Documents.{Document}
-use Rattle.ini_dialect.specs.Inside.{CountsAt, IsCounting, IsSettingAt, NonePasses, at_number, is_here}
-use Rattle.ini_dialect.specs.Inside.{less}
-use Rattle.ini_dialect.specs.Inside.{passes_key, takes_first, takes_first_value}
+use Rattle.ini_edit.specs.SourceEditsAt.{at_index}
+use Rattle.ini_dialect.specs.Inside.{IsSettingAt, is_here, less, takes_first, takes_first_value}
 use Rattle.ini_dialect.specs.Lookups.{at_counting, at_first, at_last, delete_by, holds_key, is_named}
 use Rattle.ini_dialect.specs.Lookups.{name_fits}
 use Rattle.ini_dialect.specs.Lookups.{set_by, set_under, text_fits, valued, with_value}
+use Rattle.ini_dialect.specs.Numbers.{CountsAt, IsCounting, NonePasses, passes_key}
 use Rattle.ini_dialect.specs.declared.rule.Lookup.{Lookup}
 use Rattle.ini_dialect.specs.declared.rule.SectionRule.{SectionRule}
 use Rattle.ini_dialect.specs.declared.rule.SectionRule.TheVariants.{First as FirstSection, Joined}
@@ -23,11 +23,11 @@ use Rattle.ini_dialect.specs.declared.rule.ValueRule.{ValueRule}
 use Rattle.ini_dialect.specs.declared.rule.ValueRule.TheVariants.{First as FirstValue, Last}
 
 module _ {X : Type 0} (test : X → Bool) where
-  any-append : (xs ys : List X) → NonePasses test xs → list_any test (xs ++ ys) ≡ list_any test ys
+  pub any-append : (xs ys : List X) → NonePasses test xs → list_any test (xs ++ ys) ≡ list_any test ys
   any-append [] ys none = refl
   any-append (x ∷ xs) ys none = grind (arith, any-append xs ys)
 
-  any-here : (xs : List X) (y : X) (ys : List X) → test y ≡ true → list_any test (xs ++ y ∷ ys) ≡ true
+  pub any-here : (xs : List X) (y : X) (ys : List X) → test y ≡ true → list_any test (xs ++ y ∷ ys) ≡ true
   any-here [] y ys passes = grind (arith, passes)
   any-here (x ∷ xs) y ys passes = grind (arith, any-here xs y ys passes)
 
@@ -35,7 +35,7 @@ module _ {X : Type 0} (test : X → Bool) where
   none-more xs x none fails = any-append xs (x ∷ []) none ∙ grind (arith, fails)
 
   module _ (f : X → X) where
-    first-here : (xs : List X) (y : X) (ys : List X) → NonePasses test xs → test y ≡ true
+    pub first-here : (xs : List X) (y : X) (ys : List X) → NonePasses test xs → test y ≡ true
         → at_first test f (xs ++ y ∷ ys) ≡ xs ++ f y ∷ ys
     first-here [] y ys none passes = grind (arith, passes)
     first-here (x ∷ xs) y ys none passes = grind (arith, first-here xs y ys)
@@ -46,8 +46,8 @@ module _ {X : Type 0} (test : X → Bool) where
     last-here (x ∷ xs) y ys none passes =
         grind (arith, last-here xs y ys none passes, any-here xs y ys passes)
 
-number-here : {X : Type 0} (f : X → X) (xs : List X) (y : X) (ys : List X)
-    → at_number (length xs) f (xs ++ y ∷ ys) ≡ xs ++ f y ∷ ys
+pub number-here : {X : Type 0} (f : X → X) (xs : List X) (y : X) (ys : List X)
+    → at_index (length xs) f (xs ++ y ∷ ys) ≡ xs ++ f y ∷ ys
 number-here f [] y ys = refl
 number-here f (x ∷ xs) y ys = ap (λ l. x ∷ l) (number-here f xs y ys)
 
@@ -58,10 +58,10 @@ module _ {X : Type 0} {order : ValueRule} {test : X → Bool} {xs : List X} {num
       ap (list_any test) counts.split ∙ any-here test counts.before counts.item counts.after counts.passes
 
   -- an edit at the number is one at the item that counts
-  pub counts-edit : (f : X → X) → at_number number f xs ≡ at_counting order test f xs
+  pub counts-edit : (f : X → X) → at_index number f xs ≡ at_counting order test f xs
   counts-edit f =
-      ap (λ n. at_number n f xs) counts.place
-      ∙ ap (at_number (length counts.before) f) counts.split
+      ap (λ n. at_index n f xs) counts.place
+      ∙ ap (at_index (length counts.before) f) counts.split
       ∙ number-here f counts.before counts.item counts.after
       ∙ sym (here order counts.counts)
       ∙ ap (at_counting order test f) (sym counts.split)
@@ -208,7 +208,7 @@ none_left (x ∷ xs) number len sum all = absurd (omega arith)
 -- a copy that comes to the item of a number
 abbrev pub at_left : {X : Type 0} → Option ℕ → (X → X) → List X → List X
 at_left None f xs = xs
-at_left (Some n) f xs = at_number n f xs
+at_left (Some n) f xs = at_index n f xs
 
 pub at_left-nil : {X : Type 0} (left : Option ℕ) (f : X → X) → at_left left f [] ≡ []
 at_left-nil None f = refl
@@ -301,27 +301,27 @@ module _ (rule : Lookup) (name : Option Text) (key : Text) where
 -- the pair that counts, by its number
 pub valued-counts : (rule : Lookup) (key value : Text) (ps : Pairs) (number : ℕ)
     → CountsAt rule.values (λ p. text_fits rule.case key p.0) ps number
-    → at_number number (λ p. (p.0, value)) ps ≡ valued rule key value ps
+    → at_index number (λ p. (p.0, value)) ps ≡ valued rule key value ps
 valued-counts rule key value ps number counts =
     counts-edit counts (λ p. (p.0, value)) ∙ rw (counts-passes counts) refl
 
 -- where a value is set, section by section
 module _ (rule : Lookup) (name : Option Text) (key : Text) (d : Document) where
-  abbrev named : Option Text × Pairs → Bool
+  abbrev pub named : Option Text × Pairs → Bool
   named s = passes_key rule name None s
 
-  abbrev holds : Option Text × Pairs → Bool
+  abbrev pub holds : Option Text × Pairs → Bool
   holds s = passes_key rule name (Some key) s
 
-  same_test : (s : Option Text × Pairs) → named s ≡ is_named rule name s
+  pub same_test : (s : Option Text × Pairs) → named s ≡ is_named rule name s
   same_test s =
       elim (cases_Bool (is_named rule name s)) [ inl there ↦ rw there refl | inr none ↦ rw none refl ]
 
-  same_any : (e : Document) → list_any named e ≡ list_any (is_named rule name) e
+  pub same_any : (e : Document) → list_any named e ≡ list_any (is_named rule name) e
   same_any [] = refl
   same_any (s ∷ e) = grind (arith, same_any e, same_test s)
 
-  same_edit : (order : ValueRule) (f : Option Text × Pairs → Option Text × Pairs) (e : Document)
+  pub same_edit : (order : ValueRule) (f : Option Text × Pairs → Option Text × Pairs) (e : Document)
       → at_counting order named f e ≡ at_counting order (is_named rule name) f e
   same_edit FirstValue f [] = refl
   same_edit FirstValue f (s ∷ e) = grind (arith, same_edit FirstValue f e, same_test s)

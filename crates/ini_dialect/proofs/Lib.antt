@@ -1,10 +1,13 @@
 pub mod DefaultLemmas
+pub mod DeletedUnderLemmas
 pub mod EditLemmas
 pub mod KeyLemmas
 pub mod LetterLemmas
 pub mod LookupLawLemmas
 pub mod PairLemmas
+pub mod PutUnderLemmas
 pub mod ReadLemmas
 pub mod RuleLemmas
 pub mod SectionLemmas
+pub mod SourceLookupLemmas
 pub mod TextLemmas

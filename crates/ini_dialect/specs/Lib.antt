@@ -2,6 +2,8 @@ pub mod Dialects
 pub mod Inside
 pub mod LookupLaws
 pub mod Lookups
+pub mod Numbers
 pub mod Rules
+pub mod SourceLookups
 pub mod Typed
 pub mod Walks

@@ -94,6 +94,10 @@ module _ (rule : Lookup) (key : Text) where
   abbrev pub with_value : Text → Option Text × Pairs → Option Text × Pairs
   with_value value s = (s.0, valued value s.1)
 
+  -- a new pair last
+  abbrev pub with_new : Text → Option Text × Pairs → Option Text × Pairs
+  with_new value s = (s.0, s.1 ++ (key, value) ∷ [])
+
   -- without the pairs of the key
   abbrev pub cleared : Option Text × Pairs → Option Text × Pairs
   cleared s = (s.0, without (text_fits rule.case key) s.1)
@@ -122,6 +126,17 @@ module _ (rule : Lookup) (name : Option Text) (key : Text) where
 
   abbrev pub set_under : Text → Document → Document
   set_under value d = set_by rule.sections value d
+
+  -- the pair goes last, in the first section of the name; where sections are joined, in the last; where
+  -- there is none, in a new one, last
+  abbrev pub add_by : SectionRule → Text → Document → Document
+  add_by FirstSection value d = at_first (is_named rule name) (with_new rule key value) d
+  add_by Joined value d = at_last (is_named rule name) (with_new rule key value) d
+
+  abbrev pub add_under : Text → Document → Document
+  add_under value d =
+      if list_any (is_named rule name) d then add_by rule.sections value d
+      else d ++ (name, (key, value) ∷ []) ∷ []
 
   -- every pair of the key goes, in each section that is looked at
   abbrev pub delete_by : SectionRule → Document → Document

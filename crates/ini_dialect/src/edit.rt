@@ -1,16 +1,16 @@
 //! Edits under a rule. Each makes a new document, which takes the old one's place once it is whole: so one
 //! that is refused changes nothing. This file knows the calls of `Ini` and of `Properties`.
 ghost use Rattle.std.specs.Prelude.{◌≡◌, ◌&&◌, [], ◌∷◌, ◌++◌, chars, alloc_error, false, not};
-ghost use Rattle.std.specs.Prelude.{IfNone, IfOk, IfSome, IsOkUnless, OnErr, OnOk, Some, if◌then◌else◌};
-ghost use Rattle.std.specs.List.{list_any};
+ghost use Rattle.std.specs.Prelude.{IfOk, IsOkUnless, OnErr, OnOk, if◌then◌else◌};
 ghost use Rattle.ini_multimap.specs.Pairs.{without};
 ghost use Rattle.ini.specs.Texts.{name_of, str_name};
-ghost use Rattle.ini_dialect.specs.Inside.{CountsAt, IsSettingAt, NonePasses, at_number, has_key_or_any};
-ghost use Rattle.ini_dialect.specs.Inside.{is_here, less, passes_key, takes_first, takes_first_value};
-ghost use Rattle.ini_dialect.specs.Lookups.{delete_under, has_key, set_under, text_fits, valued};
+ghost use Rattle.ini_edit.specs.SourceEditsAt.{at_index};
+ghost use Rattle.ini_dialect.specs.Inside.{is_here, less, takes_first};
+ghost use Rattle.ini_dialect.specs.Lookups.{delete_under, set_under, text_fits, valued};
 ghost use Rattle.ini_dialect.specs.Lookups.{with_value};
 
-use crate::rule::{Lookup, SectionRule, ValueRule};
+use crate::rule::{Lookup, SectionRule};
+use crate::walk::{AnyDocument, AnySection};
 use ini::{Error, Ini, Properties, SectionKey};
 use std::alloc::{AllocError, Global};
 
@@ -72,7 +72,7 @@ impl Lookup {
             ≡ set_under self (str_name name.entry) (chars key.now) (chars value.now) document.now) }
         ensures only_memory { IsOkUnless result (Error.Memory alloc_error) }
     {
-        match self.setting_number(document, name, key) {
+        match self.setting_number(AnyDocument::Ini(document), name, key) {
             Some(number) => {
                 let edited = self.set_in_section(alloc, document, number, key, value)?;
                 Ok(edited)
@@ -82,109 +82,6 @@ impl Lookup {
                 Ok(edited)
             }
         }
-    }
-
-    // The number, from 0, of the section that the value is set in; nothing where a new one is opened.
-    fn setting_number(self, document: &Ini, name: Option<&str>, key: &str) -> Option<usize>
-        ensures { IsSettingAt self (str_name name.entry) (chars key.now) document.now result }
-    {
-        match self.sections {
-            SectionRule::First => self.section_number(document, name, None, ValueRule::First),
-            SectionRule::Joined => {
-                match self.section_number(document, name, Some(key), self.values) {
-                    Some(number) => Some(number),
-                    None => self.section_number(document, name, None, ValueRule::Last),
-                }
-            }
-        }
-    }
-
-    // The number of the first or the last section of the name, and, where a key is given, with the key.
-    fn section_number(
-        self,
-        document: &Ini,
-        name: Option<&str>,
-        key: Option<&str>,
-        order: ValueRule,
-    ) -> Option<usize>
-        ensures found { IfSome result (CountsAt order
-            (passes_key self (str_name name.entry) (str_name key.entry)) document.now) }
-        ensures none { IfNone result
-            (NonePasses (passes_key self (str_name name.entry) (str_name key.entry)) document.now) }
-    {
-        let mut found = None;
-        let mut sections = document.iter();
-        let (len, _) = sections.size_hint();
-        for number in 0..len {
-            let Some((other, section)) = sections.next() else {
-                return found;
-            };
-            let passes = self.is_section(name, key, other, section);
-            if ends_at(order, passes) {
-                return Some(number);
-            }
-            found = latest(passes, number, found);
-        }
-        found
-    }
-
-    // Whether the section is one of the name, and, where a key is given, has the key.
-    fn is_section(
-        self,
-        name: Option<&str>,
-        key: Option<&str>,
-        other: Option<&str>,
-        section: &Properties,
-    ) -> bool
-        ensures { result ≡ passes_key self (str_name name.entry) (str_name key.entry)
-            (str_name other.entry, section.now) }
-    {
-        self.case.names_fit(name, other) && self.has_key_or_any(section, key)
-    }
-
-    // Whether the section has the key, where one is given.
-    fn has_key_or_any(self, section: &Properties, key: Option<&str>) -> bool
-        ensures { result ≡ has_key_or_any self (str_name key.entry) section.now }
-    {
-        match key {
-            Some(key) => self.has_key(section, key),
-            None => true,
-        }
-    }
-
-    // Whether the section has the key.
-    fn has_key(self, section: &Properties, key: &str) -> bool
-        ensures { result ≡ has_key self (chars key.now) section.now }
-    {
-        for (other, _) in section {
-            if self.case.fits(key, other) {
-                return true;
-            }
-        }
-        false
-    }
-
-    // The number of the pair of the key that counts.
-    fn pair_number(self, section: &Properties, key: &str) -> Option<usize>
-        ensures found { IfSome result
-            (CountsAt self.values (λ p. text_fits self.case (chars key.now) p.0) section.now) }
-        ensures none { IfNone result
-            (NonePasses (λ p. text_fits self.case (chars key.now) p.0) section.now) }
-    {
-        let mut found = None;
-        let mut pairs = section.iter();
-        let (len, _) = pairs.size_hint();
-        for number in 0..len {
-            let Some((other, _)) = pairs.next() else {
-                return found;
-            };
-            let passes = self.case.fits(key, other);
-            if ends_at(self.values, passes) {
-                return Some(number);
-            }
-            found = latest(passes, number, found);
-        }
-        found
     }
 
     // A copy of the document in which the section of the number has the value.
@@ -197,7 +94,7 @@ impl Lookup {
         value: &str,
     ) -> Result<Ini, Error>
         ensures set { IfOk result (λ edited. edited
-            ≡ at_number number (with_value self (chars key.now) (chars value.now)) document.now) }
+            ≡ at_index number (with_value self (chars key.now) (chars value.now)) document.now) }
         ensures only_memory { IsOkUnless result (Error.Memory alloc_error) }
     {
         let mut edited = empty_document(alloc)?;
@@ -242,7 +139,7 @@ impl Lookup {
             ≡ valued self (chars key.now) (chars value.now) section.now) }
         ensures only_memory { IsOkUnless result (Error.Memory alloc_error) }
     {
-        match self.pair_number(section, key) {
+        match self.pair_number(AnySection::Ini(section), key) {
             Some(number) => {
                 let pairs = set_pair(alloc, section, number, value)?;
                 Ok(pairs)
@@ -323,23 +220,6 @@ impl Lookup {
     }
 }
 
-// Whether a search ends at an item: it passes, and the first one counts.
-fn ends_at(order: ValueRule, passes: bool) -> bool
-    ensures { result ≡ (takes_first_value order && passes) }
-{
-    match order {
-        ValueRule::First => passes,
-        ValueRule::Last => false,
-    }
-}
-
-// The number where the item passes, else what was found before.
-fn latest(passes: bool, number: usize, found: Option<usize>) -> Option<usize>
-    ensures { result ≡ (if passes then Some number else found) }
-{
-    if passes { Some(number) } else { found }
-}
-
 // Whether both hold.
 fn both(one: bool, other: bool) -> bool
     ensures { result ≡ (one && other) }
@@ -356,7 +236,7 @@ fn set_pair(
     value: &str,
 ) -> Result<Properties, Error>
     ensures set { IfOk result (λ pairs. pairs
-        ≡ at_number number (λ p. (p.0, chars value.now)) section.now) }
+        ≡ at_index number (λ p. (p.0, chars value.now)) section.now) }
     ensures only_memory { IsOkUnless result (Error.Memory alloc_error) }
 {
     let mut pairs = Properties::new(alloc);

@@ -8,8 +8,10 @@
 mod edit;
 mod get;
 pub mod laws;
+mod number;
 mod presets;
 mod rule;
+mod source;
 #[cfg(test)]
 mod tests;
 mod typed;
@@ -17,5 +19,6 @@ mod walk;
 
 pub use presets::{Dialect, NamedDialect, dialects};
 pub use rule::{CaseRule, Lookup, SectionRule, ValueRule};
+pub use source::PairNumber;
 pub use typed::{as_bool, as_duration, as_float, as_integer, as_size};
 pub use walk::AnyDocument;

@@ -1,6 +1,6 @@
 //! The sections and the pairs of a document that is looked at, from the end that counts. This file knows the
-//! walks of `ini` and of `ini_view`, and nothing of names and keys.
-ghost use Rattle.std.specs.Prelude.{◌≡◌};
+//! walks of `ini`, of `ini_view` and of `ini_edit`, and nothing of names and keys.
+ghost use Rattle.std.specs.Prelude.{◌≡◌, length};
 ghost use Rattle.std.specs.Iterator.{YieldsFirstBy, YieldsLastBy, item_count};
 ghost use Rattle.ini.specs.Walks.{str_pair};
 ghost use Rattle.ini_dialect.specs.Inside.{turned};
@@ -9,8 +9,10 @@ ghost use Rattle.ini_dialect.specs.Walks.{section_walk_rest, shown_section};
 
 use crate::rule::ValueRule;
 use ini::{Ini, Properties, PropertyIter, SectionIter};
+use ini_edit::{Source, SourcePair, SourceSection};
 use ini_view::{View, ViewIter, ViewPairs, ViewSection};
 use std::marker::Model;
+use std::slice::Iter;
 
 /// A document to look up in.
 #[derive(Clone, Copy)]
@@ -19,6 +21,8 @@ pub enum AnyDocument<'v, 'a> {
     Ini(&'v Ini),
     /// One that borrows them.
     View(&'v View<'a>),
+    /// The one that a text in pieces means.
+    Source(&'v Source<'a>),
 }
 
 impl<'v, 'a> AnyDocument<'v, 'a> {
@@ -38,6 +42,18 @@ impl<'v, 'a> AnyDocument<'v, 'a> {
         match self {
             AnyDocument::Ini(document) => SectionWalk::Ini(document.iter()),
             AnyDocument::View(document) => SectionWalk::View(document.iter()),
+            AnyDocument::Source(source) => SectionWalk::Source(source.sections().iter()),
+        }
+    }
+
+    // How many sections it has.
+    pub(crate) fn len(self) -> usize
+        ensures { result ≡ length (any_document self.entry) }
+    {
+        match self {
+            AnyDocument::Ini(document) => document.iter().size_hint().0,
+            AnyDocument::View(document) => document.iter().size_hint().0,
+            AnyDocument::Source(source) => source.sections().len(),
         }
     }
 }
@@ -47,6 +63,7 @@ impl<'v, 'a> AnyDocument<'v, 'a> {
 pub(crate) enum AnySection<'v, 'a> {
     Ini(&'v Properties),
     View(&'v ViewSection<'a>),
+    Source(&'v SourceSection<'a>),
 }
 
 impl<'v, 'a> AnySection<'v, 'a> {
@@ -66,6 +83,18 @@ impl<'v, 'a> AnySection<'v, 'a> {
         match self {
             AnySection::Ini(section) => PairWalk::Ini(section.iter()),
             AnySection::View(section) => PairWalk::View(section.iter()),
+            AnySection::Source(section) => PairWalk::Source(section.pairs().iter()),
+        }
+    }
+
+    // How many pairs it has.
+    pub(crate) fn len(self) -> usize
+        ensures { result ≡ length (any_section self.entry) }
+    {
+        match self {
+            AnySection::Ini(section) => section.iter().size_hint().0,
+            AnySection::View(section) => section.iter().size_hint().0,
+            AnySection::Source(section) => section.pairs().len(),
         }
     }
 }
@@ -74,6 +103,7 @@ impl<'v, 'a> AnySection<'v, 'a> {
 enum SectionWalk<'v, 'a> {
     Ini(SectionIter<'v>),
     View(ViewIter<'v, 'a>),
+    Source(Iter<'v, SourceSection<'a>>),
 }
 
 impl<'v, 'a> SectionWalk<'v, 'a> {
@@ -89,6 +119,10 @@ impl<'v, 'a> SectionWalk<'v, 'a> {
                 let (name, section) = walk.next()?;
                 Some((name, AnySection::View(section)))
             }
+            SectionWalk::Source(walk) => {
+                let section = walk.next()?;
+                Some((section.name(), AnySection::Source(section)))
+            }
         }
     }
 
@@ -103,6 +137,10 @@ impl<'v, 'a> SectionWalk<'v, 'a> {
             SectionWalk::View(walk) => {
                 let (name, section) = walk.next_back()?;
                 Some((name, AnySection::View(section)))
+            }
+            SectionWalk::Source(walk) => {
+                let section = walk.next_back()?;
+                Some((section.name(), AnySection::Source(section)))
             }
         }
     }
@@ -144,6 +182,7 @@ impl<'v, 'a> Iterator for Sections<'v, 'a> {
 enum PairWalk<'v, 'a> {
     Ini(PropertyIter<'v>),
     View(ViewPairs<'v, 'a>),
+    Source(Iter<'v, SourcePair<'a>>),
 }
 
 impl<'v, 'a> PairWalk<'v, 'a> {
@@ -153,6 +192,10 @@ impl<'v, 'a> PairWalk<'v, 'a> {
         match self {
             PairWalk::Ini(walk) => walk.next(),
             PairWalk::View(walk) => walk.next(),
+            PairWalk::Source(walk) => {
+                let pair = walk.next()?;
+                Some((pair.key(), pair.value()))
+            }
         }
     }
 
@@ -162,6 +205,10 @@ impl<'v, 'a> PairWalk<'v, 'a> {
         match self {
             PairWalk::Ini(walk) => walk.next_back(),
             PairWalk::View(walk) => walk.next_back(),
+            PairWalk::Source(walk) => {
+                let pair = walk.next_back()?;
+                Some((pair.key(), pair.value()))
+            }
         }
     }
 }

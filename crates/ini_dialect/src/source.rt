@@ -1,0 +1,221 @@
+//! Edits under a rule of a text in pieces. This file knows the edits of pieces at an index.
+ghost use Rattle.std.specs.Prelude.{◌≡◌, IfErr, IfNone, IfOk, IfSome, IsOkUnless, OnErr, OnOk, None};
+ghost use Rattle.std.specs.Prelude.{alloc_error, chars, is_some};
+ghost use Rattle.ini.specs.Texts.{str_name};
+ghost use Rattle.ini_edit.specs.Sources.{document_in};
+ghost use Rattle.ini_dialect.specs.Lookups.{delete_under, set_under, value_under};
+ghost use Rattle.ini_dialect.specs.SourceLookups.{AreDeletedUnder, IsAddedUnder, IsCountingPair, IsPutUnder};
+ghost use Rattle.ini_dialect.specs.SourceLookups.{RefusesToPutUnder, RefusesUnder, RefusesValue, SetsUnder};
+ghost use Rattle.ini_dialect.specs.SourceLookups.{TakesNew, by_first};
+
+use crate::rule::{Lookup, ValueRule};
+use crate::walk::{AnyDocument, AnySection};
+use ini_edit::{EditError, Source};
+use ini_text::{Error, EscapePolicy, WriteOption};
+use std::alloc::Global;
+
+/// Where a pair stands: the number of its section, and its own in that, both from 0.
+#[derive(Clone, Copy, PartialEq, Eq, Debug)]
+pub struct PairNumber {
+    pub section: usize,
+    pub pair: usize,
+}
+
+impl Lookup {
+    /// Where the pair stands from which `get` answers. Takes no memory.
+    pub fn find_in_source(
+        self,
+        source: &Source<'_>,
+        name: Option<&str>,
+        key: &str,
+    ) -> Option<PairNumber>
+        ensures found { IfSome result (IsCountingPair self (str_name name.entry) (chars key.now)
+            (document_in source.now)) }
+        ensures none { IfNone result (value_under self (str_name name.entry) (chars key.now)
+            (document_in source.now) ≡ None) }
+    {
+        let section = self.holder_number(AnyDocument::Source(source), name, key)?;
+        let pair = self.pair_number(AnySection::Source(&source.sections()[section]), key)?;
+        Some(PairNumber { section, pair })
+    }
+
+    /// Sets the value of the pair from which `get` answers, where there is one: whether there is. It is
+    /// written as `Source::set_existing` writes it, and every other byte stays.
+    ///
+    /// # Errors
+    ///
+    /// `Value` where no form of the value is read back, whatever the text is; `Text` where memory is
+    /// refused. Nothing is changed then.
+    pub fn set_existing_in_source(
+        self,
+        alloc: Global,
+        policy: EscapePolicy,
+        source: &mut Source<'_>,
+        name: Option<&str>,
+        key: &str,
+        value: &str,
+    ) -> Result<bool, EditError>
+        ensures set { IfOk result (SetsUnder self (str_name name.entry) (chars key.now)
+            source.old.option policy source.old source.new (chars value.now)) }
+        ensures unchanged { OnErr result (source.new ≡ source.old) }
+        ensures refused { IfErr result (RefusesValue source.old.option policy (chars value.now)) }
+    {
+        let Some(at) = self.find_in_source(source, name, key) else {
+            return Ok(false);
+        };
+        source.set_at(alloc, policy, at.section, at.pair, value)
+    }
+
+    /// Adds a pair, whatever pairs of the key are there: last in the first section of the name, where
+    /// sections are joined in the last; where there is none, in a new one, last. It is written as
+    /// `Source::add` writes it.
+    ///
+    /// # Errors
+    ///
+    /// Those of `Source::add`. Nothing is changed then.
+    pub fn add_in_source(
+        self,
+        alloc: Global,
+        write: &WriteOption,
+        source: &mut Source<'_>,
+        name: Option<&str>,
+        key: &str,
+        value: &str,
+    ) -> Result<(), EditError>
+        ensures added { OnOk result (IsAddedUnder self (str_name name.entry) (chars key.now)
+            source.old.option write.now source.old source.new (chars value.now)) }
+        ensures unchanged { OnErr result (source.new ≡ source.old) }
+        ensures refused { IfErr result (RefusesUnder self (str_name name.entry) (chars key.now)
+            source.old.option write.now source.old (chars value.now)) }
+    {
+        match self.adding_number(AnyDocument::Source(source), name) {
+            Some(section) => {
+                self.add_in_section(alloc, write, source, section, name, key, value)
+            }
+            None => source.add(alloc, write, name, key, value),
+        }
+    }
+
+    // Adds a pair to the section of the number, which takes the new ones of the name.
+    fn add_in_section(
+        self,
+        alloc: Global,
+        write: &WriteOption,
+        source: &mut Source<'_>,
+        section: usize,
+        name: Option<&str>,
+        key: &str,
+        value: &str,
+    ) -> Result<(), EditError>
+        requires { TakesNew self (str_name name) (chars key.now) (document_in source.old) section }
+        ensures added { OnOk result (IsAddedUnder self (str_name name.entry) (chars key.now)
+            source.old.option write.now source.old source.new (chars value.now)) }
+        ensures unchanged { OnErr result (source.new ≡ source.old) }
+        ensures refused { IfErr result (RefusesUnder self (str_name name.entry) (chars key.now)
+            source.old.option write.now source.old (chars value.now)) }
+    {
+        source.add_at(alloc, write, section, key, value)?;
+        Ok(())
+    }
+
+    /// Sets the key's value, as `set` does in a document: in the pair from which `get` answers, as
+    /// `set_existing_in_source` does; where there is none, in a new one, as `add_in_source` does.
+    ///
+    /// # Errors
+    ///
+    /// Those of these two. Nothing is changed then.
+    pub fn set_in_source(
+        self,
+        alloc: Global,
+        write: &WriteOption,
+        source: &mut Source<'_>,
+        name: Option<&str>,
+        key: &str,
+        value: &str,
+    ) -> Result<(), EditError>
+        ensures set { OnOk result (IsPutUnder self (str_name name.entry) (chars key.now)
+            source.old.option write.now source.old source.new (chars value.now)) }
+        ensures document { OnOk result (document_in source.new ≡ set_under self
+            (str_name name.entry) (chars key.now) (chars value.now) (document_in source.old)) }
+        ensures unchanged { OnErr result (source.new ≡ source.old) }
+        ensures refused { IfErr result (RefusesToPutUnder self (str_name name.entry) (chars key.now)
+            source.old.option write.now source.old (chars value.now)) }
+    {
+        let policy = write.escape_policy;
+        if self.set_existing_in_source(alloc, policy, source, name, key, value)? {
+            return Ok(());
+        }
+        self.add_in_source(alloc, write, source, name, key, value)?;
+        Ok(())
+    }
+
+    /// The pieces without every pair of the key, in the sections of the name that are looked at. Each is
+    /// taken out as `Source::delete` takes one out.
+    ///
+    /// # Errors
+    ///
+    /// `Memory` where memory is refused.
+    pub fn source_without<'a>(
+        self,
+        alloc: Global,
+        source: &Source<'a>,
+        name: Option<&str>,
+        key: &str,
+    ) -> Result<Source<'a>, Error>
+        ensures deleted { IfOk result (λ edited. AreDeletedUnder self (str_name name.entry)
+            (chars key.now) source.now.option source.now.sections edited.sections) }
+        ensures option { IfOk result (λ edited. edited.option ≡ source.now.option) }
+        ensures document { IfOk result (λ edited. document_in edited
+            ≡ delete_under self (str_name name.entry) (chars key.now) (document_in source.now)) }
+        ensures only { IsOkUnless result (Error.Memory alloc_error) }
+    {
+        let mut edited = source.copy(alloc)?;
+        self.delete_each(alloc, &mut edited, name, key)?;
+        Ok(edited)
+    }
+
+    // Takes these pairs out one after the other: whether there was one. Refused, some may be out.
+    fn delete_each(
+        self,
+        alloc: Global,
+        source: &mut Source<'_>,
+        name: Option<&str>,
+        key: &str,
+    ) -> Result<bool, Error>
+        ensures found { IfOk result (λ found. found ≡ is_some
+            (value_under self (str_name name.entry) (chars key.now) (document_in source.old))) }
+        ensures deleted { OnOk result (AreDeletedUnder self (str_name name.entry) (chars key.now)
+            source.old.option source.old.sections source.new.sections) }
+        ensures option { OnOk result (source.new.option ≡ source.old.option) }
+        ensures document { OnOk result (document_in source.new
+            ≡ delete_under self (str_name name.entry) (chars key.now) (document_in source.old)) }
+        ensures only { IsOkUnless result (Error.Memory alloc_error) }
+    {
+        let mut found = false;
+        'pairs: while let Some(at) = self.first_in_source(source, name, key) {
+            source.delete_at(alloc, at.section, at.pair)?;
+            found = true;
+        }
+        Ok(found)
+    }
+
+    // Where the first pair of the key stands that is looked at.
+    fn first_in_source(
+        self,
+        source: &Source<'_>,
+        name: Option<&str>,
+        key: &str,
+    ) -> Option<PairNumber>
+        ensures found { IfSome result (IsCountingPair (by_first self) (str_name name.entry) (chars key.now)
+            (document_in source.now)) }
+        ensures none { IfNone result (value_under (by_first self) (str_name name.entry) (chars key.now)
+            (document_in source.now) ≡ None) }
+    {
+        let first = Lookup {
+            sections: self.sections,
+            values: ValueRule::First,
+            case: self.case,
+        };
+        first.find_in_source(source, name, key)
+    }
+}
