@@ -333,6 +333,9 @@ def insert_before(page, writing, edit):
         return None
     number = every.index(pairs[0])
     place = page.comments_above(pairs[0].start)
+    # a pair that is indented, without a comment above it, would go on with the new one
+    if page.option.multiline and place == pairs[0].start and page.text[place] in BLANKS:
+        raise Refused("NoPlace")
     above = page.element_before(place)
     indented = not page.option.multiline or not (above and above.kind == "pair")
     line = pair_text(page, writing, every[:number], edit.other, edit.value, indented)
