@@ -827,6 +827,37 @@ END
     printf 'path = C:\\temp\n' >"$room/want"
     cp path.ini "$room/have"
     count 'check: no file is written'
+    case_of 'check --fix: a change is shown, and nothing is written' 0 '--- path.ini
++++ path.ini
+@@ -1,1 +1,1 @@
+-path = C:\\temp
++path = C:\\\\temp
+' '' check --fix -n path.ini clean.ini
+    printf 'path = C:\\temp\n' >"$room/want"
+    cp path.ini "$room/have"
+    count 'check --fix: a file whose change is shown stands'
+    case_of 'check --fix: what is left is reported beside a change' 1 '' "traps.ini:7:1: warning: $repeated" \
+        check --fix -n --allow all --deny repeated-key traps.ini
+    cp path.ini fixed.ini
+    case_of 'check --fix: a file is mended' 0 '' changed check --fix --verbose fixed.ini
+    case_of 'check --fix: a mended file stands' 0 '' unchanged check --fix --verbose fixed.ini
+    printf 'path = C:\\\\temp\n' >"$room/want"
+    cp fixed.ini "$room/have"
+    count 'check --fix: the mended file'
+    case_of 'check --fix: what is not reported is not mended' 0 '' unchanged check --fix --verbose --allow escape path.ini
+    cp path.ini closed.ini
+    chmod 444 closed.ini
+    case_of 'check --fix: a write-protected file' 4 '' 'ini_file: closed.ini: it is write-protected; --force writes it all the same' \
+        check --fix closed.ini
+    case_of 'check --fix: standard input' 1 "path = C:\\\\\\\\temp\nk = 1\nk = 2\n" "-:3:1: warning: $repeated" \
+        check --fix - <<END
+path = C:\\temp
+k = 1
+k = 2
+END
+    case_of 'check --fix: a refused file stands' 3 '' 'bad.ini:2:3: no key stands before this
+  =v
+  ^' check --fix bad.ini
 }
 
 # preview NAME STATUS DIFF COMMAND WORD..: with --dry-run the command writes this diff of settings.ini, and the file stands; and

@@ -50,7 +50,7 @@ if has bash completions; then
     offered 'one two one.ini ' ini_file get ''
     offered '--existing ' ini_file set --e
     offered '--dry-run ' ini_file delete --d
-    offered '-- --allow --deny --format --null ' ini_file check --
+    offered '-- --allow --deny --dry-run --fix --force --format --in-place --null --verbose --wait ' ini_file check --
     offered 'github json sarif ' ini_file check --format ''
     offered '-- --all --default --force --in-place --null --output --section --verbose --wait ' ini_file get --
     offered '--null ' ini_file --crlf list --n

@@ -59,7 +59,11 @@ get -sserver settings.ini port|-sserver is no option; after -- it is an argument
 get --all=1 settings.ini k|--all takes no text
 set --dry-run=yes settings.ini k v|--dry-run takes no text
 list --all settings.ini|list doesn't take --all, but --null --output --in-place --force --wait --verbose
-check --all settings.ini|check doesn't take --all, but --null --format --allow --deny
+check --all settings.ini|check doesn't take --all, but --null --format --allow --deny --fix --dry-run --in-place --force --wait --verbose
+check --force settings.ini|check takes --force with --fix alone
+check settings.ini -n|check takes --dry-run with --fix alone
+check --fix=1 settings.ini|--fix takes no text
+check --fix --wait x settings.ini|x is no number of seconds; --wait takes one, as 10
 check --format xml settings.ini|xml is no form; --format takes json, sarif or github
 check --allow frob settings.ini|frob is no warning; they are all, loses-data, surprises, $traps
 check settings.ini --deny|--deny takes NAME

@@ -66,11 +66,14 @@ done <<'ROWS'
 --multiline|k = v\n\n  port: 80\n  host = x\n|3:3 pair-in-value;4:3 pair-in-value;
 --multiline|k = v\n  port 80\n|
 --multiline|k = v\n  [b]\n|2:3 header-in-value;
+--multiline|k = v\n\n  [b]\n|3:3 header-in-value;
+--multiline|k = v\n\n[b]\n|
 --multiline|k = v\n  [b], c\n|
 --multiline|  k =\n  port = 80\n|2:3 pair-in-value;
 --multiline|k =\n  port = 80\n|
 --multiline|k = a\n  pytest==3\n  --cov=x\n  http://h\n  a>=1\n|
 |; c\rk=v|1:4 lone-cr;
+|; c\rk=v\rj=w|1:4 lone-cr;
 |; c\r\nk=v|
 |; c\r; d\rk=v\r|1:8 lone-cr;
 |; c\r; d\r|
@@ -93,6 +96,7 @@ done <<'ROWS'
 |k="a"\nl="a""b"\n|
 |k="a", "b"\n|1:6 text-after-quote;
 |k=a"\n|1:3 half-quote;
+--noquote|k=a"\nl="a"b\n|
 |k=don't\nl=say "hi"\n|
 |k=5\\"\n|
 |[a] k=v\n|1:5 after-header;
@@ -126,4 +130,58 @@ done <<'ROWS'
 |one\ntwo = 2\n= 3|refused at 3:1
 |k = "v|refused at 1:5
 |[a|refused at 1:1
+ROWS
+
+# Worked out by hand. A row is options, a text with escapes, and the text with its traps mended. Of a mended text nothing is
+# mended again.
+while IFS='|' read -r words text want; do
+    printf '%b' "$want" >"$room/want"
+    for given in "$text" "$want"; do
+        printf '%b' "$given" >"$room/in"
+        # shellcheck disable=SC2086
+        "$room/bin/ini_file" $words check --fix - <"$room/in" >"$room/have" 2>"$room/err"
+        count "ini_file check --fix, $words, '$given'"
+    done
+done <<'ROWS'
+|path = C:\\temp\n|path = C:\\\\temp\n
+|path = C:\\\\temp\n|path = C:\\\\temp\n
+|say = \\"hi\\" to C:\\new\n|say = \\"hi\\" to C:\\\\new\n
+--noescape|path = C:\\temp\n|path = C:\\temp\n
+|a\\tb = 1\n[C:\\temp]\n|a\\\\tb = 1\n[C:\\\\temp]\n
+|[a\\]b] \n|[a\\]b] \n
+|a = 'tis\nport = 80\nb = don't\n|a = 'tis'\nport = 80\nb = don't\n
+|a = 'tis \t\r\nport = 80\r\nb = don't\r\n|a = 'tis' \t\r\nport = 80\r\nb = don't\r\n
+|a = "one\nb = two"\n|a = "one\nb = two"\n
+|a = "one\ntwo"\nb = 1\n|a = "one\ntwo"\nb = 1\n
+|a = "one\n  two"\nb = 1\n|a = "one\n  two"\nb = 1\n
+--noquote|a = 'tis\nport = 80\nb = don't\n|a = 'tis\nport = 80\nb = don't\n
+|a = 'x\na = 'y\nb = don't\n|a = 'x\na = 'y\nb = don't\n
+|[server\nport=80\n[client]\n|[server]\nport=80\n[client]\n
+|[server \r\nport=80\r\n[client]\r\n|[server] \r\nport=80\r\n[client]\r\n
+|[a\nb]\nk=1\n|[a\nb]\nk=1\n
+|[a\\\nb]\nk=1\n|[a\\\nb]\nk=1\n
+|p=C:\\\nq=1\n|p=C:\\\\\nq=1\n
+--noescape|p=C:\\\nq=1\n|p=C:\\ \nq=1\n
+|run = a \\\n--b\n|run = a \\\n--b\n
+|run = a \\\n  --b\nk = v\n|run = a \\\n  --b\nk = v\n
+|p=C:\\\nq=D:\\\nr=1\n|p=C:\\\\\nq=D:\\\\\nr=1\n
+|  ; note\nk = v|; note\nk = v
+|a=1\n  ; one\n\t# two\n  k = v\n|a=1\n; one\n# two\n  k = v\n
+|a=b\n\t#k = v\n|a=b\n#k = v\n
+|  #k = v\rj = w\n|  #k = v\rj = w\n
+|; note\n\t; at the end\n|; note\n\t; at the end\n
+--multiline|k = v\n  ; note\n|k = v\n  ; note\n
+--multiline|  ; note\nk = v\n|; note\nk = v\n
+|; c\rk=v\n|; c\r\nk=v\n
+|; c\r; d\rk=v\r|; c\r; d\r\nk=v\r
+|; 10%\r20%\n|; 10%\r20%\n
+|one\ntwo = 2\n  port 80|one\ntwo = 2\n  port 80
+|k=1\nk=2\n[a] [A]\n[a]\nk="a"b\nj=a"\n|k=1\nk=2\n[a] [A]\n[a]\nk="a"b\nj=a"\n
+--multiline|k = v\n  port = 80\n  [b]\n|k = v\n  port = 80\n  [b]\n
+--allow escape|path = C:\\temp\n[a\\b]\n|path = C:\\temp\n[a\\\\b]\n
+--allow all --deny escape|path = C:\\temp\n[a\\b]\n|path = C:\\\\temp\n[a\\b]\n
+--allow loses-data|p=C:\\\nq=C:\\temp\n|p=C:\\\nq=C:\\\\temp\n
+|a = 'tis\n  ; note\nb = don't\n|a = 'tis'\n; note\nb = don't\n
+|a\\tb=1\na\\\\tb=2\n|a\\\\tb=1\na\\\\tb=2\n
+|\0357\0273\0277  ; c\nk=C:\\y\n|\0357\0273\0277; c\nk=C:\\\\y\n
 ROWS

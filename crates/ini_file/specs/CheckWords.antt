@@ -1,25 +1,32 @@
--- Which words are a check: of which files, which traps are reported, and in which form.
-use Rattle.std.specs.Prelude.{Bool, true, false, ◌||◌, if◌then◌else◌, List, [], ◌∷◌, codes, map}
+-- Which words are a check: of which files, which traps are reported, in which form, and whether they are
+-- mended.
+use Rattle.std.specs.Prelude.{Bool, true, false, not, ◌||◌, if◌then◌else◌, List, [], ◌∷◌, codes, map}
 use Rattle.std.specs.Prelude.{Option, None, Some, is_some, option_and_then, string_bytes}
-use Rattle.std.specs.Option.{option_map}
+use Rattle.std.specs.Option.{option_map, option_map_or}
 use Rattle.std.specs.Str.{bytes_eq}
 use Rattle.ini_text.specs.declared.option.ParseOption.{ParseOption}
 use Rattle.ini_check.specs.Kinds.{level, level_name, name, trap_named}
 use Rattle.ini_check.specs.declared.warning.Trap.{Trap}
 use Rattle.ini_options.specs.Words.{Word, default_options, given}
 use Rattle.ini_options.specs.declared.options.Options.{Options}
-use Rattle.ini_file.specs.Choices.{have_no_option}
+use Rattle.ini_file.specs.Choices.{are_of_saving, have_no_option, is_short_number, no_switch, with_switch}
 use Rattle.ini_file.specs.declared.check_words.Check.{Check}
+use Rattle.ini_file.specs.declared.check_words.CheckChoices.{CheckChoices}
 use Rattle.ini_file.specs.declared.report_format.Format.{Format}
 use Rattle.ini_file.specs.declared.report_format.Format.TheVariants.{Github, Json, Lines, Null, Sarif}
 
--- the files that a check looks at, one at least, and how they are read; the words that choose what is
--- reported, and in which form
+-- the files that a check looks at, one at least, and how they are read; how it is made, and how long it
+-- waits for others that write a file; the words that choose what is reported
 pub record Checking : Type 0 where
   pub reading : ParseOption
-  pub format : Format
+  pub made : CheckChoices
+  pub wait : Option Word
   pub choices : List Word
   pub files : List Word
+
+-- nothing is chosen
+abbrev pub no_check_choice : CheckChoices
+no_check_choice = record { format = Lines; fix = false; switches = no_switch }
 
 -- the form that a word names
 abbrev pub format_named : Word → Option Format
@@ -59,43 +66,79 @@ abbrev mutual
   reported_with trap before choice (word ∷ words) =
       is_reported trap (if covers word trap then choice else before) words
 
--- one file at least
-abbrev pub some_files : Format → List Word → Option (Format × List Word)
-some_files format [] = None
-some_files format (file ∷ files) = Some (format, file ∷ files)
+-- what is chosen after a word that stands alone, if it is a choice
+abbrev pub with_word : Word → CheckChoices → Option CheckChoices
+with_word word c =
+    if bytes_eq word (codes "--null") then Some (record c { format = Null })
+    else if bytes_eq word (codes "--fix") then Some (record c { fix = true })
+    else if bytes_eq word (codes "--dry-run") || bytes_eq word (codes "--in-place")
+    || bytes_eq word (codes "--force") || bytes_eq word (codes "--verbose")
+    then option_map (λ s. record c { switches = s }) (with_switch word c.switches)
+    else None
 
--- the form and the files of words where this form holds before them: the files are those after `--`, or else
--- those from the first word on that is no choice. None where there is no file, where a choice has no name or
--- a wrong one, or where, without `--`, a file's name begins with `--`
+-- a form, or a name of traps, follows the choice of this name
+abbrev pub takes_text : Word → Bool
+takes_text word = bytes_eq word (codes "--format") || bytes_eq word (codes "--allow")
+    || bytes_eq word (codes "--deny")
+
+-- what is chosen after such a word and its text, if that is one; a name of traps chooses nothing here
+abbrev pub with_text : Word → Word → CheckChoices → Option CheckChoices
+with_text word text c =
+    if bytes_eq word (codes "--format") then option_map (λ f. record c { format = f }) (format_named text)
+    else if names_traps text then Some c
+    else None
+
+-- what is about a mended file is chosen only where files are mended; `waits` says whether how long others
+-- are waited for is
+abbrev pub are_right : Bool → CheckChoices → Bool
+are_right waits c = c.fix || not (are_of_saving c.switches || c.switches.dry_run || waits)
+
+-- what words choose where `c` and this time of waiting hold before them, and the files that they name: those
+-- after `--`, or else those from the first word on that is no choice. None where a text is missing or wrong,
+-- or where, without `--`, a file's name begins with `--`
 abbrev mutual
-  pub files_named : Format → List Word → Option (Format × List Word)
-  files_named format [] = None
-  files_named format (word ∷ words) =
-      if bytes_eq word (codes "--") then some_files format words
-      else if bytes_eq word (codes "--null") then files_named Null words
-      else if bytes_eq word (codes "--format") then files_after_format words
-      else if bytes_eq word (codes "--allow") || bytes_eq word (codes "--deny")
-      then files_after_name format words
-      else if have_no_option (word ∷ words) then Some (format, word ∷ words)
-      else None
+  pub files_named : CheckChoices → Option Word → List Word → Option (CheckChoices × Option Word × List Word)
+  files_named c wait [] = None
+  files_named c wait (word ∷ words) =
+      if bytes_eq word (codes "--") then Some (c, wait, words)
+      else if bytes_eq word (codes "--wait") then files_after_wait c words
+      else if takes_text word then files_after_text word c wait words
+      else option_map_or (λ c. files_named c wait words) (with_word word c)
+      (if have_no_option (word ∷ words) then Some (c, wait, word ∷ words) else None)
 
-  -- the same after a word that a form follows
-  pub files_after_format : List Word → Option (Format × List Word)
-  files_after_format [] = None
-  files_after_format (word ∷ words) = option_and_then (λ format. files_named format words) (format_named word)
+  -- the same after a word that a number of seconds follows
+  pub files_after_wait : CheckChoices → List Word → Option (CheckChoices × Option Word × List Word)
+  files_after_wait c [] = None
+  files_after_wait c (seconds ∷ words) =
+      if is_short_number seconds then files_named c (Some seconds) words else None
 
-  -- the same after a word that a name of traps follows
-  pub files_after_name : Format → List Word → Option (Format × List Word)
-  files_after_name format [] = None
-  files_after_name format (word ∷ words) = if names_traps word then files_named format words else None
+  -- the same after a word that a form, or a name of traps, follows
+  pub files_after_text : Word → CheckChoices → Option Word → List Word
+      → Option (CheckChoices × Option Word × List Word)
+  files_after_text word c wait [] = None
+  files_after_text word c wait (text ∷ words) =
+      option_and_then (λ c. files_named c wait words) (with_text word text c)
+
+-- the check of files, one at least, by choices that go together
+abbrev pub check_made : Options → List Word → CheckChoices → Option Word → List Word → Option Checking
+check_made o words c wait [] = None
+check_made o words c wait (file ∷ files) =
+    if are_right (is_some wait) c
+    then Some (record {
+      reading = o.reading;
+      made = c;
+      wait = wait;
+      choices = words;
+      files = file ∷ files;
+    })
+    else None
 
 -- what is checked after the options, if `check` stands there
 abbrev pub check_after : Options → List Word → Option Checking
 check_after o [] = None
 check_after o (command ∷ words) =
     if bytes_eq command (codes "check")
-    then option_map (λ p. record { reading = o.reading; format = p.0; choices = words; files = p.1 })
-    (files_named Lines words)
+    then option_and_then (λ p. check_made o words p.0 p.1 p.2) (files_named no_check_choice None words)
     else None
 
 -- what words check; None where they are no check
@@ -106,7 +149,8 @@ check_asked words = option_and_then (λ p. check_after p.0 p.1) (given default_o
 abbrev pub checking_of : Check → Checking
 checking_of c = record {
   reading = c.reading;
-  format = c.format;
+  made = c.made;
+  wait = option_map (λ seconds. seconds.now) c.wait;
   choices = map string_bytes c.choices.now;
   files = map string_bytes c.files.now;
 }

@@ -31,15 +31,18 @@ pub record AreReports (o : ParseOption) (format : Format) (choices : List Word) 
   pub are_warnings : AreWarningsOf o T warnings
   pub are_reports : reports ≡ flat_map (report format choices file) warnings
 
--- how the check of a file with these bytes ends: with the reports of its warnings, or with its first refusal
+-- what the check of a file with these bytes is refused with
+abbrev pub RefusesCheck : ParseOption → List ℕ → Error → Type 0
+RefusesCheck o input NotUtf8 = ¬ (IsUtf8 (without_byte_order_mark input))
+RefusesCheck o input (Parse e) = IsTextWith (λ T. IsStopOf o T e) (without_byte_order_mark input)
+RefusesCheck o input (Memory _) = ⊤
+RefusesCheck o input _ = ⊥
+
+-- how it ends: with the reports of its warnings, or with its first refusal
 abbrev pub IsChecked : ParseOption → Format → List Word → Word → List ℕ → Result (Vec ℕ Global) Error → Type 0
 IsChecked o format choices file input (Ok reports) =
     IsTextWith (λ T. AreReports o format choices file T reports.items) (without_byte_order_mark input)
-IsChecked o format choices file input (Err NotUtf8) = ¬ (IsUtf8 (without_byte_order_mark input))
-IsChecked o format choices file input (Err (Parse e)) =
-    IsTextWith (λ T. IsStopOf o T e) (without_byte_order_mark input)
-IsChecked o format choices file input (Err (Memory _)) = ⊤
-IsChecked o format choices file input (Err _) = ⊥
+IsChecked o format choices file input (Err refused) = RefusesCheck o input refused
 
 -- the exit status of a check of one file: 1 where something is reported, and a refusal's is every command's
 abbrev pub check_status : Result (Vec ℕ Global) Error → ℕ

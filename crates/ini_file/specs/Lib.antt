@@ -1,6 +1,7 @@
 pub mod Bytes
 pub mod CheckWords
 pub mod Checks
+pub mod Fixes
 pub mod Choices
 pub mod Diffs
 pub mod Edits

@@ -19,7 +19,7 @@ kind_of name =
     else if bytes_eq name (codes "--existing") || bytes_eq name (codes "--all")
     || bytes_eq name (codes "--null") || bytes_eq name (codes "--dry-run")
     || bytes_eq name (codes "--in-place") || bytes_eq name (codes "--force")
-    || bytes_eq name (codes "--verbose") then Some Choice
+    || bytes_eq name (codes "--verbose") || bytes_eq name (codes "--fix") then Some Choice
     else if bytes_eq name (codes "--output") || bytes_eq name (codes "--default")
     || bytes_eq name (codes "--separator") || bytes_eq name (codes "--wait")
     || bytes_eq name (codes "--format") || bytes_eq name (codes "--allow")

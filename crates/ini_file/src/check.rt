@@ -28,7 +28,7 @@ pub fn check_file(
     file: &str,
     input: &[u8],
 ) -> Result<Vec<u8>, Error>
-    ensures { IsChecked asked.now.reading asked.now.format (map string_bytes asked.now.choices.now)
+    ensures { IsChecked asked.now.reading asked.now.made.format (map string_bytes asked.now.choices.now)
         file.now input.now result }
 {
     match text_of(input) {
@@ -44,7 +44,7 @@ fn reports_of_text(
     file: &str,
     text: &str,
 ) -> Result<Vec<u8>, Error>
-    ensures reports { IfOk result (λ reports. AreReports asked.now.reading asked.now.format
+    ensures reports { IfOk result (λ reports. AreReports asked.now.reading asked.now.made.format
         (map string_bytes asked.now.choices.now) file.now (chars text.now) reports.items) }
     ensures fault { IfParse result (IsStopOf asked.now.reading (chars text.now)) }
     ensures only { IfErr result IsParseOrMemory }
@@ -61,7 +61,7 @@ fn reports_of(
     warnings: &[Warning],
 ) -> Result<Vec<u8>, Error>
     ensures reports { IfOk result (λ reports. reports.items ≡ flat_map
-        (report asked.now.format (map string_bytes asked.now.choices.now) file.now) warnings.now) }
+        (report asked.now.made.format (map string_bytes asked.now.choices.now) file.now) warnings.now) }
     ensures only { IsOkUnless result (Memory alloc_error) }
 {
     let mut reports = Vec::new(alloc);
@@ -80,10 +80,10 @@ fn push_reported(
     warning: Warning,
 ) -> Result<(), AllocError>
     ensures { OnOk result (reports.new.items ≡ reports.old.items
-        ++ report asked.now.format (map string_bytes asked.now.choices.now) file.now warning) }
+        ++ report asked.now.made.format (map string_bytes asked.now.choices.now) file.now warning) }
 {
     if is_reported(warning.trap, asked.choices) {
-        push_report(alloc, reports, asked.format, file, warning)
+        push_report(alloc, reports, asked.made.format, file, warning)
     } else {
         Ok(())
     }

@@ -3,19 +3,22 @@
 
 use crate::check::{check_file, status_of_check, worst_of};
 use crate::check_words::Check;
-use crate::files::read_input;
+use crate::files::{lock_place, read_file, read_input, write_output};
+use crate::fix::fix;
 use crate::refusals::refuse;
 use crate::report_format::Format;
 use crate::run::Outcome;
 use crate::sarif::document_of;
+use crate::target::Target;
 use ini::Error;
 use std::alloc::AllocError;
 use std::io::Write;
 
 /// Looks at each file, in order, and tells its refusal; then writes what is reported of all warnings to
-/// standard output. The answer is the largest of the files' statuses, or 4 where it can't be written.
+/// standard output, or to standard error where that gets mended text or its change. The answer is the
+/// largest of the files' statuses, or 4 where it can't be written.
 ///
-/// No contract says what a stream gets; `tests/files.sh` tests it. No file is written.
+/// No contract says what a stream or a file gets; `tests/files.sh` tests it. Only what is mended is written.
 pub fn check_files(rt: &HostRuntime, check: &Check<'_>) -> u8 {
     let mut reports = Vec::new(rt.alloc());
     let mut worst = 0;
@@ -33,20 +36,34 @@ pub fn check_files(rt: &HostRuntime, check: &Check<'_>) -> u8 {
     }
 }
 
-// Writes what is reported to standard output, in SARIF as one document.
+// Writes what is reported, in SARIF as one document.
 fn write_reports(rt: &HostRuntime, check: &Check<'_>, reports: Vec<u8>) -> Result<(), Error> {
-    let output = if check.format == Format::Sarif {
+    let output = if check.made.format == Format::Sarif {
         document_of(rt.alloc(), reports.as_slice())?
     } else {
         reports
     };
+    if writes_text(check) {
+        return rt.stderr().write_all(output.as_slice()).map_err(Error::Io);
+    }
     rt.stdout().write_all(output.as_slice()).map_err(Error::Io)
+}
+
+// Whether standard output gets mended text, or what would change.
+fn writes_text(check: &Check<'_>) -> bool {
+    let shows_change = check.made.switches.dry_run;
+    check.made.fix && (shows_change || check.files.iter().any(|file| file.as_str() == "-"))
 }
 
 // Puts last what is reported of a file's warnings, or tells its refusal; and answers its status.
 fn check_one(rt: &HostRuntime, check: &Check<'_>, file: &str, reports: &mut Vec<u8>) -> u8 {
     let read = check.reading;
-    let input = match read_input(rt, file) {
+    let looked_at = if check.made.fix {
+        fix_one(rt, check, file)
+    } else {
+        read_input(rt, file)
+    };
+    let input = match looked_at {
         Ok(input) => input,
         Err(refusal) => return refuse(rt, read, file, &[], &Outcome::from(refusal)),
     };
@@ -60,4 +77,20 @@ fn check_one(rt: &HostRuntime, check: &Check<'_>, file: &str, reports: &mut Vec<
         Err(refusal) => refusal,
     };
     refuse(rt, read, file, input.as_slice(), &Outcome::from(refusal))
+}
+
+// Mends a file, and answers the bytes that it has then, or would have; where they are refused, its own.
+fn fix_one(rt: &HostRuntime, check: &Check<'_>, file: &str) -> Result<Vec<u8>, Error> {
+    let target = Target::of_fixing(check.made, check.wait, file);
+    let _lock = lock_place(rt, target)?;
+    let Some(input) = read_file(rt, target)? else {
+        return Ok(Vec::new(rt.alloc()));
+    };
+    let fixed = match fix(rt.alloc(), check, input.as_slice()) {
+        Ok(fixed) => fixed,
+        Err(Error::Parse(_) | Error::NotUtf8) => return Ok(input),
+        Err(refusal) => return Err(refusal),
+    };
+    write_output(rt, target, Some(input.as_slice()), fixed.as_slice())?;
+    Ok(fixed)
 }

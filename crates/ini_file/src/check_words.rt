@@ -1,23 +1,88 @@
 //! The words of a check: options of reading, `check`, choices, and files. This file knows no document and no
 //! device.
-ghost use Rattle.std.specs.Prelude.{◌≡◌, map, string_bytes};
+ghost use Rattle.std.specs.Prelude.{◌≡◌, None, map, string_bytes};
 ghost use Rattle.std.specs.Option.{option_map};
-ghost use Rattle.ini_file.specs.CheckWords.{check_asked, checking_of, files_named, some_files};
-ghost use Rattle.ini_file.specs.declared.report_format.Format.TheVariants.{Lines};
+ghost use Rattle.ini_file.specs.CheckWords.{are_right, check_asked, check_made, checking_of};
+ghost use Rattle.ini_file.specs.CheckWords.{files_named, no_check_choice, takes_text};
+ghost use Rattle.ini_file.specs.CheckWords.{with_text, with_word};
 
-use crate::choices::have_no_option;
+use crate::choices::{Switches, have_no_option, is_short_number};
 use crate::report_format::Format;
 use crate::reported::names_traps;
 use ini::ParseOption;
 use ini_options::Options;
+
+/// How a check is made.
+#[derive(Clone, Copy)]
+pub struct CheckChoices {
+    /// The form in which warnings are written.
+    pub format: Format,
+    /// Whether what is reported is mended, where that makes the file better.
+    pub fix: bool,
+    /// What is chosen of the way in which a mended file is saved.
+    pub switches: Switches,
+}
+
+impl CheckChoices {
+    // Nothing is chosen.
+    fn none() -> CheckChoices
+        ensures { result ≡ no_check_choice }
+    {
+        CheckChoices {
+            format: Format::Lines,
+            fix: false,
+            switches: Switches::none(),
+        }
+    }
+
+    // The choices after a word that stands alone, if it is one.
+    fn with_word(self, word: &str) -> Option<CheckChoices>
+        ensures { result ≡ with_word word.now self }
+    {
+        let mut choices = self;
+        match word {
+            "--null" => choices.format = Format::Null,
+            "--fix" => choices.fix = true,
+            "--dry-run" | "--in-place" | "--force" | "--verbose" => {
+                choices.switches = self.switches.with_switch(word)?;
+            }
+            _ => return None,
+        }
+        Some(choices)
+    }
+
+    // The choices after a word that a form or a name of traps follows, if it is one. The name chooses
+    // nothing here.
+    fn with_text(self, word: &str, text: &str) -> Option<CheckChoices>
+        ensures { result ≡ with_text word.now text.now self }
+    {
+        let mut choices = self;
+        if word == "--format" {
+            choices.format = Format::of_name(text)?;
+        } else if !names_traps(text) {
+            return None;
+        }
+        Some(choices)
+    }
+
+    // Whether what is about a mended file is chosen only where files are mended; `waits` says whether how
+    // long others are waited for is.
+    fn are_right(self, waits: bool) -> bool
+        ensures { result ≡ are_right waits self }
+    {
+        self.fix || !(self.switches.are_of_saving() || self.switches.dry_run || waits)
+    }
+}
 
 /// What the words of a check are.
 #[derive(Clone, Copy)]
 pub struct Check<'a> {
     /// How the files are read.
     pub reading: ParseOption,
-    /// The form in which warnings are written.
-    pub format: Format,
+    /// How the check is made.
+    pub made: CheckChoices,
+    /// How long a run waits for others that write a file, in seconds.
+    pub wait: Option<&'a str>,
     /// The words after the command, of which `is_reported` says which traps are reported.
     pub choices: &'a [String],
     /// The files' names, one at least; `-` is standard input.
@@ -35,56 +100,75 @@ pub fn check_of(words: &[String]) -> Option<Check<'_>>
     if command.as_str() != "check" {
         return None;
     }
-    let (format, files) = files_of(choices)?;
+    let (made, wait, files) = files_of(choices)?;
+    check_made(options, choices, made, wait, files)
+}
+
+// The check of files, one at least, that is made so.
+fn check_made<'a>(
+    options: Options,
+    choices: &'a [String],
+    made: CheckChoices,
+    wait: Option<&'a str>,
+    files: &'a [String],
+) -> Option<Check<'a>>
+    ensures { option_map checking_of result ≡ check_made options (map string_bytes choices.now) made
+        (option_map (λ text. text.now) wait.entry) (map string_bytes files.now) }
+{
+    if files.is_empty() {
+        return None;
+    }
+    if !made.are_right(wait.is_some()) {
+        return None;
+    }
     Some(Check {
         reading: options.reading,
-        format,
+        made,
+        wait,
         choices,
         files,
     })
 }
 
-// The form that words choose, and the files that they name.
-fn files_of(words: &[String]) -> Option<(Format, &[String])>
-    ensures { option_map (λ p. (p.0, map string_bytes p.1.now)) result
-        ≡ files_named Lines (map string_bytes words.now) }
+// What words choose, and the files that they name.
+fn files_of<'a>(words: &'a [String]) -> Option<(CheckChoices, Option<&'a str>, &'a [String])>
+    ensures { option_map (λ p. (p.0, option_map (λ text. text.now) p.1, map string_bytes p.2.now)) result
+        ≡ files_named no_check_choice None (map string_bytes words.now) }
 {
-    let mut format = Format::Lines;
+    let mut choices = CheckChoices::none();
+    let mut wait: Option<&'a str> = None;
     let mut rest = words;
     'words: while let Some((word, after)) = rest.split_first() {
         let word = word.as_str();
         if word == "--" {
-            return some_files(format, after);
-        } else if word == "--null" {
-            format = Format::Null;
-            rest = after;
-        } else if word == "--format" {
-            let (name, after) = after.split_first()?;
-            format = Format::of_name(name.as_str())?;
-            rest = after;
-        } else if word == "--allow" || word == "--deny" {
-            let (name, after) = after.split_first()?;
-            if !names_traps(name.as_str()) {
+            return Some((choices, wait, after));
+        } else if word == "--wait" {
+            let (seconds, after) = after.split_first()?;
+            let seconds = seconds.as_str();
+            if !is_short_number(seconds) {
                 return None;
             }
+            wait = Some(seconds);
             rest = after;
-        } else if have_no_option(rest) {
-            return Some((format, rest));
-        } else {
+        } else if takes_text(word) {
+            let (text, after) = after.split_first()?;
+            choices = choices.with_text(word, text.as_str())?;
+            rest = after;
+        } else if let Some(changed) = choices.with_word(word) {
+            choices = changed;
+            rest = after;
+        } else if !have_no_option(rest) {
             return None;
+        } else {
+            return Some((choices, wait, rest));
         }
     }
     None
 }
 
-// The files after `--`, one at least.
-fn some_files(format: Format, files: &[String]) -> Option<(Format, &[String])>
-    ensures { option_map (λ p. (p.0, map string_bytes p.1.now)) result
-        ≡ some_files format (map string_bytes files.now) }
+// Whether a form, or a name of traps, follows the choice of this name.
+fn takes_text(word: &str) -> bool
+    ensures { result ≡ takes_text word.now }
 {
-    if files.is_empty() {
-        None
-    } else {
-        Some((format, files))
-    }
+    matches!(word, "--format" | "--allow" | "--deny")
 }

@@ -27,8 +27,8 @@ pub struct Switches {
 }
 
 impl Switches {
-    // Nothing is chosen.
-    fn none() -> Switches
+    /// Nothing is chosen.
+    pub fn none() -> Switches
         ensures { result ≡ no_switch }
     {
         Switches {
@@ -42,15 +42,15 @@ impl Switches {
         }
     }
 
-    // Whether something is chosen that is about a file that is written.
-    fn are_of_saving(self) -> bool
+    /// Whether something is chosen that is about a file that is written.
+    pub fn are_of_saving(self) -> bool
         ensures { result ≡ are_of_saving self }
     {
         self.in_place || self.force || self.verbose
     }
 
-    // The switches after a word that is one.
-    fn with_switch(self, word: &str) -> Option<Switches>
+    /// The switches after a word that is one.
+    pub fn with_switch(self, word: &str) -> Option<Switches>
         ensures { result ≡ with_switch word.now self }
     {
         let mut switches = self;

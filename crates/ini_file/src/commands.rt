@@ -31,11 +31,12 @@ impl Shape {
             "--existing" => command == "set",
             "--all" | "--default" => command == "get",
             "--null" => writes_texts(command) || command == "check",
-            "--format" | "--allow" | "--deny" => command == "check",
+            "--format" | "--allow" | "--deny" | "--fix" => command == "check",
             "--separator" => writes_pairs(command),
             "--section" => before_section(command).is_some(),
-            "--dry-run" => !writes_texts(command) && command != "check",
-            _ => command != "check",
+            "--dry-run" => !writes_texts(command),
+            "--output" => command != "check",
+            _ => true,
         }
     }
 

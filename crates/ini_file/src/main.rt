@@ -18,6 +18,7 @@ mod diff;
 mod edit;
 mod fault_words;
 mod files;
+mod fix;
 mod hints;
 mod lines;
 mod lock;

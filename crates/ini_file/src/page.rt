@@ -99,6 +99,7 @@ Choices:
   --allow NAME     of check: warnings of this name, as runs-on or surprises or
                    all, aren't reported
   --deny NAME      of check: they are, after a wider --allow
+  --fix            of check: mends what is reported and has one mend, in the file
   --output FILE    writes this file in place of the other; - is standard output
   --               what follows is an argument, whatever it begins with
 Options and choices may stand anywhere before --, with = before their text too.

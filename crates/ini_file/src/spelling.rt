@@ -38,8 +38,14 @@ pub fn kind_of(name: &str) -> Option<Kind>
             Some(Kind::Reading)
         }
         "--policy" => Some(Kind::ReadingText),
-        "--existing" | "--all" | "--null" | "--dry-run" | "--in-place" | "--force" | "--verbose" =>
-            { Some(Kind::Choice) }
+        "--existing"
+        | "--all"
+        | "--null"
+        | "--dry-run"
+        | "--in-place"
+        | "--force"
+        | "--verbose"
+        | "--fix" => { Some(Kind::Choice) }
         "--output" | "--default" | "--separator" | "--wait" | "--format" | "--allow" | "--deny" => {
             Some(Kind::ChoiceText)
         }

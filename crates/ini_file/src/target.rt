@@ -1,11 +1,12 @@
 //! Where the bytes go that a command makes of a file. This file knows no device.
-ghost use Rattle.std.specs.Prelude.{◌≡◌, true};
+ghost use Rattle.std.specs.Prelude.{◌≡◌, false, true};
 ghost use Rattle.std.specs.Option.{option_map};
 ghost use Rattle.ini_file.specs.Choices.{chosen_of};
 ghost use Rattle.ini_file.specs.Places.{handed_on, is_filter, is_of_file, makes_file};
 ghost use Rattle.ini_file.specs.Places.{place_asked, place_of, reported};
 ghost use Rattle.ini_file.specs.Requests.{asks_of, request_of};
 
+use crate::check_words::CheckChoices;
 use crate::choices::{Choices, Switches};
 use crate::merge_words::Merging;
 use crate::run::Outcome;
@@ -66,6 +67,25 @@ impl<'a> Target<'a> {
             makes_file: true,
             switches: merging.choices.switches,
             wait: merging.choices.wait,
+        }
+    }
+
+    /// The target of a check that mends a file.
+    pub fn of_fixing(made: CheckChoices, wait: Option<&'a str>, file: &'a str) -> Target<'a>
+        ensures file { result.file.now ≡ file.now }
+        ensures place { result.place.now ≡ file.now }
+        ensures shows_change { result.shows_change ≡ made.switches.dry_run }
+        ensures makes_file { result.makes_file ≡ false }
+        ensures switches { result.switches ≡ made.switches }
+        ensures wait { result.wait ≡ wait.entry }
+    {
+        Target {
+            file,
+            place: file,
+            shows_change: made.switches.dry_run,
+            makes_file: false,
+            switches: made.switches,
+            wait,
         }
     }
 

@@ -41,6 +41,8 @@ pub enum UsageError<'a> {
     Choice(Shape, &'a str),
     /// A choice about the file that is written, where none is.
     NeedsOutput(Shape, &'a str),
+    /// A choice about a file that is mended, where none is.
+    NeedsFix(&'a str),
     /// A separator of new lines where none is written.
     NoNewLine,
     /// Standard input twice.
@@ -109,6 +111,9 @@ fn choice_error<'a>(shape: Shape, choices: &[&'a str]) -> Option<UsageError<'a>>
         if needs_output(shape, word) && !choices.contains(&"--output") {
             return Some(UsageError::NeedsOutput(shape, word));
         }
+        if needs_fix(shape, word) && !choices.contains(&"--fix") {
+            return Some(UsageError::NeedsFix(word));
+        }
         before = word;
     }
     if choices.contains(&"--existing") && choices.contains(&"--separator") {
@@ -131,6 +136,15 @@ fn text_error<'a>(choice: &str, text: &'a str) -> Option<UsageError<'a>> {
 fn needs_output(shape: Shape, choice: &str) -> bool {
     writes_texts(shape.command)
         && matches!(choice, "--in-place" | "--force" | "--wait" | "--verbose")
+}
+
+// Whether the choice is about a file that the command writes with `--fix` alone.
+fn needs_fix(shape: Shape, choice: &str) -> bool {
+    let is_of_file = matches!(
+        choice,
+        "--dry-run" | "--in-place" | "--force" | "--wait" | "--verbose"
+    );
+    shape.command == "check" && is_of_file
 }
 
 // The argument that is missing, or one too many.
@@ -217,6 +231,7 @@ fn print_command_error<W: Write>(error: UsageError<'_>, err: &mut W) -> io::Resu
             let command = shape.command;
             writeln!(err, "{command} takes {choice} with --output alone")
         }
+        UsageError::NeedsFix(choice) => writeln!(err, "check takes {choice} with --fix alone"),
         UsageError::Section(shape, name) => {
             let (name, command) = (Shown(name), shape.command);
             writeln!(
@@ -271,13 +286,14 @@ fn print_command<W: Write>(word: &str, err: &mut W) -> io::Result<()> {
     }
 }
 
-const CHOICES: [&str; 15] = [
+const CHOICES: [&str; 16] = [
     "--all",
     "--default",
     "--null",
     "--format",
     "--allow",
     "--deny",
+    "--fix",
     "--existing",
     "--separator",
     "--section",

@@ -4,5 +4,5 @@ use Rattle.ini_file.proofs.check.reports_of.Given as goal
 
 abbrev pub invariant-loop-warning : goal.invariant-loop-warning
 invariant-loop-warning l = l.reports.items
-    ≡ flat_map (report l.asked.format (map string_bytes l.asked.choices.now) l.file)
+    ≡ flat_map (report l.asked.made.format (map string_bytes l.asked.choices.now) l.file)
     (take l.warning-index l.warnings)
