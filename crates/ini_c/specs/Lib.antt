@@ -1,5 +1,6 @@
 pub mod Choices
 pub mod Faults
+pub mod Given
 pub mod Held
 pub mod Inside
 pub mod Listings
@@ -7,3 +8,4 @@ pub mod Loans
 pub mod LookUps
 pub mod Statuses
 pub mod TextEdits
+pub mod Texts

@@ -34,6 +34,9 @@ no_place = 9
 abbrev pub unplain_name : ℕ
 unplain_name = 10
 
+abbrev pub there : ℕ
+there = 11
+
 -- whether a status is one of these
 abbrev pub is_among : ℕ → List ℕ → Bool
 is_among status [] = false

@@ -33,8 +33,10 @@ mod loading;
 mod look_up;
 mod options;
 mod parts;
+mod pieces;
 mod refusal;
 mod text_edits;
+mod text_keeping;
 mod text_renames;
 mod text_sections;
 mod walks;
@@ -42,9 +44,33 @@ mod writing;
 
 pub use crate::borrowing::bigrosk_ini_borrow;
 pub use crate::copies::Sizes;
-pub use crate::document::{Document, Kept};
+pub use crate::document::{Document, Kept, Text};
 pub use crate::fault::Fault;
 pub use crate::options::{ReadChoice, WriteChoice};
+pub use crate::pieces::comments::{
+    bigrosk_ini_text_comment, bigrosk_ini_text_comment_out, bigrosk_ini_text_set_comment,
+};
+pub use crate::pieces::listing::{
+    bigrosk_ini_text_get_all, bigrosk_ini_text_items, bigrosk_ini_text_pairs,
+};
+pub use crate::pieces::look_ups::{
+    Place, bigrosk_ini_text_borrow, bigrosk_ini_text_get, bigrosk_ini_text_has,
+    bigrosk_ini_text_has_section, bigrosk_ini_text_place,
+};
+pub use crate::pieces::names::{
+    bigrosk_ini_text_add_section, bigrosk_ini_text_delete_section, bigrosk_ini_text_rename_key,
+    bigrosk_ini_text_rename_section,
+};
+pub use crate::pieces::opening::{
+    bigrosk_ini_text_close, bigrosk_ini_text_open, bigrosk_ini_text_write,
+};
+pub use crate::pieces::repeated::{
+    bigrosk_ini_text_delete_all, bigrosk_ini_text_delete_nth, bigrosk_ini_text_set_all,
+    bigrosk_ini_text_set_nth,
+};
+pub use crate::pieces::values::{
+    bigrosk_ini_text_add, bigrosk_ini_text_delete, bigrosk_ini_text_set,
+};
 pub use crate::text_edits::{bigrosk_ini_edit_add, bigrosk_ini_edit_delete, bigrosk_ini_edit_set};
 pub use crate::text_renames::{bigrosk_ini_edit_rename_key, bigrosk_ini_edit_rename_section};
 pub use crate::text_sections::bigrosk_ini_edit_delete_section;
@@ -73,6 +99,8 @@ pub const UNPLAIN_KEY: u32 = 8;
 pub const NO_PLACE: u32 = 9;
 /// The name of a new section can't be written so that it is read back.
 pub const UNPLAIN_NAME: u32 = 10;
+/// A section of the name is there.
+pub const THERE: u32 = 11;
 
 /// The version: a hundred for each minor one, ten thousand for each major one.
 #[unsafe(no_mangle)]

@@ -22,7 +22,7 @@ pub(crate) struct Listing {
 }
 
 impl Listing {
-    fn new(alloc: Global) -> Listing
+    pub(crate) fn new(alloc: Global) -> Listing
         ensures { contents result ≡ nothing }
     {
         Listing {
@@ -32,7 +32,7 @@ impl Listing {
     }
 
     // Puts a text last.
-    fn text(&mut self, text: &str) -> Result<(), AllocError>
+    pub(crate) fn text(&mut self, text: &str) -> Result<(), AllocError>
         ensures { OnOk result (contents self.new ≡ with_text (contents self.old) (chars text.now)) }
     {
         self.bytes.extend_from_slice(text.as_bytes())?;
@@ -42,7 +42,7 @@ impl Listing {
     }
 
     // Puts a number last.
-    fn number(&mut self, number: usize) -> Result<(), AllocError>
+    pub(crate) fn number(&mut self, number: usize) -> Result<(), AllocError>
         ensures { OnOk result (contents self.new ≡ with_number (contents self.old) number) }
     {
         self.counts.push(number)?;
@@ -50,7 +50,7 @@ impl Listing {
     }
 
     // Puts a section's name last.
-    fn name(&mut self, name: Option<&str>) -> Result<(), AllocError>
+    pub(crate) fn name(&mut self, name: Option<&str>) -> Result<(), AllocError>
         ensures { OnOk result (contents self.new ≡ with_name (contents self.old) (str_name name.entry)) }
     {
         match name {
@@ -60,7 +60,7 @@ impl Listing {
     }
 
     // Puts a pair last.
-    fn pair(&mut self, key: &str, value: &str) -> Result<(), AllocError>
+    pub(crate) fn pair(&mut self, key: &str, value: &str) -> Result<(), AllocError>
         ensures { OnOk result
             (contents self.new ≡ with_pair (contents self.old) (chars key.now, chars value.now)) }
     {

@@ -1,5 +1,5 @@
 //! Loading: bytes in, a document kept, or a fault reported. This file knows no character.
-ghost use Rattle.std.specs.Prelude.{◌≡◌, ◌∷◌, [], ◌↔◌, IsTrue, IsSomeAnd, IfOk};
+ghost use Rattle.std.specs.Prelude.{◌≡◌, ◌∷◌, [], ◌↔◌, IsTrue, IsSomeAnd, IfOk, IsOkUnless, alloc_error};
 ghost use Rattle.std.specs.Str.{IsUtf8, chars};
 ghost use Rattle.ini.specs.Loading.{IsDocumentOf, IsStopOf, IfParse, IsNotUtf8};
 ghost use Rattle.ini_c.specs.Faults.{IsStopAt};
@@ -10,7 +10,8 @@ use crate::document::{Document, Kept};
 use crate::fault::{Fault, tell};
 use crate::{BROKEN, NO_MEMORY, NOT_UTF8, OK};
 use ini::{Error, Ini, ParseOption};
-use std::alloc::Global;
+use ini_edit::Source;
+use std::alloc::{AllocError, Global};
 
 // The document of bytes, in a box.
 fn load(alloc: Global, bytes: &[u8], read: ParseOption) -> Result<Box<Kept>, Error>
@@ -24,8 +25,19 @@ fn load(alloc: Global, bytes: &[u8], read: ParseOption) -> Result<Box<Kept>, Err
         return Err(Error::NotUtf8);
     };
     let document = Ini::load_from_str_opt(alloc, text, read)?;
-    let kept = Box::new(alloc, Kept { document })?;
+    let text = no_text(alloc, read)?;
+    let kept = Box::new(alloc, Kept { document, text })?;
     Ok(kept)
+}
+
+// The pieces of no text.
+fn no_text(alloc: Global, read: ParseOption) -> Result<Source<'static>, Error>
+    ensures { IsOkUnless result (Error.Memory alloc_error) }
+{
+    match Source::read(alloc, "", read) {
+        Ok(source) => Ok(source),
+        Err(_) => Err(Error::Memory(AllocError)),
+    }
 }
 
 // Loads the document of bytes in place of the one that is there, or tells C of the fault.

@@ -2,9 +2,15 @@
 use Rattle.std.specs.Prelude.{Option, Some, None}
 use Rattle.std.specs.Global.{Box}
 use Rattle.ini.specs.Documents.{Document}
+use Rattle.ini_edit.specs.Sources.{Pieces}
 use Rattle.ini_c.specs.declared.document.Kept.{Kept}
 
 -- the document of a box, if it is there
 abbrev pub kept_document : Option (Box Kept) → Option Document
 kept_document (Some kept) = Some kept.value.document
 kept_document None = None
+
+-- the pieces of a box, if it is there
+abbrev pub kept_text : Option (Box Kept) → Option Pieces
+kept_text (Some kept) = Some kept.value.text
+kept_text None = None

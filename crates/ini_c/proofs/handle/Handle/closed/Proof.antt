@@ -1,6 +1,6 @@
 -- `closed` makes a handle that owns nothing.
 use Rattle.std.proofs.Common.{List, [], ◌∷◌, ◌++◌, refl, sym, subst}
-use mathlib.Core.Bool.{false}
+use mathlib.Core.Bool.{true, false}
 use seplogic.Ra.Ura.{Ura}
 use mir.Val.{Val, vstruct, of_list}
 use base.Logic.{SProp, ent, emp}
@@ -25,6 +25,7 @@ use denote.Triple.Spec.{triple_of}
 use denote.Triple.Table.{entered}
 use denote.Triple.Walked.{says, Stays, stay_dropped, walk_of, ends_at, Goes-dropped, walk_Meets}
 use Rattle.ini_c.proofs.Steps.{E, Kept-handle, handle_in}
+use Rattle.ini_c.specs.declared.document.Kept.{Kept}
 use Rattle.ini_c.specs.contracts.handle.Handle.closed as F
 use Rattle.ini_c.specs.contracts.handle.Handle.closed.Key.{name as #self}
 use Rattle.ini_c.proofs.handle.Handle.closed.Statement as stated
@@ -34,6 +35,22 @@ use Rattle.core.proofs.alloc.Calls.{handle_tells, α}
 use Rattle.std_alloc.proofs.ResultValues.{and_tt}
 use Rattle.std_heap.specs.contracts.Global as Heap
 use mir.Val.{has_ty}
+
+-- what a closed handle is seen to keep, whatever it is
+abbrev no_kept : Kept
+no_kept = record {
+  document = [];
+  text = record {
+    option = record {
+      enabled_quote = true;
+      enabled_escape = true;
+      enabled_indented_mutiline_value = false;
+      enabled_preserve_key_leading_whitespace = false;
+      enabled_brackets_in_section_names = false;
+    };
+    sections = [];
+  };
+}
 
 abbrev stayed : Stays (F.ended).signature.params (F.ended).kept
 stayed = (stay_dropped (plain (λ _. Heap.the_row)) yes, tt)
@@ -49,7 +66,7 @@ module _ {M : Type 1} {𝓤 : Ura M} (𝓛 : Logic 𝓤) (at_mem : Memory → SP
       let Post = (walk_of 𝓛 F.ended stayed (F.clauses 𝓛 at_mem run)).post z in
       let a = z.0.3.0 in
       let made : Kept-handle.Denot =
-      record { is_open = false; at = null_ptr; alloc = a; value = record { document = [] } } in
+      record { is_open = false; at = null_ptr; alloc = a; value = no_kept } in
       qed 𝓛 ((‵ ftrue ⊛ ‵ (fsep (Heap.the_row.own_val a z.0.4.0) ftrue)) ∷ raw (emp 𝓤) ∷ []) ∵ split ! $
       drop ! $ fsplit ! $
       handle_tells E.al ! a z.0.4.0 (λ hv ws fa. move ! (1 ∷ 1 ∷ []) $ drop ! $ drop ! $ nothing ! $

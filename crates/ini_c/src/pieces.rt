@@ -1,0 +1,10 @@
+//! The calls of a text in pieces that stays open: parsed once, looked up and edited many times, and every
+//! byte that an edit isn't about stays.
+
+pub(crate) mod comments;
+pub(crate) mod listing;
+pub(crate) mod look_ups;
+pub(crate) mod names;
+pub(crate) mod opening;
+pub(crate) mod repeated;
+pub(crate) mod values;
