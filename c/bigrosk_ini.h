@@ -28,6 +28,12 @@
 #include <stddef.h>
 #include <stdint.h>
 #include <string.h>
+#ifndef BIGROSK_INI_BARE /* defined, the header has neither typed look-ups nor buffer nor files, and takes nothing but these four */
+#include <errno.h>
+#include <locale.h>
+#include <stdio.h>
+#include <stdlib.h>
+#endif
 
 #ifdef __cplusplus
 extern "C" {
@@ -48,7 +54,14 @@ enum bigrosk_ini_status {
     BIGROSK_INI_UNPLAIN_VALUE = 7, /* the value of an edit of a text, written, is not read back */
     BIGROSK_INI_UNPLAIN_KEY = 8,   /* the same of its key */
     BIGROSK_INI_NO_PLACE = 9,      /* a new line can be put into the text nowhere */
-    BIGROSK_INI_UNPLAIN_NAME = 10  /* the same of the name of a section, which an edit of a text would open or rename */
+    BIGROSK_INI_UNPLAIN_NAME = 10, /* the same of the name of a section, which an edit of a text would open or rename */
+    BIGROSK_INI_THERE = 11         /* a section that would be new is there */
+};
+
+/* What only the functions of this header answer. */
+enum bigrosk_ini_plain_status {
+    BIGROSK_INI_MISTYPED = 100, /* a value is none of the type that is asked for */
+    BIGROSK_INI_NO_FILE = 101   /* a file can't be read or written: errno says why */
 };
 
 /* The status in words, as for a message. Plain C. */
@@ -66,6 +79,9 @@ static inline const char *bigrosk_ini_status_text(uint32_t status)
     case BIGROSK_INI_UNPLAIN_KEY: return "the key, written, is not read back";
     case BIGROSK_INI_NO_PLACE: return "the text has no place for a new line";
     case BIGROSK_INI_UNPLAIN_NAME: return "the section's name, written, is not read back";
+    case BIGROSK_INI_THERE: return "the section is there";
+    case BIGROSK_INI_MISTYPED: return "the value is none of this type";
+    case BIGROSK_INI_NO_FILE: return "the file can't be read or written";
     default: return "no status of this library";
     }
 }
@@ -87,6 +103,20 @@ struct bigrosk_ini_document {
     void *inner;
 };
 #define BIGROSK_INI_EMPTY { false, NULL }
+
+/* A text in pieces, or none. */
+struct bigrosk_ini_text {
+    bool is_open;
+    void *inner;
+};
+#define BIGROSK_INI_TEXT_EMPTY { false, NULL }
+
+/* Where a value stands: from 1, in characters. */
+struct bigrosk_ini_place {
+    size_t line;
+    size_t column;
+};
+#define BIGROSK_INI_NO_PLACE_YET { 0, 0 }
 
 /* How a text is read. */
 struct bigrosk_ini_read_option {
@@ -296,6 +326,121 @@ uint32_t bigrosk_ini_edit_rename_section(const uint8_t *text, size_t text_count,
                                          size_t section_count, const uint8_t *new_name, size_t new_name_count,
                                          uint8_t *out, size_t room, size_t *count, struct bigrosk_ini_fault *fault);
 
+/* ---- A text in pieces, which stays open: parsed once, looked up and edited many times. Every byte that an edit is not about
+ * stays: comments, blank lines, alignment, line ends. ----
+ *
+ * A struct bigrosk_ini_text begins as BIGROSK_INI_TEXT_EMPTY; bigrosk_ini_text_open puts a text in, bigrosk_ini_text_close takes
+ * it out. All that is said of a document holds of it, and NO_DOCUMENT means that no text is open. A call that is refused changes
+ * nothing. A mark at a text's front (the bytes EF BB BF) is a character like others: bigrosk_ini_mark says how many bytes to
+ * leave out, and to keep; the calls bigrosk_ini_file_.. below do that. */
+
+/* Opens a text, in place of the one that is open. It is copied: the bytes may go after the call.
+ * OK; NOT_UTF8; BROKEN, and only then is the fault written; NO_MEMORY. Where it isn't OK, the text that was open stays. */
+uint32_t bigrosk_ini_text_open(const uint8_t *bytes, size_t bytes_count, const struct bigrosk_ini_read_option *option,
+                               struct bigrosk_ini_text *text, struct bigrosk_ini_fault *fault);
+
+/* Closes the text, which leaves none. */
+void bigrosk_ini_text_close(struct bigrosk_ini_text *text);
+
+/* Copies the text out as it now is, and a 0 after it; count says how many bytes it has, with OK and with NO_ROOM alone.
+ * OK; NO_ROOM, and the buffer is as it was; NO_MEMORY; NO_DOCUMENT. */
+uint32_t bigrosk_ini_text_write(struct bigrosk_ini_text *text, uint8_t *out, size_t room, size_t *count);
+
+/* The next eight look up, list and tell as the calls of a document do that are named alike. */
+uint32_t bigrosk_ini_text_get(struct bigrosk_ini_text *text, bool named, const uint8_t *section, size_t section_count,
+                              const uint8_t *key, size_t key_count, uint8_t *value, size_t room, size_t *count);
+uint32_t bigrosk_ini_text_borrow(struct bigrosk_ini_text *text, bool named, const uint8_t *section, size_t section_count,
+                                 const uint8_t *key, size_t key_count, struct bigrosk_ini_borrowed *value);
+uint32_t bigrosk_ini_text_get_all(struct bigrosk_ini_text *text, bool named, const uint8_t *section, size_t section_count,
+                                  const uint8_t *key, size_t key_count, uint8_t *bytes, size_t bytes_room, size_t *counts,
+                                  size_t counts_room, struct bigrosk_ini_sizes *sizes);
+uint32_t bigrosk_ini_text_pairs(struct bigrosk_ini_text *text, bool named, const uint8_t *section, size_t section_count,
+                                uint8_t *bytes, size_t bytes_room, size_t *counts, size_t counts_room,
+                                struct bigrosk_ini_sizes *sizes);
+uint32_t bigrosk_ini_text_items(struct bigrosk_ini_text *text, uint8_t *bytes, size_t bytes_room, size_t *counts,
+                                size_t counts_room, struct bigrosk_ini_sizes *sizes);
+uint32_t bigrosk_ini_text_has(struct bigrosk_ini_text *text, bool named, const uint8_t *section, size_t section_count,
+                              const uint8_t *key, size_t key_count);
+uint32_t bigrosk_ini_text_has_section(struct bigrosk_ini_text *text, bool named, const uint8_t *section,
+                                      size_t section_count);
+
+/* Tells where the key's value begins in the text as it now is, with its quotes. It walks the text up to there.
+ * OK; ABSENT, NOT_UTF8 or NO_DOCUMENT, and the struct is then as it was. */
+uint32_t bigrosk_ini_text_place(struct bigrosk_ini_text *text, bool named, const uint8_t *section, size_t section_count,
+                                const uint8_t *key, size_t key_count, struct bigrosk_ini_place *place);
+
+/* Sets the key's value: in the place of that of its first pair, and the key's later pairs in that section go; where the section
+ * lacks the key, in a new line directly after its last pair, which looks like that; and where no section has the name, in a new
+ * one at the text's end, after an empty line. The value is written in the first form that is read back: in the quotes of the old
+ * one, bare, in double quotes, in single ones. A value that is there already stays as it is written.
+ * OK; UNPLAIN_VALUE, UNPLAIN_KEY, UNPLAIN_NAME and NO_PLACE as bigrosk_ini_edit_set has them; NOT_UTF8; NO_MEMORY; NO_DOCUMENT. */
+uint32_t bigrosk_ini_text_set(struct bigrosk_ini_text *text, const struct bigrosk_ini_write_option *write, bool named,
+                              const uint8_t *section, size_t section_count, const uint8_t *key, size_t key_count,
+                              const uint8_t *value, size_t value_count);
+
+/* Adds a further pair, whatever pairs of the key are there, in a line as bigrosk_ini_text_set writes a new one.
+ * The same. */
+uint32_t bigrosk_ini_text_add(struct bigrosk_ini_text *text, const struct bigrosk_ini_write_option *write, bool named,
+                              const uint8_t *section, size_t section_count, const uint8_t *key, size_t key_count,
+                              const uint8_t *value, size_t value_count);
+
+/* Takes the key's first pair out, with its line end where what follows is read as before.
+ * OK; ABSENT where the key is not there; NOT_UTF8; NO_MEMORY; NO_DOCUMENT. */
+uint32_t bigrosk_ini_text_delete(struct bigrosk_ini_text *text, bool named, const uint8_t *section, size_t section_count,
+                                 const uint8_t *key, size_t key_count);
+
+/* Of a repeated key: sets the pair before which n others of it stand, takes that out, takes all of them out. Other pairs stay.
+ * OK; ABSENT where there is no such pair; UNPLAIN_VALUE where a value is set; NOT_UTF8; NO_MEMORY; NO_DOCUMENT. */
+uint32_t bigrosk_ini_text_set_nth(struct bigrosk_ini_text *text, const struct bigrosk_ini_write_option *write, bool named,
+                                  const uint8_t *section, size_t section_count, const uint8_t *key, size_t key_count,
+                                  size_t n, const uint8_t *value, size_t value_count);
+uint32_t bigrosk_ini_text_delete_nth(struct bigrosk_ini_text *text, bool named, const uint8_t *section,
+                                     size_t section_count, const uint8_t *key, size_t key_count, size_t n);
+uint32_t bigrosk_ini_text_delete_all(struct bigrosk_ini_text *text, bool named, const uint8_t *section,
+                                     size_t section_count, const uint8_t *key, size_t key_count);
+
+/* Gives the key these values, in order: its pairs get them one after another, each value more stands in a new pair, and each pair
+ * more is taken out. The values stand as a listing has them: one after another in `bytes`, each with one byte after it, and
+ * `counts` says how many bytes each has, that one not counted.
+ * What bigrosk_ini_text_set answers; NOT_UTF8 also where there are fewer bytes than counted. */
+uint32_t bigrosk_ini_text_set_all(struct bigrosk_ini_text *text, const struct bigrosk_ini_write_option *write, bool named,
+                                  const uint8_t *section, size_t section_count, const uint8_t *key, size_t key_count,
+                                  const uint8_t *bytes, size_t bytes_count, const size_t *counts, size_t counts_count);
+
+/* Gives the key's first pair another key; puts another name into the section's header; takes the section out, with all that
+ * follows it but the comments directly above the next header, and what indents that. The general section has no name.
+ * OK; ABSENT; UNPLAIN_KEY or UNPLAIN_NAME where the new one, written, is not read back; NOT_UTF8; NO_MEMORY; NO_DOCUMENT. */
+uint32_t bigrosk_ini_text_rename_key(struct bigrosk_ini_text *text, const struct bigrosk_ini_write_option *write, bool named,
+                                     const uint8_t *section, size_t section_count, const uint8_t *key, size_t key_count,
+                                     const uint8_t *new_key, size_t new_key_count);
+uint32_t bigrosk_ini_text_rename_section(struct bigrosk_ini_text *text, const struct bigrosk_ini_write_option *write,
+                                         const uint8_t *section, size_t section_count, const uint8_t *new_name,
+                                         size_t new_name_count);
+uint32_t bigrosk_ini_text_delete_section(struct bigrosk_ini_text *text, const uint8_t *section, size_t section_count);
+
+/* Puts a section without pairs in at the text's end, after an empty line.
+ * OK; THERE where a section has the name; UNPLAIN_NAME; NOT_UTF8; NO_MEMORY; NO_DOCUMENT. */
+uint32_t bigrosk_ini_text_add_section(struct bigrosk_ini_text *text, const struct bigrosk_ini_write_option *write,
+                                      const uint8_t *section, size_t section_count);
+
+/* Copies the comment lines out that stand directly above the key's first pair, with their marks and line ends, and a 0 after them;
+ * no bytes where none stand there. OK; ABSENT where the key is not there; NO_ROOM; NOT_UTF8; NO_DOCUMENT. */
+uint32_t bigrosk_ini_text_comment(struct bigrosk_ini_text *text, bool named, const uint8_t *section, size_t section_count,
+                                  const uint8_t *key, size_t key_count, uint8_t *out, size_t room, size_t *count);
+
+/* Puts comment lines there, in place of those that stand there. Each begins with ; or # and ends with LF; the last one gets a line
+ * end where it has none. No bytes take the comments out.
+ * OK; ABSENT where the key is not there; UNPLAIN_VALUE where a line is no comment; NO_PLACE where, with multiline values, the pair
+ * would go on with the value before it; NOT_UTF8; NO_MEMORY; NO_DOCUMENT. */
+uint32_t bigrosk_ini_text_set_comment(struct bigrosk_ini_text *text, const struct bigrosk_ini_write_option *write, bool named,
+                                      const uint8_t *section, size_t section_count, const uint8_t *key, size_t key_count,
+                                      const uint8_t *comment, size_t comment_count);
+
+/* Makes the key's first pair a comment, each of its lines after "; ".
+ * OK; ABSENT; NO_PLACE where the pair is not in column one, or a CR alone ends its line; NOT_UTF8; NO_MEMORY; NO_DOCUMENT. */
+uint32_t bigrosk_ini_text_comment_out(struct bigrosk_ini_text *text, bool named, const uint8_t *section,
+                                      size_t section_count, const uint8_t *key, size_t key_count);
+
 /* How many bytes of the text are a mark at its front: 3 or 0. Plain C. */
 static inline size_t bigrosk_ini_mark(const uint8_t *text, size_t text_count)
 {
@@ -455,6 +600,354 @@ static inline uint32_t bigrosk_ini_edit_rename_section_str(const char *text, con
                                            bigrosk_ini_bytes(new_name), bigrosk_ini_count(new_name), (uint8_t *)out,
                                            room, count, fault);
 }
+
+/* ---- A text in pieces, by strings that end in 0; a section of NULL is the general one. Plain C, proved by nobody. ---- */
+
+/* What a section and a key are to a call. */
+#define BIGROSK_INI_AT(section, key)                                                                                    \
+    (section) != NULL, bigrosk_ini_bytes(section), bigrosk_ini_count(section), bigrosk_ini_bytes(key), bigrosk_ini_count(key)
+
+static inline uint32_t bigrosk_ini_text_open_str(const char *bytes, struct bigrosk_ini_text *text,
+                                                 struct bigrosk_ini_fault *fault)
+{
+    struct bigrosk_ini_read_option option = BIGROSK_INI_READ_DEFAULT;
+    return bigrosk_ini_text_open(bigrosk_ini_bytes(bytes), bigrosk_ini_count(bytes), &option, text, fault);
+}
+
+static inline uint32_t bigrosk_ini_text_get_str(struct bigrosk_ini_text *text, const char *section, const char *key,
+                                                char *value, size_t room, size_t *count)
+{
+    size_t unused = 0;
+    return bigrosk_ini_text_get(text, BIGROSK_INI_AT(section, key), (uint8_t *)value, room, count ? count : &unused);
+}
+
+static inline uint32_t bigrosk_ini_text_has_str(struct bigrosk_ini_text *text, const char *section, const char *key)
+{
+    return bigrosk_ini_text_has(text, BIGROSK_INI_AT(section, key));
+}
+
+static inline uint32_t bigrosk_ini_text_place_str(struct bigrosk_ini_text *text, const char *section, const char *key,
+                                                  struct bigrosk_ini_place *place)
+{
+    return bigrosk_ini_text_place(text, BIGROSK_INI_AT(section, key), place);
+}
+
+static inline uint32_t bigrosk_ini_text_set_str(struct bigrosk_ini_text *text, const char *section, const char *key,
+                                                const char *value)
+{
+    struct bigrosk_ini_write_option write = BIGROSK_INI_WRITE_DEFAULT;
+    return bigrosk_ini_text_set(text, &write, BIGROSK_INI_AT(section, key), bigrosk_ini_bytes(value),
+                                bigrosk_ini_count(value));
+}
+
+static inline uint32_t bigrosk_ini_text_add_str(struct bigrosk_ini_text *text, const char *section, const char *key,
+                                                const char *value)
+{
+    struct bigrosk_ini_write_option write = BIGROSK_INI_WRITE_DEFAULT;
+    return bigrosk_ini_text_add(text, &write, BIGROSK_INI_AT(section, key), bigrosk_ini_bytes(value),
+                                bigrosk_ini_count(value));
+}
+
+static inline uint32_t bigrosk_ini_text_delete_str(struct bigrosk_ini_text *text, const char *section, const char *key)
+{
+    return bigrosk_ini_text_delete(text, BIGROSK_INI_AT(section, key));
+}
+
+static inline uint32_t bigrosk_ini_text_set_comment_str(struct bigrosk_ini_text *text, const char *section, const char *key,
+                                                        const char *comment)
+{
+    struct bigrosk_ini_write_option write = BIGROSK_INI_WRITE_DEFAULT;
+    return bigrosk_ini_text_set_comment(text, &write, BIGROSK_INI_AT(section, key), bigrosk_ini_bytes(comment),
+                                        bigrosk_ini_count(comment));
+}
+
+#ifndef BIGROSK_INI_BARE
+
+/* ---- Typed look-ups. Each answers OK, and the value is written then alone; ABSENT; MISTYPED, and the place says where the value
+ * stands that is none of the type; NOT_UTF8; NO_DOCUMENT. A value is looked at as a whole. ---- */
+
+/* The value, copied into room for 128 bytes. MISTYPED where it is longer, or has a 0 in it. */
+static inline uint32_t bigrosk_ini_short_value(struct bigrosk_ini_text *text, const char *section, const char *key,
+                                               char *value, struct bigrosk_ini_place *place)
+{
+    size_t count = 0;
+    uint32_t status = bigrosk_ini_text_get_str(text, section, key, value, 128, &count);
+    if (status == BIGROSK_INI_NO_ROOM) status = BIGROSK_INI_MISTYPED;
+    if (status == BIGROSK_INI_OK && strlen(value) != count) status = BIGROSK_INI_MISTYPED;
+    if (status == BIGROSK_INI_MISTYPED) bigrosk_ini_text_place_str(text, section, key, place);
+    return status;
+}
+
+static inline uint32_t bigrosk_ini_mistyped(struct bigrosk_ini_text *text, const char *section, const char *key,
+                                            struct bigrosk_ini_place *place)
+{
+    bigrosk_ini_text_place_str(text, section, key, place);
+    return BIGROSK_INI_MISTYPED;
+}
+
+/* A whole number: a sign or none, and decimal digits, in the range of long long. */
+static inline uint32_t bigrosk_ini_text_get_int(struct bigrosk_ini_text *text, const char *section, const char *key,
+                                                long long *value, struct bigrosk_ini_place *place)
+{
+    char word[128] = "", *end = word;
+    uint32_t status = bigrosk_ini_short_value(text, section, key, word, place);
+    if (status != BIGROSK_INI_OK) return status;
+    const char *digits = word + (word[0] == '-' || word[0] == '+');
+    if (*digits == 0 || digits[strspn(digits, "0123456789")] != 0)
+        return bigrosk_ini_mistyped(text, section, key, place);
+    errno = 0;
+    long long found = strtoll(word, &end, 10);
+    if (errno == ERANGE) return bigrosk_ini_mistyped(text, section, key, place);
+    *value = found;
+    return status;
+}
+
+/* A number: a sign or none, decimal digits with at most one point among them, an exponent or none; whatever the locale is. */
+static inline uint32_t bigrosk_ini_text_get_double(struct bigrosk_ini_text *text, const char *section, const char *key,
+                                                   double *value, struct bigrosk_ini_place *place)
+{
+    char word[128] = "", local[192] = "", *end = local;
+    uint32_t status = bigrosk_ini_short_value(text, section, key, word, place);
+    if (status != BIGROSK_INI_OK) return status;
+    const char *mark = localeconv()->decimal_point, *at = strchr(word, '.');
+    size_t front = at ? (size_t)(at - word) : strlen(word);
+    if (word[strspn(word, "+-.0123456789eE")] != 0 || word[strcspn(word, "0123456789")] == 0 || strlen(mark) > 32)
+        return bigrosk_ini_mistyped(text, section, key, place);
+    memcpy(local, word, front);
+    if (at) {
+        strcpy(local + front, mark);
+        strcat(local, at + 1);
+    }
+    errno = 0;
+    double found = strtod(local, &end);
+    if (*end != 0 || (errno == ERANGE && (found > 1 || found < -1)))
+        return bigrosk_ini_mistyped(text, section, key, place);
+    *value = found;
+    return status;
+}
+
+/* Whether a word is one of those between the bars, whatever the case of its letters from a to z. */
+static inline bool bigrosk_ini_is_word(const char *word, const char *among)
+{
+    for (const char *it = among; *it == '|' && it[1]; it += 1 + strcspn(it + 1, "|")) {
+        size_t count = strcspn(it + 1, "|"), same = 0;
+        while (same < count && (word[same] | (word[same] >= 'A' && word[same] <= 'Z' ? 32 : 0)) == it[1 + same]) same++;
+        if (same == count && word[count] == 0) return true;
+    }
+    return false;
+}
+
+/* yes, true, on and 1; no, false, off and 0; whatever the case. */
+static inline uint32_t bigrosk_ini_text_get_bool(struct bigrosk_ini_text *text, const char *section, const char *key,
+                                                 bool *value, struct bigrosk_ini_place *place)
+{
+    char word[128] = "";
+    uint32_t status = bigrosk_ini_short_value(text, section, key, word, place);
+    if (status != BIGROSK_INI_OK) return status;
+    bool is_yes = bigrosk_ini_is_word(word, "|1|yes|true|on|");
+    if (!is_yes && !bigrosk_ini_is_word(word, "|0|no|false|off|"))
+        return bigrosk_ini_mistyped(text, section, key, place);
+    *value = is_yes;
+    return status;
+}
+
+/* ---- A buffer that grows, by realloc. It begins as BIGROSK_INI_BUFFER_EMPTY. ---- */
+
+struct bigrosk_ini_buffer {
+    uint8_t *bytes; /* a 0 follows them, where they are not NULL */
+    size_t count, room;
+};
+#define BIGROSK_INI_BUFFER_EMPTY { NULL, 0, 0 }
+
+static inline void bigrosk_ini_buffer_free(struct bigrosk_ini_buffer *buffer)
+{
+    free(buffer->bytes);
+    buffer->bytes = NULL;
+    buffer->count = buffer->room = 0;
+}
+
+/* Room for so many bytes; the buffer stays where there is none. */
+static inline bool bigrosk_ini_buffer_room(struct bigrosk_ini_buffer *buffer, size_t room)
+{
+    uint8_t *more = NULL;
+    if (room <= buffer->room) return true;
+    if (room < 2 * buffer->room) room = 2 * buffer->room;
+    more = (uint8_t *)realloc(buffer->bytes, room);
+    if (!more) return false;
+    memset(more + buffer->room, 0, room - buffer->room);
+    buffer->bytes = more;
+    buffer->room = room;
+    return true;
+}
+
+/* The text as it now is, in the buffer: OK; NO_MEMORY; NO_DOCUMENT. */
+static inline uint32_t bigrosk_ini_text_to_buffer(struct bigrosk_ini_text *text, struct bigrosk_ini_buffer *buffer)
+{
+    for (size_t room = 256;; room = buffer->count + 1) {
+        if (!bigrosk_ini_buffer_room(buffer, room)) return BIGROSK_INI_NO_MEMORY;
+        uint32_t status = bigrosk_ini_text_write(text, buffer->bytes, buffer->room, &buffer->count);
+        if (status != BIGROSK_INI_NO_ROOM) return status;
+    }
+}
+
+/* The value of the key, with a 0 after it, in the buffer: what bigrosk_ini_text_get answers, and NO_MEMORY for NO_ROOM. */
+static inline uint32_t bigrosk_ini_text_get_buffer(struct bigrosk_ini_text *text, const char *section, const char *key,
+                                                   struct bigrosk_ini_buffer *buffer)
+{
+    for (size_t room = 64;; room = buffer->count + 1) {
+        if (!bigrosk_ini_buffer_room(buffer, room)) return BIGROSK_INI_NO_MEMORY;
+        uint32_t status =
+            bigrosk_ini_text_get_str(text, section, key, (char *)buffer->bytes, buffer->room, &buffer->count);
+        if (status != BIGROSK_INI_NO_ROOM) return status;
+    }
+}
+
+/* ---- A file's text, whose first refusal is kept, so that one look at `status` after many calls is enough. ---- */
+
+/* It begins as BIGROSK_INI_FILE_EMPTY. `text` may be passed to every call above. */
+struct bigrosk_ini_file {
+    struct bigrosk_ini_text text;
+    const char *path;               /* the caller's, until the file is closed */
+    size_t mark;                    /* how many bytes of the file are a mark at its front */
+    uint32_t status;                /* of the first call below that was refused, or OK */
+    const char *section, *key;      /* and what that call named, or NULL */
+    struct bigrosk_ini_place place; /* BROKEN and MISTYPED: where; else 0 and 0 */
+    char message[64];               /* BROKEN: why */
+};
+#define BIGROSK_INI_FILE_EMPTY { BIGROSK_INI_TEXT_EMPTY, NULL, 0, BIGROSK_INI_OK, NULL, NULL, { 0, 0 }, "" }
+
+/* Keeps a refusal, unless one is kept. What it is. */
+static inline uint32_t bigrosk_ini_file_keep(struct bigrosk_ini_file *file, uint32_t status, const char *section,
+                                             const char *key, struct bigrosk_ini_place place)
+{
+    if (status != BIGROSK_INI_OK && file->status == BIGROSK_INI_OK) {
+        file->status = status;
+        file->section = section;
+        file->key = key;
+        file->place = place;
+    }
+    return status;
+}
+
+static inline void bigrosk_ini_file_close(struct bigrosk_ini_file *file) { bigrosk_ini_text_close(&file->text); }
+
+/* Reads the file and opens its text: OK; NO_FILE, and errno says why; BROKEN; NOT_UTF8; NO_MEMORY. */
+static inline uint32_t bigrosk_ini_file_open(struct bigrosk_ini_file *file, const char *path)
+{
+    struct bigrosk_ini_read_option option = BIGROSK_INI_READ_DEFAULT;
+    struct bigrosk_ini_fault fault = { 0, 0, 0, "" };
+    struct bigrosk_ini_buffer buffer = BIGROSK_INI_BUFFER_EMPTY;
+    struct bigrosk_ini_place place = BIGROSK_INI_NO_PLACE_YET;
+    uint32_t status = BIGROSK_INI_OK;
+    FILE *it = fopen(path, "rb");
+    file->path = path;
+    if (!it) return bigrosk_ini_file_keep(file, BIGROSK_INI_NO_FILE, NULL, NULL, place);
+    for (size_t got = 1; got > 0 && status == BIGROSK_INI_OK; buffer.count += got) {
+        got = 0;
+        if (!bigrosk_ini_buffer_room(&buffer, buffer.count + 4096)) status = BIGROSK_INI_NO_MEMORY;
+        else got = fread(buffer.bytes + buffer.count, 1, buffer.room - buffer.count, it);
+    }
+    if (ferror(it)) status = BIGROSK_INI_NO_FILE;
+    fclose(it);
+    if (status == BIGROSK_INI_OK) {
+        file->mark = bigrosk_ini_mark(buffer.bytes, buffer.count);
+        status = bigrosk_ini_text_open(buffer.bytes + file->mark, buffer.count - file->mark, &option, &file->text, &fault);
+        place.line = fault.line;
+        place.column = fault.column;
+        if (file->status == BIGROSK_INI_OK) memcpy(file->message, fault.message, sizeof fault.message);
+    }
+    bigrosk_ini_buffer_free(&buffer);
+    return bigrosk_ini_file_keep(file, status, NULL, NULL, place);
+}
+
+/* Saves the text beside the file (PATH.new), and renames: OK; NO_FILE, and errno says why; NO_MEMORY; NO_DOCUMENT. After a refusal
+ * of any call it saves nothing, and answers that. ini_file is more careful: it keeps the mode, and waits for the disk. */
+static inline uint32_t bigrosk_ini_file_save(struct bigrosk_ini_file *file)
+{
+    struct bigrosk_ini_buffer buffer = BIGROSK_INI_BUFFER_EMPTY;
+    struct bigrosk_ini_place place = BIGROSK_INI_NO_PLACE_YET;
+    uint32_t status = file->status;
+    if (status != BIGROSK_INI_OK) return status;
+    status = bigrosk_ini_text_to_buffer(&file->text, &buffer);
+    char *beside = status == BIGROSK_INI_OK ? (char *)malloc(strlen(file->path) + 5) : NULL;
+    if (status == BIGROSK_INI_OK && !beside) status = BIGROSK_INI_NO_MEMORY;
+    if (status == BIGROSK_INI_OK) {
+        strcat(strcpy(beside, file->path), ".new");
+        FILE *it = fopen(beside, "wb");
+        bool done = it && fwrite("\xef\xbb\xbf", 1, file->mark, it) == file->mark
+            && fwrite(buffer.bytes, 1, buffer.count, it) == buffer.count;
+        done = it && fclose(it) == 0 && done;
+        if (!done || rename(beside, file->path) != 0) status = BIGROSK_INI_NO_FILE;
+    }
+    free(beside);
+    bigrosk_ini_buffer_free(&buffer);
+    return bigrosk_ini_file_keep(file, status, NULL, NULL, place);
+}
+
+/* The key's value, or the other one where the key is absent; a value of another type is a refusal. */
+static inline long long bigrosk_ini_file_int(struct bigrosk_ini_file *file, const char *section, const char *key,
+                                             long long other)
+{
+    struct bigrosk_ini_place place = BIGROSK_INI_NO_PLACE_YET;
+    uint32_t status = bigrosk_ini_text_get_int(&file->text, section, key, &other, &place);
+    if (status != BIGROSK_INI_ABSENT) bigrosk_ini_file_keep(file, status, section, key, place);
+    return other;
+}
+
+static inline double bigrosk_ini_file_double(struct bigrosk_ini_file *file, const char *section, const char *key,
+                                             double other)
+{
+    struct bigrosk_ini_place place = BIGROSK_INI_NO_PLACE_YET;
+    uint32_t status = bigrosk_ini_text_get_double(&file->text, section, key, &other, &place);
+    if (status != BIGROSK_INI_ABSENT) bigrosk_ini_file_keep(file, status, section, key, place);
+    return other;
+}
+
+static inline bool bigrosk_ini_file_bool(struct bigrosk_ini_file *file, const char *section, const char *key, bool other)
+{
+    struct bigrosk_ini_place place = BIGROSK_INI_NO_PLACE_YET;
+    uint32_t status = bigrosk_ini_text_get_bool(&file->text, section, key, &other, &place);
+    if (status != BIGROSK_INI_ABSENT) bigrosk_ini_file_keep(file, status, section, key, place);
+    return other;
+}
+
+/* The same of a value that is copied out: where it does not fit with a 0 after it, that is a refusal (NO_ROOM). */
+static inline const char *bigrosk_ini_file_string(struct bigrosk_ini_file *file, const char *section, const char *key,
+                                                  char *value, size_t room, const char *other)
+{
+    struct bigrosk_ini_place place = BIGROSK_INI_NO_PLACE_YET;
+    uint32_t status = bigrosk_ini_text_get_str(&file->text, section, key, value, room, NULL);
+    if (status == BIGROSK_INI_OK) return value;
+    if (status != BIGROSK_INI_ABSENT) bigrosk_ini_file_keep(file, status, section, key, place);
+    return other;
+}
+
+/* Sets the key's value, and takes the key out, if it is there. */
+static inline uint32_t bigrosk_ini_file_set(struct bigrosk_ini_file *file, const char *section, const char *key,
+                                            const char *value)
+{
+    struct bigrosk_ini_place place = BIGROSK_INI_NO_PLACE_YET;
+    return bigrosk_ini_file_keep(file, bigrosk_ini_text_set_str(&file->text, section, key, value), section, key, place);
+}
+
+static inline uint32_t bigrosk_ini_file_delete(struct bigrosk_ini_file *file, const char *section, const char *key)
+{
+    struct bigrosk_ini_place place = BIGROSK_INI_NO_PLACE_YET;
+    uint32_t status = bigrosk_ini_text_delete_str(&file->text, section, key);
+    return status == BIGROSK_INI_ABSENT ? status : bigrosk_ini_file_keep(file, status, section, key, place);
+}
+
+/* Prints the refusal that is kept in a line, as PATH:LINE:COLUMN: words. */
+static inline void bigrosk_ini_file_print(const struct bigrosk_ini_file *file, FILE *to)
+{
+    fprintf(to, "%s:", file->path ? file->path : "");
+    if (file->place.line) fprintf(to, "%lu:%lu:", (unsigned long)file->place.line, (unsigned long)file->place.column);
+    if (file->key) fprintf(to, " %s%s%s:", file->section ? file->section : "", file->section ? "." : "", file->key);
+    fprintf(to, " %s\n", file->status == BIGROSK_INI_BROKEN ? file->message
+        : file->status == BIGROSK_INI_NO_FILE && errno ? strerror(errno) : bigrosk_ini_status_text(file->status));
+}
+
+#endif
 
 /* A walk over what a call has listed. */
 struct bigrosk_ini_walk {

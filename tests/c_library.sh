@@ -70,6 +70,9 @@ run 'each request for memory refused' "$room/memory"
 run 'compile the client that refuses malloc' gcc $warnings $checked $include -DTHROUGH_HEAP \
     -Wl,--wrap=malloc,--wrap=realloc,--wrap=free -o "$room/malloc" "$clients/memory.c" "$room/it/lib/libbigrosk_ini.a"
 run 'malloc and realloc refused in turn' "$room/malloc"
+run 'compile the client that refuses memory to texts' gcc $warnings $checked $include \
+    -o "$room/text_memory" "$clients/text_memory.c" "$room/bare/lib/libbigrosk_ini.a"
+run 'each request for memory of a text refused' "$room/text_memory"
 run 'compile the client of each choice' gcc $warnings $checked -std=c99 $include -o "$room/choices" "$clients/choices.c" \
     "$room/it/lib/libbigrosk_ini.a"
 run 'each choice alone' "$room/choices"
@@ -77,9 +80,16 @@ run 'compile the client of long texts' gcc $warnings $include -o "$room/large" "
 run 'long texts' "$room/large"
 run 'compile the client of look-ups' gcc $warnings $include -o "$room/look_ups" "$clients/look_ups.c" \
     "$room/it/lib/libbigrosk_ini.a"
+run 'compile the client of texts that stay open' gcc $warnings $checked -std=c99 $include -o "$room/text" "$clients/text.c" \
+    "$room/it/lib/libbigrosk_ini.a"
+run 'texts that stay open' "$room/text" "$room/text.ini"
 run 'look-ups among 100,000 sections' "$room/look_ups" 100000 200
 if has valgrind 'the run under valgrind'; then
     run 'client under valgrind' valgrind -q --leak-check=full --show-leak-kinds=all --error-exitcode=9 "$room/client"
+    run 'compile the client of texts that stay open for valgrind' gcc $warnings -std=c99 $include -o "$room/text_plain" \
+        "$clients/text.c" "$room/it/lib/libbigrosk_ini.a"
+    run 'texts that stay open under valgrind' valgrind -q --leak-check=full --show-leak-kinds=all --error-exitcode=9 \
+        "$room/text_plain" "$room/text.ini"
     run 'what look-ups cost' look_ups_cost_alike
 fi
 for it in '' crates.txt crates/ini_multimap/src/lib.rt crates/ini_text/src/lib.rt crates/ini/src/lib.rt \
@@ -92,7 +102,7 @@ sed -n '/^```c$/,/^```$/p' "$top/docs/C.md" | sed '/^```/d' >"$room/page.c"
 run 'compile the program of docs/C.md' gcc $warnings $include -o "$room/page" "$room/page.c" "$room/it/lib/libbigrosk_ini.a"
 cp "$top/examples/settings.ini" "$room/settings.ini"
 run 'the program of docs/C.md' "$room/page" "$room/settings.ini"
-sed -e 's/8080/9090/' -e '$a tmp = /tmp' "$top/examples/settings.ini" >"$room/wanted.ini"
+sed -e 's/8080/9090/' -e 's/30/45/' -e '$a tmp = /tmp' "$top/examples/settings.ini" >"$room/wanted.ini"
 run 'what it saved' diff "$room/settings.ini" "$room/wanted.ini"
 
 if has g++ 'the unit of C++'; then
@@ -109,6 +119,8 @@ if has python3 'the Python module, and the comparison of header, module and sour
         PYTHONPATH="$top/python" python3 "$clients/borders.py" "$room/it/include/bigrosk_ini.h"
     run 'Python module' env BIGROSK_INI_LIBRARY="$room/it/lib/libbigrosk_ini.so" PYTHONDONTWRITEBYTECODE=1 \
         PYTHONPATH="$top/python" python3 "$clients/test_python.py"
+    run 'settings of the Python module' env BIGROSK_INI_LIBRARY="$room/it/lib/libbigrosk_ini.so" PYTHONDONTWRITEBYTECODE=1 \
+        PYTHONPATH="$top/python" python3 "$clients/test_python_settings.py"
     run 'options and refusals of the Python module' env BIGROSK_INI_LIBRARY="$room/it/lib/libbigrosk_ini.so" \
         PYTHONDONTWRITEBYTECODE=1 PYTHONPATH="$top/python" python3 "$clients/test_python_options.py"
     run 'compile the memory of the Python test' gcc $warnings -fPIC -shared -o "$room/refusing.so" "$clients/python_heap.c" \

@@ -1,4 +1,5 @@
-/* Edits of a document and of a text, beside those of a list (listing.c): both lead to the same document. */
+/* Edits of a document and of a text, beside those of a list (listing.c): both lead to the same document. Those of a text that stays
+ * open are the same as those of bytes. */
 #include "promises.h"
 
 /* Loads the document of a text. To edits of a text a mark is a character: then none is dropped. */
@@ -141,6 +142,52 @@ static void take_edited(const struct input *input, enum edit_kind kind, const st
     free(out);
 }
 
+/* What the call of this kind answers on a text that stays open. */
+static uint32_t call_open(struct bigrosk_ini_text *it, enum edit_kind kind, const struct input *in)
+{
+    switch (kind) {
+    case SET: return bigrosk_ini_text_set(it, &in->write, in->named, NAME, KEY, VALUE);
+    case ADD: return bigrosk_ini_text_add(it, &in->write, in->named, NAME, KEY, VALUE);
+    case DELETE: return bigrosk_ini_text_delete(it, in->named, NAME, KEY);
+    case RENAME_KEY: return bigrosk_ini_text_rename_key(it, &in->write, in->named, NAME, KEY, VALUE);
+    case DELETE_SECTION: return bigrosk_ini_text_delete_section(it, NAME);
+    default: return bigrosk_ini_text_rename_section(it, &in->write, NAME, VALUE);
+    }
+}
+
+/* whether the text that is open is this one now */
+static bool is_open_text(struct bigrosk_ini_text *it, struct bytes want)
+{
+    size_t count = 0;
+    uint8_t *out = filled(want.count + 1);
+    uint32_t status = bigrosk_ini_text_write(it, out, want.count + 1, &count);
+    bool same = status == BIGROSK_INI_OK && count == want.count && memcmp(out, want.at, count) == 0
+        && out[count] == 0 && out[count + 1] == 0x5a;
+    free(out);
+    return same;
+}
+
+/* The same edit of the text, opened from bytes that are gone by then: the same answer, and the same new text. */
+static void edit_open_by(const struct input *input, enum edit_kind kind, uint32_t status, size_t count)
+{
+    struct bigrosk_ini_text it = BIGROSK_INI_TEXT_EMPTY;
+    fault f = { 0, 0, 0, "" };
+    uint8_t *copy = filled(input->text.count);
+    memcpy(copy, input->text.at, input->text.count);
+    PROMISE(bigrosk_ini_text_open(copy, input->text.count, &input->read, &it, &f) == BIGROSK_INI_OK);
+    free(copy);
+    PROMISE(is_open_text(&it, input->text));
+    uint32_t answer = call_open(&it, kind, input);
+    note(22 + kind, answer);
+    PROMISE(answer == (status == BIGROSK_INI_NO_ROOM ? BIGROSK_INI_OK : status));
+    struct bytes wanted = { filled(count + 1), count };
+    if (answer == BIGROSK_INI_OK)
+        PROMISE(call_text(input->text, kind, input, (uint8_t *)wanted.at, count + 1, &count, &f) == BIGROSK_INI_OK);
+    PROMISE(is_open_text(&it, answer == BIGROSK_INI_OK ? wanted : input->text));
+    free((uint8_t *)wanted.at);
+    bigrosk_ini_text_close(&it);
+}
+
 /* One edit of the text: its document is listed where it loads, and its fault is `there` where it doesn't. */
 static void edit_text_by(const struct input *input, enum edit_kind kind, uint32_t loaded,
                          const struct listing *listing, const fault *there)
@@ -153,6 +200,7 @@ static void edit_text_by(const struct input *input, enum edit_kind kind, uint32_
     PROMISE(none[0] == 0x5a && status != BIGROSK_INI_OK && status != BIGROSK_INI_NO_DOCUMENT);
     free(none);
     PROMISE((status == BIGROSK_INI_NOT_UTF8) == (loaded == BIGROSK_INI_NOT_UTF8 || !are_texts(kind, input)));
+    if (loaded == BIGROSK_INI_OK) edit_open_by(input, kind, status, count);
     if (status == BIGROSK_INI_NOT_UTF8 || is_unwritable(kind, status)) return;
     PROMISE((status == BIGROSK_INI_BROKEN) == (loaded == BIGROSK_INI_BROKEN));
     if (status == BIGROSK_INI_BROKEN) {

@@ -21,9 +21,9 @@ import bigrosk_ini._calls as calls_of_module
 
 TOP = Path(__file__).resolve().parents[2]
 HEADER = Path(sys.argv[1])
-SOURCES = "".join(it.read_text() for it in sorted((TOP / "crates/ini_c/src").glob("*.rt")))
+SOURCES = "".join(it.read_text() for it in sorted((TOP / "crates/ini_c/src").rglob("*.rt")))
 # the structs of both sides, and the fields that have two names
-STRUCTS = {"ReadChoice": "read_option", "WriteChoice": "write_option", "Fault": "fault", "Sizes": "sizes", "Document": "document"}
+STRUCTS = {"ReadChoice": "read_option", "WriteChoice": "write_option", "Fault": "fault", "Sizes": "sizes", "Document": "document", "Text": "text", "Place": "place"}
 RENAMED = {"handle": "inner"}
 DEFAULTS = {"read_option": "BIGROSK_INI_READ_DEFAULT", "write_option": "BIGROSK_INI_WRITE_DEFAULT"}
 compared, different = 0, []
@@ -131,8 +131,9 @@ def source_layout(name):
 def source_parameters(text):
     """What C passes for the parameters of an export."""
     plain = {
-        "Global": [], "bool": ["bool"], "u32": ["uint32_t"], "&mut usize": ["size_t *"],
+        "Global": [], "bool": ["bool"], "u32": ["uint32_t"], "usize": ["size_t"], "&mut usize": ["size_t *"],
         "&[u8]": ["const uint8_t *", "size_t"], "&mut [u8]": ["uint8_t *", "size_t"], "&mut [usize]": ["size_t *", "size_t"],
+        "&[usize]": ["const size_t *", "size_t"],
         "&mut &'a [u8]": ["struct bigrosk_ini_borrowed *"],
     }
     for name, header in STRUCTS.items():

@@ -50,6 +50,44 @@ static std::string with(const char *text, const char *section, const char *key, 
     return std::string(added, count);
 }
 
+// A text that stays open and closes itself.
+class Text {
+    struct bigrosk_ini_text text = BIGROSK_INI_TEXT_EMPTY;
+
+public:
+    Text(const Text &) = delete;
+    Text &operator=(const Text &) = delete;
+
+    explicit Text(const std::string &bytes)
+    {
+        bigrosk_ini_fault fault;
+        if (bigrosk_ini_text_open_str(bytes.c_str(), &text, &fault) != BIGROSK_INI_OK) throw 1;
+    }
+
+    ~Text() { bigrosk_ini_text_close(&text); }
+
+    long long number(const char *section, const char *key)
+    {
+        long long value = -1;
+        bigrosk_ini_place place = BIGROSK_INI_NO_PLACE_YET;
+        return bigrosk_ini_text_get_int(&text, section, key, &value, &place) == BIGROSK_INI_OK ? value : -1;
+    }
+
+    bool set(const char *section, const char *key, const std::string &value)
+    {
+        return bigrosk_ini_text_set_str(&text, section, key, value.c_str()) == BIGROSK_INI_OK;
+    }
+
+    std::string whole()
+    {
+        bigrosk_ini_buffer buffer = BIGROSK_INI_BUFFER_EMPTY;
+        if (bigrosk_ini_text_to_buffer(&text, &buffer) != BIGROSK_INI_OK) throw 2;
+        std::string out(reinterpret_cast<const char *>(buffer.bytes), buffer.count);
+        bigrosk_ini_buffer_free(&buffer);
+        return out;
+    }
+};
+
 int main()
 {
     Settings settings("port = 8080\n[paths]\nlog = /var/log/app\n");
@@ -57,6 +95,9 @@ int main()
         && settings.get("paths", "port").empty();
     good = good && without("# c\n[s]\na=1\nb=2\n", "s", "a") == "# c\n[s]\nb=2\n" && without("a=1", "s", "a") == "a=1"
         && with("# c\n[s]\na = 1 \n", "s", "a", "2") == "# c\n[s]\na = 2 \nnew = 2\n";
+    Text text("# c\n[s]\na = 1\n");
+    good = good && text.number("s", "a") == 1 && text.set("s", "a", "22") && text.number("s", "a") == 22
+        && text.set("t", "b", "3") && text.whole() == "# c\n[s]\na = 22\n\n[t]\nb = 3\n";
     std::puts(good ? "good" : "FAILED");
     return !good;
 }

@@ -178,3 +178,49 @@ uint32_t __wrap_bigrosk_ini_edit_rename_section(TEXT, READ, WRITE, KEY, VALUE, O
     if (is_wrong("edit_rename_section_upper") && value_count) value = (const uint8_t *)"X", value_count = 1;
     return __real_bigrosk_ini_edit_rename_section(TEXTS, read, write, KEYS, VALUES, OUTS, fault);
 }
+
+#define OPEN struct bigrosk_ini_text *text
+
+uint32_t __real_bigrosk_ini_text_open(const uint8_t *bytes, size_t bytes_count, READ, OPEN, FAULT);
+uint32_t __wrap_bigrosk_ini_text_open(const uint8_t *bytes, size_t bytes_count, READ, OPEN, FAULT)
+{
+    if (is_wrong("text_open_leaves_out_the_end") && bytes_count > 0 && bytes[bytes_count - 1] == '\n') bytes_count--;
+    return __real_bigrosk_ini_text_open(bytes, bytes_count, read, text, fault);
+}
+
+uint32_t __real_bigrosk_ini_text_write(OPEN, OUT);
+uint32_t __wrap_bigrosk_ini_text_write(OPEN, OUT)
+{
+    uint32_t status = __real_bigrosk_ini_text_write(text, OUTS);
+    if (status == BIGROSK_INI_OK && *count > 0 && is_wrong("text_write_changes_a_byte")) out[*count - 1] ^= 1;
+    if (status == BIGROSK_INI_OK && is_wrong("text_write_has_no_end")) out[*count] = 0x5a;
+    return status;
+}
+
+uint32_t __real_bigrosk_ini_text_set(OPEN, WRITE, NAME, KEY, VALUE);
+uint32_t __wrap_bigrosk_ini_text_set(OPEN, WRITE, NAME, KEY, VALUE)
+{
+    if (is_wrong("text_set_does_nothing")) return BIGROSK_INI_OK;
+    return __real_bigrosk_ini_text_set(text, write, NAMED, KEYS, VALUES);
+}
+
+uint32_t __real_bigrosk_ini_text_add(OPEN, WRITE, NAME, KEY, VALUE);
+uint32_t __wrap_bigrosk_ini_text_add(OPEN, WRITE, NAME, KEY, VALUE)
+{
+    if (is_wrong("text_add_sets")) return __real_bigrosk_ini_text_set(text, write, NAMED, KEYS, VALUES);
+    return __real_bigrosk_ini_text_add(text, write, NAMED, KEYS, VALUES);
+}
+
+uint32_t __real_bigrosk_ini_text_delete(OPEN, NAME, KEY);
+uint32_t __wrap_bigrosk_ini_text_delete(OPEN, NAME, KEY)
+{
+    if (is_wrong("text_delete_takes_all")) return bigrosk_ini_text_delete_all(text, NAMED, KEYS);
+    return __real_bigrosk_ini_text_delete(text, NAMED, KEYS);
+}
+
+uint32_t __real_bigrosk_ini_text_delete_section(OPEN, KEY);
+uint32_t __wrap_bigrosk_ini_text_delete_section(OPEN, KEY)
+{
+    uint32_t status = __real_bigrosk_ini_text_delete_section(text, KEYS);
+    return status == BIGROSK_INI_ABSENT && is_wrong("text_delete_section_is_always_done") ? BIGROSK_INI_OK : status;
+}

@@ -1,0 +1,276 @@
+/* Texts in pieces that stay open, typed look-ups, the buffer that grows, and files. The last line is 'N checks, M failed'. */
+#include "checks.h"
+
+typedef struct bigrosk_ini_text text;
+typedef struct bigrosk_ini_place place;
+
+static const char fleet[] =
+    "; the fleet\nport = 8080\ntimeout: 30\n\n[paths]\n; where it logs\nlog   = /var/log/app\ncache = \"/c d\"\n";
+
+/* whether the text as it now is is this one */
+static bool is_text(text *t, const char *want)
+{
+    struct bigrosk_ini_buffer buffer = BIGROSK_INI_BUFFER_EMPTY;
+    bool same = bigrosk_ini_text_to_buffer(t, &buffer) == BIGROSK_INI_OK && buffer.count == strlen(want)
+        && !strcmp((const char *)buffer.bytes, want);
+    if (!same) printf("the text:\n%s", buffer.bytes ? (const char *)buffer.bytes : "nothing\n");
+    bigrosk_ini_buffer_free(&buffer);
+    return same;
+}
+
+/* the text opened, from bytes that are gone then */
+static uint32_t opened(text *t, const char *bytes, fault *f)
+{
+    size_t count = strlen(bytes);
+    uint8_t *copy = malloc(count + 1);
+    memcpy(copy, bytes, count + 1);
+    uint32_t status = bigrosk_ini_text_open(copy, count, &usual, t, f);
+    memset(copy, '#', count);
+    free(copy);
+    return status;
+}
+
+static bool is_value_of(text *t, const char *section, const char *key, const char *want)
+{
+    char value[256] = "";
+    size_t count = 0;
+    return bigrosk_ini_text_get_str(t, section, key, value, sizeof value, &count) == BIGROSK_INI_OK
+        && !strcmp(value, want) && count == strlen(want);
+}
+
+static void nothing_is_open(void)
+{
+    text t = BIGROSK_INI_TEXT_EMPTY;
+    char out[8] = "as is";
+    size_t count = 7;
+    place p = { 5, 6 };
+    struct bigrosk_ini_sizes sizes = { 3, 4 };
+    CHECK(bigrosk_ini_text_get_str(&t, NULL, "port", out, sizeof out, &count) == BIGROSK_INI_NO_DOCUMENT);
+    CHECK(bigrosk_ini_text_has_str(&t, NULL, "port") == BIGROSK_INI_NO_DOCUMENT);
+    CHECK(bigrosk_ini_text_place_str(&t, NULL, "port", &p) == BIGROSK_INI_NO_DOCUMENT && p.line == 5 && p.column == 6);
+    CHECK(bigrosk_ini_text_set_str(&t, NULL, "port", "1") == BIGROSK_INI_NO_DOCUMENT);
+    CHECK(bigrosk_ini_text_delete_str(&t, NULL, "port") == BIGROSK_INI_NO_DOCUMENT);
+    CHECK(bigrosk_ini_text_write(&t, (uint8_t *)out, sizeof out, &count) == BIGROSK_INI_NO_DOCUMENT);
+    CHECK(bigrosk_ini_text_items(&t, (uint8_t *)out, sizeof out, &count, 1, &sizes) == BIGROSK_INI_NO_DOCUMENT);
+    CHECK(!strcmp(out, "as is") && count == 7 && sizes.bytes == 3);
+    bigrosk_ini_text_close(&t);
+    CHECK(!t.is_open);
+}
+
+static void look_ups(void)
+{
+    text t = BIGROSK_INI_TEXT_EMPTY;
+    fault f = { 0, 0, 0, "" };
+    place p = { 0, 0 };
+    char value[64] = "";
+    size_t count = 0;
+    CHECK(opened(&t, fleet, &f) == BIGROSK_INI_OK && t.is_open);
+    CHECK(is_text(&t, fleet));
+    CHECK(is_value_of(&t, NULL, "port", "8080"));
+    CHECK(is_value_of(&t, "paths", "cache", "/c d"));
+    CHECK(bigrosk_ini_text_get_str(&t, "paths", "tmp", value, sizeof value, NULL) == BIGROSK_INI_ABSENT);
+    CHECK(bigrosk_ini_text_get_str(&t, "\xff", "tmp", value, sizeof value, NULL) == BIGROSK_INI_NOT_UTF8);
+    CHECK(bigrosk_ini_text_get_str(&t, "paths", "log", value, 12, &count) == BIGROSK_INI_NO_ROOM && count == 12);
+    CHECK(bigrosk_ini_text_get_str(&t, "paths", "log", value, 13, &count) == BIGROSK_INI_OK && count == 12);
+    CHECK(bigrosk_ini_text_has_str(&t, "paths", "log") == BIGROSK_INI_OK);
+    CHECK(bigrosk_ini_text_has_section(&t, true, (const uint8_t *)"paths", 5) == BIGROSK_INI_OK);
+    CHECK(bigrosk_ini_text_has_section(&t, true, (const uint8_t *)"path", 4) == BIGROSK_INI_ABSENT);
+    struct bigrosk_ini_borrowed lent = BIGROSK_INI_NOTHING_BORROWED;
+    CHECK(bigrosk_ini_text_borrow(&t, BIGROSK_INI_AT("paths", "cache"), &lent) == BIGROSK_INI_OK && lent.count == 4
+        && !memcmp(lent.bytes, "/c d", 4));
+    CHECK(bigrosk_ini_text_place_str(&t, NULL, "port", &p) == BIGROSK_INI_OK && p.line == 2 && p.column == 8);
+    CHECK(bigrosk_ini_text_place_str(&t, "paths", "cache", &p) == BIGROSK_INI_OK && p.line == 8 && p.column == 9);
+    CHECK(bigrosk_ini_text_place_str(&t, "paths", "none", &p) == BIGROSK_INI_ABSENT && p.line == 8);
+    uint8_t bytes[128] = { 0 };
+    size_t counts[16] = { 0 };
+    struct bigrosk_ini_sizes sizes = BIGROSK_INI_NO_SIZES;
+    CHECK(bigrosk_ini_text_items(&t, bytes, sizeof bytes, counts, 16, &sizes) == BIGROSK_INI_OK && sizes.counts == 12);
+    struct bigrosk_ini_walk walk = bigrosk_ini_walk_over(bytes, counts, sizes);
+    CHECK(bigrosk_ini_text(&walk, NULL) == NULL && bigrosk_ini_number(&walk) == 2);
+    CHECK(!strcmp(bigrosk_ini_text(&walk, NULL), "port") && !strcmp(bigrosk_ini_text(&walk, NULL), "8080"));
+    CHECK(bigrosk_ini_text_pairs(&t, true, (const uint8_t *)"paths", 5, bytes, 0, counts, 0, &sizes)
+        == BIGROSK_INI_NO_ROOM && sizes.counts == 4);
+    CHECK(opened(&t, "[a]\n= b\n", &f) == BIGROSK_INI_BROKEN && f.kind == BIGROSK_INI_MISSING_KEY && f.line == 2);
+    CHECK(is_text(&t, fleet));
+    CHECK(opened(&t, "k = v", &f) == BIGROSK_INI_OK && is_text(&t, "k = v"));
+    bigrosk_ini_text_close(&t);
+    bigrosk_ini_text_close(&t);
+}
+
+static void edits(void)
+{
+    text t = BIGROSK_INI_TEXT_EMPTY;
+    fault f = { 0, 0, 0, "" };
+    CHECK(opened(&t, fleet, &f) == BIGROSK_INI_OK);
+    CHECK(bigrosk_ini_text_set_str(&t, NULL, "port", "9090") == BIGROSK_INI_OK);
+    CHECK(bigrosk_ini_text_set_str(&t, "paths", "cache", "/e") == BIGROSK_INI_OK);
+    CHECK(bigrosk_ini_text_set_str(&t, "paths", "tmp", "/tmp") == BIGROSK_INI_OK);
+    CHECK(bigrosk_ini_text_set_str(&t, "new", "k", "v") == BIGROSK_INI_OK);
+    CHECK(is_text(&t, "; the fleet\nport = 9090\ntimeout: 30\n\n[paths]\n; where it logs\nlog   = /var/log/app\n"
+                      "cache = \"/e\"\ntmp = /tmp\n\n[new]\nk = v\n"));
+    CHECK(bigrosk_ini_text_set_str(&t, NULL, "port", "a\nb\\\n") == BIGROSK_INI_OK);
+    CHECK(is_value_of(&t, NULL, "port", "a\nb\\\n"));
+    CHECK(bigrosk_ini_text_set_str(&t, NULL, "", "v") == BIGROSK_INI_UNPLAIN_KEY);
+    CHECK(bigrosk_ini_text_set_str(&t, "]", "k", "v") == BIGROSK_INI_UNPLAIN_NAME);
+    CHECK(bigrosk_ini_text_set_str(&t, NULL, "k", "\xc3") == BIGROSK_INI_NOT_UTF8);
+    CHECK(bigrosk_ini_text_delete_str(&t, NULL, "port") == BIGROSK_INI_OK);
+    CHECK(bigrosk_ini_text_delete_str(&t, NULL, "port") == BIGROSK_INI_ABSENT);
+    CHECK(bigrosk_ini_text_delete_section(&t, (const uint8_t *)"new", 3) == BIGROSK_INI_OK);
+    CHECK(bigrosk_ini_text_delete_section(&t, (const uint8_t *)"new", 3) == BIGROSK_INI_ABSENT);
+    CHECK(bigrosk_ini_text_rename_key(&t, &plain, BIGROSK_INI_AT("paths", "log"), (const uint8_t *)"logs", 4)
+        == BIGROSK_INI_OK);
+    CHECK(bigrosk_ini_text_rename_key(&t, &plain, BIGROSK_INI_AT("paths", "logs"), (const uint8_t *)" x", 2)
+        == BIGROSK_INI_UNPLAIN_KEY);
+    CHECK(bigrosk_ini_text_rename_section(&t, &plain, (const uint8_t *)"paths", 5, (const uint8_t *)"files", 5)
+        == BIGROSK_INI_OK);
+    CHECK(bigrosk_ini_text_rename_section(&t, &plain, (const uint8_t *)"paths", 5, (const uint8_t *)"files", 5)
+        == BIGROSK_INI_ABSENT);
+    CHECK(bigrosk_ini_text_add_section(&t, &plain, (const uint8_t *)"files", 5) == BIGROSK_INI_THERE);
+    CHECK(bigrosk_ini_text_add_section(&t, &plain, (const uint8_t *)"more", 4) == BIGROSK_INI_OK);
+    CHECK(is_text(&t, "; the fleet\ntimeout: 30\n\n[files]\n; where it logs\nlogs   = /var/log/app\ncache = \"/e\"\n"
+                      "tmp = /tmp\n\n[more]\n"));
+    bigrosk_ini_text_close(&t);
+}
+
+static void comments(void)
+{
+    text t = BIGROSK_INI_TEXT_EMPTY;
+    fault f = { 0, 0, 0, "" };
+    uint8_t out[64] = { 0 };
+    size_t count = 0;
+    CHECK(opened(&t, fleet, &f) == BIGROSK_INI_OK);
+    CHECK(bigrosk_ini_text_comment(&t, BIGROSK_INI_AT("paths", "log"), out, sizeof out, &count) == BIGROSK_INI_OK
+        && !strcmp((char *)out, "; where it logs\n") && count == 16);
+    CHECK(bigrosk_ini_text_comment(&t, BIGROSK_INI_AT("paths", "cache"), out, sizeof out, &count) == BIGROSK_INI_OK
+        && count == 0);
+    CHECK(bigrosk_ini_text_comment(&t, BIGROSK_INI_AT("paths", "no"), out, sizeof out, &count) == BIGROSK_INI_ABSENT);
+    CHECK(bigrosk_ini_text_set_comment_str(&t, "paths", "cache", "no comment") == BIGROSK_INI_UNPLAIN_VALUE);
+    CHECK(bigrosk_ini_text_set_comment_str(&t, "paths", "cache", "# warm") == BIGROSK_INI_OK);
+    CHECK(bigrosk_ini_text_set_comment_str(&t, "paths", "log", "") == BIGROSK_INI_OK);
+    CHECK(bigrosk_ini_text_comment_out(&t, BIGROSK_INI_AT(NULL, "timeout")) == BIGROSK_INI_OK);
+    CHECK(bigrosk_ini_text_comment_out(&t, BIGROSK_INI_AT(NULL, "timeout")) == BIGROSK_INI_ABSENT);
+    CHECK(is_text(&t, "; the fleet\nport = 8080\n; timeout: 30\n\n[paths]\nlog   = /var/log/app\n# warm\n"
+                      "cache = \"/c d\"\n"));
+    bigrosk_ini_text_close(&t);
+}
+
+static void repeated(void)
+{
+    text t = BIGROSK_INI_TEXT_EMPTY;
+    fault f = { 0, 0, 0, "" };
+    uint8_t bytes[64] = { 0 };
+    size_t counts[8] = { 0 };
+    struct bigrosk_ini_sizes sizes = BIGROSK_INI_NO_SIZES;
+    CHECK(opened(&t, "[a]\nk = 1\nk = 2\nl = 0\nk = 3\n", &f) == BIGROSK_INI_OK);
+    CHECK(bigrosk_ini_text_set_nth(&t, &plain, BIGROSK_INI_AT("a", "k"), 1, (const uint8_t *)"two", 3)
+        == BIGROSK_INI_OK);
+    CHECK(bigrosk_ini_text_set_nth(&t, &plain, BIGROSK_INI_AT("a", "k"), 3, (const uint8_t *)"4", 1)
+        == BIGROSK_INI_ABSENT);
+    CHECK(bigrosk_ini_text_add_str(&t, "a", "k", "4") == BIGROSK_INI_OK);
+    CHECK(is_text(&t, "[a]\nk = 1\nk = two\nl = 0\nk = 3\nk = 4\n"));
+    CHECK(bigrosk_ini_text_get_all(&t, BIGROSK_INI_AT("a", "k"), bytes, sizeof bytes, counts, 8, &sizes)
+        == BIGROSK_INI_OK && sizes.counts == 4 && sizes.bytes == 10 && !memcmp(bytes, "1\0two\0003\0004", 10));
+    CHECK(bigrosk_ini_text_delete_nth(&t, BIGROSK_INI_AT("a", "k"), 0) == BIGROSK_INI_OK);
+    CHECK(bigrosk_ini_text_delete_nth(&t, BIGROSK_INI_AT("a", "k"), 3) == BIGROSK_INI_ABSENT);
+    CHECK(bigrosk_ini_text_set_all(&t, &plain, BIGROSK_INI_AT("a", "k"), bytes, 10, counts, 4) == BIGROSK_INI_OK);
+    CHECK(is_text(&t, "[a]\nk = 1\nl = 0\nk = two\nk = 3\nk = 4\n"));
+    CHECK(bigrosk_ini_text_set_all(&t, &plain, BIGROSK_INI_AT("a", "k"), bytes, 9, counts, 4)
+        == BIGROSK_INI_NOT_UTF8);
+    CHECK(bigrosk_ini_text_set_all(&t, &plain, BIGROSK_INI_AT("a", "k"), bytes, 2, counts, 1) == BIGROSK_INI_OK);
+    CHECK(is_text(&t, "[a]\nk = 1\nl = 0\n"));
+    CHECK(bigrosk_ini_text_delete_all(&t, BIGROSK_INI_AT("a", "k")) == BIGROSK_INI_OK);
+    CHECK(bigrosk_ini_text_delete_all(&t, BIGROSK_INI_AT("a", "k")) == BIGROSK_INI_ABSENT);
+    CHECK(is_text(&t, "[a]\nl = 0\n"));
+    bigrosk_ini_text_close(&t);
+}
+
+static void typed(void)
+{
+    text t = BIGROSK_INI_TEXT_EMPTY;
+    fault f = { 0, 0, 0, "" };
+    place p = { 0, 0 };
+    long long n = 7;
+    double x = 0.5;
+    bool b = false;
+    CHECK(opened(&t, "n = -42\nbig = 9223372036854775808\nbad = \"4 2\"\nnone =\nx = -1.5e2\nhex = 0x10\nnan = nan\n"
+                     "yes = Yes\nno = OFF\nlong = 00000000000000000000000000000000000000000000000000000000000000000000"
+                     "0000000000000000000000000000000000000000000000000000000000000000000001\n", &f) == BIGROSK_INI_OK);
+    CHECK(bigrosk_ini_text_get_int(&t, NULL, "n", &n, &p) == BIGROSK_INI_OK && n == -42);
+    CHECK(bigrosk_ini_text_get_int(&t, NULL, "m", &n, &p) == BIGROSK_INI_ABSENT && n == -42 && p.line == 0);
+    CHECK(bigrosk_ini_text_get_int(&t, NULL, "big", &n, &p) == BIGROSK_INI_MISTYPED && n == -42 && p.line == 2
+        && p.column == 7);
+    CHECK(bigrosk_ini_text_get_int(&t, NULL, "bad", &n, &p) == BIGROSK_INI_MISTYPED && p.line == 3 && p.column == 7);
+    CHECK(bigrosk_ini_text_get_int(&t, NULL, "none", &n, &p) == BIGROSK_INI_MISTYPED && p.line == 4);
+    CHECK(bigrosk_ini_text_get_int(&t, NULL, "hex", &n, &p) == BIGROSK_INI_MISTYPED);
+    CHECK(bigrosk_ini_text_get_int(&t, NULL, "long", &n, &p) == BIGROSK_INI_MISTYPED && p.line == 10);
+    CHECK(bigrosk_ini_text_get_double(&t, NULL, "x", &x, &p) == BIGROSK_INI_OK && x == -150);
+    CHECK(bigrosk_ini_text_get_double(&t, NULL, "n", &x, &p) == BIGROSK_INI_OK && x == -42);
+    CHECK(bigrosk_ini_text_get_double(&t, NULL, "nan", &x, &p) == BIGROSK_INI_MISTYPED && x == -42 && p.line == 7);
+    CHECK(bigrosk_ini_text_get_double(&t, NULL, "hex", &x, &p) == BIGROSK_INI_MISTYPED);
+    CHECK(bigrosk_ini_text_get_double(&t, NULL, "none", &x, &p) == BIGROSK_INI_MISTYPED);
+    CHECK(bigrosk_ini_text_get_bool(&t, NULL, "yes", &b, &p) == BIGROSK_INI_OK && b);
+    CHECK(bigrosk_ini_text_get_bool(&t, NULL, "no", &b, &p) == BIGROSK_INI_OK && !b);
+    CHECK(bigrosk_ini_text_get_bool(&t, NULL, "n", &b, &p) == BIGROSK_INI_MISTYPED && p.line == 1 && p.column == 5);
+    CHECK(bigrosk_ini_text_get_bool(&t, NULL, "maybe", &b, &p) == BIGROSK_INI_ABSENT);
+    CHECK(bigrosk_ini_text_get_int(&t, "\xff", "n", &n, &p) == BIGROSK_INI_NOT_UTF8);
+    bigrosk_ini_text_close(&t);
+    CHECK(bigrosk_ini_text_get_int(&t, NULL, "n", &n, &p) == BIGROSK_INI_NO_DOCUMENT);
+}
+
+static void put(const char *path, const char *bytes)
+{
+    FILE *it = fopen(path, "wb");
+    CHECK(it && fputs(bytes, it) >= 0 && fclose(it) == 0);
+}
+
+static bool is_file(const char *path, const char *want)
+{
+    char got[256] = "";
+    FILE *it = fopen(path, "rb");
+    size_t count = it ? fread(got, 1, sizeof got - 1, it) : 0;
+    if (it) fclose(it);
+    return it && count == strlen(want) && !strcmp(got, want);
+}
+
+static void files(const char *path)
+{
+    struct bigrosk_ini_file file = BIGROSK_INI_FILE_EMPTY, other = BIGROSK_INI_FILE_EMPTY, broken = BIGROSK_INI_FILE_EMPTY;
+    char name[4] = "";
+    put(path, "\xef\xbb\xbf# about\n[a]\nk = 1\nword = some\n");
+    CHECK(bigrosk_ini_file_open(&file, path) == BIGROSK_INI_OK && file.mark == 3);
+    CHECK(bigrosk_ini_file_int(&file, "a", "k", 5) == 1 && bigrosk_ini_file_int(&file, "a", "l", 5) == 5);
+    CHECK(bigrosk_ini_file_bool(&file, "a", "k", false) && bigrosk_ini_file_double(&file, "a", "k", 2) == 1);
+    CHECK(!strcmp(bigrosk_ini_file_string(&file, "a", "none", name, sizeof name, "else"), "else"));
+    CHECK(bigrosk_ini_file_set(&file, "a", "k", "2") == BIGROSK_INI_OK);
+    CHECK(bigrosk_ini_file_delete(&file, "a", "none") == BIGROSK_INI_ABSENT && file.status == BIGROSK_INI_OK);
+    CHECK(bigrosk_ini_file_save(&file) == BIGROSK_INI_OK);
+    CHECK(is_file(path, "\xef\xbb\xbf# about\n[a]\nk = 2\nword = some\n"));
+    CHECK(bigrosk_ini_file_int(&file, "a", "word", 5) == 5 && file.status == BIGROSK_INI_MISTYPED);
+    CHECK(file.place.line == 4 && file.place.column == 8 && !strcmp(file.key, "word"));
+    CHECK(!strcmp(bigrosk_ini_file_string(&file, "a", "word", name, sizeof name, "else"), "else"));
+    CHECK(file.status == BIGROSK_INI_MISTYPED);
+    CHECK(bigrosk_ini_file_set(&file, "a", "k", "3") == BIGROSK_INI_OK);
+    CHECK(bigrosk_ini_file_save(&file) == BIGROSK_INI_MISTYPED);
+    CHECK(is_file(path, "\xef\xbb\xbf# about\n[a]\nk = 2\nword = some\n"));
+    bigrosk_ini_file_close(&file);
+    CHECK(bigrosk_ini_file_open(&other, "/nowhere/at/all") == BIGROSK_INI_NO_FILE && errno == ENOENT);
+    bigrosk_ini_file_close(&other);
+    put(path, "[a]\n= 1\n");
+    CHECK(bigrosk_ini_file_open(&broken, path) == BIGROSK_INI_BROKEN && broken.place.line == 2 && broken.message[0]);
+    CHECK(bigrosk_ini_file_save(&broken) == BIGROSK_INI_BROKEN && is_file(path, "[a]\n= 1\n"));
+    bigrosk_ini_file_close(&broken);
+    remove(path);
+}
+
+int main(int argc, char **argv)
+{
+    nothing_is_open();
+    look_ups();
+    edits();
+    comments();
+    repeated();
+    typed();
+    files(argc > 1 ? argv[1] : "text_client.ini");
+    printf("%d checks, %d failed\n", checks, failed);
+    return failed != 0;
+}

@@ -1,0 +1,117 @@
+/* Each request for memory is refused in turn, while a text that stays open is opened, edited and copied out: each call then answers
+ * NO_MEMORY or does all, leaves the text as it was where it is refused, and every block is freed. This program brings the library's
+ * memory itself. */
+#include <stdio.h>
+#include <stdlib.h>
+#include "bigrosk_ini.h"
+
+static long left = 1000000000, taken, freed;
+static int failed;
+#define CHECK(e) do { if (!(e)) { printf("FAILED %d (%ld): %s\n", __LINE__, n, #e); failed++; } } while (0)
+
+struct tried { uint64_t ok; void *at; };
+struct tried rattle_alloc(size_t count, size_t align);
+struct tried rattle_realloc(void *at, size_t kept, size_t count, size_t align);
+void rattle_dealloc(void *at);
+static char refused[16];
+
+struct tried rattle_alloc(size_t count, size_t align)
+{
+    struct tried t = { 0, refused };
+    if (left-- <= 0) return t;
+    taken++;
+    t.ok = 1;
+    t.at = malloc(count ? count : align);
+    return t;
+}
+
+struct tried rattle_realloc(void *at, size_t kept, size_t count, size_t align)
+{
+    struct tried t = { 0, refused };
+    (void)kept;
+    if (left-- <= 0) return t;
+    t.ok = 1;
+    t.at = realloc(at, count ? count : align);
+    return t;
+}
+
+void rattle_dealloc(void *at)
+{
+    freed++;
+    free(at);
+}
+
+static const char lines[] = "# of the text\nport = 80\n\n[s]\n# of c\nc = 3\nd = 4\nc = \"5\"\n\n# of t\n[t]\n  e = 1\n";
+static const struct bigrosk_ini_write_option option = BIGROSK_INI_WRITE_DEFAULT;
+enum { open, set, set_new, set_section, add, delete, delete_all, set_nth, set_all, rename_key, rename_section, delete_section,
+    add_section, set_comment, comment_out, items, pairs, all, to_buffer, calls };
+
+/* one call with n requests granted */
+static uint32_t call(int which, long n, struct bigrosk_ini_text *t)
+{
+    uint8_t out[512] = { 0 };
+    size_t counts[64] = { 1, 2, 1, 5, 1, 1 };
+    struct bigrosk_ini_sizes sizes = BIGROSK_INI_NO_SIZES;
+    struct bigrosk_ini_fault f = { 0, 0, 0, "" };
+    size_t count = 0;
+    const uint8_t *bytes = (const uint8_t *)"word";
+    uint32_t status = BIGROSK_INI_OK;
+    left = n;
+    switch (which) {
+    case open: status = bigrosk_ini_text_open_str("k = v\n[a]\nl = \"w\"\n", t, &f); break;
+    case set: status = bigrosk_ini_text_set_str(t, "s", "c", "9"); break;
+    case set_new: status = bigrosk_ini_text_set_str(t, "s", "new", "9"); break;
+    case set_section: status = bigrosk_ini_text_set_str(t, "new", "k", "9"); break;
+    case add: status = bigrosk_ini_text_add_str(t, "s", "c", "a longer value"); break;
+    case delete: status = bigrosk_ini_text_delete_str(t, "s", "c"); break;
+    case delete_all: status = bigrosk_ini_text_delete_all(t, BIGROSK_INI_AT("s", "c")); break;
+    case set_nth: status = bigrosk_ini_text_set_nth(t, &option, BIGROSK_INI_AT("s", "c"), 1, bytes, 4); break;
+    case set_all:
+        status = bigrosk_ini_text_set_all(t, &option, BIGROSK_INI_AT("s", "c"), (const uint8_t *)"1\0" "22\0" "3", 8, counts, 3);
+        break;
+    case rename_key: status = bigrosk_ini_text_rename_key(t, &option, BIGROSK_INI_AT("s", "d"), bytes, 4); break;
+    case rename_section: status = bigrosk_ini_text_rename_section(t, &option, (const uint8_t *)"s", 1, bytes, 4); break;
+    case delete_section: status = bigrosk_ini_text_delete_section(t, (const uint8_t *)"s", 1); break;
+    case add_section: status = bigrosk_ini_text_add_section(t, &option, bytes, 4); break;
+    case set_comment: status = bigrosk_ini_text_set_comment_str(t, "s", "d", "; more\n; of it"); break;
+    case comment_out: status = bigrosk_ini_text_comment_out(t, BIGROSK_INI_AT("s", "d")); break;
+    case items: status = bigrosk_ini_text_items(t, out, sizeof out, counts, 64, &sizes); break;
+    case pairs: status = bigrosk_ini_text_pairs(t, true, (const uint8_t *)"s", 1, out, sizeof out, counts, 64, &sizes); break;
+    case all: status = bigrosk_ini_text_get_all(t, BIGROSK_INI_AT("s", "c"), out, sizeof out, counts, 64, &sizes); break;
+    default: status = bigrosk_ini_text_write(t, out, sizeof out, &count); break;
+    }
+    left = 1000000000;
+    return status;
+}
+
+static bool is_text(struct bigrosk_ini_text *t, const char *want)
+{
+    char out[512] = "";
+    size_t count = 0;
+    return bigrosk_ini_text_write(t, (uint8_t *)out, sizeof out, &count) == BIGROSK_INI_OK && !strcmp(out, want);
+}
+
+int main(void)
+{
+    long requests = 0;
+    for (int which = 0; which < calls; which++) {
+        long refusals = 0;
+        for (long n = 0;; n++) {
+            struct bigrosk_ini_text t = BIGROSK_INI_TEXT_EMPTY;
+            struct bigrosk_ini_fault f = { 0, 0, 0, "" };
+            CHECK(bigrosk_ini_text_open_str(lines, &t, &f) == BIGROSK_INI_OK && is_text(&t, lines));
+            uint32_t status = call(which, n, &t);
+            CHECK(status == BIGROSK_INI_OK || status == BIGROSK_INI_NO_MEMORY);
+            if (status != BIGROSK_INI_OK) CHECK(is_text(&t, lines));
+            bigrosk_ini_text_close(&t);
+            CHECK(taken == freed);
+            if (status == BIGROSK_INI_OK) break;
+            refusals++;
+        }
+        const long n = which;
+        CHECK(refusals > 0);
+        requests += refusals;
+    }
+    printf("%ld requests refused, %ld blocks, %d failed\n", requests, taken, failed);
+    return failed != 0;
+}
