@@ -48,16 +48,18 @@ import bigrosk_ini, bigrosk_ini._calls, os
 folder = os.path.dirname(bigrosk_ini.__file__)
 print(folder, os.path.relpath(bigrosk_ini._calls.library._name, folder))')"
 is 'its version' "$version" "$(there -c 'import importlib.metadata; print(importlib.metadata.version("bigrosk_ini"))')"
-for it in test_python test_python_options test_python_words; do
+for it in test_python test_python_options test_python_settings test_python_words; do
     # what is isolated has no folder of its own in its path
     run "$it" there "$clients/$it.py"
 done
 # the programs of docs/C.md, one after another
 sed -n '/^```python$/,/^```$/p' "$top/docs/C.md" | sed '/^```/d' >"$room/page.py"
-echo 'print(text.decode())' >>"$room/page.py"
+echo 'print(open("settings.ini").read())' >>"$room/page.py"
 cp "$top/examples/settings.ini" "$room/empty"
 is 'what the programs of docs/C.md print' "$(printf '%s\n' '8080' 'None port 8080' 'None timeout 30' 'paths log /srv/log' \
-    'paths cache /var/cache/app data' '1 2 missing key' '; the fleet' 'port = 8080' 'wait: 30')" "$(there "$room/page.py" 2>&1)"
+    'paths cache /var/cache/app data' 'pool workers 4' '1 2 missing key' '; the fleet' 'port = 8080' 'timeout: 30' '' \
+    '[paths]' 'log   = /srv/log' 'cache = "/var/cache/app data"' '' '[pool]' '; one for each core' 'workers = 4')" \
+    "$(there "$room/page.py" 2>&1)"
 run 'type hints' there "$clients/test_python_hints.py"
 if python3 -m mypy --version >/dev/null 2>&1; then
     run 'mypy' env MYPYPATH="$top/python" python3 -m mypy --strict --cache-dir "$room/mypy" "$top/python/bigrosk_ini" \

@@ -1,5 +1,14 @@
 """INI documents by the C library of Bigrosk, with the habits of a mapping.
 
+A settings file whose comments and layout stay, with the habits of configparser:
+
+    settings = load("settings.ini")
+    settings["server"]["port"] = "443"
+    settings.getint("server", "port", fallback=80)
+    settings.save()                     # beside it, and renamed
+
+and a document, of which its text keeps nothing but sections and pairs:
+
     document = Document("[paths]\\nlog = /var/log/app\\n")
     document["paths"]["log"]            # "/var/log/app"
     document["paths"]["cache"] = "/c"   # set; a new section is opened by its first pair
@@ -41,9 +50,11 @@ from typing import overload
 from ._calls import BROKEN, KINDS, NO_ROOM, NOT_UTF8, Broken, Fault, Handle, Listing, Pair, ReadOption
 from ._calls import Unwritable, WriteOption, bytes_of, copied_out, help_for, is_done, library, shown
 from ._calls import text_words, words_of
+from ._settings import Error, Mistyped, NoOption, NoSection, Settings, SettingsSection, SectionThere, load
 
 __all__ = [
-    "KINDS", "Broken", "Document", "ReadOption", "Section", "Unwritable", "WriteOption", "version",
+    "KINDS", "Broken", "Document", "Error", "Mistyped", "NoOption", "NoSection", "ReadOption", "Section",
+    "SectionThere", "Settings", "SettingsSection", "Unwritable", "WriteOption", "load", "version",
     "edit_add", "edit_delete", "edit_delete_section", "edit_rename_key", "edit_rename_section", "edit_set",
 ]
 T = TypeVar("T")
@@ -124,11 +135,7 @@ class Document:
 
     def walk(self) -> List[Tuple[Optional[str], List[Pair]]]:
         """All sections in order, each its name and the list of its pairs; two may have one name."""
-        listing = Listing(self._call, library.bigrosk_ini_items)
-        sections: List[Tuple[Optional[str], List[Pair]]] = []
-        while not listing.is_over():
-            sections.append((listing.name(), listing.pairs(listing.number())))
-        return sections
+        return Listing(self._call, library.bigrosk_ini_items).sections()
 
     def text(self, option: Optional[WriteOption] = None) -> str:
         text = copied_out(self._call, library.bigrosk_ini_write, option or WriteOption())

@@ -24,7 +24,7 @@ def load_library() -> ctypes.CDLL:
 # A call leaves the interpreter's lock, so that other threads run meanwhile: Document has a lock of its own.
 library = load_library()
 OK, ABSENT, NO_ROOM, BROKEN, NOT_UTF8, NO_MEMORY = range(6)
-NO_DOCUMENT, UNPLAIN_VALUE, UNPLAIN_KEY, NO_PLACE, UNPLAIN_NAME = range(6, 11)
+NO_DOCUMENT, UNPLAIN_VALUE, UNPLAIN_KEY, NO_PLACE, UNPLAIN_NAME, THERE = range(6, 12)
 UNNAMED = ctypes.c_size_t(-1).value
 KINDS = (
     None,
@@ -41,6 +41,10 @@ UNWRITABLE = {UNPLAIN_VALUE: "value", UNPLAIN_KEY: "key", NO_PLACE: "place", UNP
 
 class Handle(ctypes.Structure):
     _fields_ = [("is_open", ctypes.c_bool), ("inner", ctypes.c_void_p)]
+
+
+class Place(ctypes.Structure):
+    _fields_ = [("line", ctypes.c_size_t), ("column", ctypes.c_size_t)]
 
 
 class Fault(ctypes.Structure):
@@ -93,6 +97,7 @@ _text: List[Any] = [ctypes.c_char_p, ctypes.c_size_t]
 _name: List[Any] = [ctypes.c_bool, *_text]
 _out: List[Any] = [*_text, ctypes.POINTER(ctypes.c_size_t)]
 _list: List[Any] = [*_out, ctypes.c_size_t, ctypes.POINTER(Sizes)]
+_counts: List[Any] = [ctypes.POINTER(ctypes.c_size_t), ctypes.c_size_t]
 _read, _write, _fault = ctypes.POINTER(ReadOption), ctypes.POINTER(WriteOption), ctypes.POINTER(Fault)
 for _call, _arguments, _result in [
     ("load", _text + [ctypes.c_bool, _read, _handle, _fault], ctypes.c_uint32),
@@ -115,6 +120,28 @@ for _call, _arguments, _result in [
     ("edit_rename_key", _text + [_read, _write] + _name + _text + _text + _out + [_fault], ctypes.c_uint32),
     ("edit_delete_section", _text + [_read] + _text + _out + [_fault], ctypes.c_uint32),
     ("edit_rename_section", _text + [_read, _write] + _text + _text + _out + [_fault], ctypes.c_uint32),
+    ("text_open", _text + [_read, _handle, _fault], ctypes.c_uint32),
+    ("text_close", [_handle], None),
+    ("text_write", [_handle] + _out, ctypes.c_uint32),
+    ("text_get", [_handle] + _name + _text + _out, ctypes.c_uint32),
+    ("text_get_all", [_handle] + _name + _text + _list, ctypes.c_uint32),
+    ("text_pairs", [_handle] + _name + _list, ctypes.c_uint32),
+    ("text_items", [_handle] + _list, ctypes.c_uint32),
+    ("text_has", [_handle] + _name + _text, ctypes.c_uint32),
+    ("text_has_section", [_handle] + _name, ctypes.c_uint32),
+    ("text_place", [_handle] + _name + _text + [ctypes.POINTER(Place)], ctypes.c_uint32),
+    ("text_set", [_handle, _write] + _name + _text + _text, ctypes.c_uint32),
+    ("text_add", [_handle, _write] + _name + _text + _text, ctypes.c_uint32),
+    ("text_delete", [_handle] + _name + _text, ctypes.c_uint32),
+    ("text_delete_all", [_handle] + _name + _text, ctypes.c_uint32),
+    ("text_set_all", [_handle, _write] + _name + _text + _text + _counts, ctypes.c_uint32),
+    ("text_rename_key", [_handle, _write] + _name + _text + _text, ctypes.c_uint32),
+    ("text_rename_section", [_handle, _write] + _text + _text, ctypes.c_uint32),
+    ("text_delete_section", [_handle] + _text, ctypes.c_uint32),
+    ("text_add_section", [_handle, _write] + _text, ctypes.c_uint32),
+    ("text_comment", [_handle] + _name + _text + _out, ctypes.c_uint32),
+    ("text_set_comment", [_handle, _write] + _name + _text + _text, ctypes.c_uint32),
+    ("text_comment_out", [_handle] + _name + _text, ctypes.c_uint32),
     ("version", [], ctypes.c_uint32),
 ]:
     _function = getattr(library, "bigrosk_ini_" + _call)
@@ -245,6 +272,13 @@ class Listing:
         count, start = self.number(), self._at
         self._at += count + 1
         return self._bytes[start : start + count].decode()
+
+    def sections(self) -> List[Tuple[Optional[str], List[Pair]]]:
+        """All sections that are left, each its name and its pairs."""
+        found: List[Tuple[Optional[str], List[Pair]]] = []
+        while not self.is_over():
+            found.append((self.name(), self.pairs(self.number())))
+        return found
 
     def texts(self) -> Iterator[str]:
         while not self.is_over():

@@ -4,7 +4,7 @@ import threading
 import time
 from ctypes import c_int, c_long
 from bigrosk_ini._calls import library
-from bigrosk_ini import Document, edit_add, edit_delete, edit_delete_section
+from bigrosk_ini import Document, Settings, edit_add, edit_delete, edit_delete_section
 from bigrosk_ini import edit_rename_key, edit_rename_section, edit_set
 
 requests = c_long.in_dll(library, "heap_requests")
@@ -28,6 +28,22 @@ CALLS = {
     "edit_rename_key": lambda _: edit_rename_key(TEXT, "s", "k", "l"),
     "edit_delete_section": lambda _: edit_delete_section(TEXT, "s"),
     "edit_rename_section": lambda _: edit_rename_section(TEXT, "s", "u"),
+}
+SETTINGS_CALLS = {
+    "load": lambda _: str(Settings(TEXT)),
+    "set": lambda settings: settings.set("s", "k", "v" * 999),
+    "set a new key": lambda settings: settings.set("s", "new", "v"),
+    "add_section": lambda settings: settings.add_section("new"),
+    "remove_option": lambda settings: settings.remove_option("s", "k"),
+    "remove_section": lambda settings: settings.remove_section("s"),
+    "rename_option": lambda settings: settings.rename_option("s", "k", "l"),
+    "rename_section": lambda settings: settings.rename_section("s", "u"),
+    "set_all": lambda settings: settings.set_all("s", "k", ["1", "two", "3"]),
+    "set_comment": lambda settings: settings.set_comment("s", "k", "; why"),
+    "comment_out": lambda settings: settings.comment_out("s", "k"),
+    "get_all": lambda settings: settings.get_all("s", "k"),
+    "walk": lambda settings: settings.walk(),
+    "text": lambda settings: str(settings),
 }
 
 
@@ -57,6 +73,21 @@ def memory():
             assert outcomes[-1] in ((MemoryError, before), done), (name, number, outcomes[-1])
         assert outcomes[0] == (MemoryError, before), name
     del document
+    assert blocks.value == 0, blocks.value
+
+
+def memory_of_settings():
+    """The same of settings: their text stays, or all is done."""
+    for name, call in SETTINGS_CALLS.items():
+        settings, outcomes = Settings(TEXT), []
+        given, made = run(call, settings, -1)
+        done = given, str(settings)
+        for number in range(made):
+            settings = Settings(TEXT)
+            outcomes.append((run(call, settings, number)[0], str(settings)))
+            assert outcomes[-1] in ((MemoryError, TEXT), done), (name, number, outcomes[-1])
+        assert outcomes[0] == (MemoryError, TEXT), name
+    del settings
     assert blocks.value == 0, blocks.value
 
 
@@ -90,5 +121,6 @@ def threads():
 
 
 memory()
+memory_of_settings()
 threads()
 print("all of the Python module's memory and threads")
