@@ -230,6 +230,9 @@ def first_of_section(page, writing, bounds, key, value):
     wanted = with_pair(page, number, 0, key, value)
     dropped = page.dropped()
     for place in places + [run] * (not dropped or run <= dropped[0]):
+        # a key that the text's end cuts short would go on with the new pair
+        if page.option.multiline and dropped and place == dropped[0]:
+            continue
         front = text[:place]
         last = page.element_before(place)
         is_ended = starts_line(front) and not (last and last.kind == "comment" and front[-1] != "\n")
