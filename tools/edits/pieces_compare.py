@@ -80,7 +80,7 @@ def random_edit(chance, page, in_row):
 
 
 def random_question(chance):
-    """A text that the options read, and one edit or several."""
+    """A text that the options read, and one edit, several, or a hundred in a row."""
     while True:
         option = Option(*(chance.random() < p for p in (0.8, 0.8, 0.5, 0.2, 0.1)))
         text = random_text(chance)
@@ -90,7 +90,7 @@ def random_question(chance):
             continue
         separator = chance.choice(UNPLAIN_SEPARATORS if chance.random() < 0.03 else SEPARATORS)
         writing = Writing(chance.choice(POLICIES), chance.choice(["\n", "\r\n"]), separator)
-        number = chance.choice([1, 1, 1, 6])
+        number = 100 if chance.random() < 0.01 else chance.choice([1, 1, 1, 6])
         return option, writing, text, [random_edit(chance, page, number > 1) for _ in range(number)]
 
 
