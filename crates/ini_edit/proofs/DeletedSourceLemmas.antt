@@ -14,7 +14,7 @@ use Rattle.ini_text.specs.declared.option.ParseOption.{ParseOption}
 use Rattle.ini.specs.Edits.{delete_in}
 use Rattle.ini.specs.Properties.{removed}
 use Rattle.ini.specs.Texts.{Text, is_name, is_text}
-use Rattle.ini_edit.specs.Inside.SourceEnds.{IsDeletedTimes}
+use Rattle.ini_edit.specs.Inside.SourceEnds.{IsWithout}
 use Rattle.ini_edit.specs.Inside.Spans.{AreSections}
 use Rattle.ini_edit.specs.SourceEditsDelete.{count_of, deleted_at, deleted_from, deleted_nth, deleted_times}
 use Rattle.ini_edit.specs.SourceEditsDelete.{gap_after, goes_with_line_end, line_end_after, lines_after}
@@ -105,11 +105,11 @@ module _ {A : Type 0} (test : A → Bool) where
   count_more x xs =
       let sum = sum_by-append (λ y. cond (test y) 1 0) (x ∷ []) xs in omega (arith, sum)
 
-  count_fits : (x : A) (xs : List A) → test x ≡ true → count_by test (x ∷ xs) ≡ suc (count_by test xs)
+  pub count_fits : (x : A) (xs : List A) → test x ≡ true → count_by test (x ∷ xs) ≡ suc (count_by test xs)
   count_fits x xs is =
       let one = ap (λ b. cond b 1 0 + count_by test xs) is in omega (arith, count_more x xs, one)
 
-  count_apart : (x : A) (xs : List A) → test x ≡ false → count_by test (x ∷ xs) ≡ count_by test xs
+  pub count_apart : (x : A) (xs : List A) → test x ≡ false → count_by test (x ∷ xs) ≡ count_by test xs
   count_apart x xs is =
       let one = ap (λ b. cond b 1 0 + count_by test xs) is in omega (arith, count_more x xs, one)
 
@@ -331,18 +331,17 @@ module _ (o : ParseOption) (name : Option Text) (key : Text) where
       omega (arith, fewer, sum, whole, count_fits keyed p.here p.after (nth_fits there))
 
   -- so many pairs of the first section of the name are taken out
-  pub times_there : (kept front : ℕ) {s t : SectionPiece} {some : Bool}
-      → IsDeletedTimes o front key kept s t some
+  pub times_there : (kept front : ℕ) {s t : SectionPiece} → IsWithout o front key kept s t
       → (ss : List SectionPiece) (p : Place SectionPiece) → section_place name ss ≡ Some p → p.here ≡ s
       → last_before_section p ≡ front
       → p.before ++ t ∷ p.after ≡ deleted_times o name key kept (count_by keyed s.pairs - kept) ss
-  times_there kept front (IsDeletedTimes.no_more {s = s} gone) ss p is same last =
+  times_there kept front (IsWithout.no_more {s = s} gone) ss p is same last =
       let section = nth_is named ss 0 p is in
       let above = none_above (nth_none keyed s.pairs kept gone) in
       let nothing : count_by keyed s.pairs - kept ≡ 0 = omega (arith, above) in
       ap (λ x. p.before ++ x ∷ p.after) (sym same) ∙ sym (nth_whole section)
       ∙ ap (λ n. deleted_times o name key kept n ss) (sym nothing)
-  times_there kept front (IsDeletedTimes.one_more {s = s} {p = q} there more) ss p is same last =
+  times_there kept front (IsWithout.one_more {s = s} {p = q} there more) ss p is same last =
       let section = nth_is named ss 0 p is in
       let new = pair_taken_out o front s q in
       let pair = nth_is keyed s.pairs kept q there in

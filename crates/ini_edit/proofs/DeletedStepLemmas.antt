@@ -2,7 +2,6 @@
 use Rattle.std.proofs.Common.{◌≡◌, ◌∙◌, ◌-◌, ◌<◌, ℕ, Bool, List, [], ◌∷◌, ◌++◌, None, Option}
 use Rattle.std.proofs.Common.{Some}
 use Rattle.std.proofs.Common.{ap, arith, drop, get_or, if◌then◌else◌, length, refl, set, subst, sym, take}
-use Rattle.std.proofs.lemmas.List.{length-append, length-map}
 use Rattle.std.specs.List.{count_by, remove}
 use Rattle.std.specs.Prelude.{option_and_then}
 use Rattle.ini_text.specs.Grammar.CharacterKinds.{line_feed}
@@ -17,12 +16,11 @@ use Rattle.ini_edit.specs.SourceEditsDelete.{gap_after, goes_with_line_end, line
 use Rattle.ini_edit.specs.SourceEditsDelete.{pair_taken_out, rest_put}
 use Rattle.ini_edit.specs.SourcePlaces.{Place, edited_at, exchanged, last_before_pair}
 use Rattle.ini_edit.specs.SourcePlaces.{last_before_section, nth_place, pair_place, section_place, text_up_to}
-use Rattle.ini_edit.specs.Sources.{PairPiece, Pieces, SectionPiece, given_pair, sections_text}
+use Rattle.ini_edit.specs.Sources.{PairPiece, Pieces, SectionPiece, sections_text}
 use Rattle.ini_edit.specs.declared.source.pair.ends.NewEnd.{NewEnd}
 use Rattle.ini_edit.proofs.DeletedSourceLemmas.{IsMapped, mapped, none_above, nth_none, pair_within}
 use Rattle.ini_edit.proofs.DeletedSourceLemmas.{placed_in}
-use Rattle.ini_edit.proofs.DeletedSourceLemmas.{taken_given, times_there}
-use Rattle.ini_edit.proofs.DeletedSourceLemmas.{unmapped}
+use Rattle.ini_edit.proofs.DeletedSourceLemmas.{times_there, unmapped}
 use Rattle.ini_edit.proofs.SourcePlaceLemmas.{place_drop_put, place_remove, place_set, place_take}
 use Rattle.ini_edit.proofs.SourcePlaceLemmas.{place_read, place_take_put, place_within}
 
@@ -75,24 +73,6 @@ out_of_section o t p i at front e lines g left put is_lines is_gap is_left =
     ∙ ap (λ l. rest_put o l g t p.before p.after) is_lines
     ∙ ap (λ l. rest_put o stays l t p.before p.after) is_gap
 
--- the section has one pair fewer
-pub fewer_pairs : (o : ParseOption) (front : ℕ) (s : SectionPiece) (p : Place PairPiece)
-    → s.pairs ≡ p.before ++ p.here ∷ p.after
-    → length (pair_taken_out o front s p).pairs < length s.pairs
-fewer_pairs o front s p whole =
-    let new = (pair_taken_out o front s p).pairs in
-    let same : length new ≡ length (p.before ++ p.after) =
-    sym (length-map new given_pair) ∙ ap (λ g. length g.1) (taken_given o front s p)
-    ∙ length-map (p.before ++ p.after) given_pair in
-    omega (
-      arith,
-      same,
-      ap length whole,
-      length-append p.before p.after,
-      length-append p.before
-          (p.here ∷ p.after),
-    )
-
 module _ (o : ParseOption) (name : Option Text) (key : Text) (n : ℕ) {ss : List SectionPiece} {i j : ℕ}
     (at : IsPairAt (pair_place name key n ss) ss i j) where
   last_there : last_before ss i ≡ last_before_section at.place.section
@@ -129,7 +109,7 @@ module _ (o : ParseOption) (name : Option Text) (key : Text) (n : ℕ) {ss : Lis
       → set ss i new ≡ deleted_from o name key n ss
   from_made new out =
       place_set at.section new
-      ∙ times_there o name key n (last_before ss i) out.is ss at.place.section section_there refl
+      ∙ times_there o name key n (last_before ss i) out ss at.place.section section_there refl
       (sym last_there)
       ∙ ap (λ s. deleted_times o name key n
       (edited_at (λ s. count_by (λ p. is_text key p.key) s.here.pairs) s 0 - n) ss) (sym section_there)

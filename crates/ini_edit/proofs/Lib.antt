@@ -123,5 +123,6 @@ pub mod ValueLemmas
 pub mod WalkLemmas
 pub mod WholeTextLemmas
 pub mod WholeTextRefusalLemmas
+pub mod WithoutLemmas
 pub mod WritableLemmas
 pub mod WrittenLemmas

@@ -1,27 +1,27 @@
 -- The value of a key's first pair set in a text in pieces, with the later pairs of the key out or none there.
-use Rattle.std.proofs.Common.{◌≡◌, ◌∙◌, ◌-◌, ◌≤◌, ℕ, Bool, true, false, cond, List, [], ◌∷◌, ◌++◌, None}
+use Rattle.std.proofs.Common.{◌≡◌, ◌∙◌, ◌-◌, ℕ, Bool, true, false, cond, List, [], ◌∷◌, ◌++◌, None}
 use Rattle.std.proofs.Common.{Option, Some, ap, arith, refl, set, subst, sym}
 use Rattle.std.proofs.lemmas.List.Sums.{sum_by-append}
 use Rattle.std.specs.List.{count_by}
-use Rattle.std.specs.Prelude.{option_and_then}
 use Rattle.ini_text.specs.Grammar.CharacterKinds.{line_feed}
 use Rattle.ini_text.specs.Grammar.Positions.{last_or}
 use Rattle.ini_text.specs.declared.option.ParseOption.{ParseOption}
 use Rattle.ini_text.specs.declared.write.policy.EscapePolicy.{EscapePolicy}
 use Rattle.ini.specs.Texts.{Text, is_text}
-use Rattle.ini_edit.specs.Inside.SourceEnds.{IsDeletedTimes, IsPlaceAt, IsSetAlone, last_before}
+use Rattle.ini_edit.specs.Inside.SourceEnds.{IsPlaceAt, IsSetAlone, IsSetAt, IsWithout}
+use Rattle.ini_edit.specs.Inside.SourceEnds.{last_before}
 use Rattle.ini_edit.specs.Inside.Spans.{AreSections}
 use Rattle.ini_edit.specs.SourceEdits.{with_pairs, with_value}
 use Rattle.ini_edit.specs.SourceEditsDelete.{count_of, deleted_from, deleted_times}
 use Rattle.ini_edit.specs.SourceEditsSet.{IsFirstSet, SetsFirst, SetsNth, pair_changed_at}
 use Rattle.ini_edit.specs.SourcePlaces.{PairPlace, Place, edited_at, nth_place, pair_place, section_place}
-use Rattle.ini_edit.specs.Sources.{Pieces, SectionPiece, sections_text}
+use Rattle.ini_edit.specs.Sources.{PairPiece, Pieces, SectionPiece, sections_text}
 use Rattle.ini_edit.specs.declared.source.set.LaterPairs.TheVariants.{Left, TakenOut}
 use Rattle.ini_edit.proofs.DeletedSourceLemmas.{IsPlaced, first_again, from_sections, none_above}
-use Rattle.ini_edit.proofs.DeletedSourceLemmas.{nth_fits, nth_none, nth_whole, pair_within, placed, placed_in}
-use Rattle.ini_edit.proofs.DeletedSourceLemmas.{times_there, unmapped}
+use Rattle.ini_edit.proofs.DeletedSourceLemmas.{nth_fits, nth_none, placed, times_there}
 use Rattle.ini_edit.proofs.SourcePlaceLemmas.{place_set, place_take}
 use Rattle.ini_edit.proofs.SourceWrittenLemmas.{sections_now, sections_set_at}
+use Rattle.ini_edit.proofs.WithoutLemmas.{nth_few}
 
 -- as many fit, with one exchanged for another that fits where it does
 count_same : {A : Type 0} (test : A → Bool) (before after : List A) (x y : A) → test x ≡ test y
@@ -37,6 +37,25 @@ count_same {A} test before after x y same =
       sum_by-append one (x ∷ []) after,
       sum_by-append one (y ∷ []) after,
     )
+
+-- a section in which no other pair of the key follows the one that is set
+pub alone_already : {o : ParseOption} {policy : EscapePolicy} {front i : ℕ} {key value : Text}
+    {old new : SectionPiece} {p : Place PairPiece}
+    → IsPlaceAt old.pairs p i → nth_place (λ p. is_text key p.key) 1 old.pairs ≡ None
+    → IsSetAt o policy value old new p → IsSetAlone o policy front key value old new p
+alone_already {key = key} {value} {old} {new} {p} at none is =
+    let keyed : PairPiece → Bool = λ p. is_text key p.key in
+    let here = with_value is.source value p.here in
+    let few = none_above (nth_none keyed old.pairs 1 none) in
+    let was = ap (count_by keyed) at.whole in
+    let same = count_same keyed p.before p.after here p.here refl in
+    let now : count_by keyed new.pairs ≡ count_by keyed (p.before ++ here ∷ p.after) =
+    ap (λ s. count_by keyed s.pairs) is.is in
+    record {
+      set = new;
+      is_set = is;
+      without = IsWithout.no_more (nth_few keyed new.pairs 1 (omega (arith, few, was, same, now)));
+    }
 
 -- the section of the place, once the value of its pair is another
 abbrev pub section_with : PairPlace → (source value : Text) → SectionPiece
@@ -60,42 +79,14 @@ module _ (o : ParseOption) (name : Option Text) (key : Text) (n : ℕ) (ss : Lis
       ≡ Some (place_with place source value)
   again (IsPlaced.in_section at pair) = first_again (section_with place source value) at (nth_fits at)
 
-  as_many : IsPlaced o name key n ss place
-      → count_by (λ p. is_text key p.key) (section_with place source value).pairs
-      ≡ count_by (λ p. is_text key p.key) place.section.here.pairs
-  as_many (IsPlaced.in_section at pair) =
-      count_same (λ p. is_text key p.key) place.pair.before place.pair.after
-      (with_value source value place.pair.here) place.pair.here refl
-      ∙ ap (count_by (λ p. is_text key p.key)) (sym (nth_whole pair))
-
   pub counted : count_of name key (pair_changed_at (with_value source value) place)
       ≡ count_by (λ p. is_text key p.key) (section_with place source value).pairs
   counted = ap (λ s. edited_at (λ s. count_by (λ p. is_text key p.key) s.here.pairs) s 0) (again there)
 
-  -- where no others follow, none goes
-  few : pair_place name key 1 ss ≡ None → IsPlaced o name key n ss place
-      → count_by (λ p. is_text key p.key) place.section.here.pairs ≤ 1
-  few none (IsPlaced.in_section at pair) =
-      let s = place.section in
-      let found : section_place name ss ≡ Some s =
-      ap (section_place name) (nth_whole at) ∙ first_again s.here at (nth_fits at) in
-      none_above (nth_none (λ p. is_text key p.key) s.here.pairs 1
-      (unmapped (placed_in s) (nth_place (λ p. is_text key p.key) 1 s.here.pairs)
-      (sym (ap (option_and_then (pair_within key 1)) found) ∙ none)))
-
-  alone_already : pair_place name key 1 ss ≡ None
-      → deleted_from o name key 1 (pair_changed_at (with_value source value) place)
-      ≡ pair_changed_at (with_value source value) place
-  alone_already none =
-      let changed = pair_changed_at (with_value source value) place in
-      let nothing : count_of name key changed - 1 ≡ 0 =
-      omega (arith, counted, as_many there, few none there) in
-      ap (λ k. deleted_times o name key 1 k changed) nothing
-
-  -- and they go where they follow
-  alone_now : {i front : ℕ} {t : SectionPiece} {found : Bool} → IsPlaceAt ss place.section i
+  -- those that follow go
+  alone_now : {i front : ℕ} {t : SectionPiece} → IsPlaceAt ss place.section i
       → front ≡ last_before ss i
-      → IsDeletedTimes o front key 1 (section_with place source value) t found
+      → IsWithout o front key 1 (section_with place source value) t
       → set ss i t ≡ deleted_from o name key 1 (pair_changed_at (with_value source value) place)
   alone_now {i} {front} {t} at before out =
       let changed = pair_changed_at (with_value source value) place in
@@ -115,7 +106,7 @@ module _ (name : Option Text) (key : Text) {ss : List SectionPiece} {i j : ℕ} 
       ≡ deleted_from o name key 1 (pair_changed_at (with_value is.is_set.source value) place)
   without_later =
       alone_now o name key 0 ss place was is.is_set.source value at before
-      (subst (λ s. IsDeletedTimes o front key 1 s t is.found) is.is_set.is is.without)
+      (subst (λ s. IsWithout o front key 1 s t) is.is_set.is is.without)
 
   pub first_alone : IsFirstSet o policy TakenOut ss (set ss i t) name key value
   first_alone = record {
@@ -145,14 +136,3 @@ module _ (o : ParseOption) (policy : EscapePolicy) (old new : Pieces) (name : Op
       → SetsFirst o policy Left old new name key value found
   first_left true h = (h.0, record { set = new.sections; is_set = h.1; is = refl })
   first_left false h = h
-
-  pub first_only : pair_place name key 1 old.sections ≡ None → (found : Bool)
-      → SetsNth o policy old new name key 0 value found
-      → SetsFirst o policy TakenOut old new name key value found
-  first_only none true h =
-      let is = h.1 in
-      let alone : deleted_from o name key 1 new.sections ≡ new.sections =
-      ap (deleted_from o name key 1) is.is
-      ∙ alone_already o name key 0 old.sections is.place is.was is.source value none ∙ sym is.is in
-      (h.0, record { set = new.sections; is_set = is; is = sym alone })
-  first_only none false h = h

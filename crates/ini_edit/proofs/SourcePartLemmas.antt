@@ -3,7 +3,7 @@ use Rattle.std.proofs.Common.{◌≡◌, ◌∙◌, ◌<◌, ◌≤◌, ◌+◌,
 use Rattle.std.proofs.Common.{length, None, Some, get_or, drop, set, take, ap, append-nil, append_assoc}
 use Rattle.std.proofs.Common.{arith, refl, suc, sym}
 use Rattle.std.proofs.lemmas.Bool.{cond-false, cond-true}
-use Rattle.std.proofs.lemmas.List.{get_or_default, set_split, take-append-drop, take_more}
+use Rattle.std.proofs.lemmas.List.{drop_all, get_or_default, set_split, take-append-drop, take_more}
 use Rattle.std.specs.Option.{option_or}
 use Rattle.ini_text.specs.Grammar.CharacterKinds.{is_line_end}
 use Rattle.ini_text.specs.Grammar.Places.{Stretches, pair_source, value_source}
@@ -21,6 +21,7 @@ use Rattle.ini_edit.specs.SourcePlaces.{last_before_gap, text_up_to, with_end}
 use Rattle.ini_edit.specs.SourceWritten.{last_that_begins}
 use Rattle.ini_edit.specs.Sources.{PairPiece, SectionPiece, pair_text, pairs_text}
 use Rattle.ini_edit.specs.declared.source.pair.ends.NewEnd.{NewEnd}
+use Rattle.ini_edit.proofs.FirstLemmas.{rest_here}
 use Rattle.ini_edit.proofs.InPlaceLemmas.{joined-append, joined-more}
 use Rattle.ini_edit.proofs.SourcePlaceLemmas.{end_put-end, gap_of-end, rest_put-end}
 
@@ -132,6 +133,24 @@ end_put_in e {s} {t} {i} {j} {x} {y} same at within is put =
     ap (λ p. with_pairs t (set t.pairs j p)) put
     ∙ ap (λ u. with_pairs u (set u.pairs j (with_new_end e x))) same
     ∙ end_is_put e s i j x (omega arith) (omega arith) (is ∙ ap (λ u. get_or u.pairs j x) same)
+
+-- and lines and a gap after the last pair
+pub rest_pushed : (o : ParseOption) (lines gap : Text) {s t : SectionPiece} {i j : ℕ} {x y : PairPiece}
+    → t ≡ s → (1 ≤ i) × (j ≡ i - 1) → i ≡ length t.pairs → x ≡ get_or t.pairs j x
+    → y ≡ with_rest o lines gap x → with_pairs t (set t.pairs j y) ≡ rest_put o lines gap s s.pairs []
+rest_pushed o lines gap {s} {t} {i} {j} {x} {y} same at all is put =
+    let front = take j t.pairs in
+    let within : j < length t.pairs = omega arith in
+    let none : drop (j + 1) t.pairs ≡ [] = drop_all (j + 1) t.pairs (omega arith) in
+    let whole : t.pairs ≡ front ++ x ∷ [] =
+    sym (take-append-drop j t.pairs)
+    ∙ ap (λ l. front ++ l) (rest_here t.pairs j x within is ∙ ap (λ l. x ∷ l) none) in
+    let next : suc j ≡ j + 1 = omega arith in
+    ap (with_pairs t) (set_split t.pairs j y within
+    ∙ ap (λ n. front ++ y ∷ drop n t.pairs) next ∙ ap (λ l. front ++ y ∷ l) none
+    ∙ ap (λ q. front ++ q ∷ []) put)
+    ∙ sym (rest_put-end t front x [] o lines gap) ∙ ap (λ l. rest_put o lines gap t l []) (sym whole)
+    ∙ ap (λ u. rest_put o lines gap u u.pairs []) same
 
 -- lines and a gap after a pair
 module _ (o : ParseOption) (lines gap : Text) (p : PairPiece) {t g : Text} where

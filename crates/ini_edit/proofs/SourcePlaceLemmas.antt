@@ -104,15 +104,15 @@ index_place xs i x within is = record {
 
 -- the search for the one that fits before which so many others fit
 module _ {A : Type 0} (test : A → Bool) where
-  nth_apart : (n : ℕ) (x : A) (xs : List A) → test x ≡ false
+  pub nth_apart : (n : ℕ) (x : A) (xs : List A) → test x ≡ false
       → nth_place test n (x ∷ xs) ≡ option_map (one_on x) (nth_place test n xs)
   nth_apart n x xs apart = cond-false (test x) _ _ apart
 
-  nth_later : (n : ℕ) (x : A) (xs : List A) → test x ≡ true → (n == 0) ≡ false
+  pub nth_later : (n : ℕ) (x : A) (xs : List A) → test x ≡ true → (n == 0) ≡ false
       → nth_place test n (x ∷ xs) ≡ option_map (one_on x) (nth_place test (n - 1) xs)
   nth_later n x xs fits more = cond-true (test x) _ _ fits ∙ cond-false (n == 0) _ _ more
 
-  nth_here : (n : ℕ) (x : A) (xs : List A) → test x ≡ true → (n == 0) ≡ true
+  pub nth_here : (n : ℕ) (x : A) (xs : List A) → test x ≡ true → (n == 0) ≡ true
       → nth_place test n (x ∷ xs) ≡ Some (record { before = []; here = x; after = xs })
   nth_here n x xs fits none = cond-true (test x) _ _ fits ∙ cond-true (n == 0) _ _ none
 

@@ -125,20 +125,17 @@ last_before ss i = last_or line_feed (sections_text (take i ss))
 
 -- of a section's pairs that of the key before which `kept` others stand was taken out, as often as there was
 -- one
-pub data IsDeletedTimes (o : ParseOption) (front : ℕ) (key : Text) (kept : ℕ) : SectionPiece → SectionPiece
-    → Bool
+pub data IsWithout (o : ParseOption) (front : ℕ) (key : Text) (kept : ℕ) : SectionPiece → SectionPiece
     → Type 0 where
   no_more : {s : SectionPiece} → nth_place (λ p. is_text key p.key) kept s.pairs ≡ None
-      → IsDeletedTimes o front key kept s s false
-  one_more : {s new : SectionPiece} {found : Bool} {p : Place PairPiece}
+      → IsWithout o front key kept s s
+  one_more : {s new : SectionPiece} {p : Place PairPiece}
       → nth_place (λ p. is_text key p.key) kept s.pairs ≡ Some p
-      → IsDeletedTimes o front key kept (pair_taken_out o front s p) new found
-      → IsDeletedTimes o front key kept s new true
+      → IsWithout o front key kept (pair_taken_out o front s p) new → IsWithout o front key kept s new
 
-pub record IsWithout (o : ParseOption) (front : ℕ) (key : Text) (kept : ℕ)
-    (old new : SectionPiece) : Type 0 where
-  pub found : Bool
-  pub is : IsDeletedTimes o front key kept old new found
+-- a place after all of a list
+abbrev pub at_end : {A : Type 0} → List A → A → Place A
+at_end xs x = record { before = xs; here = x; after = [] }
 
 -- after a text of this last character a pair's line end may go, before these lines and this gap
 abbrev pub goes_after : (last : ℕ) → (lines gap : Text) → Bool
@@ -167,8 +164,7 @@ module _ (o : ParseOption) (policy : EscapePolicy) where
       (p : Place PairPiece) : Type 0 where
     pub set : SectionPiece
     pub is_set : IsSetAt value old set p
-    pub found : Bool
-    pub without : IsDeletedTimes o front key 1 set new found
+    pub without : IsWithout o front key 1 set new
 
 -- what a section is with its last parts new, once the pair at the place is taken out, or another pair put in
 abbrev pub end_put_last : NewEnd → SectionPiece → SectionPiece

@@ -2,14 +2,12 @@
 ghost use Rattle.std.specs.Prelude.{◌≡◌, IfOk, IsOkUnless, OnErr, OnOk, alloc_error, chars, is_some};
 ghost use Rattle.ini.specs.Edits.{delete_in};
 ghost use Rattle.ini.specs.Texts.{str_name};
-ghost use Rattle.ini_edit.specs.Inside.SourceEnds.{IsWithout};
 ghost use Rattle.ini_edit.specs.SourceEditsDelete.{deleted_from, deleted_nth};
 ghost use Rattle.ini_edit.specs.SourceEditsList.{with_sections};
 ghost use Rattle.ini_edit.specs.SourcePlaces.{pair_place};
 ghost use Rattle.ini_edit.specs.Sources.{document_in};
 
 use crate::source::Source;
-use crate::source::section::SourceSection;
 use ini_text::Error;
 use std::alloc::Global;
 
@@ -99,25 +97,8 @@ impl<'a> Source<'a> {
             return Ok(false);
         };
         let front = self.last_before(section);
-        let new = without_from(alloc, &self.sections[section], front, key, kept, read)?;
+        let new = self.sections[section].without(alloc, front, key, kept, read)?;
         self.sections[section] = new;
         Ok(true)
     }
-}
-
-// A section without the pairs of a key but for the first `kept` of them.
-fn without_from<'a>(
-    alloc: Global,
-    section: &SourceSection<'a>,
-    front: char,
-    key: &str,
-    kept: usize,
-    read: ini_text::ParseOption,
-) -> Result<SourceSection<'a>, Error>
-    ensures without { IfOk result (IsWithout read front (chars key.now) kept section.now) }
-    ensures only { IsOkUnless result (Error.Memory alloc_error) }
-{
-    let mut new = section.copy(alloc)?;
-    new.take_all_out(alloc, front, key, kept, read)?;
-    Ok(new)
 }

@@ -191,18 +191,12 @@ impl<'a> Source<'a> {
         ensures unchanged { OnErr result (self.new ≡ self.old) }
         ensures only { IsOkUnless result (EditErrors.Text (Memory alloc_error)) }
     {
-        let Some(_) = self.place(name, key, 1) else {
-            return self.set_found(alloc, policy, name, key, 0, value);
-        };
         let read = self.option;
         let Some((section, pair)) = self.place(name, key, 0) else {
             return Ok(false);
         };
         let front = self.last_before(section);
-        let alone = self.sections[section].with_alone(
-            alloc, front, pair, key, value, policy, read,
-        )?;
-        self.sections[section] = alone;
+        self.sections[section].set_alone_at(alloc, front, pair, key, value, policy, read)?;
         Ok(true)
     }
 }
@@ -235,7 +229,35 @@ impl<'a> SourceSection<'a> {
         }
     }
 
-    // The section with the value of the pair at the index set, and the later pairs of the key out.
+    // Sets the value of the pair at the index, and takes out the pairs of the key after its first. Refused,
+    // the section stays.
+    fn set_alone_at(
+        &mut self,
+        alloc: Global,
+        front: char,
+        index: usize,
+        key: &str,
+        value: &str,
+        policy: EscapePolicy,
+        read: ParseOption,
+    ) -> Result<(), EditError>
+        requires index { index < length self.old.pairs }
+        requires own { HaveOwnSources read self.old.pairs }
+        requires form { HasForm read policy (chars value.now) }
+        ensures set { (p : Place PairPiece) → IsPlaceAt self.old.pairs p index
+            → OnOk result (IsSetAlone read policy front (chars key.now) (chars value.now)
+            self.old self.new p) }
+        ensures unchanged { OnErr result (self.new ≡ self.old) }
+        ensures only { IsOkUnless result (EditErrors.Text (Memory alloc_error)) }
+    {
+        let Some(_) = self.nth(key, 1) else {
+            return self.set_at(alloc, index, value, policy, read);
+        };
+        *self = self.with_alone(alloc, front, index, key, value, policy, read)?;
+        Ok(())
+    }
+
+    // The section with the value of the pair at the index set, and the pairs of the key out after its first.
     fn with_alone(
         &self,
         alloc: Global,
@@ -254,10 +276,9 @@ impl<'a> SourceSection<'a> {
             self.now new p) }
         ensures only { IsOkUnless result (EditErrors.Text (Memory alloc_error)) }
     {
-        let mut new = self.copy(alloc)?;
-        new.set_at(alloc, index, value, policy, read)?;
-        new.take_all_out(alloc, front, key, 1, read)?;
-        Ok(new)
+        let mut set = self.copy(alloc)?;
+        set.set_at(alloc, index, value, policy, read)?;
+        Ok(set.without(alloc, front, key, 1, read)?)
     }
 
     // Another raw value of the pair at the index; none where it has the value.

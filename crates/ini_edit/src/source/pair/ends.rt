@@ -1,6 +1,6 @@
 //! What stands after a pair's value: the end of its line, and what the next line begins with. This file
 //! knows lines, and of a pair its last parts.
-ghost use Rattle.std.specs.Prelude.{◌≡◌, ◌&&◌, not, None, IfOk, IsOkUnless, alloc_error, chars};
+ghost use Rattle.std.specs.Prelude.{◌≡◌, ◌++◌, ◌&&◌, not, None, IfOk, IsOkUnless, OnOk, alloc_error, chars};
 ghost use Rattle.ini_text.specs.Grammar.Positions.{is_column_one};
 ghost use Rattle.ini_text.specs.Parsing.Items.{string_text};
 ghost use Rattle.ini_edit.specs.Inside.SourceEnds.{raw_value_of, with_new_end};
@@ -10,7 +10,7 @@ ghost use Rattle.ini_edit.specs.SourceEditsDelete.{gap_after, line_end_after, li
 ghost use Rattle.ini_edit.specs.SourceEditsDelete.{with_rest};
 ghost use Rattle.ini_edit.specs.SourceLines.{is_empty};
 
-use crate::append::{push, push_text};
+use crate::append::{push, push_more, push_text};
 use crate::glue::{TextEnd, text_end};
 use crate::source::lines::{
     after_line_end, blank_lines_at_end, ends_line, is_empty, last_or, line_end_at_end,
@@ -186,6 +186,30 @@ impl<'a> SourcePair<'a> {
             trailing_lines,
             after,
         })
+    }
+
+    /// Puts lines and a gap after the pair, which stood elsewhere: a line end, and what follows it. Refused,
+    /// some of them may be there.
+    pub(crate) fn push_rest(
+        &mut self,
+        alloc: Global,
+        line_end: &str,
+        lines: &str,
+        gap: &str,
+        read: ParseOption,
+    ) -> Result<(), Error>
+        ensures pushed { OnOk result (self.new
+            ≡ with_rest read (chars line_end.now ++ chars lines.now) (chars gap.now) self.old) }
+        ensures only { IsOkUnless result (Error.Memory alloc_error) }
+    {
+        if read.enabled_indented_mutiline_value && is_empty(self.after.as_str()) {
+            push_more(alloc, &mut self.trailing_lines, line_end)?;
+            push_more(alloc, &mut self.trailing_lines, lines)?;
+        } else {
+            push_more(alloc, &mut self.after, line_end)?;
+            push_more(alloc, &mut self.after, lines)?;
+        }
+        push_more(alloc, &mut self.after, gap)
     }
 
     /// Puts the new last parts in.

@@ -1,15 +1,17 @@
 //! Pairs taken out of a section. This file knows what follows a pair, and the mark of a comment.
 ghost use Rattle.std.specs.Prelude.{◌≡◌, ◌<◌, IfOk, IsOkUnless, OnErr, OnOk, alloc_error, chars, length};
-ghost use Rattle.ini_edit.specs.Inside.SourceEnds.{IsDeletedTimes, IsPlaceAt, goes_after};
+ghost use Rattle.ini_edit.specs.Inside.SourceEnds.{IsPlaceAt, IsWithout, at_end, goes_after};
 ghost use Rattle.ini_edit.specs.SourceEditsDelete.{pair_taken_out};
 ghost use Rattle.ini_edit.specs.SourcePlaces.{Place};
 ghost use Rattle.ini_edit.specs.Sources.{PairPiece};
 
 use crate::append::push_text;
+use crate::source::pair::SourcePair;
 use crate::source::pair::ends::PairEnd;
 use crate::source::section::SourceSection;
+use crate::source::section::ends::unless;
 use crate::text::begins_with_comment;
-use ini_text::{Error, ParseOption, is_comment_mark, is_line_end, split_first};
+use ini_text::{Error, ParseOption, is_comment_mark, is_line_end, is_same_text, split_first};
 use std::alloc::Global;
 
 impl<'a> SourceSection<'a> {
@@ -41,25 +43,50 @@ impl<'a> SourceSection<'a> {
         Ok(())
     }
 
-    /// Takes the pairs of a key out, but for the first `kept` of them: whether there was one. Refused, some
-    /// may be out.
-    pub(crate) fn take_all_out(
-        &mut self,
+    /// A copy of the section without the pairs of a key, but for the first `kept` of them; `front` is the
+    /// last character before the section.
+    pub(crate) fn without(
+        &self,
         alloc: Global,
         front: char,
         key: &str,
         kept: usize,
         read: ParseOption,
-    ) -> Result<bool, Error>
-        ensures deleted { IfOk result (IsDeletedTimes read front (chars key.now) kept self.old self.new) }
+    ) -> Result<SourceSection<'a>, Error>
+        ensures without { IfOk result (IsWithout read front (chars key.now) kept self.now) }
         ensures only { IsOkUnless result (Error.Memory alloc_error) }
     {
-        let mut found = false;
-        'pairs: while let Some(index) = self.nth(key, kept) {
-            self.take_out(alloc, front, index, read)?;
-            found = true;
+        let mut new = self.without_pairs(alloc)?;
+        let mut left = kept;
+        for pair in &self.pairs {
+            if is_same_text(key, pair.key()) {
+                if left == 0 {
+                    new.push_rest_of(alloc, front, pair, read)?;
+                    continue;
+                }
+                left -= 1;
+            }
+            new.push(pair.copy()?)?;
         }
-        Ok(found)
+        Ok(new)
+    }
+
+    // Puts at the section's end what stays of a pair that stood there and is taken out. Refused, some of it
+    // may be there.
+    fn push_rest_of(
+        &mut self,
+        alloc: Global,
+        front: char,
+        pair: &SourcePair<'_>,
+        read: ParseOption,
+    ) -> Result<(), Error>
+        ensures pushed { OnOk result
+            (self.new ≡ pair_taken_out read front self.old (at_end self.old.pairs pair.now)) }
+        ensures only { IsOkUnless result (Error.Memory alloc_error) }
+    {
+        let end = pair.end(read);
+        let goes = goes_with_line_end(self.last_char(front), end);
+        self.push_rest(alloc, unless(goes, end.line_end), end.lines, end.gap, read)
     }
 }
 

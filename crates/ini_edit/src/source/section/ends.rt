@@ -254,8 +254,8 @@ impl<'a> SourceSection<'a> {
     }
 }
 
-// A text, or nothing.
-fn unless<'t>(goes: bool, text: &'t str) -> &'t str
+/// A text, or nothing.
+pub(crate) fn unless<'t>(goes: bool, text: &'t str) -> &'t str
     ensures { chars result.now ≡ (if goes then [] else chars text.now) }
 {
     if goes { "" } else { text }

@@ -1,6 +1,6 @@
 //! The parts of a section, one by one. This file knows no text of a part.
-ghost use Rattle.std.specs.Prelude.{◌≡◌, ◌++◌, ◌≤◌, ◌<◌, List, Some, IfOk, IsOkUnless, alloc_error, chars};
-ghost use Rattle.std.specs.Prelude.{length};
+ghost use Rattle.std.specs.Prelude.{◌≡◌, ◌++◌, ◌≤◌, ◌<◌, List, [], Some, IfOk, IsOkUnless, OnOk, alloc_error};
+ghost use Rattle.std.specs.Prelude.{chars, length};
 ghost use Rattle.std.specs.Prelude.{get_or, set, take};
 ghost use Rattle.std.specs.Option.{option_map};
 ghost use Rattle.ini.specs.Texts.{Text, is_text, str_text};
@@ -13,7 +13,7 @@ ghost use Rattle.ini_edit.specs.SourceEditsDelete.{rest_put};
 ghost use Rattle.ini_edit.specs.SourcePlaces.{gap_of, last_before_gap, text_up_to, with_after};
 ghost use Rattle.ini_edit.specs.Sources.{PairPiece, section_text};
 
-use crate::append::push_text;
+use crate::append::{push_more, push_text};
 use crate::source::lines::{LineEndSearch, last_or};
 use crate::source::pair::SourcePair;
 use crate::source::pair::ends::NewEnd;
@@ -153,6 +153,28 @@ impl<'a> SourceSection<'a> {
         })
     }
 
+    /// Puts lines and a gap, which stood elsewhere, at the section's end: a line end, and what follows it.
+    /// Refused, some of them may be there.
+    pub(crate) fn push_rest(
+        &mut self,
+        alloc: Global,
+        line_end: &str,
+        lines: &str,
+        gap: &str,
+        read: ParseOption,
+    ) -> Result<(), Error>
+        ensures pushed { OnOk result (self.new ≡ rest_put read (chars line_end.now ++ chars lines.now)
+            (chars gap.now) self.old self.old.pairs []) }
+        ensures only { IsOkUnless result (Error.Memory alloc_error) }
+    {
+        if let Some(last) = self.pairs.len().checked_sub(1) {
+            return self.pairs[last].push_rest(alloc, line_end, lines, gap, read);
+        }
+        push_more(alloc, &mut self.after, line_end)?;
+        push_more(alloc, &mut self.after, lines)?;
+        push_more(alloc, &mut self.after, gap)
+    }
+
     /// Puts the new end after the pair before the index, or after the header.
     pub(crate) fn put_new_end(&mut self, index: usize, end: NewEnd)
         requires { index ≤ length self.old.pairs }
@@ -192,12 +214,22 @@ impl<'a> SourceSection<'a> {
         ensures copied { IfOk result (λ copy. copy ≡ self.now) }
         ensures only { IsOkUnless result (Error.Memory alloc_error) }
     {
+        let mut copy = self.without_pairs(alloc)?;
+        copy.pairs = copy_pairs(alloc, &self.pairs)?;
+        Ok(copy)
+    }
+
+    /// A copy of the section, of none of its pairs.
+    pub(crate) fn without_pairs(&self, alloc: Global) -> Result<SourceSection<'a>, Error>
+        ensures copied { IfOk result (λ copy. copy ≡ with_pairs self.now []) }
+        ensures only { IsOkUnless result (Error.Memory alloc_error) }
+    {
         let name = copy_name(&self.name)?;
         Ok(SourceSection {
             name,
             header: self.header.clone()?,
             after: self.after.clone()?,
-            pairs: copy_pairs(alloc, &self.pairs)?,
+            pairs: Vec::new(alloc),
         })
     }
 
