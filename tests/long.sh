@@ -207,6 +207,7 @@ put("sections.set", lines[:-1] + ["k=w"])
 put("sections.rename-section", lines[:-2] + ["[another]"] + lines[-1:])
 put("repeated", ["k=v"] * (n + 1))
 put("repeated.check", [f"repeated:{i}:1: warning: {there}" for i in range(2, n + 2)])
+put("repeated.set", ["k=w"])
 name, key, value = (c * (2100000 // part) for c in "nkv")
 put("longest", [f"[{name}]", f"{key}={value}", "[z]", "y=2"])
 put("longest.list", [f"[{name}]\t{key}\t{value}", "[z]\ty\t2"])
@@ -217,6 +218,8 @@ put("longest.set", [f"[{name}]", f"{key}={value}", "[z]", "y=3"])
 for n in (250, 1000):
     put(f"cost.many.{n}", many(n))
     put(f"cost.wide.{n}", ["[section]"] + [f"key {i}=value {i}" for i in range(10 * n)])
+for n in (2000, 20000):
+    put(f"cost.repeated.{n}", ["[section]"] + ["; about the key", "key=value"] * n)
 put("cost.many.other", ["name=w", "[section 9]", "key 7=w", "new=w"])
 put("cost.wide.other", ["name=w", "[section]", "key 7=w", "new=w"])
 # many files
@@ -370,6 +373,8 @@ leaves sections.set sections set it.ini k w "s$n"
 leaves sections.rename-section sections rename-section it.ini "s$n" another
 label='many warnings'
 writes 1 repeated.check check repeated
+label='a key many times'
+leaves repeated.set repeated set it.ini k w
 label='a name, a key and a value of two million bytes'
 writes 0 longest.list list longest
 writes 0 longest.sections sections longest
@@ -438,12 +443,16 @@ if command -v valgrind >/dev/null 2>&1; then
         four_times $shape set --dry-run TEXT KEY w SECTION
         four_times $shape merge --output - TEXT cost.$shape.other
     done
+    # later pairs of a key go at about the same cost a pair
+    few=$(instructions set --output - cost.repeated.2000 key w section)
+    at_most 'a key ten times as often, set' \
+        "$(instructions set --output - cost.repeated.20000 key w section)" "${few:+$((few * 12))}"
     # the text isn't gone over more often than needs be
     existing=$(instructions set --existing --output - cost.many.1000 'key 7' w 'section 999')
     at_most 'set of a key that is there, beside set --existing' \
         "$(instructions set --output - cost.many.1000 'key 7' w 'section 999')" "${existing:+$((existing * 3 / 2))}"
 else
-    echo "skipped: 33 counts of instructions, since valgrind isn't there"
+    echo "skipped: 34 counts of instructions, since valgrind isn't there"
 fi
 
 finish
