@@ -46,7 +46,9 @@ pub mod InsertedPairLemmas
 pub mod KeptPlaceLemmas
 pub mod KeyEdgeLemmas
 pub mod KeyValueLemmas
+pub mod LaidOutLemmas
 pub mod LastLineEndLemmas
+pub mod LayoutLemmas
 pub mod LineEndLemmas
 pub mod LineEndedLemmas
 pub mod LineFrontLemmas
@@ -97,6 +99,7 @@ pub mod SourceCommentLemmas
 pub mod SourceDeleteLemmas
 pub mod SourceElementLemmas
 pub mod SourceEndLemmas
+pub mod SourceEntriesLemmas
 pub mod SourceFindLemmas
 pub mod SourceFoundLemmas
 pub mod SourceLineLemmas

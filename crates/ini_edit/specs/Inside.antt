@@ -5,6 +5,7 @@ pub mod Quotes
 pub mod RawTests
 pub mod SourceElementWalks
 pub mod SourceEnds
+pub mod SourceLayouts
 pub mod SourceSearches
 pub mod SourceSteps
 pub mod SourceWalks

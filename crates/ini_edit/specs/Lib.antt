@@ -5,6 +5,7 @@ pub mod Exchanges
 pub mod FirstPairs
 pub mod Inside
 pub mod KeptPlaces
+pub mod LaidOut
 pub mod Made
 pub mod Messages
 pub mod NewLines
@@ -23,6 +24,8 @@ pub mod SourceEditsList
 pub mod SourceEditsSections
 pub mod SourceEditsSet
 pub mod SourceElements
+pub mod SourceEntries
+pub mod SourceLayout
 pub mod SourceLines
 pub mod SourcePlaces
 pub mod SourceReads

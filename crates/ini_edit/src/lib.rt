@@ -26,6 +26,7 @@ pub use error::EditError;
 pub use find::{FoundPair, find_pair};
 pub use source::Source;
 pub use source::elements::{Position, SourceContent, SourceElement, SourceElements};
+pub use source::layout::{Layout, lay_out};
 pub use source::pair::SourcePair;
 pub use source::section::SourceSection;
 pub use source::set::LaterPairs;

@@ -39,6 +39,7 @@ mod delete;
 pub(crate) mod elements;
 mod find;
 mod gap;
+pub(crate) mod layout;
 pub(crate) mod lines;
 mod list;
 mod owned;
@@ -265,7 +266,7 @@ fn position(sections: &[SourceSection<'_>], name: Option<&str>) -> Option<usize>
 }
 
 // Whether two names are the same.
-fn is_same_name(one: Option<&str>, other: Option<&str>) -> bool
+pub(crate) fn is_same_name(one: Option<&str>, other: Option<&str>) -> bool
     ensures { result ≡ is_name (str_name one.entry) (str_name other.entry) }
 {
     match (one, other) {

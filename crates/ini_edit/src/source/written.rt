@@ -149,7 +149,15 @@ pub(crate) fn option_style<'s>(write: &WriteOption) -> PairStyle<'s>
     requires { IsPlainSeparator (chars write.now.kv_separator.now) }
     ensures { style_of result ≡ option_style (chars write.now.kv_separator.now) }
 {
-    let (pad, rest) = split_blanks(write.kv_separator);
+    separator_style(write.kv_separator)
+}
+
+/// How a pair is written whose separator is this plain text.
+pub(crate) fn separator_style<'t>(separator: &'t str) -> PairStyle<'t>
+    requires { IsPlainSeparator (chars separator.now) }
+    ensures { style_of result ≡ option_style (chars separator.now) }
+{
+    let (pad, rest) = split_blanks(separator);
     match split_first(rest) {
         Some((separator, space_before)) => PairStyle {
             indent: "",

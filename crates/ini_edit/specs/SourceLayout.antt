@@ -1,0 +1,170 @@
+-- How a text in pieces is laid out: the white space around separators, what indents pairs, blank lines and
+-- line ends. Comments, headers and what is written of values stay to the character.
+use Rattle.std.specs.Prelude.{◌==◌, ◌&&◌, ◌||◌, not, if◌then◌else◌, ℕ, zero, suc, nat_le, Bool, true, false}
+use Rattle.std.specs.Prelude.{List}
+use Rattle.std.specs.Prelude.{[]}
+use Rattle.std.specs.Prelude.{◌∷◌, ◌++◌, Option, None, Some, is_none, replicate}
+use Rattle.std.specs.Option.{option_map}
+use Rattle.ini_text.specs.Grammar.CharacterKinds.{backslash, carriage_return, line_feed, open_bracket, space}
+use Rattle.ini_text.specs.Grammar.CharacterKinds.{is_blank, is_comment_mark, is_line_end, is_line_feed}
+use Rattle.ini_text.specs.Grammar.Positions.{last_or}
+use Rattle.ini_text.specs.Inside.PlainTests.{begins}
+use Rattle.ini_text.specs.Options.WriteOptions.{line_end}
+use Rattle.ini_text.specs.Parsing.Fronts.{front_of}
+use Rattle.ini_text.specs.declared.option.ParseOption.{ParseOption}
+use Rattle.ini_text.specs.declared.write.option.LineSeparator.TheVariants.{SystemDefault}
+use Rattle.ini.specs.Texts.{Text, str_name}
+use Rattle.ini_edit.specs.NewLines.{line_end_of}
+use Rattle.ini_edit.specs.SourceEditsSections.{section_rest}
+use Rattle.ini_edit.specs.SourceLines.{after_blank_lines, after_blanks, blanks_at_end, is_empty}
+use Rattle.ini_edit.specs.SourcePlaces.{is_nil, last_before_gap, last_gap}
+use Rattle.ini_edit.specs.SourceWritten.{Style, option_style}
+use Rattle.ini_edit.specs.Sources.{PairPiece, Pieces, SectionPiece, pair_text, section_text, sections_text}
+use Rattle.ini_edit.specs.declared.source.layout.Layout.{Layout}
+use Rattle.ini_edit.specs.declared.source.layout.lines.Follower.{Follower}
+use Rattle.ini_edit.specs.declared.source.layout.lines.Follower.TheVariants.{AsItIs, Header, End}
+
+-- the rules of a layout for one text: how separators are written, or none where each stays; how many spaces
+-- indent a pair, or none where each stays; the most blank lines; and the line end
+pub record Rules : Type 0 where
+  pub option : ParseOption
+  pub style : Option Style
+  pub indentation : Option ℕ
+  pub blank_lines : ℕ
+  pub line_end : Text
+
+abbrev pub rules_for : ParseOption → Layout → List SectionPiece → Rules
+rules_for o l ss = record {
+  option = o;
+  style = option_map option_style (str_name l.separator);
+  indentation = l.pair_indentation;
+  blank_lines = l.blank_lines;
+  line_end = line_end (line_end_of SystemDefault (sections_text ss));
+}
+
+-- line ends, so many
+abbrev pub line_ends : Text → ℕ → Text
+line_ends text zero = []
+line_ends text (suc n) = text ++ line_ends text n
+
+-- one line end more, of which one more than blank lines may stand count
+abbrev pub one_more : (blank_lines : ℕ) → ℕ → ℕ
+one_more blank_lines n = if nat_le n blank_lines then suc n else n
+
+-- the blanks after a key whose source ends so; a backslash before them would take the first one
+abbrev pub pad_for : Option Style → (key pad : Text) → Text
+pad_for None key pad = pad
+pad_for (Some style) key pad = if last_or space key == backslash then pad else style.pad
+
+abbrev pub separator_for : Option Style → ℕ → ℕ
+separator_for None separator = separator
+separator_for (Some style) separator = style.separator
+
+abbrev pub space_for : Option Style → Text → Text
+space_for None before = before
+space_for (Some style) before = style.space_before
+
+-- no white space before a value that gives its line nothing
+abbrev pub laid_space : Option Style → (raw_value before : Text) → Text
+laid_space style raw_value before =
+    if is_empty raw_value || begins is_line_end raw_value then [] else space_for style before
+
+-- what stands after a pair's value, up to this rest
+abbrev pub lines_of : PairPiece → (rest : Text) → Text
+lines_of p rest = p.stretches.space_after ++ (p.stretches.trailing_lines ++ front_of p.after rest)
+
+-- lines after a header; those at the text's front begin with no blank line
+abbrev pub first_lines : SectionPiece → (lines : Text) → Text
+first_lines s lines = if is_none s.name then after_blank_lines lines else lines
+
+-- The comments directly above the header that follows a section, and what indents that; none follows the last
+-- one. Before the section stands this character.
+abbrev pub above_next : (is_last : Bool) (front : ℕ) → SectionPiece → Text
+above_next is_last front s =
+    if is_last then [] else section_rest false (last_before_gap front s s.pairs) (last_gap s)
+
+-- a text takes no line end: it is empty, or a backslash would take that
+abbrev pub takes_no_end : Text → Bool
+takes_no_end text = is_empty text || last_or line_feed text == backslash
+
+module _ (r : Rules) where
+  -- The white space before what follows a gap, of so many line ends and then blanks: before a header that
+  -- begins a line one blank line, at the text's end nothing.
+  abbrev pub white_before : Follower → ℕ → Text → Text
+  white_before AsItIs ends blanks = line_ends r.line_end ends ++ blanks
+  white_before Header ends blanks = line_ends r.line_end (if ends == 0 then 0 else 2) ++ blanks
+  white_before End ends blanks = []
+
+  -- A gap laid out, line by line. What is neither a blank nor a line end stays, up to its line's end: a
+  -- comment to the character. Before it stand the line ends up to there, as many as may, and the blanks after
+  -- the last.
+  abbrev pub laid_lines : Follower → (inside : Bool) (ends : ℕ) (blanks : Text) → Text → Text
+  laid_lines follower inside ends blanks [] = white_before follower ends blanks
+  laid_lines follower inside ends blanks (c ∷ cs) =
+      if is_line_feed c then laid_lines follower false (one_more r.blank_lines ends) [] cs
+      else (if c == carriage_return && begins is_line_feed cs then laid_lines follower inside ends [] cs
+      else (if not inside && is_blank c then laid_lines follower inside ends (blanks ++ c ∷ []) cs
+      else line_ends r.line_end ends ++ (blanks ++ c ∷ laid_lines follower true 0 [] cs)))
+
+  abbrev pub laid_gap : Follower → Text → Text
+  laid_gap follower gap = laid_lines follower false 0 [] gap
+
+  -- A pair that begins a line, whose key is written so, may be indented otherwise: not where keys keep what
+  -- indents them, a value would go on with the pair, or the key would begin a comment or a header.
+  abbrev pub indents : (starts : Bool) → ℕ → (own : Text) → Bool
+  indents starts n own =
+      starts && (not r.option.enabled_preserve_key_leading_whitespace
+      && ((n == 0 || not r.option.enabled_indented_mutiline_value)
+      && not (begins (λ c. is_comment_mark c || c == open_bracket) own)))
+
+  abbrev pub indent_for : Option ℕ → (starts : Bool) → (indent own : Text) → Text
+  indent_for None starts indent own = indent
+  indent_for (Some n) starts indent own = if indents starts n own then replicate n space else indent
+
+  abbrev pub laid_key : (starts : Bool) → Text → Text
+  laid_key starts key =
+      let own = after_blanks key in
+      let bare = front_of own (blanks_at_end own) in
+      indent_for r.indentation starts (front_of key own) own
+      ++ (bare ++ pad_for r.style bare (blanks_at_end own))
+
+  -- a pair up to the end of its value
+  abbrev pub laid_pair : (starts : Bool) → PairPiece → Text
+  laid_pair starts p =
+      laid_key starts p.stretches.key ++ separator_for r.style p.stretches.separator
+      ∷ (laid_space r.style p.stretches.raw_value p.stretches.space_before ++ p.stretches.raw_value)
+
+  -- Pairs after this character, the last one's gap up to this rest, which follows so.
+  abbrev pub laid_pairs : Follower → (rest : Text) (last : ℕ) → List PairPiece → Text
+  laid_pairs follower rest last [] = []
+  laid_pairs follower rest last (p ∷ ps) =
+      laid_pair (is_line_feed last) p
+      ++ (laid_gap (if is_nil ps then follower else AsItIs) (lines_of p (if is_nil ps then rest else []))
+      ++ laid_pairs follower rest (last_or last (pair_text p)) ps)
+
+  -- A section, before which this character stands. The comments directly above the next header are its own:
+  -- the blank line stands before them.
+  abbrev pub laid_section : (is_last : Bool) (front : ℕ) → SectionPiece → Text
+  laid_section is_last front s =
+      let follower = if is_last then End else Header in
+      let rest = above_next is_last front s in
+      s.header
+      ++ (laid_gap (if is_nil s.pairs then follower else AsItIs)
+      (first_lines s (front_of s.after (if is_nil s.pairs then rest else [])))
+      ++ (laid_pairs follower rest (last_or (last_or front s.header) s.after) s.pairs
+      ++ laid_gap AsItIs rest))
+
+  abbrev pub laid_sections : (front : ℕ) → List SectionPiece → Text
+  laid_sections front [] = []
+  laid_sections front (s ∷ ss) =
+      laid_section (is_nil ss) front s ++ laid_sections (last_or front (section_text s)) ss
+
+  -- what ends a text
+  abbrev pub end_after : Text → Text
+  end_after text = if takes_no_end text then [] else r.line_end
+
+-- the text laid out
+abbrev pub laid_text : Layout → Pieces → Text
+laid_text l p =
+    let r = rules_for p.option l p.sections in
+    let text = laid_sections r line_feed p.sections in text ++ end_after r text

@@ -1,0 +1,213 @@
+//! A pair laid out. This file knows the stretches of a pair.
+ghost use Rattle.std.specs.Prelude.{◌≡◌, ◌==◌, ◌++◌, ◌||◌, [], if◌then◌else◌, IsOkUnless, OnOk, alloc_error};
+ghost use Rattle.std.specs.Prelude.{chars, replicate, true};
+ghost use Rattle.ini_text.specs.Grammar.CharacterKinds.{is_comment_mark, is_line_end, open_bracket, space};
+ghost use Rattle.ini_text.specs.Inside.PlainTests.{begins};
+ghost use Rattle.ini_text.specs.Parsing.Fronts.{IsRest};
+ghost use Rattle.ini_text.specs.Parsing.Items.{string_text};
+ghost use Rattle.ini_edit.specs.Inside.SourceLayouts.{rules_of};
+ghost use Rattle.ini_edit.specs.SourceLayout.{indent_for, indents, laid_gap, laid_key, laid_pair, laid_space};
+ghost use Rattle.ini_edit.specs.SourceLayout.{lines_of, pad_for, separator_for};
+ghost use Rattle.ini_edit.specs.SourceLines.{is_empty};
+ghost use Rattle.ini_edit.specs.declared.source.layout.lines.Follower.TheVariants as Followers;
+
+use crate::append::{push, push_text};
+use crate::source::layout::lines::{Follower, push_gap};
+use crate::source::layout::rules::Rules;
+use crate::source::lines::{blanks_at_end, is_empty, last_or, split_blanks};
+use crate::source::pair::SourcePair;
+use ini_text::{Error, front_before, is_comment_mark, is_line_end, split_first};
+use std::alloc::Global;
+
+impl<'a> SourcePair<'a> {
+    /// Appends the pair, laid out up to the end of its value; `starts` says that it begins a line.
+    pub(crate) fn push_laid(
+        &self,
+        out: &mut String,
+        rules: &Rules<'_>,
+        starts: bool,
+    ) -> Result<(), Error>
+        ensures pushed { OnOk result (string_text out.new
+            ≡ string_text out.old ++ laid_pair (rules_of rules.now) starts self.now) }
+        ensures only { IsOkUnless result (Error.Memory alloc_error) }
+    {
+        push_key(out, rules, starts, self.raw_key())?;
+        push(out, separator_for(rules, self.separator()))?;
+        push_text(out, space_for(rules, self.raw_value(), self.space_before()))?;
+        push_text(out, self.raw_value())
+    }
+
+    /// Appends what stands after the pair's value, laid out: of a section's last pair up to a rest of it,
+    /// which follows so.
+    pub(crate) fn push_laid_lines(
+        &self,
+        alloc: Global,
+        out: &mut String,
+        rules: &Rules<'_>,
+        follower: Follower,
+        rest: &str,
+        is_last: bool,
+    ) -> Result<(), Error>
+        requires { is_last ≡ true → IsRest self.now.after (chars rest.now) }
+        ensures pushed { OnOk result (string_text out.new ≡ string_text out.old
+            ++ laid_gap (rules_of rules.now) (if is_last then follower else Followers.AsItIs)
+            (lines_of self.now (if is_last then chars rest.now else []))) }
+        ensures only { IsOkUnless result (Error.Memory alloc_error) }
+    {
+        if is_last {
+            let kept = front_before(self.after(), rest);
+            return self.push_lines_up_to(alloc, out, rules, follower, kept);
+        }
+        self.push_lines_up_to(alloc, out, rules, Follower::AsItIs, self.after())
+    }
+
+    // Appends what stands after the pair's value, with this front of the gap, laid out.
+    fn push_lines_up_to(
+        &self,
+        alloc: Global,
+        out: &mut String,
+        rules: &Rules<'_>,
+        follower: Follower,
+        kept: &str,
+    ) -> Result<(), Error>
+        ensures pushed { OnOk result (string_text out.new ≡ string_text out.old
+            ++ laid_gap (rules_of rules.now) follower (self.now.stretches.space_after
+            ++ (self.now.stretches.trailing_lines ++ chars kept.now))) }
+        ensures only { IsOkUnless result (Error.Memory alloc_error) }
+    {
+        let mut lines = String::from_str(alloc, self.space_after())?;
+        push_text(&mut lines, self.trailing_lines())?;
+        push_text(&mut lines, kept)?;
+        push_gap(out, rules, follower, lines.as_str())
+    }
+}
+
+// Appends a key's source, laid out.
+fn push_key(out: &mut String, rules: &Rules<'_>, starts: bool, key: &str) -> Result<(), Error>
+    ensures pushed { OnOk result (string_text out.new
+        ≡ string_text out.old ++ laid_key (rules_of rules.now) starts (chars key.now)) }
+    ensures only { IsOkUnless result (Error.Memory alloc_error) }
+{
+    let (indent, own) = split_blanks(key);
+    let pad = blanks_at_end(own);
+    let bare = front_before(own, pad);
+    push_indent(out, rules, starts, indent, own)?;
+    push_text(out, bare)?;
+    push_text(out, pad_for(rules, bare, pad))
+}
+
+// Appends what indents a key.
+fn push_indent(
+    out: &mut String,
+    rules: &Rules<'_>,
+    starts: bool,
+    indent: &str,
+    own: &str,
+) -> Result<(), Error>
+    ensures pushed { OnOk result (string_text out.new ≡ string_text out.old
+        ++ indent_for (rules_of rules.now) (rules_of rules.now).indentation starts (chars indent.now)
+        (chars own.now)) }
+    ensures only { IsOkUnless result (Error.Memory alloc_error) }
+{
+    match rules.indentation {
+        Some(count) => {
+            if indents(rules, starts, count, own) {
+                push_spaces(out, count)
+            } else {
+                push_text(out, indent)
+            }
+        }
+        None => push_text(out, indent),
+    }
+}
+
+// Whether a key may have another indentation.
+fn indents(rules: &Rules<'_>, starts: bool, count: u8, own: &str) -> bool
+    ensures { result ≡ indents (rules_of rules.now) starts count (chars own.now) }
+{
+    starts
+        && !rules.read.enabled_preserve_key_leading_whitespace
+        && (count == 0 || !rules.read.enabled_indented_mutiline_value)
+        && !begins_otherwise(own)
+}
+
+// Whether a text begins as a comment or a header does.
+fn begins_otherwise(text: &str) -> bool
+    ensures { result ≡ begins (λ c. is_comment_mark c || c == open_bracket) (chars text.now) }
+{
+    match split_first(text) {
+        Some((c, _)) => is_comment_mark(c) || c == '[',
+        None => false,
+    }
+}
+
+// Appends spaces.
+fn push_spaces(out: &mut String, count: u8) -> Result<(), Error>
+    ensures pushed { OnOk result (string_text out.new ≡ string_text out.old ++ replicate count space) }
+    ensures only { IsOkUnless result (Error.Memory alloc_error) }
+{
+    let mut left = count;
+    'spaces: while left > 0 {
+        push(out, ' ')?;
+        left -= 1;
+    }
+    Ok(())
+}
+
+// The blanks after a key.
+fn pad_for<'t>(rules: &Rules<'t>, bare: &str, pad: &'t str) -> &'t str
+    ensures { chars result.now
+        ≡ pad_for (rules_of rules.now).style (chars bare.now) (chars pad.now) }
+{
+    match rules.style {
+        Some(style) => {
+            if last_or(' ', bare) == '\\' {
+                pad
+            } else {
+                style.pad
+            }
+        }
+        None => pad,
+    }
+}
+
+// The separator.
+fn separator_for(rules: &Rules<'_>, separator: char) -> char
+    ensures { result ≡ separator_for (rules_of rules.now).style separator }
+{
+    match rules.style {
+        Some(style) => style.separator,
+        None => separator,
+    }
+}
+
+// The white space before a value.
+fn space_for<'t>(rules: &Rules<'t>, raw_value: &str, before: &'t str) -> &'t str
+    ensures { chars result.now
+        ≡ laid_space (rules_of rules.now).style (chars raw_value.now) (chars before.now) }
+{
+    if leaves_line_empty(raw_value) {
+        return "";
+    }
+    match rules.style {
+        Some(style) => style.space_before,
+        None => before,
+    }
+}
+
+// Whether a value gives its first line nothing.
+fn leaves_line_empty(raw_value: &str) -> bool
+    ensures { result ≡ (is_empty (chars raw_value.now) || begins is_line_end (chars raw_value.now)) }
+{
+    is_empty(raw_value) || begins_with_line_end(raw_value)
+}
+
+// Whether a line end begins a text.
+fn begins_with_line_end(text: &str) -> bool
+    ensures { result ≡ begins is_line_end (chars text.now) }
+{
+    match split_first(text) {
+        Some((c, _)) => is_line_end(c),
+        None => false,
+    }
+}
