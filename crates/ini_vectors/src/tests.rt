@@ -7,6 +7,7 @@ mod edits;
 mod files;
 mod large;
 mod layers;
+mod layouts;
 mod refusals;
 mod saving;
 mod text_edits;
