@@ -10,6 +10,8 @@ use std::fmt::Write;
 use std::panic::Expect;
 use std::process::Abort;
 
+mod source;
+
 /// What is edited.
 const EDITED: &'static str = "[a]\nk=1\nk=2\n[A]\nK=3\n[a]\nk=4\n";
 
