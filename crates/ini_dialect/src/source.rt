@@ -149,29 +149,33 @@ impl Lookup {
         Ok(())
     }
 
-    /// The pieces without every pair of the key, in the sections of the name that are looked at. Each is
-    /// taken out as `Source::delete` takes one out.
+    /// Takes out every pair of the key, in the sections of the name that are looked at, each as
+    /// `Source::delete` takes one out: whether there was one. Takes memory for a copy of the pieces.
     ///
     /// # Errors
     ///
-    /// `Memory` where memory is refused.
-    pub fn source_without<'a>(
+    /// `Memory` where memory is refused. Nothing is changed then.
+    pub fn delete_in_source(
         self,
         alloc: Global,
-        source: &Source<'a>,
+        source: &mut Source<'_>,
         name: Option<&str>,
         key: &str,
-    ) -> Result<Source<'a>, Error>
-        ensures deleted { IfOk result (λ edited. AreDeletedUnder self (str_name name.entry)
-            (chars key.now) source.now.option source.now.sections edited.sections) }
-        ensures option { IfOk result (λ edited. edited.option ≡ source.now.option) }
-        ensures document { IfOk result (λ edited. document_in edited
-            ≡ delete_under self (str_name name.entry) (chars key.now) (document_in source.now)) }
+    ) -> Result<bool, Error>
+        ensures found { IfOk result (λ found. found ≡ is_some
+            (value_under self (str_name name.entry) (chars key.now) (document_in source.old))) }
+        ensures deleted { OnOk result (AreDeletedUnder self (str_name name.entry) (chars key.now)
+            source.old.option source.old.sections source.new.sections) }
+        ensures option { OnOk result (source.new.option ≡ source.old.option) }
+        ensures document { OnOk result (document_in source.new
+            ≡ delete_under self (str_name name.entry) (chars key.now) (document_in source.old)) }
+        ensures unchanged { OnErr result (source.new ≡ source.old) }
         ensures only { IsOkUnless result (Error.Memory alloc_error) }
     {
         let mut edited = source.copy(alloc)?;
-        self.delete_each(alloc, &mut edited, name, key)?;
-        Ok(edited)
+        let found = self.delete_each(alloc, &mut edited, name, key)?;
+        source.replace_with(edited);
+        Ok(found)
     }
 
     // Takes these pairs out one after the other: whether there was one. Refused, some may be out.

@@ -63,7 +63,7 @@ impl<'a> Source<'a> {
             (chars key.now) (map str_text values.now)) }
     {
         let new = self.all_set(alloc, write, name, key, values)?;
-        self.put_back(new);
+        self.replace_with(new);
         Ok(())
     }
 
@@ -91,9 +91,9 @@ impl<'a> Source<'a> {
         Ok(new)
     }
 
-    // These pieces in place of its own.
-    fn put_back(&mut self, new: Source<'a>)
-        ensures { self.new ≡ new.entry }
+    /// Puts these pieces in place of its own. Takes no memory.
+    pub fn replace_with(&mut self, new: Source<'a>)
+        ensures is { self.new ≡ new.entry }
     {
         let Source { option, sections } = new;
         self.option = option;
@@ -152,7 +152,7 @@ impl<'a> Source<'a> {
             Err(refusal) => return Err(refused_at(0, refusal.into())),
         };
         let found = new.make_each(alloc, write, later, edits)?;
-        self.put_back(new);
+        self.replace_with(new);
         Ok(found)
     }
 
