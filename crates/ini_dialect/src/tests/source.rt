@@ -144,10 +144,11 @@ fn all_pairs_of_a_text_that_are_looked_at_are_deleted(rt: HostRuntime) {
         ("jli", "K", "# top\n[a]\n# two\n\n[A]\n[a]\n"),
         ("jlk", "K", TEXT),
     ] {
-        let source = read(&rt);
-        let edited = rule(&rt, letters)
-            .source_without(rt.alloc(), &source, Some("a"), key)
+        let mut source = read(&rt);
+        let found = rule(&rt, letters)
+            .delete_in_source(rt.alloc(), &mut source, Some("a"), key)
             .expect(&rt, "memory");
-        expect_text(&rt, &edited, letters, want);
+        assert!(rt; found == (want != TEXT), "{letters} {key}: {found}");
+        expect_text(&rt, &source, letters, want);
     }
 }
