@@ -1,6 +1,6 @@
 #!/bin/sh
-# Runs ini_file beside crudini and `git config` on the same files: what each of them reads, and what stands in the file after an
-# edit, by its values, and by its bytes where both keep the layout. A peer that isn't here is skipped and reported, and so is a
+# Runs ini_file beside crudini, `git config` and toml_edit on the same files: what each of them reads, and what stands in the file
+# after an edit, by its values, and by its bytes where both keep the layout. A peer that isn't here is skipped and reported, and so is a
 # command that the program hasn't. Each case that fails is reported. The last line is 'N passed, M failed', and the status is 1 if a
 # case failed.
 #
@@ -127,5 +127,55 @@ for edit in 'set' delete; do
         command -v "$name" >/dev/null && edits "$edit" "$name" 'server port' 'server host' 'paths log' 'paths cache'
     done
 done
+
+# toml_edit keeps a file's layout too. A file whose values are numbers is one for both.
+printf '# the fleet\nname = 1\n\n[server]\nport = 8080\nhost=7\n\n# where\n[paths]\nlog   = 1\n# the cache\ncache = 2\n[none]\n' \
+    >base.toml
+library=/usr/share/cargo/registry
+
+# toml_edit_is_built: whether $edits is there, a program over the toml_edit that the system has
+toml_edit_is_built() {
+    has cargo 'what is compared with toml_edit' || return 1
+    cp -r "$top/tests/peers/toml_edit" built && mkdir built/.cargo
+    printf '[source.crates-io]\nreplace-with = "system"\n[source.system]\ndirectory = "%s"\n' "$library" >built/.cargo/config.toml
+    edits=$room/built/target/debug/toml_edit_edits
+    (cd built && CARGO_TARGET_DIR=target cargo build --quiet --offline >log 2>&1) && return 0
+    echo "skipped: what is compared with toml_edit, since $library has none, or another: $(head -n 1 built/log)"
+    return 1
+}
+
+# toml_edits EDIT WORD..: the edit by both, in theirs.toml and ours.toml
+toml_edits() {
+    edit=$1
+    shift
+    cp base.toml theirs.toml
+    cp base.toml ours.toml
+    "$edits" "$edit" theirs.toml "$@"
+    "$program" "$edit" ours.toml "$@"
+}
+
+# differ EDIT THEIRS OURS: the lines that each takes out or puts in
+differ() {
+    # shellcheck disable=SC2086
+    toml_edits $1
+    is "toml_edit: $1, theirs" "$(printf "$2")" "$(diff base.toml theirs.toml | grep '^[<>]')"
+    is "toml_edit: $1, ours" "$(printf "$3")" "$(diff base.toml ours.toml | grep '^[<>]')"
+}
+
+if toml_edit_is_built; then
+    for row in 'set port 443 server' 'set log 5 paths' 'set name 2' 'set other 4' 'set user 5 paths' 'set user 5 none' 'set k 1 new' \
+        'delete port server' 'delete host server' 'delete log paths' 'delete-section server' 'delete-section none'; do
+        # shellcheck disable=SC2086
+        toml_edits $row
+        same_bytes "toml_edit: $row" theirs.toml ours.toml
+    done
+    # No blanks come where there were none, and a new pair has those of the pair above it
+    differ 'set host 9 server' '< host=7\n> host= 9' '< host=7\n> host=9'
+    differ 'set user 5 server' '> user = 5' '> user=5'
+    # A comment stays that stands above what is taken out
+    differ 'delete cache paths' '< # the cache\n< cache = 2' '< cache = 2'
+    differ 'delete-section paths' '< \n< # where\n< [paths]\n< log   = 1\n< # the cache\n< cache = 2' \
+        '< [paths]\n< log   = 1\n< # the cache\n< cache = 2'
+fi
 
 finish
