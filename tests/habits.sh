@@ -9,12 +9,12 @@
 programs='ini_tool ini_merge ini_file'
 if has man 'pages under man'; then
     for name in $programs; do
-        is "man $name" '' "$(man --warnings -E UTF-8 -l -Tutf8 -Z "$top/man/$name.1" 2>&1 >/dev/null)"
+        is "man $name" '' "$(man --warnings -E UTF-8 -l -Tutf8 -Z "$top/share/man/$name.1" 2>&1 >/dev/null)"
     done
 fi
 if has mandoc 'pages under mandoc'; then
     for name in $programs; do
-        is "mandoc $name" '' "$(mandoc -T lint "$top/man/$name.1" 2>&1)"
+        is "mandoc $name" '' "$(mandoc -T lint "$top/share/man/$name.1" 2>&1)"
     done
 fi
 
@@ -29,7 +29,7 @@ offered() {
         COMP_CWORD=$(($# - 1))
         _bigrosk
         printf "%s\n" "${COMPREPLY[@]}" | sort | tr "\n" " "
-    ' "$top/completions/bigrosk" "$@")"
+    ' "$top/share/completions/bigrosk" "$@")"
 }
 mkdir "$room/files"
 : >"$room/files/one.ini"
@@ -62,7 +62,7 @@ if has bash completions; then
     offered 'one.ini ' ini_tool get key '<' one.
     offered 'one.ini ' ini_merge one.ini '>' one.
     is 'completions are registered' "$programs" "$(bash -c '. "$0" && for name; do complete -p "$name"; done' \
-        "$top/completions/bigrosk" $programs | sed 's/^complete -F _bigrosk //' | tr '\n' ' ' | sed 's/ $//')"
+        "$top/share/completions/bigrosk" $programs | sed 's/^complete -F _bigrosk //' | tr '\n' ' ' | sed 's/ $//')"
 fi
 
 # The same where the words are typed at a terminal: bash puts what is offered into the line. Each row is a
@@ -91,7 +91,7 @@ mkdir -p "$room/typed/a folder/in" "$room/typed/only" "$room/typed/get"
 : >"$room/typed/\$HOME"
 if has bash 'completions at a terminal' && has python3 'completions at a terminal'; then
     cut -d '|' -f 1 "$room/rows" |
-        python3 "$top/tests/habits/typed.py" "$top/completions/bigrosk" "$room/typed" >"$room/became" 2>&1
+        python3 "$top/tests/habits/typed.py" "$top/share/completions/bigrosk" "$room/typed" >"$room/became" 2>&1
     is 'lines as they are completed' "$(cut -d '|' -f 2 "$room/rows" | sed 's/$/./')" "$(
         sed 's/$/./' "$room/became"
     )"
@@ -134,10 +134,10 @@ asked() {
     cd "$room/asked" || exit
     case $shell in
         bash) PATH=$room/bin:$PATH bash -c '. "$0"; COMP_WORDS=("$@" "") COMP_CWORD=$#; _bigrosk
-            for word in "${COMPREPLY[@]}"; do eval "echo $word"; done' "$top/completions/bigrosk" "$@" ;;
+            for word in "${COMPREPLY[@]}"; do eval "echo $word"; done' "$top/share/completions/bigrosk" "$@" ;;
         zsh) PATH=$room/bin:$PATH zsh -f -c 'compadd() { shift; print -l -- $@ }; _files() { print x.ini }; fpath=(${0:h} $fpath)
-            words=("$@" ""); CURRENT=$#words; autoload -U _bigrosk; _bigrosk' "$top/completions/_bigrosk" "$@" ;;
-        fish) PATH=$room/bin:$PATH fish --no-config -c "source $top/completions/bigrosk.fish; complete -C '$* '" | cut -f 1 ;;
+            words=("$@" ""); CURRENT=$#words; autoload -U _bigrosk; _bigrosk' "$top/share/completions/_bigrosk" "$@" ;;
+        fish) PATH=$room/bin:$PATH fish --no-config -c "source $top/share/completions/bigrosk.fish; complete -C '$* '" | cut -f 1 ;;
     esac | sort -u | tr '\n' '|' | sed 's/^|*//; s/|*$//'
 }
 "$top/tools/run.sh" --build ini_file || exit 1
@@ -160,7 +160,7 @@ fi
 # Installing, over a copy whose run.sh writes down what is built. The programs there are of a line.
 copy=$room/copy
 mkdir -p "$copy/tools"
-cp -R "$top/man" "$top/completions" "$copy"
+cp -R "$top/share" "$copy"
 cp "$top/tools/install.sh" "$copy/tools"
 printf '#!/bin/sh\necho "$*" >>"%s"\n[ "$2" != "$(cat "%s")" ]\n' "$room/built" "$room/broken" >"$copy/tools/run.sh"
 chmod +x "$copy/tools/run.sh"
@@ -174,14 +174,14 @@ is 'installing' 'status 0, ' "status $?, $(cat "$room/told")"
 is 'programs are built' '--build ini_tool --build ini_merge --build ini_file' "$(tr '\n' ' ' <"$room/built" | sed 's/ $//')"
 for name in $programs; do
     is "$name runs where it was installed" "$name" "$("$room/a place/bin/$name")"
-    cmp -s "$top/man/$name.1" "$room/a place/share/man/man1/$name.1"
+    cmp -s "$top/share/man/$name.1" "$room/a place/share/man/man1/$name.1"
     is "the page of $name" 0 $?
-    cmp -s "$top/completions/bigrosk" "$room/a place/share/bash-completion/completions/$name"
+    cmp -s "$top/share/completions/bigrosk" "$room/a place/share/bash-completion/completions/$name"
     is "the completions of $name for bash" 0 $?
-    cmp -s "$top/completions/bigrosk.fish" "$room/a place/share/fish/vendor_completions.d/$name.fish"
+    cmp -s "$top/share/completions/bigrosk.fish" "$room/a place/share/fish/vendor_completions.d/$name.fish"
     is "the completions of $name for fish" 0 $?
 done
-cmp -s "$top/completions/_bigrosk" "$room/a place/share/zsh/site-functions/_bigrosk"
+cmp -s "$top/share/completions/_bigrosk" "$room/a place/share/zsh/site-functions/_bigrosk"
 is 'the completions for zsh' 0 $?
 is 'nothing else is installed' 13 "$(find "$room/a place" -type f | wc -l | tr -d ' ')"
 for mask in 000 077; do

@@ -5,7 +5,7 @@
 #
 #     tests/passing.sh [INI_TOOL]
 #
-# INI_TOOL is by default the program that ini_tool.sh builds.
+# INI_TOOL is by default the program that tools/run.sh builds.
 . "$(dirname "$0")/cases.sh"
 program=$(program_of ini_tool "${1:-}") || exit 1
 

@@ -6,7 +6,7 @@
 #
 #     tests/peers.sh [INI_FILE]
 #
-# The program is by default the one that ini_file.sh builds.
+# The program is by default the one that tools/run.sh builds.
 . "$(dirname "$0")/cases.sh"
 program=$(program_of ini_file "${1:-}") || exit 1
 

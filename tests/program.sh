@@ -5,11 +5,8 @@
 #
 #     tests/program.sh [INI_TOOL [INI_MERGE [INI_FILE]]]
 #
-# Each is by default the one that its script builds; one that is given stands for its script too, where a page shows that.
+# Each is by default the one that tools/run.sh builds; a page's `./bigrosk` runs these too.
 . "$(dirname "$0")/cases.sh"
-tool_script=$(readlink -f "${1:-"$top/ini_tool.sh"}")
-merge_script=$(readlink -f "${2:-"$top/ini_merge.sh"}")
-file_script=$(readlink -f "${3:-"$top/ini_file.sh"}")
 program=$(program_of ini_tool "${1:-}") || exit 1
 merge=$(program_of ini_merge "${2:-}") || exit 1
 file=$(program_of ini_file "${3:-}") || exit 1
@@ -409,9 +406,8 @@ examples() {
     here=$room/$(basename "$page" .md)
     mkdir -p "$here/shown"
     cp -r "$top/examples" "$here/examples"
-    ln -s "$tool_script" "$here/ini_tool.sh"
-    ln -s "$merge_script" "$here/ini_merge.sh"
-    ln -s "$file_script" "$here/ini_file.sh"
+    printf '#!/bin/sh\nexec "$@"\n' >"$here/bigrosk"
+    chmod +x "$here/bigrosk"
     awk -v to="$here/shown" '
         /^```console$/ { inside = 1; next }
         /^```/ { inside = 0 }

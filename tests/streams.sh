@@ -6,7 +6,7 @@
 #
 #     tests/streams.sh [INI_TOOL [INI_MERGE]]
 #
-# The programs are by default those that ini_tool.sh and ini_merge.sh build.
+# The programs are by default those that tools/run.sh builds.
 . "$(dirname "$0")/cases.sh"
 tool=$(program_of ini_tool "${1:-}") || exit 1
 merge=$(program_of ini_merge "${2:-}") || exit 1

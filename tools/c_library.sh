@@ -96,7 +96,7 @@ if [ -f "$room/heap.o" ]; then
 fi
 install -m 644 "$room/libbigrosk_ini.a" "$prefix/lib/libbigrosk_ini.a"
 install -m 644 "$top/c/bigrosk_ini.h" "$prefix/include/bigrosk_ini.h"
-install -m 644 "$top/man/bigrosk_ini.3" "$prefix/share/man/man3/bigrosk_ini.3"
+install -m 644 "$top/share/man/bigrosk_ini.3" "$prefix/share/man/man3/bigrosk_ini.3"
 # written FILE FOLDER: the file of that name with the version's numbers in it, in the folder where it is looked for
 written() {
     sed -e "s/@VERSION@/$version/g" -e "s/@MAJOR@/${version%%.*}/g" "$top/c/$1.in" >"$room/$1"

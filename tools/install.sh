@@ -22,10 +22,10 @@ bash=$1/share/bash-completion/completions
 fish=$1/share/fish/vendor_completions.d
 zsh=$1/share/zsh/site-functions
 mkdir -p -- "$1/bin" "$1/share/man/man1" "$bash" "$fish" "$zsh"
-install -m 644 -- "$top/completions/_bigrosk" "$zsh/_bigrosk"
+install -m 644 -- "$top/share/completions/_bigrosk" "$zsh/_bigrosk"
 for name in $programs; do
     install -m 755 -- "$top/crates/$name/out/$name" "$1/bin/$name"
-    install -m 644 -- "$top/man/$name.1" "$1/share/man/man1/$name.1"
-    install -m 644 -- "$top/completions/bigrosk" "$bash/$name"
-    install -m 644 -- "$top/completions/bigrosk.fish" "$fish/$name.fish"
+    install -m 644 -- "$top/share/man/$name.1" "$1/share/man/man1/$name.1"
+    install -m 644 -- "$top/share/completions/bigrosk" "$bash/$name"
+    install -m 644 -- "$top/share/completions/bigrosk.fish" "$fish/$name.fish"
 done

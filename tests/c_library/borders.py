@@ -225,7 +225,7 @@ def functions_in(text):
 
 
 def compare_page():
-    page = (TOP / "man/bigrosk_ini.3").read_text()
+    page = (TOP / "share/man/bigrosk_ini.3").read_text()
     wanted, had = functions_in(CODE.replace("static inline ", "")), functions_in(page)
     same("functions of the page", sorted(wanted), sorted(had))
     for name, line in wanted.items():

@@ -45,7 +45,7 @@ def run(program, *words, stdin=subprocess.DEVNULL):
 
 def offered(*words):
     """What bash offers for the last of the words."""
-    asked = ["bash", "-c", OFFER, TOP / "completions/bigrosk", *words]
+    asked = ["bash", "-c", OFFER, TOP / "share/completions/bigrosk", *words]
     return set(subprocess.run(asked, capture_output=True, text=True, check=True).stdout.split())
 
 
@@ -56,7 +56,7 @@ def options_in(text):
 
 def page(program):
     """The page of the manual, with hyphens as they are shown."""
-    return (TOP / "man" / f"{program}.1").read_text().replace("\\-", "-")
+    return (TOP / "share/man" / f"{program}.1").read_text().replace("\\-", "-")
 
 
 def part(text, head):
