@@ -5,6 +5,7 @@
     speed.py compare [--turns N] FOLDER PROGRAM PROGRAM ..
     speed.py time [--turns N] FOLDER PROGRAM PROGRAM ..
     speed.py count FOLDER PROGRAM PROGRAM ..
+    speed.py chart [--turns N] FOLDER FILE NAME=PROGRAM ..
 
 `inputs` writes seven settings files of about that size into FOLDER; they are the same each time.
 
@@ -13,7 +14,8 @@ of FOLDER, in seven turns or in as many as are asked for, and prints for each pr
 peak of memory, and the ratios of both to the last program's. It stops where two programs write different bytes.
 
 `time` does the same for programs that need not write the same, as those that parse alone. `count` prints the millions of
-instructions of one run instead, as valgrind counts them, and the ratio: they stay the same beside other work.
+instructions of one run instead, as valgrind counts them, and the ratio: they stay the same beside other work. `chart` measures as
+`time` does, and draws it into FILE, an SVG, under the programs' names.
 """
 import argparse
 import hashlib
@@ -25,6 +27,9 @@ import re
 import shlex
 import subprocess
 import sys
+import tempfile
+
+from chart import draw
 
 KEYS = "name path port host user group level timeout retry cache mode color format shell editor address".split()
 VALUES = ["true", "false", "8080", "/usr/local/share/data", "a few words, unquoted", "0.25"]
@@ -95,13 +100,15 @@ def write_inputs(folder, megabytes):
 
 
 def run(program, path):
-    """Seconds of user and system time, and megabytes at the peak, of one run."""
-    with open(path, "rb") as source, open(os.devnull, "wb") as out:
-        process = subprocess.Popen(shlex.split(program), stdin=source, stdout=out)
+    """Seconds of user and system time, and megabytes at the peak, of one run. It is a child of `time`, which is small: the peak of
+    a child has in it what its parent had when it began."""
+    with open(path, "rb") as source, tempfile.NamedTemporaryFile("r") as peak:
+        words = ["time", "--quiet", "--format=%M", f"--output={peak.name}", *shlex.split(program)]
+        process = subprocess.Popen(words, stdin=source, stdout=subprocess.DEVNULL)
         _, status, usage = os.wait4(process.pid, 0)
-    if status != 0:
-        sys.exit(f"{program} failed on {path}")
-    return usage.ru_utime + usage.ru_stime, usage.ru_maxrss / 1024
+        if status != 0:
+            sys.exit(f"{program} failed on {path}")
+        return usage.ru_utime + usage.ru_stime, int(peak.read()) / 1024
 
 
 def digest(program, path):
@@ -122,15 +129,32 @@ def compare(folder, programs):
             sys.exit(f"the programs write different bytes for {path}")
 
 
-def time(folder, programs, turns):
-    """Prints a line for each input: times and memory, and their ratios."""
+def measured(folder, programs, turns):
+    """Each input's name, with each program's shortest time and its memory, the programs in turn."""
     for path in sorted(folder.glob("*.ini")):
         best = {program: (float("inf"), 0) for program in programs}
         for _, program in itertools.product(range(turns), programs):
             best[program] = min(best[program], run(program, path))
-        last, most = best[programs[-1]]
-        shown = [f"{t:.3f} s {peak:4.0f} MB x{t / last:.2f} x{peak / most:.2f}" for t, peak in best.values()]
-        print(f"{path.stem:12}", " | ".join(shown), flush=True)
+        yield path.stem, list(best.values())
+
+
+def time(folder, programs, turns):
+    """Prints a line for each input: times and memory, and their ratios."""
+    for name, best in measured(folder, programs, turns):
+        last, most = best[-1]
+        shown = [f"{t:.3f} s {peak:4.0f} MB x{t / last:.2f} x{peak / most:.2f}" for t, peak in best]
+        print(f"{name:12}", " | ".join(shown), flush=True)
+
+
+def chart(folder, file, named, turns):
+    """Draws times and memory of the programs, each given as NAME=PROGRAM."""
+    names, programs = zip(*(word.split("=", 1) for word in named))
+    rows = list(measured(folder, programs, turns))
+    panels = [
+        ("seconds", [(name.replace("_", " "), [t for t, _ in best]) for name, best in rows]),
+        ("MB of memory", [(name.replace("_", " "), [peak for _, peak in best]) for name, best in rows]),
+    ]
+    file.write_text(draw(names, panels), encoding="utf-8")
 
 
 def instructions(program, path):
@@ -161,9 +185,17 @@ def main():
         beside.add_argument("programs", nargs="+")
         if name != "count":
             beside.add_argument("--turns", type=int, default=TURNS)
+    drawn = commands.add_parser("chart")
+    drawn.add_argument("folder", type=pathlib.Path)
+    drawn.add_argument("file", type=pathlib.Path)
+    drawn.add_argument("named", nargs="+")
+    drawn.add_argument("--turns", type=int, default=TURNS)
     words = parser.parse_args()
     if words.command == "inputs":
         write_inputs(words.folder, words.megabytes)
+        return
+    if words.command == "chart":
+        chart(words.folder, words.file, words.named, words.turns)
         return
     if words.command == "compare":
         compare(words.folder, words.programs)
