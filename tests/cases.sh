@@ -47,6 +47,16 @@ count() {
     fi
 }
 
+# at_most NAME COUNT BOUND: whether a count of instructions, in thousands, is a number and within its bound
+at_most() {
+    if [ -n "$2" ] && [ -n "$3" ] && [ "$2" -gt 0 ] && [ "$2" -le "$3" ]; then
+        passed=$((passed + 1))
+    else
+        failed=$((failed + 1))
+        echo "FAILED: $1: ${2:-no count} thousand instructions, and at most ${3:-none} are wanted"
+    fi
+}
+
 # ends NAME STATUS OUTPUT ERRORS WORD..: a run of $program on these words; the output is a format of printf
 ends() {
     name=$1

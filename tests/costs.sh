@@ -23,16 +23,6 @@ instructions() {
     [ $? -eq "$wanted" ] && sed -n 's/^==[0-9]*== I *refs: *//p' "$room/err" | tr -d , | awk '{ printf "%d\n", $1 / 1000 }'
 }
 
-# at_most NAME COUNT BOUND: whether the count is a number and within its bound
-at_most() {
-    if [ -n "$2" ] && [ -n "$3" ] && [ "$2" -gt 0 ] && [ "$2" -le "$3" ]; then
-        passed=$((passed + 1))
-    else
-        failed=$((failed + 1))
-        echo "FAILED: $1: ${2:-no count} thousand instructions, and at most ${3:-none} are wanted"
-    fi
-}
-
 # What the program itself takes: it is taken off each count.
 : >"$room/in"
 own=$(instructions 0 "$tool" fmt)

@@ -393,16 +393,6 @@ instructions() {
     sed -n 's/^==[0-9]*== I *refs: *//p' counted | tr -d , | awk -v own="${own_count:-0}" '{ printf "%d\n", $1 / 1000 - own }'
 }
 
-# at_most NAME COUNT BOUND: whether the count is a number and within its bound
-at_most() {
-    if [ -n "$2" ] && [ -n "$3" ] && [ "$2" -gt 0 ] && [ "$2" -le "$3" ]; then
-        passed=$((passed + 1))
-    else
-        failed=$((failed + 1))
-        echo "FAILED: $1: ${2:-no count} thousand instructions, and at most ${3:-none} are wanted"
-    fi
-}
-
 # four_times SHAPE WORD ..: of four times the text the run takes at most six times the instructions; the word TEXT stands for
 # the text, SECTION for the name of the last section, KEY for the last key
 four_times() {
