@@ -259,6 +259,12 @@ uint32_t bigrosk_ini_write(struct bigrosk_ini_document *document, const struct b
 bool bigrosk_ini_is_plain(struct bigrosk_ini_document *document, const struct bigrosk_ini_write_option *write,
                           const struct bigrosk_ini_read_option *read);
 
+/* Tells how the files of a dialect are read, and how lines are written into them, by its name: "git", "systemd", "desktop", "python",
+ * "php", "mysql", "samba", "windows", .. (the table stands in crates/ini_dialect/src/presets.rt).
+ * OK; ABSENT where no dialect has the name; NOT_UTF8. With anything but OK the two options are as they were. */
+uint32_t bigrosk_ini_dialect(const uint8_t *name, size_t name_count, struct bigrosk_ini_read_option *read,
+                             struct bigrosk_ini_write_option *write);
+
 /* The next six edit a text itself, and keep every byte that the edit is not about: comments, blank lines, alignment, line ends.
  * No document is used: the text comes in as bytes, and the new one is copied into `out`, and a 0 after it; count says how many
  * bytes it has, with OK and with NO_ROOM alone. The text that comes in stays as it is. The options say how it is read, and how what is put
@@ -457,6 +463,12 @@ static inline uint32_t bigrosk_ini_load_str(const char *text, struct bigrosk_ini
 {
     struct bigrosk_ini_read_option option = BIGROSK_INI_READ_DEFAULT;
     return bigrosk_ini_load(bigrosk_ini_bytes(text), bigrosk_ini_count(text), true, &option, document, fault);
+}
+
+static inline uint32_t bigrosk_ini_dialect_str(const char *name, struct bigrosk_ini_read_option *read,
+                                               struct bigrosk_ini_write_option *write)
+{
+    return bigrosk_ini_dialect(bigrosk_ini_bytes(name), bigrosk_ini_count(name), read, write);
 }
 
 static inline uint32_t bigrosk_ini_get_str(struct bigrosk_ini_document *document, const char *section, const char *key,

@@ -54,7 +54,8 @@ from ._settings import Error, Mistyped, NoOption, NoSection, Settings, SettingsS
 
 __all__ = [
     "KINDS", "Broken", "Document", "Error", "Mistyped", "NoOption", "NoSection", "ReadOption", "Section",
-    "SectionThere", "Settings", "SettingsSection", "Unwritable", "WriteOption", "load", "version",
+    "SectionThere", "Settings", "SettingsSection", "Unwritable", "WriteOption", "dialect", "load",
+    "version",
     "edit_add", "edit_delete", "edit_delete_section", "edit_rename_key", "edit_rename_section", "edit_set",
 ]
 T = TypeVar("T")
@@ -296,6 +297,15 @@ def edit_rename_section(
     options = read or ReadOption(), write or WriteOption()
     words = text_words(name=section, new_name=new)
     return _edited(library.bigrosk_ini_edit_rename_section, text, options, words, section)
+
+
+def dialect(name: str) -> Tuple[ReadOption, WriteOption]:
+    """How the files of a dialect are read, and how lines are written into them: of "systemd", "git", ..; of a
+    name that isn't there a KeyError."""
+    read, write = ReadOption(), WriteOption()
+    if not is_done(library.bigrosk_ini_dialect(*text_words(name=name), read, write)):
+        raise KeyError(name)
+    return read, write
 
 
 def version() -> int:

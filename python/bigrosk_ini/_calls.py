@@ -114,6 +114,7 @@ for _call, _arguments, _result in [
     ("delete_section", [_handle] + _name, ctypes.c_uint32),
     ("write", [_handle, _write] + _out, ctypes.c_uint32),
     ("is_plain", [_handle, _write, _read], ctypes.c_bool),
+    ("dialect", _text + [_read, _write], ctypes.c_uint32),
     ("edit_set", _text + [_read, _write] + _name + _text + _text + _out + [_fault], ctypes.c_uint32),
     ("edit_add", _text + [_read, _write] + _name + _text + _text + _out + [_fault], ctypes.c_uint32),
     ("edit_delete", _text + [_read] + _name + _text + _out + [_fault], ctypes.c_uint32),

@@ -262,9 +262,43 @@ static void marks(void)
     CHECK(mark_of("\xef\xbb\xbe", 3) == 0 && mark_of("a=1", 3) == 0);
 }
 
+/* Options by a dialect's name, as its programs read and write; refused, they stay. */
+static void dialects(void)
+{
+    static const struct {
+        const char *name;
+        struct bigrosk_ini_read_option read;
+        struct bigrosk_ini_write_option write;
+    } rows[] = {
+        { "git", { true, true, false, false, false }, { BIGROSK_INI_BASICS, false, 1 } },
+        { "systemd", { false, false, false, false, false }, { BIGROSK_INI_NOTHING, false, 0 } },
+        { "desktop", { false, true, false, false, false }, { BIGROSK_INI_BASICS, false, 0 } },
+        { "python", { false, false, true, false, false }, { BIGROSK_INI_NOTHING, false, 1 } },
+        { "windows", { true, false, false, false, false }, { BIGROSK_INI_NOTHING, true, 0 } },
+        { "editorconfig", { false, false, false, false, true }, { BIGROSK_INI_NOTHING, false, 1 } },
+    };
+    for (size_t i = 0; i < sizeof rows / sizeof *rows; i++) {
+        struct bigrosk_ini_read_option r = { true, true, true, true, true }, wanted = rows[i].read;
+        struct bigrosk_ini_write_option w = { 5, true, 9 };
+        CHECK(bigrosk_ini_dialect_str(rows[i].name, &r, &w) == BIGROSK_INI_OK);
+        CHECK(r.quotes == wanted.quotes && r.escapes == wanted.escapes && r.multiline == wanted.multiline);
+        CHECK(r.keep_indentation == wanted.keep_indentation && r.brackets == wanted.brackets);
+        CHECK(w.policy == rows[i].write.policy && w.crlf == rows[i].write.crlf && w.separator == rows[i].write.separator);
+    }
+    static const char *const others[] = { "", "systemD", "system", "systemd ", "\xff" };
+    for (size_t i = 0; i < sizeof others / sizeof *others; i++) {
+        struct bigrosk_ini_read_option r = { true, false, true, false, true };
+        struct bigrosk_ini_write_option w = { 5, true, 9 };
+        CHECK(bigrosk_ini_dialect_str(others[i], &r, &w) == (i == 4 ? BIGROSK_INI_NOT_UTF8 : BIGROSK_INI_ABSENT));
+        CHECK(r.quotes && !r.escapes && r.multiline && !r.keep_indentation && r.brackets);
+        CHECK(w.policy == 5 && w.crlf && w.separator == 9);
+    }
+}
+
 int main(void)
 {
     read_options();
+    dialects();
     policies();
     line_ends_and_separators();
     kinds();

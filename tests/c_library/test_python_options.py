@@ -5,7 +5,7 @@ import copy
 import pickle
 import threading
 import time
-from bigrosk_ini import Broken, Document, KINDS, ReadOption, Unwritable, WriteOption
+from bigrosk_ini import Broken, Document, KINDS, ReadOption, Unwritable, WriteOption, dialect
 from bigrosk_ini import edit_add, edit_delete, edit_delete_section
 from bigrosk_ini import edit_rename_key, edit_rename_section, edit_set
 
@@ -40,6 +40,15 @@ READ = [
         [(None, []), ("[*", [("]\nk", "v")])],
     ),
 ]
+
+
+def dialects():
+    read, write = dialect("systemd")
+    same([read.quotes, read.escapes, read.multiline], [False, False, False])
+    same([write.policy, write.crlf, write.separator], [0, False, 0])
+    same(Document('k = "a\\tb"\n', read).walk(), [(None, [("k", '"a\\tb"')])])
+    same(type(raised(dialect, "none")), KeyError)
+    same(type(raised(dialect, 1)), TypeError)
 
 
 def reading():
@@ -383,7 +392,7 @@ def threads():
     same(wrong, [])
 
 
-for part in (reading, marks, writing, plain, edits, faults, unwritable, absent, no_texts, copies):
+for part in (reading, dialects, marks, writing, plain, edits, faults, unwritable, absent, no_texts, copies):
     part()
 nothing_loaded()
 threads()

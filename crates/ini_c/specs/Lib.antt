@@ -6,6 +6,7 @@ pub mod Inside
 pub mod Listings
 pub mod Loans
 pub mod LookUps
+pub mod Named
 pub mod Statuses
 pub mod TextEdits
 pub mod Texts

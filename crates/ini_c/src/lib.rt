@@ -23,6 +23,7 @@ ghost use Rattle.ini_c.specs.Statuses.{no_memory, no_room, not_utf8, ok};
 
 mod borrowing;
 mod copies;
+mod dialects;
 mod document;
 mod edits;
 mod fault;
@@ -44,6 +45,7 @@ mod writing;
 
 pub use crate::borrowing::bigrosk_ini_borrow;
 pub use crate::copies::Sizes;
+pub use crate::dialects::bigrosk_ini_dialect;
 pub use crate::document::{Document, Kept, Text};
 pub use crate::fault::Fault;
 pub use crate::options::{ReadChoice, WriteChoice};

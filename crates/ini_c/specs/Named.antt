@@ -1,0 +1,24 @@
+-- Options that a dialect's name stands for, as C gets them.
+use Rattle.std.specs.Prelude.{◌≡◌, ◌||◌, ℕ, Bool, IsTrue, List}
+use Rattle.std.specs.Str.{bytes_eq}
+use Rattle.ini_text.specs.Options.WriteOptions.{line_end}
+use Rattle.ini_dialect.specs.Dialects.{Preset}
+use Rattle.ini_c.specs.Choices.{line_end_if, parse_option, policy_of, separator_of}
+use Rattle.ini_c.specs.declared.options.ReadChoice.{ReadChoice}
+use Rattle.ini_c.specs.declared.options.WriteChoice.{WriteChoice}
+
+-- C has a number for what stands between a key and its value
+abbrev pub has_number : List ℕ → Bool
+has_number separator =
+    bytes_eq separator (separator_of 0) || (bytes_eq separator (separator_of 1)
+    || (bytes_eq separator (separator_of 2) || bytes_eq separator (separator_of 3)))
+
+abbrev pub HasNumber : Preset → Type 0
+HasNumber p = IsTrue (has_number p.kv_separator)
+
+-- so C is told
+pub record TellsPreset (read : ReadChoice) (write : WriteChoice) (p : Preset) : Type 0 where
+  pub read_as : parse_option read ≡ p.read
+  pub policy : policy_of write.policy ≡ p.escape_policy
+  pub ends : line_end (line_end_if write.crlf) ≡ line_end p.line_separator
+  pub separator : separator_of write.separator ≡ p.kv_separator

@@ -1,0 +1,93 @@
+//! The options of a dialect, by its name. This file knows their numbers, and not what a name stands for.
+ghost use Rattle.std.specs.Prelude.{◌≡◌, ◌∷◌, [], ◌↔◌, IfSome, IsSome, IsSomeAnd, IsTrue};
+ghost use Rattle.std.specs.Str.{IsUtf8};
+ghost use Rattle.ini_text.specs.Options.WriteOptions.{line_end};
+ghost use Rattle.ini_dialect.specs.Dialects.{dialect_of};
+ghost use Rattle.ini_c.specs.Choices.{line_end_if, policy_of, separator_of};
+ghost use Rattle.ini_c.specs.Named.{HasNumber, TellsPreset, has_number};
+ghost use Rattle.ini_c.specs.Statuses.{absent, is_among, not_utf8, ok};
+
+use crate::options::{ReadChoice, WriteChoice};
+use crate::{ABSENT, NOT_UTF8, OK};
+use ini_dialect::Dialect;
+use ini_text::{EscapePolicy, LineSeparator};
+
+// The number of a policy.
+fn policy_number(policy: EscapePolicy) -> u32
+    ensures { policy_of result ≡ policy }
+{
+    match policy {
+        EscapePolicy::Nothing => 0,
+        EscapePolicy::Basics => 1,
+        EscapePolicy::BasicsUnicode => 2,
+        EscapePolicy::BasicsUnicodeExtended => 3,
+        EscapePolicy::Reserved => 4,
+        EscapePolicy::ReservedUnicode => 5,
+        EscapePolicy::ReservedUnicodeExtended => 6,
+        EscapePolicy::Everything => 7,
+    }
+}
+
+// Whether lines end with CR LF.
+fn is_crlf(separator: LineSeparator) -> bool
+    ensures { line_end (line_end_if result) ≡ line_end separator }
+{
+    match separator {
+        LineSeparator::CRLF => true,
+        LineSeparator::SystemDefault | LineSeparator::CR => false,
+    }
+}
+
+// The number of what stands between a key and its value, if it has one.
+fn separator_number(separator: &str) -> Option<u32>
+    ensures number { IfSome result (λ number. separator_of number ≡ separator.now) }
+    ensures there { IsSome result ↔ IsTrue (has_number separator.now) }
+{
+    if separator == "=" {
+        Some(0)
+    } else if separator == " = " {
+        Some(1)
+    } else if separator == ":" {
+        Some(2)
+    } else if separator == ": " {
+        Some(3)
+    } else {
+        None
+    }
+}
+
+/// Tells how the files of a dialect are read, and how lines are written into them: `ABSENT` where no dialect has
+/// the name. Refused, the two options stay.
+#[unsafe(no_mangle)]
+pub extern "C" fn bigrosk_ini_dialect(
+    name: &[u8],
+    read: &mut ReadChoice,
+    write: &mut WriteChoice,
+) -> u32
+    ensures told { result ≡ ok → IsSomeAnd (dialect_of name.now) (TellsPreset read.new write.new) }
+    ensures not_utf8 { result ≡ not_utf8 ↔ ¬ (IsUtf8 name.now) }
+    ensures absent { result ≡ absent → ¬ (IsSomeAnd (dialect_of name.now) HasNumber) }
+    ensures read_stays { ¬ (result ≡ ok) → read.new ≡ read.old }
+    ensures write_stays { ¬ (result ≡ ok) → write.new ≡ write.old }
+    ensures statuses { IsTrue (is_among result (ok ∷ absent ∷ not_utf8 ∷ [])) }
+{
+    let Ok(name) = str::from_utf8(name) else {
+        return NOT_UTF8;
+    };
+    let Some(dialect) = Dialect::of_name(name) else {
+        return ABSENT;
+    };
+    let Some(separator) = separator_number(dialect.write.kv_separator) else {
+        return ABSENT;
+    };
+    let options = dialect.read;
+    read.quotes = options.enabled_quote;
+    read.escapes = options.enabled_escape;
+    read.multiline = options.enabled_indented_mutiline_value;
+    read.keep_indentation = options.enabled_preserve_key_leading_whitespace;
+    read.brackets = options.enabled_brackets_in_section_names;
+    write.policy = policy_number(dialect.write.escape_policy);
+    write.crlf = is_crlf(dialect.write.line_separator);
+    write.separator = separator;
+    OK
+}
