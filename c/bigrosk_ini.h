@@ -45,7 +45,7 @@ extern "C" {
 /* What a call answers. */
 enum bigrosk_ini_status {
     BIGROSK_INI_OK = 0,
-    BIGROSK_INI_ABSENT = 1,     /* no such pair or section */
+    BIGROSK_INI_ABSENT = 1,     /* no such pair, section or dialect */
     BIGROSK_INI_NO_ROOM = 2,    /* the buffer is too small: it takes as many bytes as the count says, and 1 more */
     BIGROSK_INI_BROKEN = 3,     /* the text breaks the grammar: struct bigrosk_ini_fault says where and why */
     BIGROSK_INI_NOT_UTF8 = 4,   /* a text, a name, a key or a value is no UTF-8 */
@@ -60,8 +60,9 @@ enum bigrosk_ini_status {
 
 /* What only the functions of this header answer. */
 enum bigrosk_ini_plain_status {
-    BIGROSK_INI_MISTYPED = 100, /* a value is none of the type that is asked for */
-    BIGROSK_INI_NO_FILE = 101   /* a file can't be read or written: errno says why */
+    BIGROSK_INI_MISTYPED = 100,  /* a value is none of the type that is asked for */
+    BIGROSK_INI_NO_FILE = 101,   /* a file can't be read or written: errno says why */
+    BIGROSK_INI_NO_DIALECT = 102 /* no dialect has the name */
 };
 
 /* The status in words, as for a message. Plain C. */
@@ -82,6 +83,7 @@ static inline const char *bigrosk_ini_status_text(uint32_t status)
     case BIGROSK_INI_THERE: return "the section is there";
     case BIGROSK_INI_MISTYPED: return "the value is none of this type";
     case BIGROSK_INI_NO_FILE: return "the file can't be read or written";
+    case BIGROSK_INI_NO_DIALECT: return "no dialect has this name";
     default: return "no status of this library";
     }
 }
@@ -259,9 +261,11 @@ uint32_t bigrosk_ini_write(struct bigrosk_ini_document *document, const struct b
 bool bigrosk_ini_is_plain(struct bigrosk_ini_document *document, const struct bigrosk_ini_write_option *write,
                           const struct bigrosk_ini_read_option *read);
 
-/* Tells how the files of a dialect are read, and how lines are written into them, by its name: "git", "systemd", "desktop", "python",
- * "php", "mysql", "samba", "windows", .. (the table stands in crates/ini_dialect/src/presets.rt).
- * OK; ABSENT where no dialect has the name; NOT_UTF8. With anything but OK the two options are as they were. */
+/* Fills the options in by the name of a dialect: how its programs read their files, and how a line is written that they read
+ * back. The names: crate (the default options), aws, desktop, editorconfig, fail2ban, freetds, git, hg, kde, mysql, npm, odbc,
+ * openssl, openttd, php, pulseaudio, python, qt, samba, sssd, supervisor, systemd, uwsgi, windows, xrdp. The calls look up as
+ * ever: the first section and the first pair count, and case tells names apart, whatever the dialect's programs do.
+ * OK; ABSENT where no dialect has the name; NOT_UTF8. With anything but OK the options are as they were. */
 uint32_t bigrosk_ini_dialect(const uint8_t *name, size_t name_count, struct bigrosk_ini_read_option *read,
                              struct bigrosk_ini_write_option *write);
 
@@ -825,8 +829,10 @@ struct bigrosk_ini_file {
     const char *section, *key;      /* and what that call named, or NULL */
     struct bigrosk_ini_place place; /* BROKEN and MISTYPED: where; else 0 and 0 */
     char message[64];               /* BROKEN: why */
+    struct bigrosk_ini_write_option write; /* how what is set is written: by default BIGROSK_INI_WRITE_DEFAULT */
 };
-#define BIGROSK_INI_FILE_EMPTY { BIGROSK_INI_TEXT_EMPTY, NULL, 0, BIGROSK_INI_OK, NULL, NULL, { 0, 0 }, "" }
+#define BIGROSK_INI_FILE_EMPTY                                                                                          \
+    { BIGROSK_INI_TEXT_EMPTY, NULL, 0, BIGROSK_INI_OK, NULL, NULL, { 0, 0 }, "", BIGROSK_INI_WRITE_DEFAULT }
 
 /* Keeps a refusal, unless one is kept. What it is. */
 static inline uint32_t bigrosk_ini_file_keep(struct bigrosk_ini_file *file, uint32_t status, const char *section,
@@ -843,10 +849,10 @@ static inline uint32_t bigrosk_ini_file_keep(struct bigrosk_ini_file *file, uint
 
 static inline void bigrosk_ini_file_close(struct bigrosk_ini_file *file) { bigrosk_ini_text_close(&file->text); }
 
-/* Reads the file and opens its text: OK; NO_FILE, and errno says why; BROKEN; NOT_UTF8; NO_MEMORY. */
-static inline uint32_t bigrosk_ini_file_open(struct bigrosk_ini_file *file, const char *path)
+/* Reads the file and opens its text by the option: OK; NO_FILE, and errno says why; BROKEN; NOT_UTF8; NO_MEMORY. */
+static inline uint32_t bigrosk_ini_file_read(struct bigrosk_ini_file *file, const char *path,
+                                             const struct bigrosk_ini_read_option *option)
 {
-    struct bigrosk_ini_read_option option = BIGROSK_INI_READ_DEFAULT;
     struct bigrosk_ini_fault fault = { 0, 0, 0, "" };
     struct bigrosk_ini_buffer buffer = BIGROSK_INI_BUFFER_EMPTY;
     struct bigrosk_ini_place place = BIGROSK_INI_NO_PLACE_YET;
@@ -863,13 +869,31 @@ static inline uint32_t bigrosk_ini_file_open(struct bigrosk_ini_file *file, cons
     fclose(it);
     if (status == BIGROSK_INI_OK) {
         file->mark = bigrosk_ini_mark(buffer.bytes, buffer.count);
-        status = bigrosk_ini_text_open(buffer.bytes + file->mark, buffer.count - file->mark, &option, &file->text, &fault);
+        status = bigrosk_ini_text_open(buffer.bytes + file->mark, buffer.count - file->mark, option, &file->text, &fault);
         place.line = fault.line;
         place.column = fault.column;
         if (file->status == BIGROSK_INI_OK) memcpy(file->message, fault.message, sizeof fault.message);
     }
     bigrosk_ini_buffer_free(&buffer);
     return bigrosk_ini_file_keep(file, status, NULL, NULL, place);
+}
+
+/* The same by the default option. */
+static inline uint32_t bigrosk_ini_file_open(struct bigrosk_ini_file *file, const char *path)
+{
+    struct bigrosk_ini_read_option option = BIGROSK_INI_READ_DEFAULT;
+    return bigrosk_ini_file_read(file, path, &option);
+}
+
+/* The same by the options of a dialect, which what is set is written by too: also NO_DIALECT. */
+static inline uint32_t bigrosk_ini_file_open_as(struct bigrosk_ini_file *file, const char *path, const char *dialect)
+{
+    struct bigrosk_ini_read_option option = BIGROSK_INI_READ_DEFAULT;
+    struct bigrosk_ini_place place = BIGROSK_INI_NO_PLACE_YET;
+    file->path = path;
+    if (bigrosk_ini_dialect_str(dialect, &option, &file->write) != BIGROSK_INI_OK)
+        return bigrosk_ini_file_keep(file, BIGROSK_INI_NO_DIALECT, NULL, NULL, place);
+    return bigrosk_ini_file_read(file, path, &option);
 }
 
 /* Saves the text beside the file (PATH.new), and renames: OK; NO_FILE, and errno says why; NO_MEMORY; NO_DOCUMENT. After a refusal
@@ -939,7 +963,9 @@ static inline uint32_t bigrosk_ini_file_set(struct bigrosk_ini_file *file, const
                                             const char *value)
 {
     struct bigrosk_ini_place place = BIGROSK_INI_NO_PLACE_YET;
-    return bigrosk_ini_file_keep(file, bigrosk_ini_text_set_str(&file->text, section, key, value), section, key, place);
+    uint32_t status = bigrosk_ini_text_set(&file->text, &file->write, BIGROSK_INI_AT(section, key), bigrosk_ini_bytes(value),
+                                           bigrosk_ini_count(value));
+    return bigrosk_ini_file_keep(file, status, section, key, place);
 }
 
 static inline uint32_t bigrosk_ini_file_delete(struct bigrosk_ini_file *file, const char *section, const char *key)

@@ -48,14 +48,14 @@ from typing import Any, AnyStr, Callable, Iterator, List, MutableMapping, Option
 from typing import overload
 
 from ._calls import BROKEN, KINDS, NO_ROOM, NOT_UTF8, Broken, Fault, Handle, Listing, Pair, ReadOption
-from ._calls import Unwritable, WriteOption, bytes_of, copied_out, help_for, is_done, library, shown
-from ._calls import text_words, words_of
-from ._settings import Error, Mistyped, NoOption, NoSection, Settings, SettingsSection, SectionThere, load
+from ._calls import Unwritable, WriteOption, bytes_of, copied_out, dialect, help_for, is_done, library
+from ._calls import options_of, shown, text_words, words_of
+from ._refusals import Error, Mistyped, NoOption, NoSection, SectionThere
+from ._settings import Settings, SettingsSection, load
 
 __all__ = [
     "KINDS", "Broken", "Document", "Error", "Mistyped", "NoOption", "NoSection", "ReadOption", "Section",
-    "SectionThere", "Settings", "SettingsSection", "Unwritable", "WriteOption", "dialect", "load",
-    "version",
+    "SectionThere", "Settings", "SettingsSection", "Unwritable", "WriteOption", "dialect", "load", "version",
     "edit_add", "edit_delete", "edit_delete_section", "edit_rename_key", "edit_rename_section", "edit_set",
 ]
 T = TypeVar("T")
@@ -64,13 +64,20 @@ Text = Union[str, bytes, "os.PathLike[str]"]
 
 class Document:
     """A document: its sections by name, None for the general one. A name that is there twice stands for its
-    first section. A str or bytes are the text, a Path is read."""
+    first section. A str or bytes are the text, a Path is read. By a `dialect`, such as "git", it is read and
+    written as that one's programs do."""
 
-    def __init__(self, text: Text = "", option: Optional[ReadOption] = None, drop_mark: bool = True) -> None:
-        self._it, self._lock = Handle(), threading.RLock()
-        fault, option = Fault(), option or ReadOption()
+    def __init__(
+        self,
+        text: Text = "",
+        option: Optional[ReadOption] = None,
+        drop_mark: bool = True,
+        dialect: Optional[str] = None,
+    ) -> None:
+        self._it, self._lock, fault = Handle(), threading.RLock(), Fault()
+        self._read, self._write = options_of(None, None, dialect)
         read, file = bytes_of(text)
-        status = library.bigrosk_ini_load(read, len(read), drop_mark, option, self._it, fault)
+        status = library.bigrosk_ini_load(read, len(read), drop_mark, option or self._read, self._it, fault)
         if status == BROKEN:
             raise Broken(fault, file, help_for(text))
         if status == NOT_UTF8 and file is not None:
@@ -139,7 +146,7 @@ class Document:
         return Listing(self._call, library.bigrosk_ini_items).sections()
 
     def text(self, option: Optional[WriteOption] = None) -> str:
-        text = copied_out(self._call, library.bigrosk_ini_write, option or WriteOption())
+        text = copied_out(self._call, library.bigrosk_ini_write, option or self._write)
         assert text is not None
         return text
 
@@ -148,7 +155,7 @@ class Document:
 
     def is_plain(self, write: Optional[WriteOption] = None, read: Optional[ReadOption] = None) -> bool:
         """Whether the document, written by one option, loads by the other as it is."""
-        return bool(self._call(library.bigrosk_ini_is_plain, write or WriteOption(), read or ReadOption()))
+        return bool(self._call(library.bigrosk_ini_is_plain, write or self._write, read or self._read))
 
 
 class Section(MutableMapping[str, str]):
@@ -233,10 +240,11 @@ def edit_set(
     value: str,
     read: Optional[ReadOption] = None,
     write: Optional[WriteOption] = None,
+    dialect: Optional[str] = None,
 ) -> AnyStr:
     """The text with the key's value set: in the place of that of its first pair, and the later ones there
     go; or in a new line of the section, or in a new section."""
-    options = read or ReadOption(), write or WriteOption()
+    options = options_of(read, write, dialect)
     return _edited(library.bigrosk_ini_edit_set, text, options, words_of(section, key=key, value=value), key)
 
 
@@ -247,16 +255,23 @@ def edit_add(
     value: str,
     read: Optional[ReadOption] = None,
     write: Optional[WriteOption] = None,
+    dialect: Optional[str] = None,
 ) -> AnyStr:
     """The text with a further pair, whatever pairs of the key are there: in a new line of the section, or in
     a new section."""
-    options = read or ReadOption(), write or WriteOption()
+    options = options_of(read, write, dialect)
     return _edited(library.bigrosk_ini_edit_add, text, options, words_of(section, key=key, value=value), key)
 
 
-def edit_delete(text: AnyStr, section: Optional[str], key: str, read: Optional[ReadOption] = None) -> AnyStr:
+def edit_delete(
+    text: AnyStr,
+    section: Optional[str],
+    key: str,
+    read: Optional[ReadOption] = None,
+    dialect: Optional[str] = None,
+) -> AnyStr:
     """The text without the key's first pair. KeyError where it isn't there."""
-    options = (read or ReadOption(),)
+    options = options_of(read, None, dialect)[:1]
     return _edited(library.bigrosk_ini_edit_delete, text, options, words_of(section, key=key), key)
 
 
@@ -267,19 +282,22 @@ def edit_rename_key(
     new: str,
     read: Optional[ReadOption] = None,
     write: Optional[WriteOption] = None,
+    dialect: Optional[str] = None,
 ) -> AnyStr:
     """The text with another key in the key's first pair. KeyError where it isn't there."""
-    options = read or ReadOption(), write or WriteOption()
+    options = options_of(read, write, dialect)
     words = words_of(section, key=key, new_key=new)
     return _edited(library.bigrosk_ini_edit_rename_key, text, options, words, key)
 
 
-def edit_delete_section(text: AnyStr, section: Optional[str], read: Optional[ReadOption] = None) -> AnyStr:
+def edit_delete_section(
+    text: AnyStr, section: Optional[str], read: Optional[ReadOption] = None, dialect: Optional[str] = None
+) -> AnyStr:
     """The text without the first section of the name, but for comments directly above the next header. KeyError
     where it isn't there, as the general section, which doesn't go."""
     if section is None:
         raise KeyError(section)
-    options = (read or ReadOption(),)
+    options = options_of(read, None, dialect)[:1]
     return _edited(library.bigrosk_ini_edit_delete_section, text, options, text_words(name=section), section)
 
 
@@ -289,23 +307,15 @@ def edit_rename_section(
     new: str,
     read: Optional[ReadOption] = None,
     write: Optional[WriteOption] = None,
+    dialect: Optional[str] = None,
 ) -> AnyStr:
     """The text with another name in the header of the first section of the name. KeyError where it isn't
     there, as the general section, which has no header."""
     if section is None:
         raise KeyError(section)
-    options = read or ReadOption(), write or WriteOption()
+    options = options_of(read, write, dialect)
     words = text_words(name=section, new_name=new)
     return _edited(library.bigrosk_ini_edit_rename_section, text, options, words, section)
-
-
-def dialect(name: str) -> Tuple[ReadOption, WriteOption]:
-    """How the files of a dialect are read, and how lines are written into them: of "systemd", "git", ..; of a
-    name that isn't there a KeyError."""
-    read, write = ReadOption(), WriteOption()
-    if not is_done(library.bigrosk_ini_dialect(*text_words(name=name), read, write)):
-        raise KeyError(name)
-    return read, write
 
 
 def version() -> int:

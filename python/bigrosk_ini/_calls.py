@@ -207,6 +207,23 @@ def words_of(section: Optional[str], **texts: str) -> List[Any]:
     return [section is not None] + text_words(name=section or "", **texts)
 
 
+def dialect(name: str) -> Tuple[ReadOption, WriteOption]:
+    """How the programs of a dialect ("systemd", "git", ..) read their files, and how a line is written that
+    they read back. The first pair of a key counts all the same. ValueError where no dialect has the name."""
+    read, write = ReadOption(), WriteOption()
+    if not is_done(library.bigrosk_ini_dialect(*text_words(name_of_a_dialect=name), read, write)):
+        raise ValueError(f"no dialect has the name {name!r}")
+    return read, write
+
+
+def options_of(
+    read: Optional[ReadOption], write: Optional[WriteOption], name: Optional[str]
+) -> Tuple[ReadOption, WriteOption]:
+    """The options that are given; for those that aren't, the ones of the dialect, or the default ones."""
+    its = (ReadOption(), WriteOption()) if name is None else dialect(name)
+    return read or its[0], write or its[1]
+
+
 def copied_out(call: Callable[..., int], *words: Any) -> Optional[str]:
     """What a call copies out, or None where it is absent."""
     room, count = 256, ctypes.c_size_t()

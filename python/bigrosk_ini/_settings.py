@@ -8,8 +8,9 @@ from typing import Any, Callable, Dict, Iterable, Iterator, List, Mapping, Mutab
 from typing import Tuple, TypeVar, Union
 
 from ._calls import BROKEN, NOT_UTF8, THERE, Broken, Fault, Handle, Listing, Pair, Place, ReadOption
-from ._calls import WriteOption, bytes_of, copied_out, help_for, is_done, library, shown
+from ._calls import WriteOption, bytes_of, copied_out, help_for, is_done, library, options_of, shown
 from ._calls import text_words, words_of
+from ._refusals import Mistyped, NoOption, NoSection, SectionThere
 
 T = TypeVar("T")
 Path = Union[str, "os.PathLike[str]"]
@@ -27,47 +28,11 @@ class _Missing:
 _MISSING = _Missing()
 
 
-class Error(Exception):
-    """What a look-up in settings, or a change of them, is refused with; but for texts that break the grammar
-    (Broken) and what can't be written (Unwritable)."""
-
-
-class NoSection(Error, KeyError):
-    def __init__(self, section: Optional[str]) -> None:
-        self.section = section
-        super().__init__(f"no section {section!r}")
-
-    __str__ = Exception.__str__
-
-
-class NoOption(Error, KeyError):
-    def __init__(self, option: str, section: Optional[str]) -> None:
-        self.option, self.section = option, section
-        super().__init__(f"no option {option!r} in section {section!r}")
-
-    __str__ = Exception.__str__
-
-
-class SectionThere(Error, ValueError):
-    def __init__(self, section: str) -> None:
-        self.section = section
-        super().__init__(f"section {section!r} is there")
-
-
-class Mistyped(Error, ValueError):
-    """A value is none of the type that is asked for, or refers to what isn't there: .file (or None), .line
-    and .column say where it stands."""
-
-    def __init__(self, file: Optional[str], line: int, column: int, message: str) -> None:
-        self.file, self.line, self.column, self.message = file, line, column, message
-        place = f"{line}:{column}" if file is None else f"{file}:{line}:{column}"
-        super().__init__(f"{place} {message}")
-
-
 class Settings(MutableMapping[Optional[str], "SettingsSection"]):
     """Settings: their sections by name; None is the general one, which stands before the first header and is
     always there. A name that is there twice stands for its first section. A str or bytes are the text, a Path
-    is read, as `load` reads a path.
+    is read, as `load` reads a path. By a `dialect`, such as "systemd", the text is read, and what is set is
+    written, as that one's programs do; options that are given go before it.
 
     With `defaults`, the name of a section, that section's values stand in every other one that lacks their
     key, and it is no section of `sections()`. With `interpolate`, `%(key)s` in a value is the value of that
@@ -80,9 +45,10 @@ class Settings(MutableMapping[Optional[str], "SettingsSection"]):
         write: Optional[WriteOption] = None,
         defaults: Optional[str] = None,
         interpolate: bool = False,
+        dialect: Optional[str] = None,
     ) -> None:
         self._it, self._lock, self._mark = Handle(), threading.RLock(), b""
-        self._read, self._write = read or ReadOption(), write or WriteOption()
+        self._read, self._write = options_of(read, write, dialect)
         self.defaults, self.interpolate = defaults, interpolate
         self.path: Optional[str] = None
         given, file = bytes_of(text)
@@ -522,6 +488,7 @@ def load(
     write: Optional[WriteOption] = None,
     defaults: Optional[str] = None,
     interpolate: bool = False,
+    dialect: Optional[str] = None,
 ) -> Settings:
     """The settings of a file, which `save` writes back."""
-    return Settings(pathlib.Path(path), read, write, defaults, interpolate)
+    return Settings(pathlib.Path(path), read, write, defaults, interpolate, dialect)

@@ -270,12 +270,31 @@ static void dialects(void)
         struct bigrosk_ini_read_option read;
         struct bigrosk_ini_write_option write;
     } rows[] = {
+        { "crate", { true, true, false, false, false }, { BIGROSK_INI_BASICS, false, 0 } },
         { "git", { true, true, false, false, false }, { BIGROSK_INI_BASICS, false, 1 } },
         { "systemd", { false, false, false, false, false }, { BIGROSK_INI_NOTHING, false, 0 } },
         { "desktop", { false, true, false, false, false }, { BIGROSK_INI_BASICS, false, 0 } },
         { "python", { false, false, true, false, false }, { BIGROSK_INI_NOTHING, false, 1 } },
+        { "php", { true, true, false, false, false }, { BIGROSK_INI_NOTHING, false, 1 } },
+        { "mysql", { true, false, false, false, false }, { BIGROSK_INI_BASICS, false, 0 } },
+        { "samba", { true, false, false, false, false }, { BIGROSK_INI_NOTHING, false, 1 } },
         { "windows", { true, false, false, false, false }, { BIGROSK_INI_NOTHING, true, 0 } },
+        { "kde", { true, true, false, false, true }, { BIGROSK_INI_BASICS, false, 0 } },
+        { "supervisor", { true, false, false, false, false }, { BIGROSK_INI_NOTHING, false, 0 } },
+        { "fail2ban", { false, false, true, false, false }, { BIGROSK_INI_NOTHING, false, 1 } },
+        { "aws", { false, false, true, false, false }, { BIGROSK_INI_NOTHING, false, 1 } },
         { "editorconfig", { false, false, false, false, true }, { BIGROSK_INI_NOTHING, false, 1 } },
+        { "npm", { true, false, false, false, false }, { BIGROSK_INI_BASICS, false, 0 } },
+        { "qt", { true, true, false, false, false }, { BIGROSK_INI_BASICS, false, 0 } },
+        { "hg", { true, false, false, false, false }, { BIGROSK_INI_NOTHING, false, 1 } },
+        { "pulseaudio", { true, true, false, false, false }, { BIGROSK_INI_NOTHING, false, 1 } },
+        { "odbc", { true, true, false, false, false }, { BIGROSK_INI_NOTHING, false, 1 } },
+        { "freetds", { true, true, false, false, false }, { BIGROSK_INI_NOTHING, false, 1 } },
+        { "sssd", { true, false, false, false, false }, { BIGROSK_INI_NOTHING, false, 1 } },
+        { "openssl", { true, true, false, false, false }, { BIGROSK_INI_BASICS, false, 1 } },
+        { "uwsgi", { true, true, false, false, false }, { BIGROSK_INI_NOTHING, false, 1 } },
+        { "xrdp", { true, true, false, false, false }, { BIGROSK_INI_NOTHING, false, 0 } },
+        { "openttd", { false, true, false, false, false }, { BIGROSK_INI_NOTHING, false, 1 } },
     };
     for (size_t i = 0; i < sizeof rows / sizeof *rows; i++) {
         struct bigrosk_ini_read_option r = { true, true, true, true, true }, wanted = rows[i].read;

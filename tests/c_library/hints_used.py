@@ -2,7 +2,7 @@
 from pathlib import Path
 from typing import List, Optional, Tuple
 
-from bigrosk_ini import Broken, Document, ReadOption, WriteOption, edit_set
+from bigrosk_ini import Broken, Document, ReadOption, Settings, WriteOption, dialect, edit_set, load
 
 document = Document(Path("settings.ini"), ReadOption(multiline=True))
 port: Optional[str] = document.get("server", "port")
@@ -15,6 +15,8 @@ text: str = edit_set("a=1", None, "a", "2", write=WriteOption(crlf=True))
 raw: bytes = edit_set(b"a=1", None, "a", "2")
 document["server"]["port"] = 443  # type: ignore[assignment]
 edit_set(Path("a"), None, "a", "2")  # type: ignore[type-var]
+options: Tuple[ReadOption, WriteOption] = dialect("systemd")
+unit: Settings = load(Path("some.service"), dialect="systemd")
 try:
     document.is_plain()
 except Broken as broken:

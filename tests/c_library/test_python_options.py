@@ -47,8 +47,27 @@ def dialects():
     same([read.quotes, read.escapes, read.multiline], [False, False, False])
     same([write.policy, write.crlf, write.separator], [0, False, 0])
     same(Document('k = "a\\tb"\n', read).walk(), [(None, [("k", '"a\\tb"')])])
-    same(type(raised(dialect, "none")), KeyError)
+    same(str(raised(dialect, "none")), "no dialect has the name 'none'")
+    for call, *words in [(dialect, "None"), (Document, "", None, True, ""), (edit_delete, "", None, "k", None, "x")]:
+        same(type(raised(call, *words)), ValueError)
     same(type(raised(dialect, 1)), TypeError)
+    # a document, and what is given beside a dialect
+    unit = Document('k = "a b"\n', dialect="systemd")
+    same([unit.get(None, "k"), str(unit)], ['"a b"', 'k="a b"\n'])
+    same([unit.is_plain(), unit.is_plain(None, ReadOption())], [True, False])
+    same(str(Document("[a]\nk=v\n", dialect="git")), "[a]\nk = v\n")
+    same(Document("[a]\nk=v\n", dialect="windows").text(), "[a]\r\nk=v\r\n")
+    same(Document("k=v\n", dialect="git").text(WriteOption()), "k=v\n")
+    same(Document('k="v"\n', ReadOption(), dialect="systemd").get(None, "k"), "v")
+    # edits
+    same(edit_set("k = 1\n", None, "k", "C:\\new", dialect="systemd"), "k = C:\\new\n")
+    same(edit_set("k = 1\n", None, "k", "C:\\new", write=WriteOption(), dialect="php"), "k = C:\\\\new\n")
+    same(edit_add("[u]\n", "u", "k", "v", dialect="git"), "[u]\nk = v\n")
+    pattern = "[*.[ch]]\nk = 1\n"
+    same(edit_delete(pattern, "*.[ch]", "k", dialect="editorconfig"), "[*.[ch]]\n")
+    same(edit_rename_key(pattern, "*.[ch]", "k", "l", dialect="editorconfig"), "[*.[ch]]\nl = 1\n")
+    same(edit_rename_section(pattern, "*.[ch]", "*.[co]", dialect="editorconfig"), "[*.[co]]\nk = 1\n")
+    same(edit_delete_section(pattern, "*.[ch]", dialect="editorconfig"), "")
 
 
 def reading():

@@ -262,7 +262,26 @@ def random_runs(rounds=60, edits=60):
         same("# top\n" in str(s), True)
 
 
-for part in (mapping, look_ups, changes, defaults, files, beside_configparser, random_runs):
+def dialects():
+    s = Settings('[Service]\nExecStart="/bin/a" \\t\n', dialect="systemd")
+    same(s["Service"]["ExecStart"], '"/bin/a" \\t')
+    s["Service"]["Root"] = "C:\\new"
+    same(str(s), '[Service]\nExecStart="/bin/a" \\t\nRoot=C:\\new\n')
+    s.read_string('[Service]\nExecStart="/bin/b"\n')
+    same(s["Service"]["ExecStart"], '"/bin/b"')
+    same(Settings('k="v"\n', bigrosk_ini.ReadOption(), dialect="systemd")[None]["k"], "v")
+    same(type(raised(Settings, "", dialect="system")), ValueError)
+    with tempfile.TemporaryDirectory() as room:
+        path = os.path.join(room, "config")
+        Path(path).write_text("[user]\n\tname = me # too\n")
+        s = load(path, dialect="git")
+        s["user"]["mail"] = "a\\b"
+        s.save()
+        same(Path(path).read_text(), "[user]\n\tname = me # too\n\tmail = a\\\\b\n")
+        same(type(raised(load, path, dialect="gits")), ValueError)
+
+
+for part in (mapping, look_ups, changes, defaults, dialects, files, beside_configparser, random_runs):
     part()
 same(hasattr(bigrosk_ini, "load"), True)
 print("all of the settings of the Python module")

@@ -262,6 +262,33 @@ static void files(const char *path)
     remove(path);
 }
 
+/* A file of a dialect is read as its programs read it, and what is set is written as they read it back. */
+static void dialects(const char *path)
+{
+    struct bigrosk_ini_file unit = BIGROSK_INI_FILE_EMPTY, git = BIGROSK_INI_FILE_EMPTY, none = BIGROSK_INI_FILE_EMPTY;
+    struct bigrosk_ini_file nowhere = BIGROSK_INI_FILE_EMPTY;
+    char value[64] = "";
+    put(path, "[Service]\nExecStart=\"/bin/a\" \\t\n");
+    CHECK(bigrosk_ini_file_open_as(&unit, path, "systemd") == BIGROSK_INI_OK);
+    bigrosk_ini_file_string(&unit, "Service", "ExecStart", value, sizeof value, "");
+    CHECK(!strcmp(value, "\"/bin/a\" \\t"));
+    CHECK(bigrosk_ini_file_set(&unit, "Service", "Root", "C:\\new") == BIGROSK_INI_OK);
+    CHECK(bigrosk_ini_file_save(&unit) == BIGROSK_INI_OK);
+    CHECK(is_file(path, "[Service]\nExecStart=\"/bin/a\" \\t\nRoot=C:\\new\n"));
+    bigrosk_ini_file_close(&unit);
+    put(path, "[user]\n");
+    CHECK(bigrosk_ini_file_open_as(&git, path, "git") == BIGROSK_INI_OK);
+    CHECK(bigrosk_ini_file_set(&git, "user", "name", "a\\b") == BIGROSK_INI_OK);
+    CHECK(bigrosk_ini_file_save(&git) == BIGROSK_INI_OK && is_file(path, "[user]\nname = a\\\\b\n"));
+    bigrosk_ini_file_close(&git);
+    CHECK(bigrosk_ini_file_open_as(&none, path, "Git") == BIGROSK_INI_NO_DIALECT && none.place.line == 0);
+    CHECK(bigrosk_ini_file_save(&none) == BIGROSK_INI_NO_DIALECT && is_file(path, "[user]\nname = a\\\\b\n"));
+    bigrosk_ini_file_close(&none);
+    CHECK(bigrosk_ini_file_open_as(&nowhere, "/nowhere/at/all", "git") == BIGROSK_INI_NO_FILE && errno == ENOENT);
+    bigrosk_ini_file_close(&nowhere);
+    remove(path);
+}
+
 int main(int argc, char **argv)
 {
     nothing_is_open();
@@ -271,6 +298,7 @@ int main(int argc, char **argv)
     repeated();
     typed();
     files(argc > 1 ? argv[1] : "text_client.ini");
+    dialects(argc > 1 ? argv[1] : "text_client.ini");
     printf("%d checks, %d failed\n", checks, failed);
     return failed != 0;
 }
