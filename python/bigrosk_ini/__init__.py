@@ -41,13 +41,12 @@ same content where document.is_plain().
 The shared library is the one that BIGROSK_INI_LIBRARY names, or that lies in this folder, as in a wheel, or
 the system's.
 """
-import ctypes
-import os
-import threading
-from typing import Any, AnyStr, Callable, Iterator, List, MutableMapping, Optional, Tuple, TypeVar, Union
-from typing import overload
+from __future__ import annotations
 
-from ._calls import BROKEN, KINDS, NO_ROOM, NOT_UTF8, Broken, Fault, Handle, Listing, Pair, ReadOption
+import ctypes
+from collections.abc import MutableMapping
+
+from ._calls import BROKEN, KINDS, NO_ROOM, NOT_UTF8, Broken, Fault, Handle, Listing, ReadOption, RLock
 from ._calls import Unwritable, WriteOption, bytes_of, copied_out, dialect, help_for, is_done, library
 from ._calls import options_of, shown, text_words, words_of
 from ._refusals import Error, Mistyped, NoOption, NoSection, SectionThere
@@ -58,8 +57,19 @@ __all__ = [
     "SectionThere", "Settings", "SettingsSection", "Unwritable", "WriteOption", "dialect", "load", "version",
     "edit_add", "edit_delete", "edit_delete_section", "edit_rename_key", "edit_rename_section", "edit_set",
 ]
-T = TypeVar("T")
-Text = Union[str, bytes, "os.PathLike[str]"]
+TYPE_CHECKING = False
+if TYPE_CHECKING:
+    from typing import Any, AnyStr, Callable, Iterator, List, Optional, Tuple, TypeVar, Union, overload
+
+    from ._calls import Pair, Text
+
+    T = TypeVar("T")
+else:
+
+    def overload(one: object) -> object:
+        """A variant of the next function, for who checks types."""
+        return one
+
 
 
 class Document:
@@ -74,7 +84,7 @@ class Document:
         drop_mark: bool = True,
         dialect: Optional[str] = None,
     ) -> None:
-        self._it, self._lock, fault = Handle(), threading.RLock(), Fault()
+        self._it, self._lock, fault = Handle(), RLock(), Fault()
         self._read, self._write = options_of(None, None, dialect)
         read, file = bytes_of(text)
         status = library.bigrosk_ini_load(read, len(read), drop_mark, option or self._read, self._it, fault)

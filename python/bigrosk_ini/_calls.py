@@ -1,12 +1,23 @@
 """The shared library: its numbers, structs and calls, what is raised for what they answer, and how texts go
 to it and come from it. This file knows no document.
 """
+from __future__ import annotations
+
 import ctypes
 import os
-from typing import Any, Callable, Iterator, List, Optional, Tuple, Union
+
+TYPE_CHECKING = False  # importing typing takes longer than all of this package
+if TYPE_CHECKING:
+    from threading import RLock as RLock
+    from typing import Any, Callable, Iterator, List, Optional, Tuple, Union
+
+    Pair = Tuple[str, str]
+    Path = Union[str, os.PathLike[str]]
+    Text = Union[str, bytes, os.PathLike[str]]
+else:
+    from _thread import RLock  # what threading has under that name; so with it
 
 SONAME = "libbigrosk_ini.so.0"
-Pair = Tuple[str, str]
 
 
 def load_library() -> ctypes.CDLL:
@@ -235,15 +246,21 @@ def copied_out(call: Callable[..., int], *words: Any) -> Optional[str]:
         room = count.value + 1
 
 
-def bytes_of(text: Union[str, bytes, "os.PathLike[str]"]) -> Tuple[bytes, Optional[str]]:
+def read_whole(path: Path) -> Tuple[bytes, str]:
+    """The bytes of a file, and its path."""
+    name = os.fsdecode(path)
+    with open(name, "rb") as file:
+        return file.read(), name
+
+
+def bytes_of(text: Text) -> Tuple[bytes, Optional[str]]:
     """The bytes of a text, and the file that they were read from, if that is what it is."""
     if isinstance(text, str):
         return text.encode(), None
     if isinstance(text, (bytes, bytearray, memoryview)):
         return bytes(text), None
     if isinstance(text, os.PathLike):
-        with open(text, "rb") as file:
-            return file.read(), os.fspath(text)
+        return read_whole(text)
     raise TypeError(f"a text is a str or bytes, or a Path, which is read: this is {shown(text)}")
 
 

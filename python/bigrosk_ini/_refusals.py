@@ -1,5 +1,9 @@
 """What look-ups in settings, and changes of them, are refused with."""
-from typing import Optional
+from __future__ import annotations
+
+TYPE_CHECKING = False
+if TYPE_CHECKING:
+    from typing import Optional
 
 
 class Error(Exception):

@@ -1,20 +1,21 @@
 """A settings file as a mapping that keeps its text: comments, blank lines and layout stay as they were."""
+from __future__ import annotations
+
 import ctypes
 import os
-import pathlib
-import tempfile
-import threading
-from typing import Any, Callable, Dict, Iterable, Iterator, List, Mapping, MutableMapping, Optional, TextIO
-from typing import Tuple, TypeVar, Union
+from collections.abc import Mapping, MutableMapping
 
-from ._calls import BROKEN, NOT_UTF8, THERE, Broken, Fault, Handle, Listing, Pair, Place, ReadOption
-from ._calls import WriteOption, bytes_of, copied_out, help_for, is_done, library, options_of, shown
-from ._calls import text_words, words_of
+from ._calls import BROKEN, NOT_UTF8, THERE, Broken, Fault, Handle, Listing, Place, RLock, bytes_of
+from ._calls import copied_out, help_for, is_done, library, options_of, read_whole, shown, text_words, words_of
 from ._refusals import Mistyped, NoOption, NoSection, SectionThere
 
-T = TypeVar("T")
-Path = Union[str, "os.PathLike[str]"]
-Text = Union[str, bytes, "os.PathLike[str]"]
+TYPE_CHECKING = False
+if TYPE_CHECKING:
+    from typing import Any, Callable, Dict, Iterable, Iterator, List, Optional, TextIO, Tuple, TypeVar, Union
+
+    from ._calls import Pair, Path, ReadOption, Text, WriteOption
+
+    T = TypeVar("T")
 MARK = b"\xef\xbb\xbf"
 BOOLEANS = {"1": True, "yes": True, "true": True, "on": True, "0": False, "no": False, "false": False, "off": False}
 DEPTH = 10  # how deep values may refer to others
@@ -28,7 +29,7 @@ class _Missing:
 _MISSING = _Missing()
 
 
-class Settings(MutableMapping[Optional[str], "SettingsSection"]):
+class Settings(MutableMapping["Optional[str]", "SettingsSection"]):
     """Settings: their sections by name; None is the general one, which stands before the first header and is
     always there. A name that is there twice stands for its first section. A str or bytes are the text, a Path
     is read, as `load` reads a path. By a `dialect`, such as "systemd", the text is read, and what is set is
@@ -47,7 +48,7 @@ class Settings(MutableMapping[Optional[str], "SettingsSection"]):
         interpolate: bool = False,
         dialect: Optional[str] = None,
     ) -> None:
-        self._it, self._lock, self._mark = Handle(), threading.RLock(), b""
+        self._it, self._lock, self._mark = Handle(), RLock(), b""
         self._read, self._write = options_of(read, write, dialect)
         self.defaults, self.interpolate = defaults, interpolate
         self.path: Optional[str] = None
@@ -128,8 +129,7 @@ class Settings(MutableMapping[Optional[str], "SettingsSection"]):
     __hash__ = None  # type: ignore[assignment]
 
     def __repr__(self) -> str:
-        of = "" if self.path is None else f" of {self.path!r}"
-        return f"<Settings{of}: sections {self.sections()}>"
+        return f"<Settings{f' of {self.path!r}' if self.path else ''}: sections {self.sections()}>"
 
     def walk(self) -> List[Tuple[Optional[str], List[Pair]]]:
         """All sections in order, each its name and the list of its pairs; two may have one name."""
@@ -303,8 +303,8 @@ class Settings(MutableMapping[Optional[str], "SettingsSection"]):
         counts = (ctypes.c_size_t * max(len(encoded), 1))(*map(len, encoded))
         given = b"".join(it + b"\0" for it in encoded)
         words = words_of(section, key=option)
-        call = library.bigrosk_ini_text_set_all
-        is_done(self._call(call, self._write, *words, given, len(given), counts, len(encoded)))
+        words += [given, len(given), counts, len(encoded)]
+        is_done(self._call(library.bigrosk_ini_text_set_all, self._write, *words))
 
     def rename_option(self, section: Optional[str], option: str, new: str) -> None:
         words = words_of(section, key=option, new_key=new)
@@ -406,6 +406,8 @@ class Settings(MutableMapping[Optional[str], "SettingsSection"]):
         to = os.fspath(path) if path is not None else self.path
         if to is None:
             raise ValueError("these settings are of no file: give save a path")
+        import tempfile  # which takes longer to import than all of this package
+
         to = os.path.realpath(to)
         text = self._mark + self.text().encode()
         number, beside = tempfile.mkstemp(prefix=os.path.basename(to) + ".", dir=os.path.dirname(to))
@@ -491,4 +493,7 @@ def load(
     dialect: Optional[str] = None,
 ) -> Settings:
     """The settings of a file, which `save` writes back."""
-    return Settings(pathlib.Path(path), read, write, defaults, interpolate, dialect)
+    settings = Settings("", read, write, defaults, interpolate, dialect)
+    text, settings.path = read_whole(path)
+    settings._open(text, settings.path)
+    return settings

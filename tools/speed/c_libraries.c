@@ -8,22 +8,7 @@
  *
  * It prints a row of a table: the name, seconds of loading, of look-ups after the first load and after the last, of writing, and
  * the peak of memory in MB; - where the library has no such call, REFUSED behind it where one failed or found no value. */
-#include <stdbool.h>
-#include <stdio.h>
-#include <stdlib.h>
-#include <string.h>
-#include <sys/resource.h>
-#include <time.h>
-
-static double now(void)
-{
-    struct timespec t;
-    clock_gettime(CLOCK_PROCESS_CPUTIME_ID, &t);
-    return (double)t.tv_sec + (double)t.tv_nsec * 1e-9;
-}
-
-static char *text;
-static size_t text_count;
+#include "measured.h"
 
 #if defined BIGROSK
 #include "bigrosk_ini.h"
@@ -130,17 +115,9 @@ static double look_up_often(int runs, int *done)
 int main(int argc, char **argv)
 {
     int runs = argc > 2 ? atoi(argv[2]) : 5, done = 1;
-    FILE *file = argc > 1 ? fopen(argv[1], "rb") : NULL;
     sections_count = argc > 3 ? atoi(argv[3]) : 40000;
     sections = calloc(sections_count > 0 ? sections_count : 1, sizeof *sections);
-    if (!file || !sections || sections_count < 1) return 2;
-    fseek(file, 0, SEEK_END);
-    text_count = (size_t)ftell(file);
-    rewind(file);
-    text = malloc(text_count + 1);
-    text_count = fread(text, 1, text_count, file);
-    text[text_count] = 0;
-    fclose(file);
+    if (argc < 2 || !read_text(argv[1]) || !sections || sections_count < 1) return 2;
 #ifdef INIPARSER
     path = argv[1];
 #endif
@@ -163,10 +140,8 @@ int main(int argc, char **argv)
         done = put() && done;
         if (now() - start < written) written = now() - start;
     }
-    struct rusage used;
-    getrusage(RUSAGE_SELF, &used);
     printf("| %s | %.3f s", name, loaded);
     if (!looks_up) printf(" | - | - | -"); else printf(" | %.2f s | %.2f s | %.3f s", first, looked, written);
-    printf(" | %ld MB |%s\n", used.ru_maxrss / 1024, done ? "" : " REFUSED");
+    printf(" | %ld MB |%s\n", peak() / 1024, done ? "" : " REFUSED");
     return !done;
 }
