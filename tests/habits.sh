@@ -52,6 +52,7 @@ if has bash completions; then
     offered '--dry-run ' ini_file delete --d
     offered '-- --allow --deny --dry-run --fix --force --format --in-place --null --verbose --wait ' ini_file check --
     offered 'github json sarif ' ini_file check --format ''
+    offered 'samba sssd supervisor systemd ' ini_file --like s
     offered '-- --all --default --force --in-place --null --output --section --verbose --wait ' ini_file get --
     offered '--null ' ini_file --crlf list --n
     offered '-- --dry-run --force --in-place --output --separator --verbose --wait ' ini_file format --

@@ -178,4 +178,11 @@ if toml_edit_is_built; then
         '< [paths]\n< log   = 1\n< # the cache\n< cache = 2'
 fi
 
+# What small texts say to the programs of two dialects.
+for name in git python3; do
+    if peer "$name" && has python3 "what is compared with $name"; then
+        run "$name: values of small texts" python3 "$top/tests/program/dialects.py" "$program" "${name%3}"
+    fi
+done
+
 finish

@@ -10,6 +10,8 @@
 . "$(dirname "$0")/cases.sh"
 program=$(program_of ini_file "${1:-}") || exit 1
 source='; a server\nname=one\n[server]\nport=8080\n[client]\nid=7\n'
+dialects='crate git systemd desktop python php mysql samba windows kde supervisor fail2ban aws editorconfig npm qt hg'
+dialects="$dialects pulseaudio odbc freetds sssd openssl uwsgi xrdp openttd"
 policies='Nothing Basics BasicsUnicode BasicsUnicodeExtended Reserved ReservedUnicode ReservedUnicodeExtended Everything'
 traps='unclosed-bracket, unclosed-quote, joined-line, runs-on, comment-runs-on, dropped-line, lone-cr, header-in-value'
 traps="$traps, pair-in-value, repeated-key, repeated-section, after-header, empty-name, section-case, key-case"
@@ -45,6 +47,10 @@ list settings.ini more|more is one word too many: list takes FILE
 list --policy Basic settings.ini|Basic is no policy; --policy takes one of $policies
 list settings.ini --policy=basics|basics is no policy; --policy takes one of $policies
 list settings.ini --policy|--policy takes NAME
+list settings.ini --like Git|Git is no dialect; --like takes one of $dialects
+--like= list settings.ini --policy x| is no dialect; --like takes one of $dialects
+check settings.ini --like fish|fish is no dialect; --like takes one of $dialects
+list settings.ini --like|--like takes NAME
 get settings.ini k --default|--default takes VALUE
 set settings.ini k v --wait|--wait takes SECONDS
 set settings.ini k v --output|--output takes FILE
@@ -115,7 +121,66 @@ set settings.ini name two -n|\055-- settings.ini\n+++ settings.ini\n@@ -2,1 +2,1
 -n rename-key settings.ini id key -s client|\055-- settings.ini\n+++ settings.ini\n@@ -6,1 +6,1 @@\n-id=7\n+key=7\n
 set settings.ini k v --output=- --separator=:|; a server\nname=one\nk=v\n[server]\nport=8080\n[client]\nid=7\n
 set none.ini k v --output=- --separator=:|k:v\n
+--like git get settings.ini NAME|one\n
+get settings.ini PORT --like=windows -s SERVER|8080\n
+--like git get settings.ini name --like crate|one\n
+set none.ini k v --output=- --like git|k = v\n
+set none.ini k v --output=- --like git --separator=:|k:v\n
+set none.ini k v --output=- --like windows|k=v\r\n
+set none.ini k a\b --output=- --like samba|k = a\\b\n
+set none.ini k a\b --output=- --policy Basics --like kde|k=a\\\\b\n
+set none.ini k a\b --output=- --like kde --noescape --policy Nothing|k=a\\b\n
 END
+}
+
+# Questions by the rules of dialects. WORDS|STATUS|OUTPUT
+likes() {
+    while IFS='|' read -r words status output; do
+        fresh
+        printf '[A]\nk=1\nK=2\n[b]\nx=3\n[a]\nk=4\n[B]\nj=5\nx=6\n[a]\nk=7\nm=8\n' >rules.ini
+        # shellcheck disable=SC2086
+        ends "$words" "$status" "$output" '' $words
+    done <<'END'
+get rules.ini k a|0|4\n
+get rules.ini m a|1|
+sections rules.ini|0|A\nb\na\nB\n
+--like systemd get rules.ini k a|0|7\n
+--like systemd get rules.ini m a|0|8\n
+--like systemd get rules.ini K a|1|
+--like systemd get rules.ini K A|0|2\n
+--like systemd get rules.ini k a --all|0|4\n7\n
+--like systemd get rules.ini n a --all --default x|0|x\n
+--like systemd get rules.ini k c|1|
+--like systemd keys rules.ini a|0|k\nm\n
+--like systemd keys rules.ini c|1|
+--like systemd keys rules.ini|0|
+--like systemd sections rules.ini|0|A\nb\na\nB\n
+--like git get rules.ini k a|0|7\n
+--like git get rules.ini K a --all --null|0|1\0002\0004\0007\000
+--like git get rules.ini J b|0|5\n
+--like git get rules.ini x B|0|6\n
+--like git keys rules.ini A|0|k\nm\n
+--like git keys rules.ini b --null|0|x\0j\0
+--like git sections rules.ini|0|A\nb\n
+--like windows get rules.ini K a|0|1\n
+--like windows get rules.ini k a --all|0|1\n2\n
+--like windows get rules.ini m a|1|
+--like windows keys rules.ini a|0|k\n
+--like windows sections rules.ini|0|A\nb\n
+--like openttd get rules.ini k a|0|4\n
+--like openttd keys rules.ini A|0|k\nK\n
+END
+    INI_LIKE=git
+    export INI_LIKE
+    fresh
+    ends 'a dialect of the environment' 0 '8080\n' '' get settings.ini PORT SERVER
+    ends 'a dialect of the environment, and --like' 1 '' '' --like crate get settings.ini PORT SERVER
+    INI_LIKE=fish
+    ends 'a dialect of the environment that is none' 2 '' "ini_file: fish is no dialect; --like takes one of $dialects
+Try 'ini_file --help'." list settings.ini
+    INI_LIKE=
+    ends 'an empty dialect of the environment' 1 '' '' get settings.ini PORT SERVER
+    unset INI_LIKE
 }
 
 # Help, of the program and of each command: status 0, on standard output.
@@ -377,6 +442,7 @@ END
 
 mistakes
 places
+likes
 helps
 refused
 bytes

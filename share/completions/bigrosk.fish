@@ -12,7 +12,7 @@ function __bigrosk_sort
             set bigrosk_option
         else
             switch $word
-                case --policy --output --default --separator --wait --format --allow --deny --section -s
+                case --like --policy --output --default --separator --wait --format --allow --deny --section -s
                     set bigrosk_option $word
                 case '-?*'
                 case '*'
@@ -64,6 +64,10 @@ function __bigrosk_ini_file
         case --policy
             __bigrosk_policies
             return
+        case --like
+            printf '%s\n' crate git systemd desktop python php mysql samba windows kde supervisor fail2ban aws editorconfig npm qt hg \
+                pulseaudio odbc freetds sssd openssl uwsgi xrdp openttd
+            return
         case --output
             __fish_complete_path
             return
@@ -77,6 +81,7 @@ function __bigrosk_ini_file
             return
     end
     if string match -q -- '-*' (commandline -ct)
+        echo --like
         __bigrosk_options
         test $count -gt 0; and __bigrosk_help -- ini_file $command --help
         return

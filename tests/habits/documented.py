@@ -1,4 +1,4 @@
-"""Compares what is documented of the programs with what they do: options, commands, policies and exit
+"""Compares what is documented of the programs with what they do: options, commands, policies, dialects and exit
 statuses in `ini_file --help`, the usage lines, the pages of the manual, the tables of docs/PROGRAM.md and the
 completions of bash.
 
@@ -118,8 +118,9 @@ def options():
     same("options of ini_file", help=before, completions=offered("ini_file", "-"))
     for program in ("ini_tool", "ini_merge"):
         usage = options_in(run(program)[2])
-        same(f"options of {program}", usage=usage, help=before, completions=offered(program, "-"))
-        same(f"options on the page of {program}", help=before, page=options_in(page(program)))
+        shared = before - {"--like"}
+        same(f"options of {program}", usage=usage, help=shared, completions=offered(program, "-"))
+        same(f"options on the page of {program}", help=shared, page=options_in(page(program)))
     by_commands = set()
     for command in offered("ini_file", ""):
         by_commands |= offered("ini_file", command, "--") - {"--"}
@@ -131,7 +132,7 @@ def options():
         completions=offered("ini_file", "-") | by_commands,
     )
     table = {row.strip("`").split()[0] for row in rows(below("Options")) if row.startswith("`--")}
-    same("options in the table", help=before, document=table)
+    same("options in the table", help=before - {"--like"}, document=table)
 
 
 def policies():
@@ -144,6 +145,21 @@ def policies():
         document=set(re.findall(r"`([A-Z]\w*)`", " ".join(rows(below("Options"))))),
         completions=names,
         program={name for name in names if run("ini_tool", "--policy", name, "fmt")[0] == 0},
+    )
+
+
+def dialects():
+    """The names of dialects, each of which the program takes."""
+    told = run("ini_file", "--like", "", "list", "nowhere.ini")[2].split("\n")[0].split(" one of ")[1]
+    named = page("ini_file").split('.BI --like " NAME"\n')[1].split("The other")[0]
+    shown = run("ini_file", "--help")[1].split("\n  --like NAME ")[1].split(": ")[1].split(";")[0]
+    same(
+        "dialects",
+        program=set(told.split()),
+        help=set(re.sub(r"\(.*?\)", "", shown, flags=re.S).split()),
+        page=set(re.findall(r"^\.BR? (\w+)", named, re.M)),
+        document=set(re.findall(r"^\| `([a-z0-9]+)` \|[^|]*\|[^|]*\| (?:first|joined)", documented("ini_file"), re.M)),
+        completions=offered("ini_file", "--like", ""),
     )
 
 
@@ -194,7 +210,7 @@ def neighbours():
 def main():
     with tempfile.TemporaryDirectory() as folder:
         os.chdir(folder)
-        for compared in (commands, options, policies, statuses, neighbours):
+        for compared in (commands, options, policies, dialects, statuses, neighbours):
             compared()
         os.chdir("/")
     print("\n".join(differences))

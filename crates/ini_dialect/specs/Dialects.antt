@@ -87,10 +87,14 @@ last = record { sections = Joined; values = LastValue; case = Kept }
 abbrev pub last_any_case : Lookup
 last_any_case = record last { case = Ignored }
 
+-- the crate's own dialect
+abbrev pub crate_preset : Preset
+crate_preset = preset standard Basics (codes "=") first
+
 -- the names, and what each stands for
 abbrev pub presets : List (List ℕ × Preset)
 presets =
-    (codes "crate", preset standard Basics (codes "=") first)
+    (codes "crate", crate_preset)
     ∷ (codes "git", preset standard Basics (codes " = ") last_any_case)
     ∷ (codes "systemd", preset verbatim Nothing (codes "=") last)
     ∷ (codes "desktop", preset unquoted Basics (codes "=") last)

@@ -1,4 +1,5 @@
 pub mod LineLemmas
+pub mod ListedLemmas
 pub mod MergeLemmas
 pub mod RefusedLemmas
 pub mod ShareLemmas

@@ -7,9 +7,10 @@ use Rattle.std.specs.Str.{bytes_eq}
 use Rattle.ini_text.specs.declared.option.ParseOption.{ParseOption}
 use Rattle.ini_check.specs.Kinds.{level, level_name, name, trap_named}
 use Rattle.ini_check.specs.declared.warning.Trap.{Trap}
-use Rattle.ini_options.specs.Words.{Word, default_options, given}
+use Rattle.ini_options.specs.Words.{Word}
 use Rattle.ini_options.specs.declared.options.Options.{Options}
 use Rattle.ini_file.specs.Choices.{are_of_saving, have_no_option, is_short_number, no_switch, with_switch}
+use Rattle.ini_file.specs.Likes.{given_like}
 use Rattle.ini_file.specs.declared.check_words.Check.{Check}
 use Rattle.ini_file.specs.declared.check_words.CheckChoices.{CheckChoices}
 use Rattle.ini_file.specs.declared.report_format.Format.{Format}
@@ -143,7 +144,7 @@ check_after o (command ∷ words) =
 
 -- what words check; None where they are no check
 abbrev pub check_asked : List Word → Option Checking
-check_asked words = option_and_then (λ p. check_after p.0 p.1) (given default_options words)
+check_asked words = option_and_then (λ p. check_after p.0 p.1) (given_like words)
 
 -- the check that is kept as borrowed words
 abbrev pub checking_of : Check → Checking

@@ -9,6 +9,7 @@ pub mod FaultWords
 pub mod Forms
 pub mod Hints
 pub mod Inside
+pub mod Likes
 pub mod Looks
 pub mod MergeWords
 pub mod Merges

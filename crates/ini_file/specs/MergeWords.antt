@@ -2,9 +2,10 @@
 use Rattle.std.specs.Prelude.{Bool, not, ◌||◌, if◌then◌else◌, nat_lt, count_by, List, [], ◌∷◌, codes, map}
 use Rattle.std.specs.Prelude.{Option, None, Some, option_and_then, string_bytes}
 use Rattle.std.specs.Str.{bytes_eq}
-use Rattle.ini_options.specs.Words.{Word, default_options, given}
+use Rattle.ini_options.specs.Words.{Word}
 use Rattle.ini_options.specs.declared.options.Options.{Options}
 use Rattle.ini_file.specs.Choices.{Chosen, chosen, chosen_of, no_choice, takes}
+use Rattle.ini_file.specs.Likes.{given_like}
 use Rattle.ini_file.specs.declared.merge_words.Merging.{Merging}
 
 -- the file in which is set what the others set, one at least
@@ -40,7 +41,7 @@ merged_after o (command ∷ words) =
 
 -- what words merge; None where they are no merge
 abbrev pub merge_asked : List Word → Option Merged
-merge_asked words = option_and_then (λ p. merged_after p.0 p.1) (given default_options words)
+merge_asked words = option_and_then (λ p. merged_after p.0 p.1) (given_like words)
 
 -- the merge that is kept as borrowed words
 abbrev pub merging_of : Merging → Merged

@@ -4,21 +4,22 @@ use Rattle.std.specs.Prelude.{◌==◌, ◌||◌, ◌++◌, Bool, true, false, n
 use Rattle.std.specs.Prelude.{option_to_list, List, [], ◌∷◌, codes, Option, None, Some, is_some, string_bytes}
 use Rattle.std.specs.Borrow.{Bor}
 use Rattle.std.specs.List.{slice_get}
-use Rattle.std.specs.Option.{option_map, option_map_or}
+use Rattle.std.specs.Option.{option_map, option_map_or, option_or}
 use Rattle.std.specs.Str.{bytes_eq}
 use Rattle.ini_options.specs.Words.{Word}
 use Rattle.ini_file.specs.Spelling.{is_like_option, kind_of, spelled, takes_text}
 use Rattle.ini_file.specs.declared.order.Sorted as sorted_words
 use Rattle.ini_file.specs.declared.spelling.Kind.{Kind}
 use Rattle.ini_file.specs.declared.spelling.Kind.TheVariants.{Reading, ReadingText, Choice, ChoiceText}
-use Rattle.ini_file.specs.declared.spelling.Kind.TheVariants.{Section, Help}
+use Rattle.ini_file.specs.declared.spelling.Kind.TheVariants.{Section, Like, Help}
 
--- the options of reading and writing, and the choices, each with its text; the section that is named; whether
--- help is asked for; and the other words, of which the command is the first
+-- the options of reading and writing, and the choices, each with its text; the section that is named, and the
+-- dialect; whether help is asked for; and the other words, of which the command is the first
 pub record Sorted : Type 0 where
   pub options : List Word
   pub choices : List Word
   pub section : Option Word
+  pub like : Option Word
   pub help : Bool
   pub others : List Word
 
@@ -27,6 +28,7 @@ no_words = record {
   options = [];
   choices = [];
   section = None;
+  like = None;
   help = false;
   others = [];
 }
@@ -50,6 +52,7 @@ abbrev pub with_text : Kind → Word → Word → Sorted → Sorted
 with_text ReadingText name text s = record s { options = s.options ++ name ∷ text ∷ [] }
 with_text ChoiceText name text s = record s { choices = s.choices ++ name ∷ text ∷ [] }
 with_text Section name text s = record s { section = Some text }
+with_text Like name text s = record s { like = Some text }
 with_text _ name text s = s
 
 -- the words sorted, after those that s has; None where a word looks like an option and is none, or where an
@@ -87,12 +90,25 @@ abbrev pub takes_section : Word → ℕ → Bool → Bool
 takes_section command count named =
     not named || option_map_or (λ before. before == count) (before_section command) false
 
+-- where no dialect is named, this one
+abbrev pub or_like : Option Word → Sorted → Sorted
+or_like name s = record s { like = option_or s.like name }
+
+-- the words that name a dialect
+abbrev pub like_words : Option Word → List Word
+like_words None = []
+like_words (Some name) = codes "--like" ∷ name ∷ []
+
+-- what stands before the command
+unfoldable pub front_words : Sorted → List Word
+front_words s = like_words s.like ++ s.options
+
 -- the command and its arguments in order, between the others
 abbrev pub in_order_after : Sorted → List Word → Option (List Word)
 in_order_after s [] = None
 in_order_after s (command ∷ arguments) =
     if takes_section command (length arguments) (is_some s.section)
-    then Some (s.options ++ command ∷ (s.choices ++ codes "--" ∷ (arguments ++ option_to_list s.section)))
+    then Some (front_words s ++ command ∷ (s.choices ++ codes "--" ∷ (arguments ++ option_to_list s.section)))
     else None
 
 -- sorted words in order; None where the command is missing, or doesn't take the section that is named
@@ -126,6 +142,7 @@ sorted_of s = record {
   options = words_of s.options.items;
   choices = words_of s.choices.items;
   section = option_map (λ name. name.now) s.section;
+  like = option_map (λ name. name.now) s.like;
   help = s.help;
   others = words_of s.others.items;
 }

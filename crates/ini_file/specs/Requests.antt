@@ -1,7 +1,9 @@
 -- What the program may be asked to do with a file.
-use Rattle.std.specs.Prelude.{Bool, Option, None, Some}
+use Rattle.std.specs.Prelude.{Bool, Option, None, Some, unwrap_or}
 use Rattle.ini.specs.Texts.{Text, str_name, str_text}
 use Rattle.ini_edit.specs.Editings.{Editing, editing_of}
+use Rattle.ini_dialect.specs.Dialects.{Preset, shown}
+use Rattle.ini_dialect.specs.declared.rule.Lookup.{Lookup}
 use Rattle.ini_options.specs.Words.{Word}
 use Rattle.ini_options.specs.declared.options.Options.{Options}
 use Rattle.ini_file.specs.Choices.{Chosen, chosen_of}
@@ -11,15 +13,15 @@ use Rattle.ini_file.specs.declared.words.Command.TheVariants as command
 use Rattle.ini_file.specs.declared.words.Question.{Question}
 use Rattle.ini_file.specs.declared.words.Question.TheVariants as question
 
--- Where no section is named it is the general one. With `null` names, keys and values are written as they
--- stand, with NUL after each; with `all` each value of the key is got; with a default that where there is
--- none.
+-- Under a rule, which says which sections, values and keys count. Where no section is named it is the
+-- general one. With `null` names, keys and values are written as they stand, with NUL after each; with
+-- `all` each value of the key is got; with a default that where there is none.
 pub data Asking : Type 0 where
   Format : Asking
   Listing : (null : Bool) → Asking
-  Sections : (null : Bool) → Asking
-  Keys : (null : Bool) (section : Option Text) → Asking
-  Get : (null all : Bool) (key : Text) (section default : Option Text) → Asking
+  Sections : (rule : Lookup) (null : Bool) → Asking
+  Keys : (rule : Lookup) (null : Bool) (section : Option Text) → Asking
+  Get : (rule : Lookup) (null all : Bool) (key : Text) (section default : Option Text) → Asking
 
 -- to write something of the file's document, or to change its text
 pub data Request : Type 0 where
@@ -28,9 +30,10 @@ pub data Request : Type 0 where
 
 abbrev pub asking_of : Question → Asking
 asking_of (question.List null) = Listing null
-asking_of (question.Sections null) = Sections null
-asking_of (question.Keys section null) = Keys null (str_name section)
-asking_of (question.Get l) = Get l.null l.all (str_text l.key) (str_name l.section) (str_name l.default)
+asking_of (question.Sections rule null) = Sections rule null
+asking_of (question.Keys rule section null) = Keys rule null (str_name section)
+asking_of (question.Get l) =
+    Get l.rule l.null l.all (str_text l.key) (str_name l.section) (str_name l.default)
 
 -- the request that a command stands for
 abbrev pub request_of : Command → Request
@@ -45,13 +48,19 @@ edit_asked (Change e) = Some e
 
 -- what the words of the program ask for
 pub record Asks : Type 0 where
+  pub dialect : Preset
   pub options : Options
   pub choices : Chosen
   pub file : Word
   pub request : Request
 
+-- what stands between key and value of new lines
+abbrev pub separator_asked : Asks → Word
+separator_asked a = unwrap_or a.choices.separator a.dialect.kv_separator
+
 abbrev pub asks_of : Invocation → Asks
 asks_of a = record {
+  dialect = shown a.dialect.now;
   options = a.options;
   choices = chosen_of a.choices;
   file = a.file.now;

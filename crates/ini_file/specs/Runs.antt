@@ -18,7 +18,7 @@ use Rattle.ini_options.specs.declared.options.Options.{Options}
 use Rattle.ini_file.specs.Bytes.{byte_order_mark_of}
 use Rattle.ini_file.specs.Edits.{IsChanged, RefusesEdit}
 use Rattle.ini_file.specs.Outputs.{output}
-use Rattle.ini_file.specs.Requests.{Asking, Asks, Request, Ask, Change}
+use Rattle.ini_file.specs.Requests.{Asking, Asks, Request, Ask, Change, separator_asked}
 use Rattle.ini_file.specs.Words.{asks_of_words}
 use Rattle.ini_file.specs.Writing.{IsWriting, Separates}
 use Rattle.ini_file.specs.declared.run.Outcome.{Outcome}
@@ -75,7 +75,7 @@ EndsAs o separator r byte_order_mark T (Refused refused) =
 abbrev pub EndsOn : List ℕ → Asks → Outcome → Type 0
 EndsOn input a (Refused (refusal.Text NotUtf8)) = ¬ (IsUtf8 (without_byte_order_mark input))
 EndsOn input a end =
-    IsTextWith (λ T. EndsAs a.options a.choices.separator a.request (byte_order_mark_of input) T end)
+    IsTextWith (λ T. EndsAs a.options (Some (separator_asked a)) a.request (byte_order_mark_of input) T end)
     (without_byte_order_mark input)
 
 -- how a run of the words over the file's bytes ends
@@ -119,5 +119,5 @@ status_of (Refused refusal.Separator) = 2
 -- what is reported of words that are none of the program's
 abbrev pub usage_line : List ℕ
 usage_line =
-    codes "usage: ini_file [--noescape] [--noquote] [--multiline] [--indent] [--brackets] [--crlf] "
-    ++ codes "[--policy NAME] COMMAND [CHOICE].. [--] FILE [ARGUMENT]..\n"
+    codes "usage: ini_file [--like NAME] [--noescape] [--noquote] [--multiline] [--indent] [--brackets] "
+    ++ codes "[--crlf] [--policy NAME] COMMAND [CHOICE].. [--] FILE [ARGUMENT]..\n"

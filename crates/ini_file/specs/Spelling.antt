@@ -7,7 +7,7 @@ use Rattle.std.specs.Str.{bytes_eq}
 use Rattle.ini_options.specs.Words.{Word}
 use Rattle.ini_file.specs.declared.spelling.Kind.{Kind}
 use Rattle.ini_file.specs.declared.spelling.Kind.TheVariants.{Reading, ReadingText, Choice, ChoiceText}
-use Rattle.ini_file.specs.declared.spelling.Kind.TheVariants.{Section, Help}
+use Rattle.ini_file.specs.declared.spelling.Kind.TheVariants.{Section, Like, Help}
 
 -- what an option's long name names
 abbrev pub kind_of : Word → Option Kind
@@ -25,6 +25,7 @@ kind_of name =
     || bytes_eq name (codes "--format") || bytes_eq name (codes "--allow")
     || bytes_eq name (codes "--deny") then Some ChoiceText
     else if bytes_eq name (codes "--section") then Some Section
+    else if bytes_eq name (codes "--like") then Some Like
     else if bytes_eq name (codes "--help") then Some Help
     else None
 
@@ -33,6 +34,7 @@ abbrev pub takes_text : Kind → Bool
 takes_text ReadingText = true
 takes_text ChoiceText = true
 takes_text Section = true
+takes_text Like = true
 takes_text _ = false
 
 -- what stands before the first `=` of a word, and after it; all of it where there is none

@@ -7,6 +7,7 @@ ghost use Rattle.ini_file.specs.CheckWords.{files_named, no_check_choice, takes_
 ghost use Rattle.ini_file.specs.CheckWords.{with_text, with_word};
 
 use crate::choices::{Switches, have_no_option, is_short_number};
+use crate::like::options_of;
 use crate::report_format::Format;
 use crate::reported::names_traps;
 use ini::ParseOption;
@@ -89,13 +90,13 @@ pub struct Check<'a> {
     pub files: &'a [String],
 }
 
-/// What the words check, if they are a check: options, of which those of reading count; then `check`, choices
-/// of its own, `--` or nothing, and one file or more, of which none begins with `--` where that word doesn't
-/// stand before it. Of several forms the last holds. Takes no memory.
+/// What the words check, if they are a check: a dialect or none; options, of which those of reading count;
+/// then `check`, choices of its own, `--` or nothing, and one file or more, of which none begins with `--`
+/// where that word doesn't stand before it. Of several forms the last holds. Takes no memory.
 pub fn check_of(words: &[String]) -> Option<Check<'_>>
     ensures { option_map checking_of result ≡ check_asked (map string_bytes words.now) }
 {
-    let (options, following) = Options::of_words(words)?;
+    let (options, following) = options_of(words)?;
     let (command, choices) = following.split_first()?;
     if command.as_str() != "check" {
         return None;

@@ -6,16 +6,19 @@ ghost use Rattle.ini_file.specs.Forms.{listing_form};
 ghost use Rattle.ini_file.specs.Outputs.{output};
 ghost use Rattle.ini_lines.specs.Prints.{Prints};
 
+use crate::listed::{list_keys, list_names};
 use crate::lookup::get;
 use crate::words::Question;
 use ini::{Error, Watched, WriteOption};
-use ini_lines::{Form, keys, list, sections};
+use ini_lines::{Form, list};
 use ini_view::View;
+use std::alloc::Global;
 use std::io::Write;
 
 /// Writes what the question asks of the document, and answers whether what it asks for was there. `option`
 /// is how documents are written, which changes no answer.
 pub fn answer<W: Write>(
+    alloc: Global,
     question: Question<'_>,
     document: &View<'_>,
     option: WriteOption,
@@ -27,9 +30,15 @@ pub fn answer<W: Write>(
 {
     match question {
         Question::List { null } => list(document, listing_form(null), out),
-        Question::Sections { null } => sections(document, listing_form(null), out),
-        Question::Keys { section, null } => keys(document, section, listing_form(null), out),
-        Question::Get(lookup) => get(document, lookup, out),
+        Question::Sections { rule, null } => {
+            list_names(alloc, rule, document, listing_form(null), out)
+        }
+        Question::Keys {
+            rule,
+            section,
+            null,
+        } => { list_keys(alloc, rule, document, section, listing_form(null), out) }
+        Question::Get(wanted) => get(alloc, document, wanted, out),
     }
 }
 

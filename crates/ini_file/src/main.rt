@@ -20,7 +20,9 @@ mod fault_words;
 mod files;
 mod fix;
 mod hints;
+mod like;
 mod lines;
+mod listed;
 mod lock;
 mod looks;
 mod lookup;
@@ -65,6 +67,8 @@ use order::{Sorted, in_order, sort};
 use page::{help_of, text_of_page};
 use refusals::refuse;
 use run::{Outcome, run, status, tell};
+use std::alloc::AllocError;
+use std::env::{self, VarError};
 use std::process::ExitCode;
 use target::{Target, handed_on};
 use unwritable::reason_of;
@@ -120,10 +124,19 @@ fn run_given(rt: &HostRuntime, given: &[String]) -> u8 {
     if let Some(page) = page_of(given) {
         return print_page(rt, text_of_page(page));
     }
-    let sorted = match sort(rt.alloc(), given) {
+    match dialect_of_environment(rt) {
+        Ok(named) => run_like(rt, given, named.as_deref()),
+        Err(refusal) => tell_alone(rt, &Outcome::from(refusal)),
+    }
+}
+
+// The same of words that may name a dialect; where they don't, this one is meant, if there is one.
+fn run_like<'a>(rt: &HostRuntime, given: &'a [String], named: Option<&'a str>) -> u8 {
+    let mut sorted = match sort(rt.alloc(), given) {
         Ok(sorted) => sorted,
         Err(error) => return tell_usage_error(error, &mut rt.stderr()),
     };
+    sorted.like_if_none(named);
     if sorted.asks_help() {
         return print_help(rt, &sorted);
     }
@@ -131,6 +144,16 @@ fn run_given(rt: &HostRuntime, given: &[String]) -> u8 {
         Ok(Some(words)) => run_words(rt, &sorted, words.as_slice()),
         Ok(None) => refuse_words(rt, &sorted),
         Err(refused) => tell_usage_error(UsageError::from(refused), &mut rt.stderr()),
+    }
+}
+
+// The dialect that the environment names, if it names one.
+fn dialect_of_environment(rt: &HostRuntime) -> Result<Option<String>, Error> {
+    match env::var(rt, "INI_LIKE") {
+        Ok(name) => Ok(Some(name).filter(|name| !name.is_empty())),
+        Err(VarError::NotPresent) => Ok(None),
+        Err(VarError::NotUnicode) => Err(Error::NotUtf8),
+        Err(VarError::OutOfMemory) => Err(Error::Memory(AllocError)),
     }
 }
 

@@ -1,11 +1,12 @@
-//! The words of a merge: options, `merge`, its choices, a file and others. This file knows no document and no
-//! device.
+//! The words of a merge: options, `merge`, its choices, a file and others. This file knows no document and
+//! no device.
 ghost use Rattle.std.specs.Prelude.{◌≡◌, map, string_bytes};
 ghost use Rattle.std.specs.Option.{option_map};
 ghost use Rattle.ini_file.specs.MergeWords.{merge_asked, merge_of_files, merging_of, reads_input_twice};
 ghost use Rattle.ini_file.specs.Choices.{chosen_of};
 
 use crate::choices::Choices;
+use crate::like::options_of;
 use ini_options::Options;
 
 /// What the words of a merge are.
@@ -21,12 +22,12 @@ pub struct Merging<'a> {
     pub others: &'a [String],
 }
 
-/// What the words merge, if they are a merge: options, `merge`, its choices, a file and one other or more, of
-/// which all one at most is standard input. Takes no memory.
+/// What the words merge, if they are a merge: a dialect or none, options, `merge`, its choices, a file and
+/// one other or more, of which all one at most is standard input. Takes no memory.
 pub fn merge_of(words: &[String]) -> Option<Merging<'_>>
     ensures { option_map merging_of result ≡ merge_asked (map string_bytes words.now) }
 {
-    let (options, following) = Options::of_words(words)?;
+    let (options, following) = options_of(words)?;
     let (command, following) = following.split_first()?;
     if command.as_str() != "merge" {
         return None;

@@ -6,7 +6,7 @@ ghost use Rattle.std.specs.Prelude.{is_some, length, map, string_bytes};
 ghost use Rattle.std.specs.Option.{option_map};
 ghost use Rattle.std.specs.Str.{bytes_eq};
 ghost use Rattle.ini_file.specs.Order.{before_section, in_order, no_words, sorted, sorted_of, takes_section};
-ghost use Rattle.ini_file.specs.Order.{asks_help, command_of_help};
+ghost use Rattle.ini_file.specs.Order.{asks_help, command_of_help, front_words, like_words, or_like};
 ghost use Rattle.ini_file.specs.Order.{with_alone, with_other, with_others, with_text, words_of};
 ghost use Rattle.ini_file.specs.UsageErrors.{UnlessMemory};
 
@@ -23,6 +23,8 @@ pub struct Sorted<'a> {
     pub choices: Vec<&'a str>,
     /// The section that is named by itself.
     pub section: Option<&'a str>,
+    /// The dialect that is named.
+    pub like: Option<&'a str>,
     /// Whether help is asked for.
     pub help: bool,
     /// The other words, of which the command is the first.
@@ -53,6 +55,16 @@ pub fn sort(alloc: Global, words: &[String]) -> Result<Sorted<'_>, UsageError<'_
 }
 
 impl<'a> Sorted<'a> {
+    /// Names this dialect where none is named.
+    pub fn like_if_none(&mut self, name: Option<&'a str>)
+        ensures { sorted_of self.new
+            ≡ or_like (option_map (λ name. name.now) name.entry) (sorted_of self.old) }
+    {
+        if self.like.is_none() {
+            self.like = name;
+        }
+    }
+
     /// Whether help is asked for, by an option or a command.
     pub fn asks_help(&self) -> bool
         ensures { result ≡ asks_help (sorted_of self.now) }
@@ -80,6 +92,7 @@ impl<'a> Sorted<'a> {
             options: Vec::new(alloc),
             choices: Vec::new(alloc),
             section: None,
+            like: None,
             help: false,
             others: Vec::new(alloc),
         }
@@ -151,6 +164,7 @@ impl<'a> Sorted<'a> {
             Kind::ReadingText => self.options.extend_from_slice(&[name, text])?,
             Kind::ChoiceText => self.choices.extend_from_slice(&[name, text])?,
             Kind::Section => self.section = Some(text),
+            Kind::Like => self.like = Some(text),
             _ => {}
         }
         Ok(())
@@ -181,7 +195,7 @@ pub fn in_order(alloc: Global, sorted: &Sorted<'_>) -> Result<Option<Vec<String>
         return Ok(None);
     }
     let mut words = Vec::new(alloc);
-    push_all(alloc, &mut words, sorted.options.as_slice())?;
+    push_front(alloc, &mut words, sorted)?;
     push_all(alloc, &mut words, &[*command])?;
     push_all(alloc, &mut words, sorted.choices.as_slice())?;
     push_all(alloc, &mut words, &["--"])?;
@@ -190,6 +204,27 @@ pub fn in_order(alloc: Global, sorted: &Sorted<'_>) -> Result<Option<Vec<String>
         push_all(alloc, &mut words, &[name])?;
     }
     Ok(Some(words))
+}
+
+// Puts the words last that stand before the command: those that name a dialect, and the options.
+#[tactic(auto, unfolding(crate::specs::Order::front_words))]
+fn push_front(alloc: Global, words: &mut Vec<String>, sorted: &Sorted<'_>) -> Result<(), AllocError>
+    ensures { OnOk result (map string_bytes words.new.items
+        ≡ map string_bytes words.old.items ++ front_words (sorted_of sorted.now)) }
+{
+    push_like(alloc, words, sorted.like)?;
+    push_all(alloc, words, sorted.options.as_slice())
+}
+
+// Puts the words last that name a dialect, if one is named.
+fn push_like(alloc: Global, words: &mut Vec<String>, like: Option<&str>) -> Result<(), AllocError>
+    ensures { OnOk result (map string_bytes words.new.items ≡ map string_bytes words.old.items
+        ++ like_words (option_map (λ name. name.now) like.entry)) }
+{
+    match like {
+        Some(name) => push_all(alloc, words, &["--like", name]),
+        None => Ok(()),
+    }
 }
 
 // Whether the command with so many arguments takes a section that is named by itself, if one is.

@@ -82,7 +82,8 @@ pub fn run(alloc: Global, words: &[String], input: &[u8]) -> Outcome
         Ok(parts) => parts,
         Err(refused) => return Outcome::from(refused),
     };
-    let (options, separator) = (asked.options, asked.choices.separator);
+    let options = asked.options;
+    let separator = Some(asked.separator());
     let made = match asked.command {
         Command::Format => format(alloc, options, separator, text),
         Command::Ask(question) => ask(alloc, options, separator, question, text),
@@ -138,7 +139,7 @@ fn ask(
     let option = writing(alloc, options, separator)?;
     let document = View::load_from_str_opt(alloc, text, options.reading)?;
     let mut bytes = Vec::new(alloc);
-    match answer_to(question, &document, option, &mut bytes) {
+    match answer_to(alloc, question, &document, option, &mut bytes) {
         Ok(true) => Ok(Some(bytes)),
         Ok(false) => Ok(None),
         Err(_) => Err(EditError::Text(Error::Memory(AllocError))),
@@ -147,6 +148,7 @@ fn ask(
 
 // The answer to a writer that is not watched yet.
 fn answer_to<W: Write>(
+    alloc: Global,
     question: Question<'_>,
     document: &View<'_>,
     option: WriteOption,
@@ -157,7 +159,7 @@ fn answer_to<W: Write>(
     ensures written { OnOk result (IsWrittenTo W.contents writer.old writer.new
         (unwrap_or (output option (asking_of question.entry) document.now) [])) }
 {
-    answer(question, document, option, &mut Watched::new(writer))
+    answer(alloc, question, document, option, &mut Watched::new(writer))
 }
 
 /// Prints how a run over a file ended, where there is something to say: the usage; or the program's name, the

@@ -16,6 +16,8 @@ pub enum Kind {
     ChoiceText,
     /// It names a section.
     Section,
+    /// It names a dialect.
+    Like,
     /// It asks for help.
     Help,
 }
@@ -25,7 +27,10 @@ impl Kind {
     pub fn takes_text(self) -> bool
         ensures { result ≡ takes_text self }
     {
-        matches!(self, Kind::ReadingText | Kind::ChoiceText | Kind::Section)
+        matches!(
+            self,
+            Kind::ReadingText | Kind::ChoiceText | Kind::Section | Kind::Like
+        )
     }
 }
 
@@ -50,6 +55,7 @@ pub fn kind_of(name: &str) -> Option<Kind>
             Some(Kind::ChoiceText)
         }
         "--section" => Some(Kind::Section),
+        "--like" => Some(Kind::Like),
         "--help" => Some(Kind::Help),
         _ => None,
     }

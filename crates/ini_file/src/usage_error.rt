@@ -12,6 +12,7 @@ use crate::reported::names_traps;
 use crate::shown::Shown;
 use crate::spelling::kind_of;
 use ini_check::TRAPS;
+use ini_dialect::{Dialect, dialects};
 use ini_options::policy_named;
 use std::alloc::AllocError;
 use std::io::{self, Write};
@@ -25,6 +26,8 @@ pub enum UsageError<'a> {
     NeedsText(&'a str),
     /// An option with a text that it doesn't take.
     TakesNoText(&'a str),
+    /// No dialect has this name.
+    Dialect(&'a str),
     /// No policy has this name.
     Policy(&'a str),
     /// This is no number of seconds.
@@ -76,9 +79,18 @@ pub fn usage_error_of<'a>(sorted: &Sorted<'a>) -> Option<UsageError<'a>> {
     let Some(shape) = shape_of(command) else {
         return Some(UsageError::Command(*command));
     };
-    policy_error(sorted.options.as_slice())
+    dialect_error(sorted.like)
+        .or(policy_error(sorted.options.as_slice()))
         .or(choice_error(shape, sorted.choices.as_slice()))
         .or(argument_error(shape, arguments, sorted.section))
+}
+
+// The name that is no dialect's.
+fn dialect_error(like: Option<&str>) -> Option<UsageError<'_>> {
+    match Dialect::of_name(like?) {
+        Some(_) => None,
+        None => Some(UsageError::Dialect(like?)),
+    }
 }
 
 // The name that is no policy's.
@@ -187,6 +199,7 @@ fn print_error<W: Write>(error: UsageError<'_>, err: &mut W) -> io::Result<()> {
         }
         UsageError::NeedsText(name) => writeln!(err, "{name} takes {}", text_of(name)),
         UsageError::TakesNoText(name) => writeln!(err, "{name} takes no text"),
+        UsageError::Dialect(name) => print_dialect(name, err),
         UsageError::Policy(name) => {
             let name = Shown(name);
             writeln!(err, "{name} is no policy; --policy takes one of {POLICIES}")
@@ -273,6 +286,16 @@ fn print_trap<W: Write>(name: &str, err: &mut W) -> io::Result<()> {
     )?;
     for trap in TRAPS {
         write!(err, ", {}", trap.name())?;
+    }
+    writeln!(err)
+}
+
+// Prints that no dialect has this name, and which do.
+fn print_dialect<W: Write>(name: &str, err: &mut W) -> io::Result<()> {
+    let name = Shown(name);
+    write!(err, "{name} is no dialect; --like takes one of")?;
+    for named in dialects() {
+        write!(err, " {}", named.name)?;
     }
     writeln!(err)
 }

@@ -5,16 +5,21 @@ ghost use Rattle.std.specs.Option.{option_map};
 ghost use Rattle.ini.specs.Texts.{str_name};
 ghost use Rattle.ini_file.specs.Choices.{chosen_of};
 ghost use Rattle.ini_edit.specs.Editings.{editing_of};
-ghost use Rattle.ini_file.specs.Requests.{asks_of, edit_asked, request_of};
+ghost use Rattle.ini_file.specs.Requests.{asks_of, edit_asked, request_of, separator_asked};
 ghost use Rattle.ini_file.specs.Words.{asks_of_words, getting, request_for, request_alone, request_with_one};
 ghost use Rattle.ini_file.specs.Words.{request_with_three, request_with_two, setting};
 
 use crate::choices::Choices;
+use crate::like::{like_of, options_like};
+use ini_dialect::{Dialect, Lookup as Rule};
 use ini_edit::Edit;
 use ini_options::{Options, usage_line};
 
 /// The line that tells what the program takes, with its line end.
-pub const USAGE: &str = usage_line!("ini_file", "COMMAND [CHOICE].. [--] FILE [ARGUMENT]..",);
+pub const USAGE: &str = usage_line!(
+    "ini_file [--like NAME]",
+    "COMMAND [CHOICE].. [--] FILE [ARGUMENT]..",
+);
 
 /// What is asked of the document of a file. Where no section is named it is the general one. With `null` each
 /// name, key and value is written as it stands, with NUL after it, and no line.
@@ -26,25 +31,29 @@ pub enum Question<'a> {
     },
     /// A line for each name of a section.
     Sections {
+        rule: Rule,
         null: bool,
     },
-    /// A line for each key of the first section of the name.
+    /// A line for each key of the section that is looked at.
     Keys {
+        rule: Rule,
         section: Option<&'a str>,
         null: bool,
     },
     /// The values of a key.
-    Get(Lookup<'a>),
+    Get(Wanted<'a>),
 }
 
 /// Which values are got of a document.
 #[derive(Clone, Copy)]
-pub struct Lookup<'a> {
+pub struct Wanted<'a> {
+    /// Which of several sections and values counts.
+    pub rule: Rule,
     /// The key.
     pub key: &'a str,
-    /// The first section of this name.
+    /// The section's name.
     pub section: Option<&'a str>,
-    /// Each value of the key, not the first alone.
+    /// Each value of the key, not the one that counts alone.
     pub all: bool,
     /// The value where the key isn't there.
     pub default: Option<&'a str>,
@@ -66,6 +75,8 @@ pub enum Command<'a> {
 /// What the words of the program are.
 #[derive(Clone, Copy)]
 pub struct Invocation<'a> {
+    /// What is named with `--like`.
+    pub dialect: &'static Dialect,
     /// How the file is read and written.
     pub options: Options,
     /// The options after the command.
@@ -77,6 +88,14 @@ pub struct Invocation<'a> {
 }
 
 impl<'a> Invocation<'a> {
+    /// What stands between key and value of new lines: what is chosen, else as the dialect has it.
+    pub fn separator(self) -> &'a str
+        ensures { result.now ≡ separator_asked (asks_of self.entry) }
+    {
+        let (choices, dialect) = (self.choices, self.dialect);
+        choices.separator.unwrap_or(dialect.write.kv_separator)
+    }
+
     /// The change in the file's text that is asked for, if one is.
     pub fn edit(self) -> Option<Edit<'a>>
         ensures { option_map editing_of result ≡ edit_asked (request_of self.entry.command) }
@@ -89,14 +108,19 @@ impl<'a> Invocation<'a> {
 }
 
 // The command of a word and its arguments.
-fn command_of<'a>(word: &str, choices: Choices<'a>, arguments: &'a [String]) -> Option<Command<'a>>
+fn command_of<'a>(
+    word: &str,
+    rule: Rule,
+    choices: Choices<'a>,
+    arguments: &'a [String],
+) -> Option<Command<'a>>
     ensures { option_map request_of result
-        ≡ request_for word.now (chosen_of choices.entry) (map string_bytes arguments.now) }
+        ≡ request_for word.now rule (chosen_of choices.entry) (map string_bytes arguments.now) }
 {
     match arguments {
-        [] => with_none(word, choices),
-        [first] => with_one(word, choices, first.as_str()),
-        [first, second] => with_two(word, choices, first.as_str(), second.as_str()),
+        [] => with_none(word, rule, choices),
+        [first] => with_one(word, rule, choices, first.as_str()),
+        [first, second] => with_two(word, rule, choices, first.as_str(), second.as_str()),
         [first, second, third] => {
             with_three(
                 word,
@@ -111,15 +135,16 @@ fn command_of<'a>(word: &str, choices: Choices<'a>, arguments: &'a [String]) -> 
 }
 
 // The command of a word without arguments.
-fn with_none<'a>(word: &str, choices: Choices<'a>) -> Option<Command<'a>>
-    ensures { option_map request_of result ≡ request_alone word.now (chosen_of choices.entry) }
+fn with_none<'a>(word: &str, rule: Rule, choices: Choices<'a>) -> Option<Command<'a>>
+    ensures { option_map request_of result ≡ request_alone word.now rule (chosen_of choices.entry) }
 {
     let null = choices.switches.null;
     match word {
         "format" => Some(Command::Format),
         "list" => Some(Command::Ask(Question::List { null })),
-        "sections" => Some(Command::Ask(Question::Sections { null })),
+        "sections" => Some(Command::Ask(Question::Sections { rule, null })),
         "keys" => Some(Command::Ask(Question::Keys {
+            rule,
             section: None,
             null,
         })),
@@ -128,11 +153,17 @@ fn with_none<'a>(word: &str, choices: Choices<'a>) -> Option<Command<'a>>
 }
 
 // The command `get`.
-fn get_of<'a>(choices: Choices<'a>, key: &'a str, section: Option<&'a str>) -> Option<Command<'a>>
+fn get_of<'a>(
+    rule: Rule,
+    choices: Choices<'a>,
+    key: &'a str,
+    section: Option<&'a str>,
+) -> Option<Command<'a>>
     ensures { option_map request_of result
-        ≡ getting (chosen_of choices.entry) (chars key.now) (str_name section.entry) }
+        ≡ getting rule (chosen_of choices.entry) (chars key.now) (str_name section.entry) }
 {
-    Some(Command::Ask(Question::Get(Lookup {
+    Some(Command::Ask(Question::Get(Wanted {
+        rule,
         key,
         section,
         all: choices.switches.all,
@@ -142,14 +173,18 @@ fn get_of<'a>(choices: Choices<'a>, key: &'a str, section: Option<&'a str>) -> O
 }
 
 // The command of a word with one argument.
-fn with_one<'a>(word: &str, choices: Choices<'a>, first: &'a str) -> Option<Command<'a>>
+fn with_one<'a>(word: &str, rule: Rule, choices: Choices<'a>, first: &'a str) -> Option<Command<'a>>
     ensures { option_map request_of result
-        ≡ request_with_one word.now (chosen_of choices.entry) (chars first.now) }
+        ≡ request_with_one word.now rule (chosen_of choices.entry) (chars first.now) }
 {
     let (key, section, null) = (first, Some(first), choices.switches.null);
     match word {
-        "get" => get_of(choices, key, None),
-        "keys" => Some(Command::Ask(Question::Keys { section, null })),
+        "get" => get_of(rule, choices, key, None),
+        "keys" => Some(Command::Ask(Question::Keys {
+            rule,
+            section,
+            null,
+        })),
         "delete" => Some(Command::Change(Edit::Delete { name: None, key })),
         "delete-section" => Some(Command::Change(Edit::DeleteSection { name: first })),
         _ => None,
@@ -159,16 +194,17 @@ fn with_one<'a>(word: &str, choices: Choices<'a>, first: &'a str) -> Option<Comm
 // The command of a word with two arguments.
 fn with_two<'a>(
     word: &str,
+    rule: Rule,
     choices: Choices<'a>,
     key: &'a str,
     second: &'a str,
 ) -> Option<Command<'a>>
     ensures { option_map request_of result
-        ≡ request_with_two word.now (chosen_of choices.entry) (chars key.now) (chars second.now) }
+        ≡ request_with_two word.now rule (chosen_of choices.entry) (chars key.now) (chars second.now) }
 {
     let section = Some(second);
     match word {
-        "get" => get_of(choices, key, section),
+        "get" => get_of(rule, choices, key, section),
         "delete" => Some(Command::Change(Edit::Delete { name: section, key })),
         "set" => set_of(choices, None, key, second),
         "add" => {
@@ -239,22 +275,24 @@ fn set_of<'a>(
     Some(Command::Change(edit))
 }
 
-/// What the words are, if they are the program's: options of reading and writing in any order, each as often
-/// as one likes, of which the last `--policy` holds; then a command, and options of the program's own up to
-/// the first word that is none, or up to `--`; then the name of a file, and the command's arguments, whatever
-/// they begin with. Takes no memory.
+/// What the words are, if they are the program's: `--like` and a dialect, or nothing; options of reading
+/// and writing in any order, each as often as one likes, of which the last `--policy` holds; then a
+/// command, and options of the program's own up to the first word that is none, or up to `--`; then the
+/// name of a file, and the command's arguments, whatever they begin with. Takes no memory.
 pub fn parse(words: &[String]) -> Option<Invocation<'_>>
     ensures { option_map asks_of result ≡ asks_of_words (map string_bytes words.now) }
 {
-    let (options, following) = Options::of_words(words)?;
+    let (dialect, following) = like_of(words)?;
+    let (options, following) = options_like(dialect).with_words(following)?;
     let (word, following) = following.split_first()?;
     let (choices, following) = Choices::of_words(following)?;
     let (file, arguments) = following.split_first()?;
     if !choices.apply_to(word.as_str()) {
         return None;
     }
-    let command = command_of(word.as_str(), choices, arguments)?;
+    let command = command_of(word.as_str(), dialect.lookup, choices, arguments)?;
     Some(Invocation {
+        dialect,
         options,
         choices,
         file: file.as_str(),

@@ -1,10 +1,11 @@
 -- What the programs write of a document: of its sections, its keys, values and pairs.
-use Rattle.std.specs.Prelude.{ℕ, [], ◌∷◌, ◌++◌, flat_map, Option, None, Some}
+use Rattle.std.specs.Prelude.{ℕ, List, [], ◌∷◌, ◌++◌, flat_map, Option, None, Some}
+use Rattle.std.specs.Borrow.{Bor}
 use Rattle.std.specs.Option.{option_map}
 use Rattle.ini_text.specs.Grammar.CharacterKinds.{close_bracket, line_feed, open_bracket, tab}
 use Rattle.ini_text.specs.Escaping.EscapedTexts.{escaped}
 use Rattle.ini_text.specs.declared.write.policy.EscapePolicy.TheVariants.{Basics}
-use Rattle.ini.specs.Texts.{Text}
+use Rattle.ini.specs.Texts.{Text, str_name, str_text}
 use Rattle.ini.specs.Documents.{Document, first_section, names}
 use Rattle.ini.specs.Properties.{Pairs}
 use Rattle.ini_lines.specs.declared.form.Form.{Form}
@@ -51,6 +52,13 @@ entry form text = text_in form text ++ end_in form ∷ []
 abbrev pub name_entry : Form → Option Text → Text
 name_entry form None = []
 name_entry form (Some name) = entry form name
+
+-- the same of texts and of names that are lent
+abbrev pub text_entry : Form → Bor (List ℕ) → Text
+text_entry form text = entry form (str_text text)
+
+abbrev pub lent_name_entry : Form → Option (Bor (List ℕ)) → Text
+lent_name_entry form name = name_entry form (str_name name)
 
 -- each distinct name, in the order of first occurrence
 abbrev pub name_entries : Form → Document → Text

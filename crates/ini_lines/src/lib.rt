@@ -8,10 +8,9 @@ ghost use Rattle.std.specs.Prelude.{Some, chars, encode_utf8_all, flat_map};
 ghost use Rattle.std.specs.Option.{option_map};
 ghost use Rattle.ini_text.specs.Device.Gathering.{Sends};
 ghost use Rattle.ini_text.specs.Device.Watched.{IsClear, WritesBytes};
-ghost use Rattle.ini.specs.Properties.{values};
 ghost use Rattle.ini.specs.Texts.{str_name};
 ghost use Rattle.ini_lines.specs.Lines.{entries_of_keys, entry, key_entries, listed_pairs, listed_pair, name_entries};
-ghost use Rattle.ini_lines.specs.Lines.{name_entry};
+ghost use Rattle.ini_lines.specs.Lines.{lent_name_entry, name_entry, text_entry};
 ghost use Rattle.ini_lines.specs.Prints.{Prints};
 
 mod form;
@@ -183,6 +182,52 @@ fn put_name<W: Write>(
     }
 }
 
+/// Writes the names, in order. The general section has no name. The answer is `true`.
+pub fn names<W: Write>(
+    names: &[Option<&str>],
+    form: Form,
+    out: &mut Watched<'_, W>,
+) -> Result<bool, Error>
+    requires { IsClear out.old }
+    ensures { Prints W.contents out.old out.new result
+        (Some (flat_map (lent_name_entry form) names.now)) }
+{
+    write_given_names(names, form, out)?;
+    Ok(true)
+}
+
+// The names.
+fn write_given_names<W: Write>(
+    names: &[Option<&str>],
+    form: Form,
+    out: &mut Watched<'_, W>,
+) -> Result<(), Error>
+    requires { IsClear out.old }
+    ensures { WritesBytes W.contents out.old out.new result
+        (encode_utf8_all (flat_map (lent_name_entry form) names.now)) }
+{
+    let mut lines = Gatherer::new();
+    put_given_names(&mut lines, form, names, out)?;
+    lines.flush(out)
+}
+
+// The names.
+fn put_given_names<W: Write>(
+    lines: &mut Gatherer,
+    form: Form,
+    names: &[Option<&str>],
+    out: &mut Watched<'_, W>,
+) -> Result<(), Error>
+    requires { IsClear out.old }
+    ensures { Sends W.contents out.old out.new lines.old lines.new result
+        (flat_map (lent_name_entry form) names.now) }
+{
+    for name in names {
+        put_name(lines, form, *name, out)?;
+    }
+    Ok(())
+}
+
 /// Writes the key of each pair in the first section of the name. Where there is no such section, the answer
 /// is `false`, and nothing is written.
 pub fn keys<W: Write>(
@@ -262,51 +307,48 @@ fn write_entry<W: Write>(text: &str, form: Form, out: &mut Watched<'_, W>) -> Re
     lines.flush(out)
 }
 
-/// Writes each value of the key, in order. The answer is `true`.
-pub fn values<W: Write>(
-    pairs: &ViewSection<'_>,
-    key: &str,
+/// Writes the texts, in order, each with its end. The answer is `true`.
+pub fn entries<W: Write>(
+    texts: &[&str],
     form: Form,
     out: &mut Watched<'_, W>,
 ) -> Result<bool, Error>
     requires { IsClear out.old }
     ensures { Prints W.contents out.old out.new result
-        (Some (flat_map (entry form) (values (chars key.now) pairs.now))) }
+        (Some (flat_map (text_entry form) texts.now)) }
 {
-    write_values(pairs, key, form, out)?;
+    write_entries(texts, form, out)?;
     Ok(true)
 }
 
-// Each value of the key.
-fn write_values<W: Write>(
-    pairs: &ViewSection<'_>,
-    key: &str,
+// Each text.
+fn write_entries<W: Write>(
+    texts: &[&str],
     form: Form,
     out: &mut Watched<'_, W>,
 ) -> Result<(), Error>
     requires { IsClear out.old }
     ensures { WritesBytes W.contents out.old out.new result
-        (encode_utf8_all (flat_map (entry form) (values (chars key.now) pairs.now))) }
+        (encode_utf8_all (flat_map (text_entry form) texts.now)) }
 {
     let mut lines = Gatherer::new();
-    put_values(&mut lines, form, pairs, key, out)?;
+    put_entries(&mut lines, form, texts, out)?;
     lines.flush(out)
 }
 
-// Each value of the key.
-fn put_values<W: Write>(
+// Each text.
+fn put_entries<W: Write>(
     lines: &mut Gatherer,
     form: Form,
-    pairs: &ViewSection<'_>,
-    key: &str,
+    texts: &[&str],
     out: &mut Watched<'_, W>,
 ) -> Result<(), Error>
     requires { IsClear out.old }
     ensures { Sends W.contents out.old out.new lines.old lines.new result
-        (flat_map (entry form) (values (chars key.now) pairs.now)) }
+        (flat_map (text_entry form) texts.now) }
 {
-    for value in pairs.get_all(key) {
-        put_entry(lines, form, value, out)?;
+    for text in texts {
+        put_entry(lines, form, text, out)?;
     }
     Ok(())
 }

@@ -37,7 +37,15 @@ impl Options {
         ensures given { given_by result ≡ given default_options (map string_bytes words.now) }
         ensures no_more { IfSome result (λ p. length p.1.now ≤ length words.now) }
     {
-        let mut options = Options::default();
+        Options::default().with_words(words)
+    }
+
+    /// The same where other options than the default ones hold before the words.
+    pub fn with_words(self, words: &[String]) -> Option<(Options, &[String])>
+        ensures given { given_by result ≡ given self (map string_bytes words.now) }
+        ensures no_more { IfSome result (λ p. length p.1.now ≤ length words.now) }
+    {
+        let mut options = self;
         let mut rest = words;
         'words: while let Some((word, after)) = rest.split_first() {
             let word = word.as_str();

@@ -1,10 +1,10 @@
 use Rattle.std.proofs.Common.{◌≡◌, ◌≤◌, length, map, string_bytes}
-use Rattle.ini_options.specs.Words.{default_options, given}
-use Rattle.ini_options.proofs.options.Options.of_words.Given as goal
+use Rattle.ini_options.specs.Words.{given}
+use Rattle.ini_options.proofs.options.Options.with_words.Given as goal
 
 abbrev pub invariant-words : goal.invariant-words
 invariant-words l = record {
-  given : given l.options (map string_bytes l.rest) ≡ given default_options (map string_bytes l.words);
+  given : given l.options (map string_bytes l.rest) ≡ given l.fn.self (map string_bytes l.words);
   no_more : length l.rest ≤ length l.words;
 }
 

@@ -1,0 +1,99 @@
+//! The names and the keys that are listed of a document under a rule. This file knows no word and no reader.
+ghost use Rattle.std.specs.Prelude.{◌≡◌, Some};
+ghost use Rattle.std.specs.List.{list_any};
+ghost use Rattle.ini_text.specs.Device.Watched.{IsClear};
+ghost use Rattle.ini.specs.Texts.{str_name};
+ghost use Rattle.ini_dialect.specs.Lookups.{is_named};
+ghost use Rattle.ini_file.specs.Forms.{keys_listed, keys_once, names_listed};
+ghost use Rattle.ini_lines.specs.Prints.{Prints};
+
+use ini::{Error, Watched};
+use ini_dialect::{AnyDocument, CaseRule, Lookup, SectionRule};
+use ini_lines::{Form, entries, keys, names, sections};
+use ini_view::View;
+use std::alloc::Global;
+use std::io::Write;
+
+/// Writes each name of a section, in the order of first occurrence; where case is ignored, one of those that
+/// differ in it alone. The answer is `true`.
+///
+/// # Errors
+///
+/// Those of `get`; `Memory` only where case is ignored.
+#[tactic(auto, using(crate::proofs::ListedLemmas::lists))]
+pub fn list_names<W: Write>(
+    alloc: Global,
+    rule: Lookup,
+    document: &View<'_>,
+    form: Form,
+    out: &mut Watched<'_, W>,
+) -> Result<bool, Error>
+    requires { IsClear out.old }
+    ensures { Prints W.contents out.old out.new result (Some (names_listed rule form document.now)) }
+{
+    match rule.case {
+        CaseRule::Kept => sections(document, form, out),
+        CaseRule::Ignored => {
+            let all = rule.sections(alloc, AnyDocument::View(document))?;
+            names(all.as_slice(), form, out)
+        }
+    }
+}
+
+/// Writes the keys of the sections of the name that are looked at: of the first one alone, with case kept,
+/// the key of each pair; else each key once. Where there is no such section, the answer is `false`, and
+/// nothing is written.
+///
+/// # Errors
+///
+/// Those of `get`; `Memory` only where each key is written once.
+pub fn list_keys<W: Write>(
+    alloc: Global,
+    rule: Lookup,
+    document: &View<'_>,
+    section: Option<&str>,
+    form: Form,
+    out: &mut Watched<'_, W>,
+) -> Result<bool, Error>
+    requires { IsClear out.old }
+    ensures { Prints W.contents out.old out.new result
+        (keys_listed rule form (str_name section.entry) document.now) }
+{
+    match (rule.sections, rule.case) {
+        (SectionRule::First, CaseRule::Kept) => keys(document, section, form, out),
+        _ => list_keys_once(alloc, rule, document, section, form, out),
+    }
+}
+
+// Each key once.
+#[tactic(auto, using(crate::proofs::ListedLemmas::lists))]
+fn list_keys_once<W: Write>(
+    alloc: Global,
+    rule: Lookup,
+    document: &View<'_>,
+    section: Option<&str>,
+    form: Form,
+    out: &mut Watched<'_, W>,
+) -> Result<bool, Error>
+    requires { IsClear out.old }
+    ensures { Prints W.contents out.old out.new result
+        (keys_once rule form (str_name section.entry) document.now) }
+{
+    if !has_section(rule, document, section) {
+        return Ok(false);
+    }
+    let all = rule.keys(alloc, AnyDocument::View(document), section)?;
+    entries(all.as_slice(), form, out)
+}
+
+// Whether there is a section of the name.
+fn has_section(rule: Lookup, document: &View<'_>, section: Option<&str>) -> bool
+    ensures { result ≡ list_any (is_named rule (str_name section.entry)) document.now }
+{
+    for (name, _) in document {
+        if rule.case.names_fit(section, name) {
+            return true;
+        }
+    }
+    false
+}
