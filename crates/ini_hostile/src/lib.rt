@@ -24,6 +24,8 @@ mod loading;
 #[cfg(test)]
 mod long_texts;
 #[cfg(test)]
+mod merges;
+#[cfg(test)]
 mod multimap;
 #[cfg(test)]
 mod no_memory;

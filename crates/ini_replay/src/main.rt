@@ -6,6 +6,7 @@
 //! - `answers`: what loading a text gives, or what is written of it then (`answers.rt`);
 //! - `edits`: the new text that an edit gives (`edits.rt`);
 //! - `pieces`: what edits of a text in pieces make of it, one after another (`pieces.rt`);
+//! - `merges`: what a three-way merge makes of three texts (`merges.rt`);
 //! - `calls`: many calls of one kind on one document (`calls.rt`);
 //! - `files`: a file that is loaded or saved again and again (`calls/files.rt`);
 //! - `pairs`: steps on a multimap (`calls/multimap.rt`);
@@ -22,6 +23,7 @@ mod calls;
 mod edits;
 mod hex;
 mod items;
+mod merges;
 mod options;
 mod pieces;
 
@@ -37,6 +39,7 @@ fn answer(rt: &HostRuntime, asks: &str, question: &str) -> Result<String, Error>
         "answers" => answers::answer(rt.alloc(), question),
         "edits" => edits::answer(rt.alloc(), question),
         "pieces" => pieces::answer(rt.alloc(), question),
+        "merges" => merges::answer(rt.alloc(), question),
         "calls" => calls::answer(rt.alloc(), question),
         "files" => calls::files::answer(rt, question),
         "pairs" => calls::multimap::answer(rt.alloc(), question),
@@ -95,7 +98,7 @@ fn measure(rt: &HostRuntime, call: &str) -> Result<(), Error> {
 fn main(rt: HostRuntime) -> Result<(), Error> {
     let word = env::args(&rt)?.nth(1);
     match word.as_deref() {
-        Some("answers" | "edits" | "pieces" | "calls" | "files" | "pairs") | None => {
+        Some("answers" | "edits" | "pieces" | "merges" | "calls" | "files" | "pairs") | None => {
             replay(&rt, word.as_deref())
         }
         Some(call) => measure(&rt, call),

@@ -1,6 +1,7 @@
 //! What differs between two documents, setting by setting.
-use ini::{Error, Ini};
-use ini_diff::{Change, diff};
+use ini::{Error, Ini, ParseOption, WriteOption};
+use ini_diff::{Change, Conflict, Side, apply, conflicts, diff, merge, taken};
+use ini_edit::{EditError, Source};
 use std::alloc::Global;
 use std::panic::Expect;
 use std::process::Abort;
@@ -98,4 +99,148 @@ fn of_many_keys_the_changed_one_is_listed(rt: HostRuntime) {
         got.as_str() == "a key7: 0, 7\na key2999: 2999, 0\n",
         "{got}"
     );
+}
+
+/// A text after the changes from one text to another are made in it.
+fn applied(alloc: Global, from: &str, to: &str, text: &str) -> Result<String, EditError> {
+    let from = Ini::load_from_str(alloc, from)?;
+    let to = Ini::load_from_str(alloc, to)?;
+    let changes = diff(alloc, &from, &to)?;
+    let source = Source::read(alloc, text, ParseOption::default())?;
+    match apply(alloc, &WriteOption::default(), changes.as_slice(), &source) {
+        Ok(new) => Ok(new.to_text(alloc)?),
+        Err(refused) => Err(refused.refusal),
+    }
+}
+
+/// Two texts, a third one, and that after the changes from the first to the second.
+const APPLIED: [(&str, &str, &str, &str); 8] = [
+    ("k=1\n", "k=1\n", "; c\n k = 3 \n", "; c\n k = 3 \n"),
+    (
+        "k=1\n",
+        "k=2\n",
+        "; c\n k = 1 \n\nj=0",
+        "; c\n k = 2 \n\nj=0",
+    ),
+    // whatever value is there
+    ("k=1\n", "k=2\n", "k=9\nj=0\n", "k=2\nj=0\n"),
+    // all pairs of the key go, and later ones where it is set
+    ("k=1\n", "", "k=1\nj=0\nk=2\n", "j=0\n"),
+    ("k=1\n", "k=2\n", "k=1\nj=0\nk=3\n", "k=2\nj=0\n"),
+    ("", "[a]\nx=1\n", "[a]\ny=2\n", "[a]\ny=2\nx=1\n"),
+    ("", "[b]\nx=1\n", "[a]\ny=2\n", "[a]\ny=2\n\n[b]\nx=1\n"),
+    // of a repeated name the first section is looked at
+    ("[a]\nk=1\n", "", "[a]\nk=1\n[a]\nk=2\n", "[a]\n[a]\nk=2\n"),
+];
+
+#[test]
+fn changes_are_made_in_a_text(rt: HostRuntime) {
+    for (from, to, text, want) in APPLIED {
+        let got = applied(rt.alloc(), from, to, text).expect(&rt, "memory");
+        assert!(rt; got.as_str() == want, "{from:?} {to:?} {text:?}: {got}");
+    }
+}
+
+/// Conflicts, a line each: the section's name, the key, and the three values.
+fn shown_conflicts(alloc: Global, conflicts: &[Conflict<'_>]) -> Result<String, Error> {
+    let mut out = String::new(alloc);
+    for conflict in conflicts {
+        let Conflict { change, theirs } = *conflict;
+        let (name, key) = (change.name.unwrap_or("general"), change.key);
+        let (base, ours) = (change.old.unwrap_or("none"), change.new.unwrap_or("none"));
+        let theirs = theirs.unwrap_or("none");
+        out.push_str(format!(in alloc; "{name} {key}: {base}, {ours}, {theirs}\n")?.as_str())?;
+    }
+    Ok(out)
+}
+
+/// The text of a merge where this side is chosen, and the changes that it makes; a bar after each.
+fn merged_for(
+    alloc: Global,
+    base: &Ini,
+    ours: &Ini,
+    theirs: &Source<'_>,
+    side: Side,
+) -> Result<String, EditError> {
+    let changes = taken(alloc, base, ours, theirs, side)?;
+    let changes = shown(alloc, changes.as_slice())?;
+    match merge(alloc, &WriteOption::default(), base, ours, theirs, side) {
+        Ok(new) => {
+            let text = new.to_text(alloc)?;
+            Ok(format!(in alloc; "{text}|{changes}|")?)
+        }
+        Err(refused) => Err(refused.refusal),
+    }
+}
+
+/// That for each side, and then the conflicts.
+fn merged(alloc: Global, base: &str, ours: &str, theirs: &str) -> Result<String, EditError> {
+    let base = Ini::load_from_str(alloc, base)?;
+    let ours = Ini::load_from_str(alloc, ours)?;
+    let theirs = Source::read(alloc, theirs, ParseOption::default())?;
+    let by_ours = merged_for(alloc, &base, &ours, &theirs, Side::Ours)?;
+    let by_theirs = merged_for(alloc, &base, &ours, &theirs, Side::Theirs)?;
+    let found = conflicts(alloc, &base, &ours, &theirs)?;
+    let found = shown_conflicts(alloc, found.as_slice())?;
+    Ok(format!(in alloc; "{by_ours}{by_theirs}{found}")?)
+}
+
+/// Base, ours and theirs; and what a merge makes of them.
+const MERGED: [(&str, &str, &str, &str); 10] = [
+    // theirs where ours is the base, ours where theirs is, what both have
+    ("k=1\n", "; c\nk=1\n", "; d\nk=2", "; d\nk=2||; d\nk=2||"),
+    (
+        "k=1\nj=1\n",
+        "k=2\nj=1\n",
+        "; new\nk = 1\n\nj=3\n",
+        "; new\nk = 2\n\nj=3\n|general k: 1, 2\n|; new\nk = 2\n\nj=3\n|general k: 1, 2\n|",
+    ),
+    ("k=1\n", "k=2\n", "k = '2'\n", "k = '2'\n||k = '2'\n||"),
+    (
+        "",
+        "[a]\nk=2\n",
+        "",
+        "[a]\nk=2\n|a k: none, 2\n|[a]\nk=2\n|a k: none, 2\n|",
+    ),
+    // a key that ours took out stays out, and one that theirs took out
+    (
+        "k=1\nj=1\n",
+        "j=1\n",
+        "k=1\nj=1\ni=1\n",
+        "j=1\ni=1\n|general k: 1, none\n|j=1\ni=1\n|general k: 1, none\n|",
+    ),
+    ("k=1\nj=1\n", "k=1\nj=1\n", "j=1\n", "j=1\n||j=1\n||"),
+    // conflicts
+    (
+        "k=1\n",
+        "k=2\n",
+        "k=3\n",
+        "k=2\n|general k: 1, 2\n|k=3\n||general k: 1, 2, 3\n",
+    ),
+    (
+        "k=1\n",
+        "",
+        "k=3\n",
+        "|general k: 1, none\n|k=3\n||general k: 1, none, 3\n",
+    ),
+    (
+        "[a]\nk=1\nj=0\n",
+        "[a]\nk=2\nj=0\n",
+        "[a]\nj=0\n",
+        "[a]\nj=0\nk=2\n|a k: 1, 2\n|[a]\nj=0\n||a k: 1, 2, none\n",
+    ),
+    (
+        "",
+        "[a]\nk=2\n",
+        "[a]\nk=3\n",
+        "[a]\nk=2\n|a k: none, 2\n|[a]\nk=3\n||a k: none, 2, 3\n",
+    ),
+];
+
+#[test]
+fn both_sides_are_merged(rt: HostRuntime) {
+    for (base, ours, theirs, want) in MERGED {
+        let got = merged(rt.alloc(), base, ours, theirs).expect(&rt, "memory");
+        assert!(rt; got.as_str() == want, "{base:?} {ours:?} {theirs:?}: {got}");
+    }
 }

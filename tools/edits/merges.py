@@ -1,0 +1,165 @@
+#!/usr/bin/env python3
+"""Compares three-way merges: `ini_replay merges`, over the library's calls, and a model that was written apart.
+
+    merges.py ask FILE N [SEED]
+    merges.py judge FILE ANSWERS
+    merges.py random PROGRAM N [SEED]
+
+`ask` writes N random triples of texts that share much, as `ini_replay merges` reads them; `judge` compares what the program
+answered with the model; `random` does both, where PROGRAM is the command `ini_replay merges`. The status is 1 where there is
+a difference. The model knows what each look-up is to answer, and makes the edits of pieces_model.py, each on the whole text.
+"""
+import collections
+import random
+import shlex
+import subprocess
+import sys
+
+from compare import SEPARATORS, UNPLAIN_SEPARATORS, VALUES
+from model import POLICIES, Option, Refused, Writing
+from pieces_compare import LINES, digits, name_word
+from pieces_model import Edit, Page, edited
+
+MORE = ["k = v\n", "k=2\n", "j=1\n", "j = x\n", "[a]\n", "[b]\n", "[a]\nk=1\nj=2\n", "[b]\nk=v\n", "k=\n", "i=0\n", "; c\n", "\n"]
+
+
+def settings(text, option):
+    """What look-ups answer: of each section and key the first value in the first section, in order."""
+    found, seen = {}, set()
+    for name, pairs in Page(text, option).document():
+        if name not in seen:
+            seen.add(name)
+            for key, value in pairs:
+                found.setdefault((name, key), value)
+    return found
+
+
+def changes(base, ours):
+    """The settings that ours changed, in its order, and then those that it took out, in the base's."""
+    places = [place for place in ours if base.get(place) != ours[place]]
+    return places + [place for place in base if place not in ours]
+
+
+def value_word(value):
+    return "-" if value is None else "=" + digits(value)
+
+
+def answer(option, writing, side, texts):
+    """The line that answers a triple."""
+    base, ours, theirs = (settings(text, option) for text in texts)
+    text, words = texts[2], []
+    refusal = None
+    for place in changes(base, ours):
+        values = [answers.get(place) for answers in (base, ours, theirs)]
+        in_conflict = values[0] != values[2] and values[1] != values[2]
+        if in_conflict:
+            words.append(",".join([name_word(place[0]), digits(place[1])] + [value_word(value) for value in values]))
+        if refusal or values[1] == values[2] or (in_conflict and side == "theirs"):
+            continue
+        call = "delete_all" if values[1] is None else "set"
+        edit = Edit(call, place[0], place[1], "", values[1] or "", 0)
+        try:
+            new = edited(Page(text, option), writing, edit)
+            text = text if new is None else new
+        except Refused as refused:
+            refusal = str(refused)
+    first = f"refused:{refusal}" if refusal else f"new:{digits(text)}"
+    return " ".join([first] + words)
+
+
+def line_of(option, writing, side, texts):
+    flags = "".join(str(int(flag)) for flag in option)
+    end = "LF" if writing.line_end == "\n" else "CRLF"
+    return " ".join([flags, writing.policy, end, digits(writing.separator), side] + [digits(text) for text in texts])
+
+
+def changed(chance, lines):
+    """The lines with some taken out, put in, moved or exchanged."""
+    lines = list(lines)
+    for _ in range(chance.choice([0, 1, 1, 2, 3, 5])):
+        place = chance.randrange(len(lines) + 1)
+        step = chance.random()
+        if step < 0.45 or not lines:
+            lines.insert(place, chance.choice(MORE if chance.random() < 0.7 else LINES))
+        elif step < 0.7:
+            del lines[place % len(lines)]
+        elif step < 0.85:
+            lines.insert(place, lines.pop(chance.randrange(len(lines))))
+        else:
+            lines[place % len(lines)] = f"{chance.choice('kji')}={chance.choice(['v', '2', chance.choice(VALUES)])}\n"
+    return lines
+
+
+def is_read(text, option):
+    try:
+        Page(text, option)
+    except Refused:
+        return False
+    return True
+
+
+def random_question(chance):
+    """Three texts that the options read."""
+    while True:
+        option = Option(*(chance.random() < p for p in (0.8, 0.8, 0.3, 0.1, 0.1)))
+        base = [chance.choice(MORE if chance.random() < 0.7 else LINES) for _ in range(chance.randrange(9))]
+        texts = ["".join(base), "".join(changed(chance, base)), "".join(changed(chance, base))]
+        if not all(is_read(text, option) for text in texts):
+            continue
+        separator = chance.choice(UNPLAIN_SEPARATORS if chance.random() < 0.03 else SEPARATORS)
+        writing = Writing(chance.choice(POLICIES), chance.choice(["\n", "\r\n"]), separator)
+        return option, writing, chance.choice(["ours", "theirs"]), texts
+
+
+def questions(number, seed):
+    chance = random.Random(seed)
+    return [random_question(chance) for _ in range(number)]
+
+
+def parsed(line):
+    """A question from its line."""
+    flags, policy, end, separator, side, *texts = line.split(" ")
+    undone = lambda word: bytes.fromhex(word).decode()
+    writing = Writing(policy, "\n" if end == "LF" else "\r\n", undone(separator))
+    return Option(*(flag == "1" for flag in flags)), writing, side, [undone(text) for text in texts]
+
+
+def judged(asked, answers):
+    counted, differences = collections.Counter(), []
+    for question, theirs in zip(asked, answers):
+        ours = answer(*question)
+        first, *words = ours.split(" ")
+        counted[first.partition(":")[0] + (" with conflicts" if words else "")] += 1
+        if ours != theirs:
+            differences.append((sum(map(len, question[3])), question, theirs, ours))
+    for words, count in sorted(counted.items()):
+        print(f"{words}: {count:,}")
+    for _, question, theirs, ours in sorted(differences, key=lambda found: found[0])[:10]:
+        print(*question, f"\n    the program: {theirs}\n    the model:   {ours}")
+    print(f"{len(asked):,} triples, {len(differences):,} differences")
+    return not differences
+
+
+def main():
+    match sys.argv[1:]:
+        case ["ask", file, number, *seed] if len(seed) < 2:
+            with open(file, "w") as out:
+                out.writelines(line_of(*question) + "\n" for question in questions(int(number), seed[0] if seed else "1"))
+        case ["judge", file, answers]:
+            with open(file) as asked, open(answers) as found:
+                lines = [line for line in found.read().splitlines() if line]
+                asked = [parsed(line) for line in asked.read().splitlines()]
+                if len(asked) != len(lines):
+                    sys.exit(f"{len(asked)} questions, {len(lines)} answers")
+                sys.exit(not judged(asked, lines))
+        case ["random", program, number, *seed] if len(seed) < 2:
+            asked = questions(int(number), seed[0] if seed else "1")
+            lines = "".join(line_of(*question) + "\n" for question in asked)
+            run = subprocess.run(shlex.split(program), input=lines, stdout=subprocess.PIPE, text=True, check=True)
+            sys.exit(not judged(asked, run.stdout.splitlines()))
+        case _:
+            sys.exit(__doc__)
+
+
+if __name__ == "__main__":
+    main()
