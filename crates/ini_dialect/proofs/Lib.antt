@@ -1,6 +1,7 @@
 pub mod DefaultLemmas
 pub mod DeletedUnderLemmas
 pub mod EditLemmas
+pub mod GuessLemmas
 pub mod KeyLemmas
 pub mod LetterLemmas
 pub mod LookupLawLemmas
@@ -8,6 +9,7 @@ pub mod PairLemmas
 pub mod PutUnderLemmas
 pub mod ReadLemmas
 pub mod RuleLemmas
+pub mod RuledTextLemmas
 pub mod SectionLemmas
 pub mod SourceLookupLemmas
 pub mod TextLemmas

@@ -1,8 +1,10 @@
 pub mod Dialects
+pub mod Guesses
 pub mod Inside
 pub mod LookupLaws
 pub mod Lookups
 pub mod Numbers
+pub mod RuledTexts
 pub mod Rules
 pub mod SourceLookups
 pub mod Typed

@@ -7,16 +7,19 @@
 
 mod edit;
 mod get;
+mod guessing;
 pub mod laws;
 mod number;
 mod presets;
 mod rule;
+mod ruled_text;
 mod source;
 #[cfg(test)]
 mod tests;
 mod typed;
 mod walk;
 
+pub use guessing::{Guess, count_warnings, guesses};
 pub use presets::{Dialect, NamedDialect, dialects};
 pub use rule::{CaseRule, Lookup, SectionRule, ValueRule};
 pub use source::PairNumber;

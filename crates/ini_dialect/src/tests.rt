@@ -1,5 +1,6 @@
 //! Rows of questions with their answers: look-ups and edits under each rule, dialects, and values with types. The
 //! answers are read from the definitions by hand; what a dialect answers, from the manuals of its programs.
+use crate::guessing::guesses;
 use crate::presets::{Dialect, dialects};
 use crate::rule::{CaseRule, Lookup, SectionRule, ValueRule};
 use crate::typed::{as_bool, as_duration, as_float, as_integer, as_size};
@@ -333,6 +334,36 @@ fn other_names_are_none(rt: HostRuntime) {
             "{name:?}"
         );
     }
+}
+
+/// How many warnings a text has as the dialect of a name.
+fn warnings_as(rt: &(impl Abort + AllocGlobal), text: &str, name: &str) -> Option<usize> {
+    let found = guesses(rt.alloc(), text).expect(rt, "memory");
+    let all = dialects();
+    for guess in found.as_slice() {
+        assert!(rt; guess.place < all.len());
+        if all[guess.place].name == name {
+            return Some(guess.warnings);
+        }
+    }
+    None
+}
+
+#[test]
+fn a_text_is_guessed_by_its_warnings(rt: HostRuntime) {
+    for (text, name, want) in [
+        ("[a]\nk = v\n", "crate", Some(0)),
+        ("[a]\nk = v\n", "openttd", Some(0)),
+        ("path = C:\\temp\n", "crate", Some(1)),
+        ("path = C:\\temp\n", "samba", Some(0)),
+        ("k = \"v\n", "crate", None),
+        ("k\n", "git", None),
+    ] {
+        let found = warnings_as(&rt, text, name);
+        assert!(rt; found == want, "{text:?} as {name}: {found:?}");
+    }
+    let found = guesses(rt.alloc(), "path = C:\\temp\n").expect(&rt, "memory");
+    assert!(rt; found.len() == 25 && found[0].place == 2 && found[0].warnings == 0);
 }
 
 #[test]

@@ -3,8 +3,8 @@
 use crate::source::PairNumber;
 use crate::tests::{answers, rule};
 use crate::walk::AnyDocument;
-use ini_edit::Source;
-use ini_text::{EscapePolicy, ParseOption, WriteOption};
+use ini_edit::{Edit, EditError, Source};
+use ini_text::{Error, EscapePolicy, ParseOption, WriteOption};
 use std::panic::Expect;
 use std::process::Abort;
 
@@ -150,5 +150,55 @@ fn all_pairs_of_a_text_that_are_looked_at_are_deleted(rt: HostRuntime) {
             .expect(&rt, "memory");
         assert!(rt; found == (want != TEXT), "{letters} {key}: {found}");
         expect_text(&rt, &source, letters, want);
+    }
+}
+
+/// The text with the edit made in it under the rule.
+fn expect_made(rt: &(impl Abort + AllocGlobal), letters: &str, edit: Edit<'_>, want: Option<&str>) {
+    let read = ParseOption::default();
+    let write = WriteOption::default();
+    let made = rule(rt, letters)
+        .make_edit(rt.alloc(), TEXT, read, &write, edit)
+        .expect(rt, "made");
+    assert!(rt;
+        made.as_deref() == want,
+        "{letters}: {made:?}, and not {want:?}"
+    );
+}
+
+#[test]
+fn an_edit_of_a_whole_text_goes_by_the_rule(rt: HostRuntime) {
+    let (name, key, value) = (Some("a"), "k", "v");
+    let set = Edit::Set { name, key, value };
+    let last = "# top\n[a]\nk = 1\n# two\nk=\"2\"\n\n[A]\n  K=3\n[a]\nk=v\n";
+    expect_made(&rt, "jlk", set, Some(last));
+    let existing = Edit::SetExisting { name, key, value };
+    expect_made(&rt, "jlk", existing, Some(last));
+    let key = "x";
+    expect_made(&rt, "jlk", Edit::SetExisting { name, key, value }, None);
+    let added = "# top\n[a]\nk = 1\n# two\nk=\"2\"\n\n[A]\n  K=3\n[a]\nk=4\nx=v\n";
+    expect_made(&rt, "jfk", Edit::Add { name, key, value }, Some(added));
+    expect_made(&rt, "jlk", Edit::Delete { name, key }, None);
+    let key = "k";
+    let deleted = "# top\n[a]\n# two\n\n[A]\n  K=3\n[a]\n";
+    expect_made(&rt, "jlk", Edit::Delete { name, key }, Some(deleted));
+    let renamed = "# top\n[b]\nk = 1\n# two\nk=\"2\"\n\n[A]\n  K=3\n[a]\nk=4\n";
+    let edit = Edit::RenameSection { old: "a", new: "b" };
+    expect_made(&rt, "jlk", edit, Some(renamed));
+}
+
+#[test]
+fn a_text_that_reading_refuses_is_not_edited(rt: HostRuntime) {
+    let (name, key, value) = (None, "k", "v");
+    let (read, write) = (ParseOption::default(), WriteOption::default());
+    for edit in [
+        Edit::Set { name, key, value },
+        Edit::SetExisting { name, key, value },
+        Edit::Add { name, key, value },
+        Edit::Delete { name, key },
+    ] {
+        let made = rule(&rt, "jlk").make_edit(rt.alloc(), "k = 1\n[a\n", read, &write, edit);
+        let is_refused = matches!(made, Err(EditError::Text(Error::Parse(_))));
+        assert!(rt; is_refused, "{edit:?}");
     }
 }

@@ -1,0 +1,36 @@
+-- What an edit of a whole text under a rule is refused with, from what its pieces are.
+use Rattle.std.proofs.Common.{Option, subst}
+use Rattle.ini_text.specs.declared.option.ParseOption.{ParseOption}
+use Rattle.ini_text.specs.declared.write.option.WriteOption.{WriteOption}
+use Rattle.ini_text.specs.declared.write.policy.EscapePolicy.{EscapePolicy}
+use Rattle.ini.specs.Texts.{Text}
+use Rattle.ini_edit.specs.Sources.{Pieces}
+use Rattle.ini_edit.specs.WholeTexts.{IsReadInPieces}
+use Rattle.ini_edit.specs.declared.error.EditError.{EditError}
+use Rattle.ini_dialect.specs.RuledTexts.{RefusesInText, RefusesToAddTextUnder, RefusesToSetTextUnder}
+use Rattle.ini_dialect.specs.SourceLookups.{RefusesToPutUnder, RefusesUnder, RefusesValue}
+use Rattle.ini_dialect.specs.declared.rule.Lookup.{Lookup}
+
+module _ {o : ParseOption} {T : Text} {p : Pieces} (read : IsReadInPieces o T p) where
+  pieces_refused : (refuses : ParseOption → Pieces → EditError → Type 0) {e : EditError}
+      → refuses p.option p e → RefusesInText o T (refuses o) e
+  pieces_refused refuses {e} refused =
+      RefusesInText.pieces (record {
+        pieces = p;
+        is_read = read;
+        refused = subst (λ x. refuses x p e) read.option refused;
+      })
+
+  pub value_refused : (policy : EscapePolicy) (value : Text) (e : EditError)
+      → RefusesValue p.option policy value e → RefusesInText o T (λ q. RefusesValue o policy value) e
+  value_refused policy value e = pieces_refused (λ x q. RefusesValue x policy value)
+
+  module _ {rule : Lookup} {name : Option Text} {key : Text} {w : WriteOption} {value : Text}
+      {e : EditError} where
+    pub setting_refused : RefusesToPutUnder rule name key p.option w p value e
+        → RefusesToSetTextUnder rule o T w name key value e
+    setting_refused = pieces_refused (λ x q. RefusesToPutUnder rule name key x w q value)
+
+    pub adding_refused : RefusesUnder rule name key p.option w p value e
+        → RefusesToAddTextUnder rule o T w name key value e
+    adding_refused = pieces_refused (λ x q. RefusesUnder rule name key x w q value)
