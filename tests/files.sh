@@ -83,7 +83,7 @@ note: the text ends at 5:1" list refused.ini
     { echo "status $?"; head -n 1 "$room/out"; cat "$room/err"; } >"$room/have"
     { echo 'status 0'; echo 'usage: ini_file [OPTION].. COMMAND [CHOICE].. [--] FILE [ARGUMENT]..'; } >"$room/want"
     count '--help'
-    case_of 'format of standard input' 0 'a=1\n' '' format - <<END
+    case_of 'rewrite of standard input' 0 'a=1\n' '' rewrite - <<END
 a = 1
 END
 }
@@ -91,14 +91,14 @@ END
 saving() {
     fresh
     chmod 640 settings.ini
-    case_of 'format' 0 '' '' format settings.ini
+    case_of 'rewrite' 0 '' '' rewrite settings.ini
     stands 'the document, written anew' "$written"
     stat -c %a settings.ini >"$room/have"
     echo 640 >"$room/want"
     count 'the permissions stay'
-    case_of 'format of a file that would not change' 0 '' '' format settings.ini
+    case_of 'rewrite of a file that would not change' 0 '' '' rewrite settings.ini
     before=$(stat -c '%i %z' settings.ini)
-    "$program" format settings.ini
+    "$program" rewrite settings.ini
     echo "$before" >"$room/want"
     stat -c '%i %z' settings.ini >"$room/have"
     count 'a file that would not change is not written'
@@ -106,28 +106,28 @@ saving() {
     mkdir far
     mv settings.ini far/true.ini
     ln -s far/true.ini settings.ini
-    case_of 'format by way of a link' 0 '' '' format settings.ini
+    case_of 'rewrite by way of a link' 0 '' '' rewrite settings.ini
     printf "far/true.ini\n$written" >"$room/want"
     { readlink settings.ini; cat far/true.ini; } >"$room/have"
     count 'the link stays, and its file is written'
     fresh
     printf 'mine' >settings.ini.lock
-    "$program" format settings.ini 2>"$room/err"
+    "$program" rewrite settings.ini 2>"$room/err"
     { echo "status $?"; cat "$room/err" settings.ini.lock settings.ini; ls -A; } >"$room/have"
     { printf 'status 0\nmine'; printf "$written"; printf '%s\n' settings.ini settings.ini.lock; } >"$room/want"
     count 'a file of the name and .lock is nobody else than its owner: it stands, and nothing waits for it'
     fresh
     rm settings.ini
     mkfifo settings.ini
-    case_of 'format of a pipe' 4 '' 'ini_file: settings.ini: not a regular file' format settings.ini
+    case_of 'rewrite of a pipe' 4 '' 'ini_file: settings.ini: not a regular file' rewrite settings.ini
     [ -p settings.ini ] && echo a pipe >"$room/have"
     echo a pipe >"$room/want"
     count 'the pipe stays'
     fresh
     printf 'a = 1\n  =v\n' >settings.ini
-    case_of 'format of a refused text' 3 '' 'settings.ini:2:3: no key stands before this
+    case_of 'rewrite of a refused text' 3 '' 'settings.ini:2:3: no key stands before this
   =v
-  ^' format settings.ini
+  ^' rewrite settings.ini
     stands 'a refused text stands' 'a = 1\n  =v\n'
     fresh
     "$program" list settings.ini >/dev/full 2>"$room/have"
@@ -411,7 +411,7 @@ placing() {
     for words in 'get settings.ini name' 'keys settings.ini server' 'sections settings.ini' \
         'list settings.ini' 'set settings.ini name x' 'add settings.ini name x' 'delete settings.ini name' \
         'delete-section settings.ini server' 'rename-key settings.ini name x' 'rename-section settings.ini server x' \
-        'merge settings.ini ../one.ini' 'format settings.ini'
+        'merge settings.ini ../one.ini' 'rewrite settings.ini'
     do
         # shellcheck disable=SC2086
         "$program" ${words%% *} --output - ${words#* } >"$room/want"
@@ -460,7 +460,7 @@ streaming() {
     printf '[a]\nk=1\n' >../one.ini
     for words in 'set /dev/full k v' 'set /dev/zero k v' 'set /dev/null k v' 'set --dry-run /dev/null k v' \
         'add /dev/zero k v' 'set --existing /dev/zero k v' 'delete /dev/zero k' 'rename-key /dev/zero k v' \
-        'format /dev/zero' 'format --dry-run /dev/zero' 'merge /dev/zero ../one.ini' 'merge --dry-run /dev/null ../one.ini' \
+        'rewrite /dev/zero' 'rewrite --dry-run /dev/zero' 'merge /dev/zero ../one.ini' 'merge --dry-run /dev/null ../one.ini' \
         'delete --output pipe pipe k' 'set . k v' 'set /dev/stdin k v'
     do
         [ -p pipe ] || mkfifo pipe
@@ -552,10 +552,10 @@ choosing() {
     fresh
     refused 'set --existing, twice, without a value' 2 "$usage" set --existing --existing settings.ini name
     for words in 'get --existing none.ini k' 'add --existing none.ini k v' 'list --existing none.ini' \
-        'delete --existing none.ini k' 'format --existing none.ini' 'rename-key --existing none.ini k j' \
+        'delete --existing none.ini k' 'rewrite --existing none.ini' 'rename-key --existing none.ini k j' \
         'keys --all none.ini' 'list --all none.ini' 'set --all none.ini k v' \
         'keys --default v none.ini' 'set --default v none.ini k v' 'delete --default v none.ini k' \
-        'format --null none.ini' 'set --null none.ini k v' 'delete --null none.ini k' 'rename-section --null none.ini a b'
+        'rewrite --null none.ini' 'set --null none.ini k v' 'delete --null none.ini k' 'rename-section --null none.ini a b'
     do
         # shellcheck disable=SC2086
         case_of "$words: no choice of this command" 2 '' "$usage" $words
@@ -583,6 +583,93 @@ choosing() {
   ^' get --all --default x refused.ini b
 }
 
+# files laid out: what is there stays, comments too
+laying_out() {
+    fresh
+    laid='; a server\nname = one\n\n[server]\nport = 8080\nhost = a\\tb\nport = 9090\n\n[client]\n\n[server]\nlast = 1\n'
+    isnt="ini_file: settings.ini: note: it isn't laid out so"
+    refused 'format --check: a file that is not so' 1 "$isnt" format --check settings.ini
+    edit 'format: a blank line before each header' "$laid" format settings.ini
+    refused 'format --check: a file that is so' 0 '' format --check settings.ini
+    before=$(stat -c '%i %z' settings.ini)
+    "$program" format settings.ini
+    echo "$before" >"$room/want"
+    stat -c '%i %z' settings.ini >"$room/have"
+    count 'format: a file that is so is not written'
+    refused 'format --check: of another layout' 1 "$isnt" format --check --separator = settings.ini
+    edit 'format --separator' "$(printf '%s' "$laid" | sed 's/ = /=/g')" format --separator = settings.ini
+    edit 'format --indent-pairs' "$(printf '%s' "$laid" | sed 's/ = /=/g; s/\\n\([nphl]\)/\\n  \1/g')" \
+        format --indent-pairs 2 settings.ini
+    edit 'format --indent-pairs: the last of two, and of two digits' \
+        "$(printf '%s' "$laid" | sed 's/ = /=/g; s/\\n\([nphl]\)/\\n          \1/g')" \
+        format --indent-pairs 0 --indent-pairs=10 settings.ini
+    edit 'format: what indents a pair stays, where nothing else is chosen' \
+        "$(printf '%s' "$laid" | sed 's/ = /: /g; s/\\n\([nphl]\)/\\n          \1/g')" \
+        format --separator ': ' settings.ini
+    edit 'format --indent-pairs 0' "$laid" format --indent-pairs=0 --separator ' = ' settings.ini
+    printf 'k=v  \n\n\n\t\n# c \n\n\nj=w\n\n' >settings.ini
+    edit 'format --blank-lines 2' 'k=v\n\n\n# c \n\n\nj=w\n' format --blank-lines 2 settings.ini
+    edit 'format: one blank line at most' 'k=v\n\n# c \n\nj=w\n' format settings.ini
+    edit 'format --blank-lines 0' 'k=v\n# c \nj=w\n' format --blank-lines 0 settings.ini
+    printf 'k = 1\n  2\nj = 3  ' >settings.ini
+    edit '--multiline format: a value that runs on stays' 'k: 1\n  2\nj: 3\n' --multiline format --separator ': ' settings.ini
+    printf '\357\273\277k=v\r\n\r\n\r\n[a]\n' >settings.ini
+    edit 'format: the mark stays, and each line ends as the first one' '\357\273\277k=v\r\n\r\n[a]\r\n' format settings.ini
+    printf '\n\357\273\277k=v\n' >settings.ini
+    edit 'format: a file that would get a mark stays' '\n\357\273\277k=v\n' format settings.ini
+    printf '' >settings.ini
+    edit 'format of an empty file' '' format settings.ini
+    printf 'k=v\n[a]\n' >settings.ini
+    preview 'format --dry-run' 0 '\055-- settings.ini\n+++ settings.ini\n@@ -1,0 +2,1 @@\n+\n' format settings.ini
+    printf 'k=v\n[a]\n' >settings.ini
+    case_of 'format --check --dry-run: the change too' 1 '\055-- settings.ini\n+++ settings.ini\n@@ -1,0 +2,1 @@\n+\n' "$isnt" \
+        format --check -n settings.ini
+    stands 'format --check --dry-run: the file stands' 'k=v\n[a]\n'
+    case_of 'format --output -' 0 'k=v\n\n[a]\n' '' format --output - settings.ini
+    case_of 'format -' 0 'k=v\n\n[a]\n' '' format - <settings.ini
+    case_of 'format --check -' 1 '' "ini_file: -: note: it isn't laid out so" format --check - <settings.ini
+    stands 'format --output -: the file stands' 'k=v\n[a]\n'
+    case_of 'format --verbose' 0 '' 'changed' format --verbose settings.ini
+    case_of 'format --verbose: of a file that is so' 0 '' 'unchanged' format --verbose settings.ini
+    printf 'a=1\n  =v\n' >settings.ini
+    refused 'format of a refused text' 3 'settings.ini:2:3: no key stands before this
+  =v
+  ^' format settings.ini
+    refused 'format of a refused text: the separator first' 2 \
+        "ini_file: settings.ini: this separator can't be written so that it is read back
+note: it isn't one = or : with spaces and tabs alone around it" format --separator - settings.ini
+    printf '\377' >settings.ini
+    refused 'format of bytes that are no text' 3 'settings.ini:1:1: this byte is no UTF-8; the file looks like Latin-1' \
+        format settings.ini
+    case_of 'format of a file that is not there' 4 '' 'ini_file: none.ini: No such file or directory (os error 2)' format none.ini
+    several_laid_out
+}
+
+# several files: the largest status holds, and each is laid out that can be
+several_laid_out() {
+    fresh
+    rm settings.ini
+    mkdir many
+    printf '[a]\n[b]\n' >many/one.ini
+    printf 'a=1\n  =v\n' >many/refused.ini
+    printf '[a]\n' >many/so.ini
+    cp -r many "$room/several"
+    fault='many/refused.ini:2:3: no key stands before this
+  =v
+  ^'
+    case_of 'format --check of several files' 3 '' "ini_file: many/one.ini: note: it isn't laid out so
+$fault" format --check many/one.ini many/refused.ini many/so.ini
+    diff -r "$room/several" many >"$room/have"
+    : >"$room/want"
+    count 'format --check of several files: they stand'
+    case_of 'format of several files' 3 '' "$fault" format many/refused.ini many/one.ini many/so.ini
+    case_of 'format --check: of those that were laid out' 0 '' '' format --check many/one.ini many/so.ini
+    printf '[a]\n\n[b]\n' >"$room/want"
+    cp many/one.ini "$room/have"
+    count 'format of several files: one that is not so'
+    rm -r "$room/several"
+}
+
 # what stands between key and value of new lines
 separating() {
     fresh
@@ -600,10 +687,10 @@ separating() {
     printf '[a]\n' >settings.ini
     edit 'add --separator: the last of two' '[a]\nname: two\n' add --separator = --separator ': ' settings.ini name two a
     fresh
-    edit 'format --separator' "$(printf '%s' "$written" | sed 's/=/ = /g')" format --separator ' = ' settings.ini
+    edit 'rewrite --separator' "$(printf '%s' "$written" | sed 's/=/ = /g')" rewrite --separator ' = ' settings.ini
     fresh
     for text in '' - == ' ' '= x' "$(printf '\n=')"; do
-        for words in 'set settings.ini new v' 'add settings.ini name v' 'format settings.ini'; do
+        for words in 'set settings.ini new v' 'add settings.ini name v' 'rewrite settings.ini'; do
             # shellcheck disable=SC2086
             refused "${words%% *} --separator '$text'" 2 \
                 "ini_file: settings.ini: this separator can't be written so that it is read back
@@ -614,12 +701,12 @@ note: it isn't one = or : with spaces and tabs alone around it" \
     edit 'set --separator that would not be read back, where no line is new' "$(printf '%s' "$source" | sed 's/one/two/')" \
         set --separator - settings.ini name two
     printf 'a=1\n  =v\n' >settings.ini
-    refused 'format --separator of a refused text: the separator first' 2 \
+    refused 'rewrite --separator of a refused text: the separator first' 2 \
         "ini_file: settings.ini: this separator can't be written so that it is read back
-note: it isn't one = or : with spaces and tabs alone around it" format --separator - settings.ini
-    refused 'format --separator: the text' 3 'settings.ini:2:3: no key stands before this
+note: it isn't one = or : with spaces and tabs alone around it" rewrite --separator - settings.ini
+    refused 'rewrite --separator: the text' 3 'settings.ini:2:3: no key stands before this
   =v
-  ^' format --separator : settings.ini
+  ^' rewrite --separator : settings.ini
     refused '--separator: no text' 2 "$usage" add --separator
     for words in 'set --existing --separator : none.ini k v' 'get --separator : none.ini k' 'list --separator : none.ini' \
         'delete --separator : none.ini k' 'rename-key --separator : none.ini k j'
@@ -917,7 +1004,7 @@ previewing() {
     printf 'name = two\n' >../one.ini
     preview 'merge --dry-run' 0 "$of@@ -2,1 +2,1 @@\n-name = one\n+name = two\n" merge settings.ini ../one.ini
     printf 'k = 1\n\n[a]\nj=1\n' >settings.ini
-    preview 'format --dry-run' 0 "$of@@ -1,1 +1,1 @@\n-k = 1\n+k=1\n" format settings.ini
+    preview 'rewrite --dry-run' 0 "$of@@ -1,1 +1,1 @@\n-k = 1\n+k=1\n" rewrite settings.ini
     printf 'k=1\nj=2' >settings.ini
     preview 'set --dry-run: no newline at the end' 0 \
         "$of@@ -2,1 +2,1 @@\n-j=2\n\\\\ No newline at end of file\n+j=3\n\\\\ No newline at end of file\n" \
@@ -987,11 +1074,11 @@ previewing_refusals() {
     printf 'other = 1\n' >other.ini
     ln -s far.ini link.ini
     chmod 444 settings.ini other.ini
-    for words in 'set settings.ini name two' 'set settings.ini name one' 'format settings.ini' 'merge settings.ini ../one.ini' \
+    for words in 'set settings.ini name two' 'set settings.ini name one' 'rewrite settings.ini' 'merge settings.ini ../one.ini' \
         'set link.ini k v' 'set far/new.ini k v' 'set other.ini/new.ini k v' \
         'set --output other.ini settings.ini name two' \
         'set --output far/new.ini settings.ini name two' 'set --output link.ini settings.ini name two' \
-        'merge --output far/new.ini settings.ini ../one.ini' 'set /dev/null k v' 'format none.ini' 'delete settings.ini other'
+        'merge --output far/new.ini settings.ini ../one.ini' 'set /dev/null k v' 'rewrite none.ini' 'delete settings.ini other'
     do
         # shellcheck disable=SC2086
         "$program" ${words%% *} --dry-run ${words#* } >"$room/told" 2>"$room/have"
@@ -1024,7 +1111,7 @@ at_once() {
     runs=0
     while [ "$runs" -lt 30 ]; do
         runs=$((runs + 1))
-        ("$program" format --wait 100 settings.ini 2>/dev/null; echo $? >>"$room/statuses") &
+        ("$program" rewrite --wait 100 settings.ini 2>/dev/null; echo $? >>"$room/statuses") &
     done
     wait
     { cat settings.ini; ls -A | grep -v '^settings.ini$'; } >"$room/have"
@@ -1046,6 +1133,7 @@ merging
 unmerged
 choosing
 separating
+laying_out
 nulls
 checking
 previewing

@@ -46,16 +46,21 @@ if has bash completions; then
     offered ' ' ini_tool get ''
     offered 'one two one.ini ' ini_merge ''
     offered 'one.ini ' ini_merge --crlf one.ini one.
-    offered 'add check delete delete-section format get keys list merge rename-key rename-section sections set ' ini_file ''
+    offered 'add check delete delete-section diff format get keys list merge merge3 rename-key rename-section rewrite sections set ' ini_file ''
     offered 'one two one.ini ' ini_file get ''
     offered '--existing ' ini_file set --e
+    offered '-- --force --in-place --output --verbose --wait ' ini_file diff --
+    offered '--ours --output ' ini_file merge3 --o
+    offered 'one.ini ' ini_file merge3 one.ini one.ini one.
     offered '--dry-run ' ini_file delete --d
-    offered '-- --allow --deny --dry-run --fix --force --format --in-place --null --verbose --wait ' ini_file check --
+    offered '-- --allow --deny --dry-run --fix --force --format --in-place --null --suggest --verbose --wait ' ini_file check --
     offered 'github json sarif ' ini_file check --format ''
     offered 'samba sssd supervisor systemd ' ini_file --like s
     offered '-- --all --default --force --in-place --null --output --section --verbose --wait ' ini_file get --
     offered '--null ' ini_file --crlf list --n
-    offered '-- --dry-run --force --in-place --output --separator --verbose --wait ' ini_file format --
+    offered '-- --dry-run --force --in-place --output --separator --verbose --wait ' ini_file rewrite --
+    offered '-- --blank-lines --check --dry-run --force --in-place --indent-pairs --output --separator --verbose --wait ' \
+        ini_file format --
     offered '-- --dry-run --force --in-place --output --section --verbose --wait ' ini_file delete --
     offered ' ' ini_file set --wait ''
     offered ' ' ini_file get --default ''

@@ -269,8 +269,8 @@ read_all() {
     writes 0 "$text.get" get "$text" "$key" "$section"
     writes 0 "$text.get" get --all "$text" "$key" "$section"
     writes 1 empty get "$text" none "$section"
-    writes 0 "$text.format" format --output - "$text"
-    leaves "$text.format" "$text" format it.ini
+    writes 0 "$text.format" rewrite --output - "$text"
+    leaves "$text.format" "$text" rewrite it.ini
     writes 0 empty check "$text"
 }
 
@@ -294,7 +294,7 @@ writes 1 empty delete-section it.ini 'no such section'
 bound=$reading
 cp many.refused it.ini
 for words in 'get it.ini name' 'keys it.ini' 'list it.ini' 'set it.ini name v' 'delete it.ini name' 'check it.ini' \
-    'merge it.ini other.ini' 'format it.ini'; do
+    'merge it.ini other.ini' 'rewrite it.ini'; do
     # shellcheck disable=SC2086
     writes 3 empty $words
     head -n 1 err >told
@@ -308,7 +308,7 @@ pipes many.get many get - 'key 7' "section $last"
 pipes "many.$mid.set" many set - 'key 3' other "section $mid"
 pipes "many.$last.new" many add - new v "section $last"
 pipes "many.$mid.delete" many delete - 'key 3' "section $mid"
-pipes many.format many format -
+pipes many.format many rewrite -
 bound=$editing
 pipes many.merge many merge - other.ini
 bound=$reading
@@ -380,7 +380,7 @@ writes 0 longest.list list longest
 writes 0 longest.sections sections longest
 writes 0 empty check longest
 leaves longest.set longest set it.ini y 3 z
-leaves longest.format longest format it.ini
+leaves longest.format longest rewrite it.ini
 writes 0 longest.format merge --output - none.ini longest
 label='many options'
 # shellcheck disable=SC2046
@@ -420,6 +420,7 @@ if command -v valgrind >/dev/null 2>&1; then
         four_times $shape keys TEXT SECTION
         four_times $shape sections TEXT
         four_times $shape list TEXT
+        four_times $shape rewrite --output - TEXT
         four_times $shape format --output - TEXT
         four_times $shape check TEXT
         four_times $shape set --output - TEXT KEY w SECTION

@@ -26,7 +26,7 @@
 #     remove_all, setters, Entry               70,000 (crates/ini_vectors)
 #     ini_merge                                5,000 files, and as many words
 #     skip_trivia                              200 MB (tests/passing.sh)
-#     ini_file get, list, format, check        14 MB: a section of 1,000,000 pairs (tests/long.sh, also what follows)
+#     ini_file get, list, rewrite, check       14 MB: a section of 1,000,000 pairs (tests/long.sh, also what follows)
 #     set, add, delete, rename-key, delete-section, merge of a key    the same, by name and by a pipe
 #     sections, get, set, rename-section       8 MB: 300,000 sections
 #     merge                                    2,000 keys; 2,000 files
@@ -184,7 +184,8 @@ TEXTS
 check -
 get - b s
 list -
-format -
+rewrite -
+format --separator : --indent-pairs 2 -
 set - a 2
 set - new v s
 set - new v u

@@ -178,11 +178,23 @@ if toml_edit_is_built; then
         '< [paths]\n< log   = 1\n< # the cache\n< cache = 2'
 fi
 
-# What small texts say to the programs of two dialects.
-for name in git python3; do
+# What small texts say to the programs of four dialects; GKeyFile is read by a program in C.
+small_texts() {
+    run "$1: values of small texts, and edits" python3 "$top/tests/program/dialects.py" "$program" "$@"
+}
+
+for name in git python3 php; do
     if peer "$name" && has python3 "what is compared with $name"; then
-        run "$name: values of small texts" python3 "$top/tests/program/dialects.py" "$program" "${name%3}"
+        small_texts "${name%3}"
     fi
 done
+if has cc 'what is compared with GKeyFile' && has pkg-config 'what is compared with GKeyFile'; then
+    # shellcheck disable=SC2046
+    if cc -o key_file "$top/tests/program/key_file.c" $(pkg-config --cflags --libs glib-2.0) 2>log; then
+        small_texts desktop "$room/key_file"
+    else
+        echo "skipped: what is compared with GKeyFile, since glib-2.0 isn't there"
+    fi
+fi
 
 finish

@@ -65,7 +65,7 @@ formatted='name=one\n\n[server]\nport=8080\n\n[client]\nid=7\n'
 
 # which file is written
 places() {
-    for words in "list|$listed" "format|$formatted" 'sections|server\nclient\n' 'keys|name\n'; do
+    for words in "list|$listed" "rewrite|$formatted" 'sections|server\nclient\n' 'keys|name\n'; do
         fresh
         ended "${words%%|*} --output, a new file" 0 "${words%%|*}" --output new.ini settings.ini
         there "${words%%|*} --output, a new file" settings.ini "$source" other.ini "$other" new.ini "${words#*|}"
@@ -80,9 +80,9 @@ places() {
     there 'merge --output, a new file' settings.ini "$source" other.ini "$other" new.ini "$merged"
     ended 'merge --output, a file that is there' 0 merge --output other.ini settings.ini other.ini
     there 'merge --output, a file that is there' settings.ini "$source" other.ini "$merged" new.ini "$merged"
-    for words in format list sections keys 'get none.ini k' 'delete none.ini k' 'delete-section none.ini s' \
+    for words in rewrite list sections keys 'get none.ini k' 'delete none.ini k' 'delete-section none.ini s' \
         'rename-key none.ini a b' 'rename-section none.ini a b' 'set --existing none.ini k v' 'check' \
-        'merge settings.ini' 'format --dry-run' 'format --output new.ini'; do
+        'merge settings.ini' 'rewrite --dry-run' 'rewrite --output new.ini'; do
         case $words in *none.ini*) ;; *) words="$words none.ini" ;; esac
         fresh
         # shellcheck disable=SC2086
@@ -98,7 +98,7 @@ places() {
     ended 'merge --dry-run --output, a new file' 0 merge --dry-run --output new.ini settings.ini other.ini
     ended 'merge --dry-run --output, a file that is there' 0 merge --dry-run --output other.ini settings.ini other.ini
     ended 'merge --dry-run' 0 merge --dry-run settings.ini other.ini
-    ended 'format --dry-run' 0 format --dry-run settings.ini
+    ended 'rewrite --dry-run' 0 rewrite --dry-run settings.ini
     there '--dry-run: nothing is written' settings.ini "$source" other.ini "$other"
 }
 
@@ -212,12 +212,12 @@ modes() {
             "$program" set set.ini k v
             "$program" add add.ini k v s
             "$program" merge merge.ini other.ini
-            "$program" format --output format.ini settings.ini
+            "$program" rewrite --output rewrite.ini settings.ini
             "$program" set --output output.ini settings.ini k v
         )
-        stat -c '%a %n' set.ini add.ini merge.ini format.ini output.ini >"$room/have"
+        stat -c '%a %n' set.ini add.ini merge.ini rewrite.ini output.ini >"$room/have"
         wanted=$(printf '%o' $((0666 & ~0$mask)))
-        printf "$wanted %s.ini\n" set add merge format output >"$room/want"
+        printf "$wanted %s.ini\n" set add merge rewrite output >"$room/want"
         count "files that are made under the umask $mask"
     done
     for mode in 600 640 666 604; do
@@ -225,7 +225,7 @@ modes() {
         chmod "$mode" settings.ini other.ini
         (
             umask 077
-            "$program" format settings.ini
+            "$program" rewrite settings.ini
             "$program" set --output other.ini settings.ini k v
             umask 000
             "$program" merge settings.ini other.ini
@@ -270,7 +270,7 @@ neighbours() {
         printf "$source"; } >"$room/want"
     count 'a thousand names beside it are taken: the words, and the file stands'
     # by way of a link the file's own folder is written, and what stands beside the link isn't touched
-    for words in 'merge link.ini other.ini' 'format link.ini' 'set link.ini k v'; do
+    for words in 'merge link.ini other.ini' 'rewrite link.ini' 'set link.ini k v'; do
         fresh
         mkdir far
         mv settings.ini far/true.ini
@@ -323,7 +323,7 @@ full() {
     fresh
     awk 'BEGIN { for (i = 0; i < 300; i++) v = v "v"; for (i = 0; i < 100; i++) print "key" i "=" v }' >long.ini
     cp long.ini "$room/long"
-    for words in 'set long.ini key7 w' 'merge long.ini other.ini' 'format --separator : long.ini' 'set new.ini k v' \
+    for words in 'set long.ini key7 w' 'merge long.ini other.ini' 'rewrite --separator : long.ini' 'set new.ini k v' \
         'merge new.ini long.ini' 'list --output new.ini long.ini' 'set --output new.ini long.ini k v' \
         'list --output other.ini long.ini'; do
         case $words in 'set new.ini'*) words="$words$(head -c 30000 /dev/zero | tr '\0' v)" ;; esac
@@ -338,7 +338,7 @@ full() {
         count "$(echo "$words" | cut -c 1-40), where the file is full in the middle: each file stands, and no other is left"
         rm -f new.ini ./*.lock
     done
-    for words in 'list long.ini' 'format --output - long.ini' 'set --output - long.ini key7 w' 'check -' \
+    for words in 'list long.ini' 'rewrite --output - long.ini' 'set --output - long.ini key7 w' 'check -' \
         'merge --output - long.ini other.ini' 'set --dry-run long.ini key99 w'; do
         case $words in check*) sed 's/.*/k=v/' long.ini ;; esac >"$room/in"
         case $words in *dry-run*) set -- "$(head -c 30000 /dev/zero | tr '\0' w)" ;; *) set -- ;; esac
@@ -354,7 +354,7 @@ full() {
 can_trace() {
     command -v strace >/dev/null || return 1
     fresh
-    strace -y -o "$room/trace" -e trace=fsync -e inject=fsync:error=EIO:when=1 "$program" format settings.ini 2>/dev/null
+    strace -y -o "$room/trace" -e trace=fsync -e inject=fsync:error=EIO:when=1 "$program" rewrite settings.ini 2>/dev/null
     grep -q INJECTED "$room/trace"
 }
 
@@ -383,7 +383,7 @@ broken() {
 # The calls of a save that fail. Where a file is replaced: words, the file that is reported, the calls; and where one is made.
 faults() {
     told=settings.ini
-    for words in 'merge settings.ini other.ini' 'set settings.ini name two' 'format settings.ini' \
+    for words in 'merge settings.ini other.ini' 'set settings.ini name two' 'rewrite settings.ini' \
         'list --output settings.ini other.ini'; do
         broken openat O_EXCL EACCES "Permission denied (os error 13); $advice"
         broken openat O_EXCL EROFS "Read-only file system (os error 30); $advice"
@@ -398,7 +398,7 @@ faults() {
         broken rename . EBUSY "Device or resource busy (os error 16); $advice"
         broken rename . EIO 'Input/output error (os error 5)'
     done
-    for words in 'set new.ini k v' 'add new.ini k v s' 'merge new.ini other.ini' 'format --output new.ini settings.ini' \
+    for words in 'set new.ini k v' 'add new.ini k v s' 'merge new.ini other.ini' 'rewrite --output new.ini settings.ini' \
         'set --output new.ini settings.ini k v' 'merge --output new.ini settings.ini other.ini'; do
         told=new.ini
         broken openat O_EXCL EACCES 'Permission denied (os error 13)'
@@ -497,7 +497,7 @@ calls_of() {
 # Which calls are made, in order, with which flags and modes: the lock before the first byte is read, and let go after the
 # last call; owner and group, then the mode, before any byte; the bytes on the disk before the name, and the folder after it.
 calls() {
-    for words in 'format settings.ini' 'merge settings.ini other.ini' 'set settings.ini name two'; do
+    for words in 'rewrite settings.ini' 'merge settings.ini other.ini' 'set settings.ini name two'; do
         for mode in 640 600; do
             fresh
             chmod "$mode" settings.ini
@@ -517,7 +517,7 @@ calls() {
             count "$words, mode $mode: the file's rights"
         done
     done
-    for words in 'set new.ini k v' 'add new.ini k v' 'merge new.ini other.ini' 'format --output new.ini settings.ini' \
+    for words in 'set new.ini k v' 'add new.ini k v' 'merge new.ini other.ini' 'rewrite --output new.ini settings.ini' \
         'delete --output new.ini settings.ini name'; do
         fresh
         # shellcheck disable=SC2086
@@ -593,7 +593,7 @@ END
 
 # The file itself is written: it is the same file with its names and rights; where it can't be, it has its old text again.
 in_place() {
-    for words in 'set --in-place settings.ini name two' 'merge --in-place settings.ini other.ini' 'format --in-place settings.ini' \
+    for words in 'set --in-place settings.ini name two' 'merge --in-place settings.ini other.ini' 'rewrite --in-place settings.ini' \
         'list --in-place --output settings.ini other.ini' 'delete --in-place settings.ini name'; do
         fresh
         # shellcheck disable=SC2086
@@ -734,7 +734,7 @@ wanted() {
         there "$words: nothing is written" settings.ini "$source" other.ini "$other"
     done
     for words in 'get --wait 5 --verbose --force --in-place --output new.ini settings.ini name' \
-        'format --wait 123456789 settings.ini' 'merge --wait 0 --force settings.ini other.ini' \
+        'rewrite --wait 123456789 settings.ini' 'merge --wait 0 --force settings.ini other.ini' \
         'set --wait 7 --in-place --force settings.ini k v'; do
         fresh
         # shellcheck disable=SC2086
@@ -757,7 +757,7 @@ verbose() {
 0|changed|set new.ini k v
 0|changed|merge settings.ini other.ini
 0|unchanged|merge other.ini other.ini
-0|changed|format settings.ini
+0|changed|rewrite settings.ini
 0|unchanged|set --in-place settings.ini name one
 0|changed|set --in-place settings.ini name two
 0|changed|set --dry-run settings.ini name two
@@ -869,7 +869,7 @@ owners() {
     fi
     cp "$program" "$room/program"
     chmod 755 "$room" "$room/program"
-    for words in 'set settings.ini name two' 'merge settings.ini other.ini' 'format settings.ini' \
+    for words in 'set settings.ini name two' 'merge settings.ini other.ini' 'rewrite settings.ini' \
         'list --output settings.ini other.ini' 'delete settings.ini name' 'rename-section settings.ini server web'; do
         for mode in 600 640 644 4750 2755; do
             fresh
@@ -925,7 +925,7 @@ END
         skipped=$((skipped + 2))
     fi
     # write-protected: by the mode for root too, and by the user's rights
-    for words in 'set settings.ini name two' 'merge settings.ini other.ini' 'format settings.ini' \
+    for words in 'set settings.ini name two' 'merge settings.ini other.ini' 'rewrite settings.ini' \
         'set --in-place settings.ini name two' 'list --output settings.ini other.ini' 'set --dry-run settings.ini name two'; do
         fresh
         chmod 444 settings.ini

@@ -17,7 +17,7 @@ traps='unclosed-bracket, unclosed-quote, joined-line, runs-on, comment-runs-on, 
 traps="$traps, pair-in-value, repeated-key, repeated-section, after-header, empty-name, section-case, key-case"
 traps="$traps, mark-begins-key, colon-separates, escape-in-name, escape-in-key, escape, mark-in-value, text-after-quote"
 traps="$traps, half-quote, odd-space, not-plain"
-commands='get keys sections list set add delete delete-section rename-key rename-section merge format check'
+commands='get keys sections list set add delete delete-section rename-key rename-section merge diff merge3 rewrite format check'
 
 # Each mistake is reported by one sentence, and where help is; nothing is read or written. WORDS|TOLD
 mistakes() {
@@ -65,12 +65,27 @@ get -sserver settings.ini port|-sserver is no option; after -- it is an argument
 get --all=1 settings.ini k|--all takes no text
 set --dry-run=yes settings.ini k v|--dry-run takes no text
 list --all settings.ini|list doesn't take --all, but --null --output --in-place --force --wait --verbose
-check --all settings.ini|check doesn't take --all, but --null --format --allow --deny --fix --dry-run --in-place --force --wait --verbose
+check --all settings.ini|check doesn't take --all, but --null --format --allow --deny --fix --suggest --dry-run --in-place --force --wait --verbose
 check --force settings.ini|check takes --force with --fix alone
 check settings.ini -n|check takes --dry-run with --fix alone
 check --fix=1 settings.ini|--fix takes no text
+check --fix --suggest settings.ini|check takes --suggest without --fix, --null and --format
+check settings.ini --suggest --format json|check takes --suggest without --fix, --null and --format
 check --fix --wait x settings.ini|x is no number of seconds; --wait takes one, as 10
 check --format xml settings.ini|xml is no form; --format takes json, sarif or github
+rewrite settings.ini more|more is one word too many: rewrite takes FILE
+rewrite --check settings.ini|rewrite doesn't take --check, but --separator --dry-run --output --in-place --force --wait --verbose
+format|FILE is missing: format takes FILE ..
+format --all settings.ini|format doesn't take --all, but --separator --indent-pairs --blank-lines --check --dry-run --output --in-place --force --wait --verbose
+format --indent-pairs x settings.ini|x is no number of one or two digits
+format --blank-lines=100 settings.ini|100 is no number of one or two digits
+format --blank-lines= settings.ini| is no number of one or two digits
+format settings.ini --indent-pairs|--indent-pairs takes N
+format --check --output o settings.ini|--check writes no file, so --output has no place
+format --wait 3 settings.ini --check|--check writes no file, so --wait has no place
+format --output o settings.ini other.ini|--output takes what is made of one file alone
+format - -|- is standard input, which can't be read twice
+list --blank-lines 1 settings.ini|list doesn't take --blank-lines, but --null --output --in-place --force --wait --verbose
 check --allow frob settings.ini|frob is no warning; they are all, loses-data, surprises, $traps
 check settings.ini --deny|--deny takes NAME
 list --allow escape settings.ini|list doesn't take --allow, but --null --output --in-place --force --wait --verbose
@@ -80,6 +95,16 @@ keys --wait 5 settings.ini|keys takes --wait with --output alone
 merge settings.ini - -|- is standard input, which can't be read twice
 set --existing --separator : settings.ini name v|--existing writes no new line, so --separator has no place
 merge - -|- is standard input, which can't be read twice
+diff settings.ini|OTHER is missing: diff takes FILE OTHER
+diff - -|- is standard input, which can't be read twice
+diff -n settings.ini settings.ini|diff doesn't take --dry-run, but --output --in-place --force --wait --verbose
+diff --verbose settings.ini settings.ini|diff takes --verbose with --output alone
+diff settings.ini settings.ini more|more is one word too many: diff takes FILE OTHER
+merge3 settings.ini - -|- is standard input, which can't be read twice
+merge3 settings.ini settings.ini|THEIRS is missing: merge3 takes BASE OURS THEIRS
+merge3 --force settings.ini settings.ini settings.ini|merge3 takes --force with --output alone
+merge --ours settings.ini settings.ini|merge doesn't take --ours, but --dry-run --output --in-place --force --wait --verbose
+merge3 --ours=1 settings.ini settings.ini settings.ini|--ours takes no text
 list -s server settings.ini|list has no section, so --section server has no place
 END
 }
@@ -133,7 +158,7 @@ set none.ini k a\b --output=- --like kde --noescape --policy Nothing|k=a\\b\n
 END
 }
 
-# Questions by the rules of dialects. WORDS|STATUS|OUTPUT
+# Questions and edits by the rules of dialects. WORDS|STATUS|OUTPUT
 likes() {
     while IFS='|' read -r words status output; do
         fresh
@@ -169,6 +194,16 @@ sections rules.ini|0|A\nb\na\nB\n
 --like windows sections rules.ini|0|A\nb\n
 --like openttd get rules.ini k a|0|4\n
 --like openttd keys rules.ini A|0|k\nK\n
+--like openttd set rules.ini k v A -n|0|--- rules.ini\n+++ rules.ini\n@@ -2,1 +2,1 @@\n-k=1\n+k=v\n
+--like windows set rules.ini K v a -n|0|--- rules.ini\n+++ rules.ini\n@@ -2,1 +2,1 @@\n-k=1\n+k=v\n
+--like systemd set rules.ini k v a -n|0|--- rules.ini\n+++ rules.ini\n@@ -12,1 +12,1 @@\n-k=7\n+k=v\n
+--like git set rules.ini x v b -n|0|--- rules.ini\n+++ rules.ini\n@@ -10,1 +10,1 @@\n-x=6\n+x=v\n
+--like systemd set rules.ini new v a -n|0|--- rules.ini\n+++ rules.ini\n@@ -13,0 +14,1 @@\n+new=v\n
+--like systemd add rules.ini x v b -n|0|--- rules.ini\n+++ rules.ini\n@@ -5,0 +6,1 @@\n+x=v\n
+--like git set --existing rules.ini new v a|1|
+--like systemd delete rules.ini k a --output -|0|[A]\nk=1\nK=2\n[b]\nx=3\n[a]\n[B]\nj=5\nx=6\n[a]\nm=8\n
+--like git delete rules.ini K a --output -|0|[A]\n[b]\nx=3\n[a]\n[B]\nj=5\nx=6\n[a]\nm=8\n
+--like git delete rules.ini new a|1|
 END
     INI_LIKE=git
     export INI_LIKE
@@ -181,6 +216,22 @@ Try 'ini_file --help'." list settings.ini
     INI_LIKE=
     ends 'an empty dialect of the environment' 1 '' '' get settings.ini PORT SERVER
     unset INI_LIKE
+}
+
+# The dialects that read a file, those first under which a backslash is a character like others.
+suggests() {
+    fresh
+    printf 'path = C:\\temp\n' >path.ini
+    printf '[a\n' >none.ini
+    want=
+    for name in systemd python mysql samba windows supervisor fail2ban aws editorconfig npm hg sssd; do
+        want="${want}path.ini: $name: 0\\n"
+    done
+    for name in crate git desktop php kde qt pulseaudio odbc freetds openssl uwsgi xrdp openttd; do
+        want="${want}path.ini: $name: 1\\n"
+    done
+    ends 'the dialects of a path' 0 "$want" '' check --suggest path.ini
+    ends 'a text of no dialect' 1 '' '' check --suggest none.ini
 }
 
 # Help, of the program and of each command: status 0, on standard output.
@@ -382,7 +433,7 @@ END
 --policy Reserved|key|a=b
 --brackets|name|s]
 END
-    # others: of a merge, of another key's or section's name, of a format, and of what would be a file's mark
+    # others: of a merge, of another key's or section's name, of a rewrite, and of what would be a file's mark
     fresh
     printf "[new]\nk = ' \"'\"'\"\n" >other.ini
     ends 'a value of another file' 2 '' "ini_file: settings.ini: [new] k: this value can't be written so that it is read back
@@ -398,8 +449,8 @@ note: it has ]: use --brackets" rename-section settings.ini server 'a]'
     printf 'a=1\n%sk=2\n' "$(printf '\357\273\277')" >settings.ini
     ends 'a key that a deletion would leave at the front' 2 '' "ini_file: settings.ini: this key can't be written so that it is read back
 note: it begins with U+FEFF, which reading drops at the front of a file" delete settings.ini a
-    ends 'a separator of format' 2 '' "ini_file: settings.ini: this separator can't be written so that it is read back
-note: it isn't one = or : with spaces and tabs alone around it" format --separator - settings.ini
+    ends 'a separator of rewrite' 2 '' "ini_file: settings.ini: this separator can't be written so that it is read back
+note: it isn't one = or : with spaces and tabs alone around it" rewrite --separator - settings.ini
     mark=$(printf '\357\273\277')
     ends 'a key that would be a mark' 2 '' "ini_file: new.ini: this key can't be written so that it is read back
 note: it begins with U+FEFF, which reading drops at the front of a file" set new.ini "${mark}k" v
@@ -443,6 +494,7 @@ END
 mistakes
 places
 likes
+suggests
 helps
 refused
 bytes

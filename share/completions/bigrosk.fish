@@ -12,7 +12,7 @@ function __bigrosk_sort
             set bigrosk_option
         else
             switch $word
-                case --like --policy --output --default --separator --wait --format --allow --deny --section -s
+                case --like --policy --output --default --separator --wait --format --allow --deny --section -s --indent-pairs --blank-lines
                     set bigrosk_option $word
                 case '-?*'
                 case '*'
@@ -89,7 +89,7 @@ function __bigrosk_ini_file
     switch "$command,$count"
         case ',0'
             __bigrosk_help '[a-z]' ini_file --help
-        case '*,1' 'merge,*' 'check,*'
+        case '*,1' 'merge,*' 'diff,*' 'merge3,*' 'check,*' 'format,*'
             __fish_complete_path
         case get,2 set,2 add,2 delete,2 rename-key,2
             __bigrosk_keys

@@ -95,7 +95,7 @@ def commands():
         "commands of ini_file",
         help=set(arguments),
         page=set(re.findall(r"^\.RI \[ OPTIONS \]\n\.B (.*)", page("ini_file"), re.M)),
-        document=set(re.findall(r"^    ini_file \[OPTIONS\] ([a-z-]+)", documented("ini_file"), re.M)),
+        document=set(re.findall(r"`([a-z][a-z0-9-]*) (?:FILE|BASE)\b", " ".join(rows(documented("ini_file"))))),
         completions=offered("ini_file", ""),
     )
     choices = dict(re.findall(r"^  (--[a-z-]+)( [A-Z]+)? ", shown.split("\nChoices:\n")[1], re.M))

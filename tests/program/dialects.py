@@ -1,10 +1,11 @@
-"""Asks ini_file and the programs of two dialects what small texts say.
+"""Asks ini_file and the programs of four dialects what small texts say.
 
-    dialects.py INI_FILE NAME
+    dialects.py INI_FILE NAME [READER]
 
-NAME is git, which `git config` reads, or python, which configparser reads. Each value that these find in a text is asked of
-INI_FILE --like NAME, and each key that isn't there. Each difference is a line, then the number of texts; the status is 1 where
-there is a difference.
+NAME is git, which `git config` reads, python, which configparser reads, php, which php reads, or desktop, which GLib's GKeyFile
+reads by READER, the program of key_file.c. Each value that these find in a text is asked of INI_FILE --like NAME, and each key
+that isn't there. Then each is set by INI_FILE, and deleted, and a key is set that isn't there: the reader finds just that change.
+Each difference is a line, then the number of texts; the status is 1 where there is one.
 """
 import configparser
 import os
@@ -13,7 +14,8 @@ import subprocess
 import sys
 import tempfile
 
-PROGRAM, NAME = pathlib.Path(sys.argv[1]).resolve(), sys.argv[2]
+HERE = pathlib.Path(__file__).resolve().parent
+PROGRAM, NAME, READER = pathlib.Path(sys.argv[1]).resolve(), sys.argv[2], sys.argv[3:]
 GIT = r"""
 [a]\nk=v
 [a]\n\tk = v\n
@@ -82,6 +84,76 @@ PYTHON = r"""
 [a]\nk = %(x)s
 [flake8]\nmax-line-length = 100\nexclude = .git,build
 """
+PHP = r"""
+[a]\nk=v
+[a]\nk = v\n
+[a]\nk = x y  z
+[a]\nk = "x y"
+[a]\nk = 'x y'
+[a]\nk = ""
+[a]\nk =
+[a]\nk = 1\nk = 2
+[a]\nk = 1\nK = 2
+[a]\n; k = 1\nk = 2
+; c\n[a]\nk = 1\n; d\n
+\n\n[a]\n\nk = 1\n\nj = 2\n
+[a]\nk = 10M\nj = 0
+[PHP]\nmemory_limit = 128M\nengine = 1\n[Date]\ndate.timezone = UTC
+[a]\nk.l = 1\nk_m = 2
+[a b]\nk = 1
+[a]\nk = "a;b"
+[a]\nk = "a # b"
+[a]\nk = 'a "b" c'
+[a]\nk = a:b/c
+[a]\nk = a,b,c
+[a]\nk = -1
+[a]\nk = 0.25
+[a]\nk = é
+[a]\r\nk = 1\r\n
+[a]\nk\t=\tv
+[a]\n  k = v
+[a]\nk = "%a"
+[a]\nk = /usr/lib:/lib
+[a]\nk = "a=b"
+[mail function]\nsendmail_path = "/usr/sbin/sendmail -t -i"\n[Session]\nsession.name = PHPSESSID
+"""
+DESKTOP = r"""
+[Desktop Entry]\nName=x
+[a]\nk=v\n
+[a]\nk = v\n
+[a]\nk=1\nk=2
+[a]\nk=1\n[b]\nk=3\n[a]\nj=2
+[a]\nk=1\n[a]\nk=2
+[a]\nk=1\nK=2
+[A]\nk=1\n[a]\nk=2
+[a]\nk=x y  z
+[a]\nk="x"
+[a]\nk='x y'
+[a]\nk="a" b
+[a]\nk=a\\tb
+[a]\nk=a\\nb
+[a]\nk=a\\\\b
+[a]\nk=
+[a]\n# k=1\nk=2
+# c\n[a]\nk=1\n# d\n
+\n\n[a]\n\nk=1\n\nj=2\n
+[a]\nName[de]=x\nName=y
+[a]\nExec=a %u --b=c
+[a]\nk=a;b;c;
+[a]\nk=v = w
+[a]\nk=a # b
+[a]\nk=a ; b
+[a b]\nk=1
+[a/b:c]\nk=1
+[a]\nk=é
+[a]\nk=true\nj=false
+[Unit]\nDescription=x\n[Service]\nExecStart=/bin/x -y\nRestart=always
+[a]\nX-k=1\nk-2=3
+[a]\r\nk=1\r\n
+"""
+TEXTS = {"git": GIT, "python": PYTHON, "php": PHP, "desktop": DESKTOP}[NAME]
+# Whether the case of a key is no matter.
+ANY_CASE = NAME in ("git", "python")
 
 
 def told(*words):
@@ -111,14 +183,56 @@ def python(text):
             yield section, key, parser[section][key].lstrip("\n")
 
 
+def listed(*command):
+    """Each section, key and value that a command writes of a text, with a NUL after each."""
+    def values_of(text):
+        pathlib.Path("x").write_bytes(text.encode())
+        fields = subprocess.run([*command, "x"], capture_output=True, check=True).stdout.decode().split("\0")[:-1]
+        yield from zip(fields[::3], fields[1::3], fields[2::3])
+    return values_of
+
+
+READERS = {"git": git, "python": python, "php": listed("php", HERE / "reader.php"), "desktop": listed(*READER)}
+
+
+def edited(text, words, wanted):
+    """Whether the edit leaves a text that says what is wanted to the reader; else a line."""
+    path = pathlib.Path("z")
+    path.write_bytes(text.encode())
+    ended = told(words[0], "z", *words[1:])
+    said = values(path.read_bytes().decode())
+    if ended[0] == 0 and said == wanted:
+        return True
+    print(f"{text!r}: after {words}, which ended with {ended}, {said}, and not {wanted}")
+    return False
+
+
+def values(text):
+    """What a text says to the reader: a value for each section and key."""
+    return {(section, key): value for section, key, value in READERS[NAME](text)}
+
+
+def count_edits(text):
+    """How many edits of a text go wrong."""
+    old = values(text)
+    wrong = 0
+    for at in old:
+        section, key = at
+        wrong += not edited(text, ("set", key.upper() if ANY_CASE else key, "v2", section), old | {at: "v2"})
+        wrong += not edited(text, ("delete", key, section), {other: old[other] for other in old if other != at})
+    for section in {section for section, _ in old}:
+        wrong += not edited(text, ("set", "new", "v2", section), old | {(section, "new"): "v2"})
+    return wrong
+
+
 def main():
     differences = 0
     texts = [line.encode("latin-1", "backslashreplace").decode("unicode_escape") if line.isascii() else
-             line.replace("\\n", "\n") for line in {"git": GIT, "python": PYTHON}[NAME].strip().split("\n")]
+             line.replace("\\n", "\n") for line in TEXTS.strip().split("\n")]
     for text in texts:
         pathlib.Path("y").write_bytes(text.encode())
-        for section, key, value in {"git": git, "python": python}[NAME](text):
-            for asked in key, key.upper():
+        for (section, key), value in values(text).items():
+            for asked in (key, key.upper()) if ANY_CASE else (key,):
                 had = told("get", "y", asked, section)
                 if had != (0, value):
                     differences += 1
@@ -126,6 +240,7 @@ def main():
         if told("get", "y", "lacking", "a")[0] != 1:
             differences += 1
             print(f"{text!r}: a key that isn't there")
+        differences += count_edits(text)
     print(len(texts), "texts")
     return differences > 0
 

@@ -23,7 +23,7 @@ meanwhile() {
 
 # what another program does to the file between the first reading and the new bytes
 changes() {
-    for words in 'set settings.ini k v' 'merge settings.ini other.ini' 'format settings.ini'; do
+    for words in 'set settings.ini k v' 'merge settings.ini other.ini' 'rewrite settings.ini'; do
         fresh
         # shellcheck disable=SC2086
         meanwhile fchmod '' 'sed s/one/two/ "$room/case/settings.ini" >"$room/new"; cp "$room/new" settings.ini' $words
@@ -104,7 +104,7 @@ END
 # Readings of the file that fail: the first opening locks, the second reads, the third asks whether it may be written; or that are
 # to be made again, since a signal came or the file was away for a moment.
 readings() {
-    for words in 'set|k v' 'merge|other.ini' 'format|'; do
+    for words in 'set|k v' 'merge|other.ini' 'rewrite|'; do
         for when in 1 2 3; do
             fresh
             file=$(pwd)/settings.ini

@@ -44,9 +44,11 @@ for sections in 4 400 40000; do
     echo '| | open | 1,000 look-ups | an edit | a hundred edits | memory of opening | peak |'
     echo '|---|---|---|---|---|---|---|'
     for program in $programs; do
-        # a hundred passes over ten megabytes take a minute
-        [ "$program $sections" = 'BIGROSK,PASSES 40000' ] || "$room/$program" "$room/text.ini" "$sections" ||
-            echo "$program was refused"
+        case "$program $sections" in
+        'BIGROSK,PASSES 40000') ;;   # a hundred passes take a minute
+        'INI_CONFIG 40000') ;;       # its time grows with the square of the sections: hours
+        *) "$room/$program" "$room/text.ini" "$sections" || echo "$program was refused" ;;
+        esac
     done
     [ "$sections" != 4 ] || cp "$room/text.ini" "$room/small.ini"
 done

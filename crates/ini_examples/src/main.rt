@@ -3,6 +3,7 @@
 #![tactic(auto)]
 
 mod callers;
+mod dialect;
 mod edited_text;
 mod faults;
 mod fleet;
@@ -13,8 +14,9 @@ mod save;
 mod service;
 mod settings;
 mod traps;
+mod upgrade;
 
-use ini::Error;
+use ini::{Error, Ini};
 
 fn main(rt: HostRuntime) -> Result<(), Error> {
     let alloc = rt.alloc();
@@ -60,6 +62,15 @@ fn main(rt: HostRuntime) -> Result<(), Error> {
     }
     let warnings = traps::warnings(alloc, "[log]\nfile = C:\\temp # old\nfile = /tmp\n")?;
     println!(rt; "{warnings}")?;
+    let cloned = Ini::load_from_str(alloc, "[Core]\neditor = vi\n[core]\nEditor = ed\n")?;
+    if let Some(editor) = dialect::git_value(&cloned, "core", "editor") {
+        println!(rt; "git's editor is {editor}")?;
+    }
+    let (old, users) = ("port = 80\nlog = /tmp\n", "port = 8080\nlog = /tmp\n");
+    match upgrade::upgraded_text(alloc, old, users, "# the port\nport = 80\nlog = /var/log\n")? {
+        Some(text) => println!(rt; "{text}")?,
+        None => println!(rt; "a change is refused")?,
+    }
     let walked = peers::walked(alloc)?;
     println!(rt; "{walked}")?;
     Ok(())

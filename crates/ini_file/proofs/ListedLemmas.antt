@@ -2,8 +2,8 @@
 use Rattle.std.proofs.Common.{◌≡◌, ◌∙◌, ℕ, List, Option, ap, flat_map, map, sym, Bor}
 use Rattle.std.proofs.lemmas.List.Folds.{flat_map-map}
 use Rattle.ini.specs.Texts.{Text, str_name, str_text}
-use Rattle.ini_lines.specs.Lines.{entry, lent_name_entry, name_entry, text_entry}
-use Rattle.ini_lines.specs.declared.form.Form.{Form}
+use Rattle.ini_words.specs.Lines.{entry, lent_name_entry, name_entry, text_entry}
+use Rattle.ini_words.specs.declared.lines.form.Form.{Form}
 
 pub entries-of : (form : Form) (texts : List (Bor (List ℕ))) (ts : List Text) → map str_text texts ≡ ts
     → flat_map (text_entry form) texts ≡ flat_map (entry form) ts

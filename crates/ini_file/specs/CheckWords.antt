@@ -1,14 +1,14 @@
 -- Which words are a check: of which files, which traps are reported, in which form, and whether they are
 -- mended.
-use Rattle.std.specs.Prelude.{Bool, true, false, not, ◌||◌, if◌then◌else◌, List, [], ◌∷◌, codes, map}
+use Rattle.std.specs.Prelude.{Bool, true, false, not, ◌&&◌, ◌||◌, if◌then◌else◌, List, [], ◌∷◌, codes, map}
 use Rattle.std.specs.Prelude.{Option, None, Some, is_some, option_and_then, string_bytes}
 use Rattle.std.specs.Option.{option_map, option_map_or}
 use Rattle.std.specs.Str.{bytes_eq}
 use Rattle.ini_text.specs.declared.option.ParseOption.{ParseOption}
 use Rattle.ini_check.specs.Kinds.{level, level_name, name, trap_named}
 use Rattle.ini_check.specs.declared.warning.Trap.{Trap}
-use Rattle.ini_options.specs.Words.{Word}
-use Rattle.ini_options.specs.declared.options.Options.{Options}
+use Rattle.ini_words.specs.Words.{Word}
+use Rattle.ini_words.specs.declared.options.Options.{Options}
 use Rattle.ini_file.specs.Choices.{are_of_saving, have_no_option, is_short_number, no_switch, with_switch}
 use Rattle.ini_file.specs.Likes.{given_like}
 use Rattle.ini_file.specs.declared.check_words.Check.{Check}
@@ -27,7 +27,7 @@ pub record Checking : Type 0 where
 
 -- nothing is chosen
 abbrev pub no_check_choice : CheckChoices
-no_check_choice = record { format = Lines; fix = false; switches = no_switch }
+no_check_choice = record { format = Lines; fix = false; suggest = false; switches = no_switch }
 
 -- the form that a word names
 abbrev pub format_named : Word → Option Format
@@ -72,6 +72,7 @@ abbrev pub with_word : Word → CheckChoices → Option CheckChoices
 with_word word c =
     if bytes_eq word (codes "--null") then Some (record c { format = Null })
     else if bytes_eq word (codes "--fix") then Some (record c { fix = true })
+    else if bytes_eq word (codes "--suggest") then Some (record c { suggest = true })
     else if bytes_eq word (codes "--dry-run") || bytes_eq word (codes "--in-place")
     || bytes_eq word (codes "--force") || bytes_eq word (codes "--verbose")
     then option_map (λ s. record c { switches = s }) (with_switch word c.switches)
@@ -89,10 +90,16 @@ with_text word text c =
     else if names_traps text then Some c
     else None
 
--- what is about a mended file is chosen only where files are mended; `waits` says whether how long others
--- are waited for is
+abbrev pub is_lines : Format → Bool
+is_lines Lines = true
+is_lines _ = false
+
+-- what is about a mended file is chosen only where files are mended, and neither these nor a form of warnings
+-- with dialects; `waits` says whether how long others are waited for is
 abbrev pub are_right : Bool → CheckChoices → Bool
-are_right waits c = c.fix || not (are_of_saving c.switches || c.switches.dry_run || waits)
+are_right waits c =
+    if c.suggest && (c.fix || not (is_lines c.format)) then false
+    else c.fix || not (are_of_saving c.switches || c.switches.dry_run || waits)
 
 -- what words choose where `c` and this time of waiting hold before them, and the files that they name: those
 -- after `--`, or else those from the first word on that is no choice. None where a text is missing or wrong,

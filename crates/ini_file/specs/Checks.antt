@@ -13,7 +13,7 @@ use Rattle.ini.specs.Texts.{Text}
 use Rattle.ini_check.specs.Warnings.{AreWarningsOf}
 use Rattle.ini_check.specs.declared.warning.Warning.{Warning}
 use Rattle.ini_edit.specs.declared.error.EditError.TheVariants as refusal
-use Rattle.ini_options.specs.Words.{Word}
+use Rattle.ini_words.specs.Words.{Word}
 use Rattle.ini_file.specs.CheckWords.{is_reported}
 use Rattle.ini_file.specs.Reports.{reported}
 use Rattle.ini_file.specs.Runs.{status_of}

@@ -5,7 +5,7 @@ use Rattle.std.specs.Prelude.{Option, None, Some}
 use Rattle.std.specs.Fmt.{decimal}
 use Rattle.std.specs.List.{list_any, onto_first}
 use Rattle.ini_text.specs.Grammar.CharacterKinds.{line_feed}
-use Rattle.ini_options.specs.Words.{Word}
+use Rattle.ini_words.specs.Words.{Word}
 
 -- a line is the list of its bytes, its line feed too
 abbrev pub Line : Type 0

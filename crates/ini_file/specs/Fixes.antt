@@ -10,7 +10,7 @@ use Rattle.ini.specs.Loading.{IsTextWith}
 use Rattle.ini.specs.Texts.{Text}
 use Rattle.ini_check.specs.Mends.Texts.{IsMended, mended_traps}
 use Rattle.ini_check.specs.declared.warning.Trap.{Trap}
-use Rattle.ini_options.specs.Words.{Word}
+use Rattle.ini_words.specs.Words.{Word}
 use Rattle.ini_file.specs.Bytes.{byte_order_mark_of}
 use Rattle.ini_file.specs.CheckWords.{is_reported}
 use Rattle.ini_file.specs.Checks.{RefusesCheck}

@@ -10,9 +10,9 @@ use Rattle.ini_dialect.specs.declared.rule.CaseRule.TheVariants.{Ignored, Kept}
 use Rattle.ini_dialect.specs.declared.rule.Lookup.{Lookup}
 use Rattle.ini_dialect.specs.declared.rule.SectionRule.{SectionRule}
 use Rattle.ini_dialect.specs.declared.rule.SectionRule.TheVariants.{First as FirstSection}
-use Rattle.ini_lines.specs.Lines.{entry, key_entries, name_entries, name_entry}
-use Rattle.ini_lines.specs.declared.form.Form.{Form}
-use Rattle.ini_lines.specs.declared.form.Form.TheVariants.{Escaped, AsIs, Null}
+use Rattle.ini_words.specs.Lines.{entry, key_entries, name_entries, name_entry}
+use Rattle.ini_words.specs.declared.lines.form.Form.{Form}
+use Rattle.ini_words.specs.declared.lines.form.Form.TheVariants.{Escaped, AsIs, Null}
 
 -- what is listed stands on lines, or as it is with NUL
 abbrev pub listing_form : Bool → Form

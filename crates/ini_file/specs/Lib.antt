@@ -1,11 +1,15 @@
 pub mod Bytes
+pub mod ChangeLines
 pub mod CheckWords
 pub mod Checks
 pub mod Fixes
 pub mod Choices
+pub mod Comparisons
 pub mod Diffs
 pub mod Edits
 pub mod FaultWords
+pub mod FormatWords
+pub mod Formats
 pub mod Forms
 pub mod Hints
 pub mod Inside
@@ -21,7 +25,11 @@ pub mod Reports
 pub mod Requests
 pub mod Runs
 pub mod Settings
+pub mod SideWords
+pub mod Spacing
 pub mod Spelling
+pub mod Suggestions
+pub mod ThreeWays
 pub mod UsageErrors
 pub mod Words
 pub mod Writing

@@ -7,8 +7,8 @@ use Rattle.std.specs.Str.{bytes_eq}
 use Rattle.std.specs.declared.alloc.Global.{Global}
 use Rattle.ini_dialect.specs.Dialects.{Preset, crate_preset, dialect_of, shown}
 use Rattle.ini_dialect.specs.declared.presets.Dialect.{Dialect}
-use Rattle.ini_options.specs.Words.{Word, given}
-use Rattle.ini_options.specs.declared.options.Options.{Options}
+use Rattle.ini_words.specs.Words.{Word, given}
+use Rattle.ini_words.specs.declared.options.Options.{Options}
 
 -- the dialect of the first word, and the words after it
 abbrev pub named_first : List Word → Option (Preset × List Word)

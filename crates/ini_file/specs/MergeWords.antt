@@ -2,8 +2,8 @@
 use Rattle.std.specs.Prelude.{Bool, not, ◌||◌, if◌then◌else◌, nat_lt, count_by, List, [], ◌∷◌, codes, map}
 use Rattle.std.specs.Prelude.{Option, None, Some, option_and_then, string_bytes}
 use Rattle.std.specs.Str.{bytes_eq}
-use Rattle.ini_options.specs.Words.{Word}
-use Rattle.ini_options.specs.declared.options.Options.{Options}
+use Rattle.ini_words.specs.Words.{Word}
+use Rattle.ini_words.specs.declared.options.Options.{Options}
 use Rattle.ini_file.specs.Choices.{Chosen, chosen, chosen_of, no_choice, takes}
 use Rattle.ini_file.specs.Likes.{given_like}
 use Rattle.ini_file.specs.declared.merge_words.Merging.{Merging}

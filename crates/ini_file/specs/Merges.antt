@@ -13,8 +13,8 @@ use Rattle.ini.specs.Loading.{IsDocumentOf, IsStopOf, IsTextWith}
 use Rattle.ini.specs.Texts.{Text}
 use Rattle.ini_edit.specs.WholeTexts.{MakesText, RefusesText}
 use Rattle.ini_edit.specs.declared.edit_list.RefusedEdit.{RefusedEdit}
-use Rattle.ini_options.specs.Words.{IsWriteOption}
-use Rattle.ini_options.specs.declared.options.Options.{Options}
+use Rattle.ini_words.specs.Words.{IsWriteOption}
+use Rattle.ini_words.specs.declared.options.Options.{Options}
 use Rattle.ini_file.specs.Bytes.{byte_order_mark_of}
 use Rattle.ini_file.specs.Settings.{settings_of}
 use Rattle.ini_file.specs.declared.merge.MergeEnd.{MergeEnd}

@@ -6,7 +6,7 @@ use Rattle.std.specs.Borrow.{Bor}
 use Rattle.std.specs.List.{slice_get}
 use Rattle.std.specs.Option.{option_map, option_map_or, option_or}
 use Rattle.std.specs.Str.{bytes_eq}
-use Rattle.ini_options.specs.Words.{Word}
+use Rattle.ini_words.specs.Words.{Word}
 use Rattle.ini_file.specs.Spelling.{is_like_option, kind_of, spelled, takes_text}
 use Rattle.ini_file.specs.declared.order.Sorted as sorted_words
 use Rattle.ini_file.specs.declared.spelling.Kind.{Kind}

@@ -4,13 +4,13 @@ use Rattle.ini_text.specs.declared.write.option.WriteOption.{WriteOption}
 use Rattle.ini.specs.Texts.{Text}
 use Rattle.ini.specs.Documents.{Document}
 use Rattle.ini.specs.Written.{written}
-use Rattle.ini_lines.specs.Lines.{listed_pairs}
+use Rattle.ini_words.specs.Lines.{listed_pairs}
 use Rattle.ini_file.specs.Forms.{got, keys_listed, listing_form, names_listed}
-use Rattle.ini_file.specs.Requests.{Asking, Format, Listing, Sections, Keys, Get}
+use Rattle.ini_file.specs.Requests.{Asking, Rewrite, Listing, Sections, Keys, Get}
 
 -- what the question writes of a document; no text where the pair or the section that it asks for isn't there
 abbrev pub output : WriteOption → Asking → Document → Option Text
-output w Format d = Some (written d w)
+output w Rewrite d = Some (written d w)
 output w (Listing null) d = Some (listed_pairs (listing_form null) d)
 output w (Sections rule null) d = Some (names_listed rule (listing_form null) d)
 output w (Keys rule null section) d = keys_listed rule (listing_form null) section d

@@ -3,9 +3,9 @@ use Rattle.std.specs.Prelude.{Bool, true, false, ◌&&◌, if◌then◌else◌, 
 use Rattle.std.specs.Prelude.{Option, None, Some, unwrap_or}
 use Rattle.std.specs.Str.{bytes_eq}
 use Rattle.ini_edit.specs.Editings.{Add, Set}
-use Rattle.ini_options.specs.Words.{Word}
+use Rattle.ini_words.specs.Words.{Word}
 use Rattle.ini_file.specs.Choices.{Chosen}
-use Rattle.ini_file.specs.Requests.{Asks, Request, Ask, Change, Format}
+use Rattle.ini_file.specs.Requests.{Asks, Request, Ask, Change, Rewrite}
 use Rattle.ini_file.specs.declared.run.Outcome.{Outcome}
 use Rattle.ini_file.specs.declared.run.Outcome.TheVariants.{Done, NotFound}
 
@@ -16,7 +16,7 @@ is_edit (Change e) = true
 
 -- what the request makes belongs into the file itself: so it is with an edit, and with the document
 abbrev pub is_of_file : Request → Bool
-is_of_file (Ask Format) = true
+is_of_file (Ask Rewrite) = true
 is_of_file (Ask _) = false
 is_of_file (Change e) = true
 

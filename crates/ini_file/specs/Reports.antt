@@ -9,7 +9,7 @@ use Rattle.ini_check.specs.Messages.{message}
 use Rattle.ini_check.specs.declared.warning.Level.{Level}
 use Rattle.ini_check.specs.declared.warning.Level.TheVariants.{LosesData, Surprises}
 use Rattle.ini_check.specs.declared.warning.Warning.{Warning}
-use Rattle.ini_options.specs.Words.{Word}
+use Rattle.ini_words.specs.Words.{Word}
 use Rattle.ini_file.specs.declared.report_format.Format.{Format}
 use Rattle.ini_file.specs.declared.report_format.Format.TheVariants.{Github, Json, Lines, Null, Sarif}
 

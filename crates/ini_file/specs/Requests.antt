@@ -4,8 +4,8 @@ use Rattle.ini.specs.Texts.{Text, str_name, str_text}
 use Rattle.ini_edit.specs.Editings.{Editing, editing_of}
 use Rattle.ini_dialect.specs.Dialects.{Preset, shown}
 use Rattle.ini_dialect.specs.declared.rule.Lookup.{Lookup}
-use Rattle.ini_options.specs.Words.{Word}
-use Rattle.ini_options.specs.declared.options.Options.{Options}
+use Rattle.ini_words.specs.Words.{Word}
+use Rattle.ini_words.specs.declared.options.Options.{Options}
 use Rattle.ini_file.specs.Choices.{Chosen, chosen_of}
 use Rattle.ini_file.specs.declared.words.Invocation.{Invocation}
 use Rattle.ini_file.specs.declared.words.Command.{Command}
@@ -17,7 +17,7 @@ use Rattle.ini_file.specs.declared.words.Question.TheVariants as question
 -- general one. With `null` names, keys and values are written as they stand, with NUL after each; with
 -- `all` each value of the key is got; with a default that where there is none.
 pub data Asking : Type 0 where
-  Format : Asking
+  Rewrite : Asking
   Listing : (null : Bool) → Asking
   Sections : (rule : Lookup) (null : Bool) → Asking
   Keys : (rule : Lookup) (null : Bool) (section : Option Text) → Asking
@@ -37,7 +37,7 @@ asking_of (question.Get l) =
 
 -- the request that a command stands for
 abbrev pub request_of : Command → Request
-request_of command.Format = Ask Format
+request_of command.Rewrite = Ask Rewrite
 request_of (command.Ask q) = Ask (asking_of q)
 request_of (command.Change e) = Change (editing_of e)
 

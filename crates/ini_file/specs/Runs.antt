@@ -10,13 +10,13 @@ use Rattle.ini_text.specs.declared.write.option.WriteOption.{WriteOption}
 use Rattle.ini.specs.Documents.{Document}
 use Rattle.ini.specs.Loading.{IsDocumentOf, IsStopOf, IsTextWith}
 use Rattle.ini.specs.Texts.{Text}
-use Rattle.ini_edit.specs.Made.{HasNothing, HasUnwritableWord}
 use Rattle.ini_edit.specs.declared.error.EditError.{EditError}
 use Rattle.ini_edit.specs.declared.error.EditError.TheVariants as refusal
-use Rattle.ini_options.specs.Words.{Word}
-use Rattle.ini_options.specs.declared.options.Options.{Options}
+use Rattle.ini_dialect.specs.declared.rule.Lookup.{Lookup}
+use Rattle.ini_words.specs.Words.{Word}
+use Rattle.ini_words.specs.declared.options.Options.{Options}
 use Rattle.ini_file.specs.Bytes.{byte_order_mark_of}
-use Rattle.ini_file.specs.Edits.{IsChanged, RefusesEdit}
+use Rattle.ini_file.specs.Edits.{HasNothingBy, HasWritableWords, IsChanged, RefusesEdit, is_own}
 use Rattle.ini_file.specs.Outputs.{output}
 use Rattle.ini_file.specs.Requests.{Asking, Asks, Request, Ask, Change, separator_asked}
 use Rattle.ini_file.specs.Words.{asks_of_words}
@@ -38,16 +38,19 @@ pub record IsAnswer (o : Options) (separator : Option Word) (q : Asking) (T : Te
   pub loaded : IsDocumentOf o.reading T document
   pub is_output : out ≡ output option q document
 
--- the bytes are what the request asks to be written of a file with this mark and text
-abbrev pub IsWritten : Options → Option Word → Request → List ℕ → Text → List ℕ → Type 0
-IsWritten o separator (Ask q) byte_order_mark T bytes =
+-- the bytes are what the request asks to be written of a file with this mark and text, edited under the rule
+abbrev pub IsWritten : Lookup → Options → Option Word → Request → List ℕ → Text → List ℕ → Type 0
+IsWritten rule o separator (Ask q) byte_order_mark T bytes =
     (out : Text) × IsAnswer o separator q T (Some out) × bytes ≡ encode_utf8_all out
-IsWritten o separator (Change e) byte_order_mark T bytes = IsChanged o separator e byte_order_mark T bytes
+IsWritten rule o separator (Change e) byte_order_mark T bytes =
+    IsChanged rule o separator e byte_order_mark T bytes
 
 -- what the request is about isn't in the text, and it has no word that can't be written
-abbrev pub IsAbsent : Options → Option Word → Request → Text → Type 0
-IsAbsent o separator (Ask q) T = IsAnswer o separator q T None
-IsAbsent o separator (Change e) T = HasNothing o.reading e T × ¬ HasUnwritableWord o.reading o.escape_policy e
+abbrev pub IsAbsent : Lookup → Options → Option Word → Request → Text → Type 0
+IsAbsent rule o separator (Ask q) T = IsAnswer o separator q T None
+IsAbsent rule o separator (Change e) T =
+    HasNothingBy (is_own rule) rule o.reading e T
+    × HasWritableWords (is_own rule) o.reading o.escape_policy e
 
 -- what a question is refused with: a separator that isn't read back, whatever the text is; else the text's
 -- fault, or memory's
@@ -58,25 +61,26 @@ RefusesQuestion o separator T (refusal.Text (Memory _)) = Separates separator
 RefusesQuestion o separator T _ = ⊥
 
 -- what a request is refused with
-abbrev pub RefusesRequest : Options → Option Word → Request → List ℕ → Text → EditError → Type 0
-RefusesRequest o separator (Ask q) byte_order_mark T refused = RefusesQuestion o separator T refused
-RefusesRequest o separator (Change e) byte_order_mark T refused =
-    RefusesEdit o separator e byte_order_mark T refused
+abbrev pub RefusesRequest : Lookup → Options → Option Word → Request → List ℕ → Text → EditError → Type 0
+RefusesRequest rule o separator (Ask q) byte_order_mark T refused = RefusesQuestion o separator T refused
+RefusesRequest rule o separator (Change e) byte_order_mark T refused =
+    RefusesEdit rule o separator e byte_order_mark T refused
 
 -- how a run ends that asks for the request of a file with this mark and text
-abbrev pub EndsAs : Options → Option Word → Request → List ℕ → Text → Outcome → Type 0
-EndsAs o separator r byte_order_mark T (Done bytes) = IsWritten o separator r byte_order_mark T bytes.items
-EndsAs o separator r byte_order_mark T NotFound = IsAbsent o separator r T
-EndsAs o separator r byte_order_mark T Usage = ⊥
-EndsAs o separator r byte_order_mark T (Refused refused) =
-    RefusesRequest o separator r byte_order_mark T refused
+abbrev pub EndsAs : Lookup → Options → Option Word → Request → List ℕ → Text → Outcome → Type 0
+EndsAs rule o separator r byte_order_mark T (Done bytes) =
+    IsWritten rule o separator r byte_order_mark T bytes.items
+EndsAs rule o separator r byte_order_mark T NotFound = IsAbsent rule o separator r T
+EndsAs rule o separator r byte_order_mark T Usage = ⊥
+EndsAs rule o separator r byte_order_mark T (Refused refused) =
+    RefusesRequest rule o separator r byte_order_mark T refused
 
 -- the same of a file's bytes, which may be no text
 abbrev pub EndsOn : List ℕ → Asks → Outcome → Type 0
 EndsOn input a (Refused (refusal.Text NotUtf8)) = ¬ (IsUtf8 (without_byte_order_mark input))
 EndsOn input a end =
-    IsTextWith (λ T. EndsAs a.options (Some (separator_asked a)) a.request (byte_order_mark_of input) T end)
-    (without_byte_order_mark input)
+    IsTextWith (λ T. EndsAs a.dialect.lookup a.options (Some (separator_asked a)) a.request
+    (byte_order_mark_of input) T end) (without_byte_order_mark input)
 
 -- how a run of the words over the file's bytes ends
 abbrev pub HasOutcome : List (String Global) → List ℕ → Outcome → Type 0

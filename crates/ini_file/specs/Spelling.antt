@@ -4,7 +4,7 @@ use Rattle.std.specs.Prelude.{List, [], ◌∷◌, codes, Option, None, Some}
 use Rattle.std.specs.Char.{is_ascii_alphabetic}
 use Rattle.std.specs.List.{after_first, before_first, position_or_len, starts_with}
 use Rattle.std.specs.Str.{bytes_eq}
-use Rattle.ini_options.specs.Words.{Word}
+use Rattle.ini_words.specs.Words.{Word}
 use Rattle.ini_file.specs.declared.spelling.Kind.{Kind}
 use Rattle.ini_file.specs.declared.spelling.Kind.TheVariants.{Reading, ReadingText, Choice, ChoiceText}
 use Rattle.ini_file.specs.declared.spelling.Kind.TheVariants.{Section, Like, Help}
@@ -19,11 +19,14 @@ kind_of name =
     else if bytes_eq name (codes "--existing") || bytes_eq name (codes "--all")
     || bytes_eq name (codes "--null") || bytes_eq name (codes "--dry-run")
     || bytes_eq name (codes "--in-place") || bytes_eq name (codes "--force")
-    || bytes_eq name (codes "--verbose") || bytes_eq name (codes "--fix") then Some Choice
+    || bytes_eq name (codes "--verbose") || bytes_eq name (codes "--fix")
+    || bytes_eq name (codes "--suggest") || bytes_eq name (codes "--check")
+    || bytes_eq name (codes "--ours") || bytes_eq name (codes "--theirs") then Some Choice
     else if bytes_eq name (codes "--output") || bytes_eq name (codes "--default")
     || bytes_eq name (codes "--separator") || bytes_eq name (codes "--wait")
     || bytes_eq name (codes "--format") || bytes_eq name (codes "--allow")
-    || bytes_eq name (codes "--deny") then Some ChoiceText
+    || bytes_eq name (codes "--deny") || bytes_eq name (codes "--indent-pairs")
+    || bytes_eq name (codes "--blank-lines") then Some ChoiceText
     else if bytes_eq name (codes "--section") then Some Section
     else if bytes_eq name (codes "--like") then Some Like
     else if bytes_eq name (codes "--help") then Some Help

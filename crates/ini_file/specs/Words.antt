@@ -8,17 +8,17 @@ use Rattle.ini.specs.Texts.{Text}
 use Rattle.ini_edit.specs.Editings.{Add, Delete, DeleteSection, RenameKey, RenameSection, Set, SetExisting}
 use Rattle.ini_dialect.specs.Dialects.{Preset}
 use Rattle.ini_dialect.specs.declared.rule.Lookup.{Lookup}
-use Rattle.ini_options.specs.Words.{Word, given}
-use Rattle.ini_options.specs.declared.options.Options.{Options}
+use Rattle.ini_words.specs.Words.{Word, given}
+use Rattle.ini_words.specs.declared.options.Options.{Options}
 use Rattle.ini_file.specs.Choices.{Chosen, chosen, no_choice, takes}
 use Rattle.ini_file.specs.Likes.{liked, options_like}
 use Rattle.ini_file.specs.Requests.{Asks, Request, Ask, Change}
-use Rattle.ini_file.specs.Requests.{Format, Listing, Sections, Keys, Get}
+use Rattle.ini_file.specs.Requests.{Rewrite, Listing, Sections, Keys, Get}
 
 -- the request of a command without arguments, and of one with one, two or three
 abbrev pub request_alone : Word → Lookup → Chosen → Option Request
 request_alone command rule c =
-    if bytes_eq command (codes "format") then Some (Ask Format)
+    if bytes_eq command (codes "rewrite") then Some (Ask Rewrite)
     else if bytes_eq command (codes "list") then Some (Ask (Listing c.switches.null))
     else if bytes_eq command (codes "sections") then Some (Ask (Sections rule c.switches.null))
     else if bytes_eq command (codes "keys") then Some (Ask (Keys rule c.switches.null None))

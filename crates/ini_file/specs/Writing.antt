@@ -4,8 +4,8 @@ use Rattle.std.specs.Borrow.{Bor}
 use Rattle.std.specs.Option.{option_map}
 use Rattle.ini_text.specs.Laws.Plain.{IsPlainSeparator}
 use Rattle.ini_text.specs.declared.write.option.WriteOption.{WriteOption}
-use Rattle.ini_options.specs.Words.{Word}
-use Rattle.ini_options.specs.declared.options.Options.{Options}
+use Rattle.ini_words.specs.Words.{Word}
+use Rattle.ini_words.specs.declared.options.Options.{Options}
 
 -- the word that an `Option<&str>` stands for
 abbrev pub word_of : Option (Bor (List ℕ)) → Option Word

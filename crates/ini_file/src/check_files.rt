@@ -9,6 +9,7 @@ use crate::refusals::refuse;
 use crate::report_format::Format;
 use crate::run::Outcome;
 use crate::sarif::document_of;
+use crate::suggest::suggestions;
 use crate::target::Target;
 use ini::Error;
 use std::alloc::AllocError;
@@ -67,6 +68,9 @@ fn check_one(rt: &HostRuntime, check: &Check<'_>, file: &str, reports: &mut Vec<
         Ok(input) => input,
         Err(refusal) => return refuse(rt, read, file, &[], &Outcome::from(refusal)),
     };
+    if check.made.suggest {
+        return suggest_one(rt, check, file, input.as_slice(), reports);
+    }
     let checked = check_file(rt.alloc(), check, file, input.as_slice());
     let found = status_of_check(&checked);
     let refusal = match checked {
@@ -93,4 +97,23 @@ fn fix_one(rt: &HostRuntime, check: &Check<'_>, file: &str) -> Result<Vec<u8>, E
     };
     write_output(rt, target, Some(input.as_slice()), fixed.as_slice())?;
     Ok(fixed)
+}
+
+// Puts last as which dialects a file can be read, or tells its refusal; and answers its status, 1 where there
+// is none.
+fn suggest_one(
+    rt: &HostRuntime,
+    check: &Check<'_>,
+    file: &str,
+    input: &[u8],
+    reports: &mut Vec<u8>,
+) -> u8 {
+    let refusal = match suggestions(rt.alloc(), file, input) {
+        Ok(lines) => match reports.extend_from_slice(lines.as_slice()) {
+            Ok(()) => return u8::from(lines.is_empty()),
+            Err(_) => Error::Memory(AllocError),
+        },
+        Err(refusal) => refusal,
+    };
+    refuse(rt, check.reading, file, input, &Outcome::from(refusal))
 }

@@ -11,7 +11,7 @@ use crate::like::options_of;
 use crate::report_format::Format;
 use crate::reported::names_traps;
 use ini::ParseOption;
-use ini_options::Options;
+use ini_words::Options;
 
 /// How a check is made.
 #[derive(Clone, Copy)]
@@ -20,6 +20,8 @@ pub struct CheckChoices {
     pub format: Format,
     /// Whether what is reported is mended, where that makes the file better.
     pub fix: bool,
+    /// Whether the dialects are written as which the file can be read, in place of warnings.
+    pub suggest: bool,
     /// What is chosen of the way in which a mended file is saved.
     pub switches: Switches,
 }
@@ -32,6 +34,7 @@ impl CheckChoices {
         CheckChoices {
             format: Format::Lines,
             fix: false,
+            suggest: false,
             switches: Switches::none(),
         }
     }
@@ -44,6 +47,7 @@ impl CheckChoices {
         match word {
             "--null" => choices.format = Format::Null,
             "--fix" => choices.fix = true,
+            "--suggest" => choices.suggest = true,
             "--dry-run" | "--in-place" | "--force" | "--verbose" => {
                 choices.switches = self.switches.with_switch(word)?;
             }
@@ -66,11 +70,14 @@ impl CheckChoices {
         Some(choices)
     }
 
-    // Whether what is about a mended file is chosen only where files are mended; `waits` says whether how
-    // long others are waited for is.
+    // Whether what is about a mended file is chosen only where files are mended, and neither these nor a form
+    // of warnings with dialects; `waits` says whether how long others are waited for is.
     fn are_right(self, waits: bool) -> bool
         ensures { result ≡ are_right waits self }
     {
+        if self.suggest && (self.fix || !matches!(self.format, Format::Lines)) {
+            return false;
+        }
         self.fix || !(self.switches.are_of_saving() || self.switches.dry_run || waits)
     }
 }

@@ -4,8 +4,12 @@ ghost use Rattle.std.specs.Prelude.{◌≡◌, ◌&&◌, ◌||◌, map, not, str
 ghost use Rattle.std.specs.Option.{option_map};
 ghost use Rattle.ini_file.specs.Choices.{chosen, chosen_by, chosen_of, no_choice, no_switch, with_switch};
 ghost use Rattle.ini_file.specs.Choices.{are_of_saving, are_seconds, has_digits_alone, have_no_option};
-ghost use Rattle.ini_file.specs.Choices.{is_short_number, takes, takes_saving};
-ghost use Rattle.ini_file.specs.Choices.{writes_pairs, writes_texts};
+ghost use Rattle.ini_file.specs.Choices.{answers, goes_out, is_short_number, takes, takes_layout};
+ghost use Rattle.ini_file.specs.Choices.{takes_of_texts, takes_saving, takes_writing, writes_pairs};
+ghost use Rattle.ini_file.specs.Choices.{writes_texts};
+
+use crate::spacing::{Spacing, takes_number};
+use ini_diff::Side;
 
 /// What words after the command choose by themselves.
 #[derive(Clone, Copy)]
@@ -24,6 +28,10 @@ pub struct Switches {
     pub force: bool,
     /// Reports whether the file is changed.
     pub verbose: bool,
+    /// Whose value stands where both sides of a merge changed a setting.
+    pub side: Option<Side>,
+    /// A file's layout is checked, and no file is written.
+    pub check: bool,
 }
 
 impl Switches {
@@ -39,6 +47,8 @@ impl Switches {
             in_place: false,
             force: false,
             verbose: false,
+            side: None,
+            check: false,
         }
     }
 
@@ -62,6 +72,9 @@ impl Switches {
             "--in-place" => switches.in_place = true,
             "--force" => switches.force = true,
             "--verbose" => switches.verbose = true,
+            "--ours" => switches.side = Some(Side::Ours),
+            "--theirs" => switches.side = Some(Side::Theirs),
+            "--check" => switches.check = true,
             _ => return None,
         }
         Some(switches)
@@ -77,17 +90,19 @@ pub struct Choices<'a> {
     pub output: Option<&'a str>,
     /// The value that is got where the key isn't there.
     pub default: Option<&'a str>,
-    /// What stands between key and value of new lines.
+    /// What stands between key and value of new lines, or of each that is laid out.
     pub separator: Option<&'a str>,
     /// How long a run waits for others that write the file, in seconds.
     pub wait: Option<&'a str>,
+    /// How a text is spaced that is laid out.
+    pub spacing: Spacing,
 }
 
 impl<'a> Choices<'a> {
     /// The options that words have at their front, and the words after them: those after `--`, else those
     /// from the first one on that is no option. `None` where, without `--`, one of the words from there on
-    /// begins with `--`, or where the text is missing that an option takes. Of several texts of an option the
-    /// last holds. Takes no memory.
+    /// begins with `--`, or where the text that an option takes is missing, or no number where it takes one.
+    /// Of several texts of an option the last holds. Takes no memory.
     pub fn of_words(words: &'a [String]) -> Option<(Choices<'a>, &'a [String])>
         ensures { chosen_by result ≡ chosen no_choice (map string_bytes words.now) }
     {
@@ -96,6 +111,7 @@ impl<'a> Choices<'a> {
         let mut default: Option<&'a str> = None;
         let mut separator: Option<&'a str> = None;
         let mut wait: Option<&'a str> = None;
+        let mut spacing = Spacing::none();
         let mut rest = words;
         'words: while let Some((word, after)) = rest.split_first() {
             let word = word.as_str();
@@ -106,6 +122,7 @@ impl<'a> Choices<'a> {
                     default,
                     separator,
                     wait,
+                    spacing,
                 };
                 return Some((choices, after));
             } else if word == "--output" {
@@ -124,6 +141,10 @@ impl<'a> Choices<'a> {
                 let (seconds, after) = after.split_first()?;
                 wait = Some(seconds.as_str());
                 rest = after;
+            } else if takes_number(word) {
+                let (number, after) = after.split_first()?;
+                spacing = spacing.with_number(word, number.as_str())?;
+                rest = after;
             } else if let Some(changed) = switches.with_switch(word) {
                 switches = changed;
                 rest = after;
@@ -136,6 +157,7 @@ impl<'a> Choices<'a> {
                     default,
                     separator,
                     wait,
+                    spacing,
                 };
                 return Some((choices, rest));
             }
@@ -146,6 +168,7 @@ impl<'a> Choices<'a> {
             default,
             separator,
             wait,
+            spacing,
         };
         Some((choices, rest))
     }
@@ -162,8 +185,33 @@ impl<'a> Choices<'a> {
                 self.separator.is_some(),
                 may_separate(command, self.switches.existing),
             )
-            && implies(self.switches.dry_run, !writes_texts(command))
-            && self.suit_saving(command)
+            && self.suit_texts(command)
+            && self.suit_writing(command)
+    }
+
+    // Whether the command takes the choices that are about what is written: how, and into which file.
+    fn suit_writing(self, command: &str) -> bool
+        ensures { result ≡ takes_writing command.now (chosen_of self.entry) }
+    {
+        self.suit_layout(command) && self.suit_saving(command)
+    }
+
+    // Whether the command takes the choices that are about a layout.
+    fn suit_layout(self, command: &str) -> bool
+        ensures { result ≡ takes_layout command.now (chosen_of self.entry) }
+    {
+        implies(
+            self.switches.check || self.spacing.is_chosen(),
+            command == "format",
+        )
+    }
+
+    // Whether the command takes the choices that are about the text that it makes.
+    fn suit_texts(self, command: &str) -> bool
+        ensures { result ≡ takes_of_texts command.now (chosen_of self.entry) }
+    {
+        implies(self.switches.dry_run, !answers(command))
+            && implies(self.switches.side.is_some(), command == "merge3")
     }
 
     // Whether the command takes the choices that are about a file that is written.
@@ -172,7 +220,7 @@ impl<'a> Choices<'a> {
     {
         implies(
             self.switches.are_of_saving() || self.wait.is_some(),
-            !writes_texts(command) || self.output.is_some(),
+            !goes_out(command) || self.output.is_some(),
         ) && are_seconds(self.wait)
     }
 }
@@ -219,18 +267,18 @@ fn implies(chosen: bool, place: bool) -> bool
     !chosen || place
 }
 
-// Whether the command may write new lines of pairs.
+// Whether the command may write separators.
 fn may_separate(command: &str, existing: bool) -> bool
     ensures { result ≡ (writes_pairs command.now && not existing) }
 {
     writes_pairs(command) && !existing
 }
 
-/// Whether the command writes new lines of pairs.
+/// Whether the command writes separators: in new lines of pairs, or in each.
 pub(crate) fn writes_pairs(command: &str) -> bool
     ensures { result ≡ writes_pairs command.now }
 {
-    matches!(command, "set" | "add" | "format")
+    matches!(command, "set" | "add" | "rewrite" | "format")
 }
 
 /// Whether the command writes names, keys or values of the document.
@@ -238,4 +286,18 @@ pub(crate) fn writes_texts(command: &str) -> bool
     ensures { result ≡ writes_texts command.now }
 {
     matches!(command, "get" | "keys" | "sections" | "list")
+}
+
+/// Whether the command tells something of files, and makes no file's text.
+pub(crate) fn answers(command: &str) -> bool
+    ensures { result ≡ answers command.now }
+{
+    writes_texts(command) || command == "diff"
+}
+
+/// Whether what the command makes goes to standard output, where no file is named for it.
+pub(crate) fn goes_out(command: &str) -> bool
+    ensures { result ≡ goes_out command.now }
+{
+    answers(command) || command == "merge3"
 }

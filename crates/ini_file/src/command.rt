@@ -4,14 +4,14 @@ ghost use Rattle.ini_text.specs.Device.Watched.{IsClear};
 ghost use Rattle.ini_file.specs.Requests.{asking_of};
 ghost use Rattle.ini_file.specs.Forms.{listing_form};
 ghost use Rattle.ini_file.specs.Outputs.{output};
-ghost use Rattle.ini_lines.specs.Prints.{Prints};
+ghost use Rattle.ini_words.specs.Prints.{Prints};
 
 use crate::listed::{list_keys, list_names};
 use crate::lookup::get;
 use crate::words::Question;
 use ini::{Error, Watched, WriteOption};
-use ini_lines::{Form, list};
 use ini_view::View;
+use ini_words::lines::{Form, list};
 use std::alloc::Global;
 use std::io::Write;
 

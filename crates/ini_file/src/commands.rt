@@ -3,14 +3,15 @@
 //!
 //! No contract says what the help is; `tests/words.sh` compares what is printed of each command with it.
 
-use crate::choices::{writes_pairs, writes_texts};
+use crate::choices::{answers, writes_pairs, writes_texts};
 use crate::order::before_section;
 use crate::page::HELP;
 use std::fmt;
 
 /// The commands.
 pub const COMMANDS: &str =
-    "get keys sections list set add delete delete-section rename-key rename-section merge format check";
+    "get keys sections list set add delete delete-section rename-key rename-section merge diff merge3 \
+    rewrite format check";
 
 /// A command and what it takes.
 #[derive(Clone, Copy)]
@@ -31,10 +32,12 @@ impl Shape {
             "--existing" => command == "set",
             "--all" | "--default" => command == "get",
             "--null" => writes_texts(command) || command == "check",
-            "--format" | "--allow" | "--deny" | "--fix" => command == "check",
+            "--format" | "--allow" | "--deny" | "--fix" | "--suggest" => command == "check",
+            "--check" | "--indent-pairs" | "--blank-lines" => command == "format",
             "--separator" => writes_pairs(command),
             "--section" => before_section(command).is_some(),
-            "--dry-run" => !writes_texts(command),
+            "--dry-run" => !answers(command),
+            "--ours" | "--theirs" => command == "merge3",
             "--output" => command != "check",
             _ => true,
         }

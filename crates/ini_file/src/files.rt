@@ -9,7 +9,7 @@ use crate::notes::tell_change;
 use crate::save::{find_room, save};
 use crate::target::Target;
 use ini::Error;
-use ini_options::with_name;
+use ini_words::with_name;
 use std::fs::{self, OpenOptions};
 use std::io::{self, Read, Write};
 

@@ -2,11 +2,11 @@
 ghost use Rattle.std.specs.Prelude.{◌≡◌, map, string_bytes};
 ghost use Rattle.std.specs.Option.{option_map};
 ghost use Rattle.ini_dialect.specs.Dialects.{shown};
-ghost use Rattle.ini_options.specs.Words.{given_by};
+ghost use Rattle.ini_words.specs.Words.{given_by};
 ghost use Rattle.ini_file.specs.Likes.{given_like, liked, liked_by, options_like};
 
 use ini_dialect::Dialect;
-use ini_options::Options;
+use ini_words::Options;
 
 /// The dialect that words name at their front, after `--like`, and the words after its name; where they
 /// begin otherwise the crate's own, and all words. `None` where the name is missing, or is no dialect's.

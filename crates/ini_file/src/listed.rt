@@ -5,12 +5,12 @@ ghost use Rattle.ini_text.specs.Device.Watched.{IsClear};
 ghost use Rattle.ini.specs.Texts.{str_name};
 ghost use Rattle.ini_dialect.specs.Lookups.{is_named};
 ghost use Rattle.ini_file.specs.Forms.{keys_listed, keys_once, names_listed};
-ghost use Rattle.ini_lines.specs.Prints.{Prints};
+ghost use Rattle.ini_words.specs.Prints.{Prints};
 
 use ini::{Error, Watched};
 use ini_dialect::{AnyDocument, CaseRule, Lookup, SectionRule};
-use ini_lines::{Form, entries, keys, names, sections};
 use ini_view::View;
+use ini_words::lines::{Form, entries, keys, names, sections};
 use std::alloc::Global;
 use std::io::Write;
 

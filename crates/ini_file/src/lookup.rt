@@ -3,13 +3,13 @@
 ghost use Rattle.ini_text.specs.Device.Watched.{IsClear};
 ghost use Rattle.ini.specs.Texts.{str_name, str_text};
 ghost use Rattle.ini_file.specs.Forms.{got};
-ghost use Rattle.ini_lines.specs.Prints.{Prints};
+ghost use Rattle.ini_words.specs.Prints.{Prints};
 
 use crate::words::Wanted;
 use ini::{Error, Watched};
 use ini_dialect::AnyDocument;
-use ini_lines::{Form, entries, value};
 use ini_view::View;
+use ini_words::lines::{Form, entries, value};
 use std::alloc::Global;
 use std::io::Write;
 

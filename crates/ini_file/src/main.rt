@@ -7,18 +7,24 @@
 
 mod beside;
 mod bytes;
+mod change_lines;
 mod check;
 mod check_files;
 mod check_words;
 mod choices;
 mod command;
 mod commands;
+mod compare;
+mod compare_files;
 mod diagnosis;
 mod diff;
 mod edit;
 mod fault_words;
 mod files;
 mod fix;
+mod format;
+mod format_files;
+mod format_words;
 mod hints;
 mod like;
 mod lines;
@@ -44,8 +50,13 @@ mod sarif;
 mod save;
 mod settings;
 mod shown;
+mod side_words;
+mod spacing;
 mod spelling;
+mod suggest;
 mod target;
+mod three_way;
+mod three_way_files;
 mod unclosed;
 mod unwritable;
 mod usage_error;
@@ -56,10 +67,13 @@ use bytes::text_of;
 use check_files::check_files;
 use check_words::check_of;
 use commands::shape_of;
+use compare_files::compare_files;
 use files::{lock_place, print, read_file, write_output};
+use format_files::format_files;
+use format_words::format_of;
 use hints::{hint, lacks_pair};
 use ini::Error;
-use ini_options::{Page, page_of, words_of};
+use ini_words::{Page, page_of, words_of};
 use merge_files::merge_files;
 use merge_words::merge_of;
 use notes::{note_hint, note_reason};
@@ -67,10 +81,12 @@ use order::{Sorted, in_order, sort};
 use page::{help_of, text_of_page};
 use refusals::refuse;
 use run::{Outcome, run, status, tell};
+use side_words::{comparison_of, three_way_of};
 use std::alloc::AllocError;
 use std::env::{self, VarError};
 use std::process::ExitCode;
 use target::{Target, handed_on};
+use three_way_files::merge_three_files;
 use unwritable::reason_of;
 use usage_error::{UsageError, tell_usage_error, usage_error_of};
 use words::{Invocation, parse};
@@ -186,6 +202,15 @@ fn run_words(rt: &HostRuntime, sorted: &Sorted<'_>, words: &[String]) -> u8 {
     }
     if let Some(merging) = merge_of(words) {
         return merge_files(rt, &merging);
+    }
+    if let Some(asked) = comparison_of(words) {
+        return compare_files(rt, &asked);
+    }
+    if let Some(asked) = three_way_of(words) {
+        return merge_three_files(rt, &asked);
+    }
+    if let Some(formatting) = format_of(words) {
+        return format_files(rt, formatting);
     }
     let Some(asked) = parse(words) else {
         return refuse_words(rt, sorted);

@@ -10,7 +10,7 @@ use crate::edit::gets_byte_order_mark;
 use crate::settings::settings_of;
 use ini::{Error, Ini, ParseOption};
 use ini_edit::{RefusedEdit, make_edits};
-use ini_options::Options;
+use ini_words::Options;
 use std::alloc::{AllocError, Global};
 
 /// How a merge ended.
@@ -114,7 +114,7 @@ fn load_one(
 }
 
 // The document of a file.
-fn load(alloc: Global, read: ParseOption, file: &[u8]) -> Result<Ini, Error>
+pub(crate) fn load(alloc: Global, read: ParseOption, file: &[u8]) -> Result<Ini, Error>
     ensures loaded { IfOk result (Loads read file.now) }
     ensures refused { IfErr result (RefusesFile read file.now) }
 {

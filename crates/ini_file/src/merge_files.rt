@@ -120,9 +120,18 @@ fn setting_at(
     let Edit::Set { name, key, .. } = edit else {
         return Err(AllocError);
     };
-    let told = match name {
-        None => format!(in alloc; "{file}: {key}")?,
-        Some(name) => format!(in alloc; "{file}: [{name}] {key}")?,
-    };
-    Ok((told, reason))
+    Ok((setting_of_file(alloc, file, name, key)?, reason))
+}
+
+/// A setting of a file, as it is told.
+pub(crate) fn setting_of_file(
+    alloc: Global,
+    file: &str,
+    name: Option<&str>,
+    key: &str,
+) -> Result<String, AllocError> {
+    match name {
+        None => Ok(format!(in alloc; "{file}: {key}")?),
+        Some(name) => Ok(format!(in alloc; "{file}: [{name}] {key}")?),
+    }
 }

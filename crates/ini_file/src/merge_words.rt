@@ -7,7 +7,7 @@ ghost use Rattle.ini_file.specs.Choices.{chosen_of};
 
 use crate::choices::Choices;
 use crate::like::options_of;
-use ini_options::Options;
+use ini_words::Options;
 
 /// What the words of a merge are.
 #[derive(Clone, Copy)]
@@ -60,8 +60,8 @@ fn files_merged<'a>(
     })
 }
 
-// Whether more than one of the files is standard input.
-fn reads_input_twice(files: &[String]) -> bool
+/// Whether more than one of the files is standard input.
+pub(crate) fn reads_input_twice(files: &[String]) -> bool
     ensures { result ≡ reads_input_twice (map string_bytes files.now) }
 {
     files.iter().filter(|file| file.as_str() == "-").count() > 1

@@ -2,7 +2,7 @@
 
 use crate::commands::Shape;
 use crate::spelling::{Kind, kind_of};
-use ini_options::Page;
+use ini_words::Page;
 use std::alloc::{AllocError, Global};
 
 /// The version of the program.
@@ -68,7 +68,10 @@ Commands; no SECTION is the general one, FILE - is standard input:
   rename-key FILE OLD NEW [SECTION]         the key's first pair gets another key
   rename-section FILE OLD NEW               the section gets another name
   merge FILE OTHER ..                       sets in FILE what the others set
-  format FILE                               writes the file anew, without comments
+  diff FILE OTHER                           each setting whose value differs in OTHER
+  merge3 BASE OURS THEIRS                   THEIRS with what OURS changed of BASE
+  rewrite FILE                              writes the file anew, without comments
+  format FILE ..                            lays each file out; its comments stay
   check FILE ..                             warnings of each file: lines that are
                                             lost, and what may surprise
 
@@ -92,8 +95,14 @@ Choices:
   --default VALUE  of get: the value where the key isn't there
   --null           of get, keys, sections and list: names, keys and values as they
                    stand, each with NUL after it; so the parts of check's warnings
-  --separator TEXT of set, add and format: what stands between key and value of
-                   new lines; one = or : with spaces and tabs alone around it
+  --ours           of merge3: ours stands where both changed a setting
+  --theirs         of merge3: theirs does
+  --separator TEXT of set, add, rewrite and format: what stands between key and
+                   value of new lines, or of all; one = or : with spaces and tabs
+                   alone around it
+  --indent-pairs N of format: each pair that begins a line stands after N spaces
+  --blank-lines N  of format: the most blank lines one after another (1)
+  --check          of format: tells which file isn't laid out so, and writes none
   --section NAME   the section, in place of the last word; -s NAME too
   --dry-run        of what writes a file: shows the change, and writes none; -n too
   --in-place       the file itself is written, not a new one in its place
@@ -105,12 +114,13 @@ Choices:
                    all, aren't reported
   --deny NAME      of check: they are, after a wider --allow
   --fix            of check: mends what is reported and has one mend, in the file
+  --suggest        of check: the dialects that read the file, fewest warnings first
   --output FILE    writes this file in place of the other; - is standard output
   --               what follows is an argument, whatever it begins with
 Options and choices may stand anywhere before --, with = before their text too.
 ini_file COMMAND --help tells of one command; -h too.
 
-Status: 0 done, 1 not found or warnings, 2 wrong words, 3 a refused text,
-4 a fault of a file or of memory. Only with status 0 is a file changed, but
-where a line says that it is written.
+Status: 0 done, 1 not found, warnings, differences or conflicts, 2 wrong words
+or no diff, 3 a refused text, 4 a fault of a file or of memory. Only with status
+0, and with conflicts, is a file changed, but where a line says that it is written.
 ";

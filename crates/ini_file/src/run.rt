@@ -5,7 +5,7 @@ ghost use Rattle.std.specs.Prelude.{[], chars, is_some, unwrap_or};
 ghost use Rattle.ini_text.specs.Device.Watched.{AppendsFront};
 ghost use Rattle.ini.specs.WrittenTo.{IsWrittenTo};
 ghost use Rattle.ini_file.specs.Outputs.{output};
-ghost use Rattle.ini_file.specs.Requests.{Format, asking_of};
+ghost use Rattle.ini_file.specs.Requests.{Rewrite, asking_of};
 ghost use Rattle.ini_file.specs.Runs.{HasOutcome, IsAnsweredAs, IsDone, IsNotFound, IsUsage};
 ghost use Rattle.ini_file.specs.Runs.{RefusesQuestion, asked_by, status_of, usage_line};
 ghost use Rattle.ini_file.specs.Writing.{word_of};
@@ -18,8 +18,8 @@ use crate::words::{Command, Question, USAGE, parse};
 use crate::writing::{separates, writing};
 use ini::{Error, Ini, Watched, WriteOption, write_raw};
 use ini_edit::EditError;
-use ini_options::Options;
 use ini_view::View;
+use ini_words::Options;
 use std::alloc::{AllocError, Global};
 use std::io::Write;
 
@@ -85,9 +85,12 @@ pub fn run(alloc: Global, words: &[String], input: &[u8]) -> Outcome
     let options = asked.options;
     let separator = Some(asked.separator());
     let made = match asked.command {
-        Command::Format => format(alloc, options, separator, text),
+        Command::Rewrite => rewrite(alloc, options, separator, text),
         Command::Ask(question) => ask(alloc, options, separator, question, text),
-        Command::Change(edit) => change(alloc, options, separator, edit, byte_order_mark, text),
+        Command::Change(edit) => {
+            let rule = asked.dialect.lookup;
+            change(alloc, rule, options, separator, edit, byte_order_mark, text)
+        }
     };
     match made {
         Ok(Some(bytes)) => Outcome::Done(bytes),
@@ -97,14 +100,14 @@ pub fn run(alloc: Global, words: &[String], input: &[u8]) -> Outcome
 }
 
 // A text's document, written anew. A separator that wouldn't be read back is refused, whatever the text is.
-fn format(
+fn rewrite(
     alloc: Global,
     options: Options,
     separator: Option<&str>,
     text: &str,
 ) -> Result<Option<Vec<u8>>, EditError>
     ensures answered { IfOk result
-        (IsAnsweredAs options (word_of separator.entry) Format (chars text.now)) }
+        (IsAnsweredAs options (word_of separator.entry) Rewrite (chars text.now)) }
     ensures refused { IfErr result (RefusesQuestion options (word_of separator.entry) (chars text.now)) }
 {
     if !separates(separator) {
@@ -121,7 +124,7 @@ fn format(
 }
 
 // What a question is answered of a text's document, which borrows the text; `None` where what it asks for
-// isn't there. The rest is as `format` has it.
+// isn't there. The rest is as `rewrite` has it.
 fn ask(
     alloc: Global,
     options: Options,

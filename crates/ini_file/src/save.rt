@@ -8,7 +8,7 @@ use crate::notes::note;
 use crate::over::{refuse_changed, write_over};
 use crate::rights::{Kept, give_rights};
 use ini::Error;
-use ini_options::with_name;
+use ini_words::with_name;
 use std::alloc::Global;
 use std::fs::{self, File, Metadata, OpenOptions};
 use std::io::{self, Write};

@@ -50,10 +50,20 @@ pub fn kind_of(name: &str) -> Option<Kind>
         | "--in-place"
         | "--force"
         | "--verbose"
-        | "--fix" => { Some(Kind::Choice) }
-        "--output" | "--default" | "--separator" | "--wait" | "--format" | "--allow" | "--deny" => {
-            Some(Kind::ChoiceText)
-        }
+        | "--fix"
+        | "--suggest"
+        | "--ours"
+        | "--theirs"
+        | "--check" => { Some(Kind::Choice) }
+        "--output"
+        | "--default"
+        | "--separator"
+        | "--wait"
+        | "--format"
+        | "--allow"
+        | "--deny"
+        | "--indent-pairs"
+        | "--blank-lines" => { Some(Kind::ChoiceText) }
         "--section" => Some(Kind::Section),
         "--like" => Some(Kind::Like),
         "--help" => Some(Kind::Help),

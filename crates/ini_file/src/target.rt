@@ -10,6 +10,7 @@ use crate::check_words::CheckChoices;
 use crate::choices::{Choices, Switches};
 use crate::merge_words::Merging;
 use crate::run::Outcome;
+use crate::side_words::{Comparison, ThreeWay};
 use crate::words::{Command, Invocation};
 use ini_edit::Edit;
 
@@ -70,6 +71,46 @@ impl<'a> Target<'a> {
         }
     }
 
+    /// The target of a comparison.
+    pub fn of_comparison(asked: Comparison<'a>) -> Target<'a>
+        ensures file { result.file.now ≡ asked.entry.from.now }
+        ensures place { result.place.now
+            ≡ place_of (chosen_of asked.entry.choices) asked.entry.from.now false }
+        ensures shows_change { result.shows_change ≡ false }
+        ensures makes_file { result.makes_file ≡ false }
+        ensures switches { result.switches ≡ asked.entry.choices.switches }
+        ensures wait { result.wait ≡ asked.entry.choices.wait }
+    {
+        Target {
+            file: asked.from,
+            place: place_of(asked.choices, asked.from, false),
+            shows_change: false,
+            makes_file: false,
+            switches: asked.choices.switches,
+            wait: asked.choices.wait,
+        }
+    }
+
+    /// The target of a three-way merge, over the file in which changes are made.
+    pub fn of_three_way(asked: ThreeWay<'a>) -> Target<'a>
+        ensures file { result.file.now ≡ asked.entry.theirs.now }
+        ensures place { result.place.now
+            ≡ place_of (chosen_of asked.entry.choices) asked.entry.theirs.now false }
+        ensures shows_change { result.shows_change ≡ asked.entry.choices.switches.dry_run }
+        ensures makes_file { result.makes_file ≡ false }
+        ensures switches { result.switches ≡ asked.entry.choices.switches }
+        ensures wait { result.wait ≡ asked.entry.choices.wait }
+    {
+        Target {
+            file: asked.theirs,
+            place: place_of(asked.choices, asked.theirs, false),
+            shows_change: asked.choices.switches.dry_run,
+            makes_file: false,
+            switches: asked.choices.switches,
+            wait: asked.choices.wait,
+        }
+    }
+
     /// The target of a check that mends a file.
     pub fn of_fixing(made: CheckChoices, wait: Option<&'a str>, file: &'a str) -> Target<'a>
         ensures file { result.file.now ≡ file.now }
@@ -119,9 +160,9 @@ pub fn handed_on<'a>(
     }
 }
 
-// The file that is written: the one that `--output` names; else the file itself, where what is made belongs
-// there; else standard output.
-fn place_of<'a>(choices: Choices<'a>, file: &'a str, into_file: bool) -> &'a str
+/// The file that is written: the one that `--output` names; else the file itself, where what is made belongs
+/// there; else standard output.
+pub(crate) fn place_of<'a>(choices: Choices<'a>, file: &'a str, into_file: bool) -> &'a str
     ensures { result.now ≡ place_of (chosen_of choices.entry) file.now into_file }
 {
     choices.output.unwrap_or(if into_file { file } else { "-" })
@@ -138,7 +179,7 @@ fn is_filter(asked: Invocation<'_>) -> bool
 fn is_of_file(command: Command<'_>) -> bool
     ensures { result ≡ is_of_file (request_of command.entry) }
 {
-    matches!(command, Command::Format | Command::Change(_))
+    matches!(command, Command::Rewrite | Command::Change(_))
 }
 
 // Whether the command makes a file that isn't there.

@@ -14,8 +14,8 @@ ghost use Rattle.ini_file.specs.Reasons.{unread_reason, value_reason};
 use crate::reasons::{HELPS, Help, Reason};
 use ini::{EscapePolicy, ParseOption, is_plain_name, is_plain_pair};
 use ini_edit::{Edit, EditError, is_writable_value};
-use ini_options::Options;
 use ini_text::{is_comment_mark, is_line_end, split_first};
+use ini_words::Options;
 
 /// Why an edit is refused for its words, and what helps; `None` where it is refused for the text's or the
 /// machine's sake.

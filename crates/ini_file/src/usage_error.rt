@@ -1,19 +1,20 @@
 //! Usage errors, in one sentence each: which word is wrong, and what was expected. This file knows no file
 //! and no document.
 //!
-//! Which words are the program's, `sort`, `in_order`, `check_of`, `merge_of` and `parse` decide, by their
+//! Which words are the program's, `sort`, `in_order` and the calls of `run_words` decide, by their
 //! contracts; no contract says what is printed of the others. `tests/words.sh` tests it.
 
-use crate::choices::{is_short_number, writes_texts};
+use crate::choices::{goes_out, is_short_number};
 use crate::commands::{COMMANDS, Shape, nearest, shape_of};
 use crate::order::{Sorted, before_section};
 use crate::report_format::Format;
 use crate::reported::names_traps;
 use crate::shown::Shown;
+use crate::spacing::small_number;
 use crate::spelling::kind_of;
 use ini_check::TRAPS;
 use ini_dialect::{Dialect, dialects};
-use ini_options::policy_named;
+use ini_words::policy_named;
 use std::alloc::AllocError;
 use std::io::{self, Write};
 
@@ -32,6 +33,8 @@ pub enum UsageError<'a> {
     Policy(&'a str),
     /// This is no number of seconds.
     Seconds(&'a str),
+    /// This is no number of spaces or lines.
+    Number(&'a str),
     /// No form has this name.
     Format(&'a str),
     /// No trap and no level has this name.
@@ -46,10 +49,16 @@ pub enum UsageError<'a> {
     NeedsOutput(Shape, &'a str),
     /// A choice about a file that is mended, where none is.
     NeedsFix(&'a str),
+    /// Mends, or a form of warnings, where dialects are written.
+    SuggestsAlone,
     /// A separator of new lines where none is written.
     NoNewLine,
     /// Standard input twice.
     InputTwice,
+    /// Several files, and one that gets what is made.
+    OneOutput,
+    /// A choice about the file that is written, where a check writes none.
+    NoFile(&'a str),
     /// A section where the command has none.
     Section(Shape, &'a str),
     /// An argument too much.
@@ -82,6 +91,7 @@ pub fn usage_error_of<'a>(sorted: &Sorted<'a>) -> Option<UsageError<'a>> {
     dialect_error(sorted.like)
         .or(policy_error(sorted.options.as_slice()))
         .or(choice_error(shape, sorted.choices.as_slice()))
+        .or(output_error(shape, sorted.choices.as_slice(), arguments))
         .or(argument_error(shape, arguments, sorted.section))
 }
 
@@ -126,7 +136,17 @@ fn choice_error<'a>(shape: Shape, choices: &[&'a str]) -> Option<UsageError<'a>>
         if needs_fix(shape, word) && !choices.contains(&"--fix") {
             return Some(UsageError::NeedsFix(word));
         }
+        if is_of_writing(word) && choices.contains(&"--check") {
+            return Some(UsageError::NoFile(word));
+        }
         before = word;
+    }
+    if choices.contains(&"--suggest")
+        && (choices.contains(&"--fix")
+            || choices.contains(&"--null")
+            || choices.contains(&"--format"))
+    {
+        return Some(UsageError::SuggestsAlone);
     }
     if choices.contains(&"--existing") && choices.contains(&"--separator") {
         return Some(UsageError::NoNewLine);
@@ -134,10 +154,23 @@ fn choice_error<'a>(shape: Shape, choices: &[&'a str]) -> Option<UsageError<'a>>
     None
 }
 
+// Several files where one gets what is made of one.
+fn output_error<'a>(
+    shape: Shape,
+    choices: &[&'a str],
+    arguments: &[&'a str],
+) -> Option<UsageError<'a>> {
+    let goes_to_one = shape.command == "format" && choices.contains(&"--output");
+    (goes_to_one && arguments.len() > 1).then_some(UsageError::OneOutput)
+}
+
 // What is wrong with the text of a choice.
 fn text_error<'a>(choice: &str, text: &'a str) -> Option<UsageError<'a>> {
     match choice {
         "--wait" if !is_short_number(text) => Some(UsageError::Seconds(text)),
+        "--indent-pairs" | "--blank-lines" if small_number(text).is_none() => {
+            Some(UsageError::Number(text))
+        }
         "--format" if Format::of_name(text).is_none() => Some(UsageError::Format(text)),
         "--allow" | "--deny" if !names_traps(text) => Some(UsageError::Trap(text)),
         _ => None,
@@ -146,17 +179,20 @@ fn text_error<'a>(choice: &str, text: &'a str) -> Option<UsageError<'a>> {
 
 // Whether the choice is about a file that the command writes with `--output` alone.
 fn needs_output(shape: Shape, choice: &str) -> bool {
-    writes_texts(shape.command)
-        && matches!(choice, "--in-place" | "--force" | "--wait" | "--verbose")
+    goes_out(shape.command) && matches!(choice, "--in-place" | "--force" | "--wait" | "--verbose")
 }
 
 // Whether the choice is about a file that the command writes with `--fix` alone.
 fn needs_fix(shape: Shape, choice: &str) -> bool {
-    let is_of_file = matches!(
+    shape.command == "check" && (choice == "--dry-run" || is_of_writing(choice))
+}
+
+// Whether the choice is about a file that is written.
+fn is_of_writing(choice: &str) -> bool {
+    matches!(
         choice,
-        "--dry-run" | "--in-place" | "--force" | "--wait" | "--verbose"
-    );
-    shape.command == "check" && is_of_file
+        "--output" | "--in-place" | "--force" | "--wait" | "--verbose"
+    )
 }
 
 // The argument that is missing, or one too many.
@@ -170,7 +206,8 @@ fn argument_error<'a>(
         (Some(_), Some(count)) => (count, count),
         (None, _) => (shape.least(), shape.most()),
     };
-    if shape.command == "merge" && arguments.iter().filter(|word| **word == "-").count() > 1 {
+    let inputs = arguments.iter().filter(|word| **word == "-").count();
+    if matches!(shape.command, "merge" | "diff" | "merge3" | "format") && inputs > 1 {
         return Some(UsageError::InputTwice);
     }
     if arguments.len() < least {
@@ -211,6 +248,10 @@ fn print_error<W: Write>(error: UsageError<'_>, err: &mut W) -> io::Result<()> {
                 "{text} is no number of seconds; --wait takes one, as 10"
             )
         }
+        UsageError::Number(text) => {
+            let text = Shown(text);
+            writeln!(err, "{text} is no number of one or two digits")
+        }
         UsageError::Format(name) => {
             let name = Shown(name);
             writeln!(
@@ -228,6 +269,10 @@ fn print_error<W: Write>(error: UsageError<'_>, err: &mut W) -> io::Result<()> {
             )
         }
         UsageError::InputTwice => writeln!(err, "- is standard input, which can't be read twice"),
+        UsageError::OneOutput => writeln!(err, "--output takes what is made of one file alone"),
+        UsageError::NoFile(choice) => {
+            writeln!(err, "--check writes no file, so {choice} has no place")
+        }
         UsageError::Memory => writeln!(err, "out of memory"),
         _ => print_command_error(error, err),
     }
@@ -243,6 +288,12 @@ fn print_command_error<W: Write>(error: UsageError<'_>, err: &mut W) -> io::Resu
         UsageError::NeedsOutput(shape, choice) => {
             let command = shape.command;
             writeln!(err, "{command} takes {choice} with --output alone")
+        }
+        UsageError::SuggestsAlone => {
+            writeln!(
+                err,
+                "check takes --suggest without --fix, --null and --format"
+            )
         }
         UsageError::NeedsFix(choice) => writeln!(err, "check takes {choice} with --fix alone"),
         UsageError::Section(shape, name) => {
@@ -309,7 +360,7 @@ fn print_command<W: Write>(word: &str, err: &mut W) -> io::Result<()> {
     }
 }
 
-const CHOICES: [&str; 16] = [
+const CHOICES: [&str; 22] = [
     "--all",
     "--default",
     "--null",
@@ -317,8 +368,14 @@ const CHOICES: [&str; 16] = [
     "--allow",
     "--deny",
     "--fix",
+    "--suggest",
     "--existing",
     "--separator",
+    "--ours",
+    "--theirs",
+    "--indent-pairs",
+    "--blank-lines",
+    "--check",
     "--section",
     "--dry-run",
     "--output",
@@ -340,6 +397,7 @@ fn text_of(name: &str) -> &'static str {
         "--separator" => "TEXT",
         "--wait" => "SECONDS",
         "--format" => "FORM",
+        "--indent-pairs" | "--blank-lines" => "N",
         _ => "NAME",
     }
 }

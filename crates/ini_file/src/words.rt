@@ -13,7 +13,7 @@ use crate::choices::Choices;
 use crate::like::{like_of, options_like};
 use ini_dialect::{Dialect, Lookup as Rule};
 use ini_edit::Edit;
-use ini_options::{Options, usage_line};
+use ini_words::{Options, usage_line};
 
 /// The line that tells what the program takes, with its line end.
 pub const USAGE: &str = usage_line!(
@@ -65,7 +65,7 @@ pub struct Wanted<'a> {
 #[derive(Clone, Copy)]
 pub enum Command<'a> {
     /// Its document, written anew in the file's place.
-    Format,
+    Rewrite,
     /// Something of its document.
     Ask(Question<'a>),
     /// A change in its text, which keeps every byte that it isn't about.
@@ -140,7 +140,7 @@ fn with_none<'a>(word: &str, rule: Rule, choices: Choices<'a>) -> Option<Command
 {
     let null = choices.switches.null;
     match word {
-        "format" => Some(Command::Format),
+        "rewrite" => Some(Command::Rewrite),
         "list" => Some(Command::Ask(Question::List { null })),
         "sections" => Some(Command::Ask(Question::Sections { rule, null })),
         "keys" => Some(Command::Ask(Question::Keys {

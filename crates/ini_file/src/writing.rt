@@ -5,7 +5,7 @@ ghost use Rattle.ini_text.specs.declared.error.Error.TheVariants.{Memory};
 ghost use Rattle.ini_file.specs.Writing.{IsWriting, Separates, word_of};
 
 use ini::{Error, WriteOption, is_plain_separator};
-use ini_options::Options;
+use ini_words::Options;
 use std::alloc::Global;
 
 /// Whether what the separator separates is read back; where none is chosen it is.

@@ -10,8 +10,8 @@ use Rattle.ini.specs.Documents.{Document}
 use Rattle.ini.specs.Files.{IsDocumentOfFile}
 use Rattle.ini.specs.Written.{written}
 use Rattle.ini_layers.specs.Merging.{merged}
-use Rattle.ini_options.specs.Words.{IsWriteOption, Word}
-use Rattle.ini_options.specs.declared.options.Options.{Options}
+use Rattle.ini_words.specs.Words.{IsWriteOption, Word}
+use Rattle.ini_words.specs.declared.options.Options.{Options}
 use Rattle.ini_merge.specs.Words.{asks_of_words}
 use Rattle.ini_merge.specs.declared.Outcome.{Outcome}
 use Rattle.ini_merge.specs.declared.Outcome.TheVariants.{Done, Usage, NotLoaded, Refused}

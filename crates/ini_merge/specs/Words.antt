@@ -4,8 +4,8 @@ use Rattle.std.specs.Prelude.{Option, None, Some, option_and_then}
 use Rattle.std.specs.List.{starts_with}
 use Rattle.std.specs.Option.{option_map}
 use Rattle.std.specs.Str.{bytes_eq}
-use Rattle.ini_options.specs.Words.{Word, default_options, given}
-use Rattle.ini_options.specs.declared.options.Options.{Options}
+use Rattle.ini_words.specs.Words.{Word, default_options, given}
+use Rattle.ini_words.specs.declared.options.Options.{Options}
 
 -- the words, if there is one
 abbrev pub at_least_one : List Word → Option (List Word)

@@ -21,7 +21,7 @@ ghost use Rattle.ini_merge.specs.Runs.{failures_of, merged_bytes, refusal_status
 use crate::words::{USAGE, parse};
 use ini::{Error, Ini, ParseOption, Watched, WriteOption, write_raw};
 use ini_layers::{Layers, NoLayer};
-use ini_options::{with_name, words_of};
+use ini_words::{with_name, words_of};
 use std::alloc::{AllocError, Global};
 use std::io::Write;
 use std::path::Path;

@@ -1,9 +1,9 @@
 //! The words of the program: options, and the names of files. This file knows no document and no device.
 ghost use Rattle.std.specs.Prelude.{◌≡◌, ◌≤◌, IfSome, length, map, string_bytes};
-ghost use Rattle.ini_options.specs.Words.{given_by};
+ghost use Rattle.ini_words.specs.Words.{given_by};
 ghost use Rattle.ini_merge.specs.Words.{asks_of_words};
 
-use ini_options::{Options, usage_line};
+use ini_words::{Options, usage_line};
 
 /// The line that tells what the program takes, with its line end.
 pub const USAGE: &str = usage_line!("ini_merge", "[--] FILE..");

@@ -2,7 +2,7 @@
 use Rattle.std.proofs.Common.{◌≡◌, ◌≤◌, ◌<◌, List, [], ◌∷◌, length, map, string_bytes, String, Global, None, false}
 use Rattle.std.proofs.Common.{codes, rules, arith}
 use Rattle.ini.specs.Texts.{is_text}
-use Rattle.ini_options.specs.Words.{Word}
+use Rattle.ini_words.specs.Words.{Word}
 use Rattle.ini_tool.specs.Words.{request_for}
 
 apart : (a b : Word) → (a ≡ b → ⊥) → is_text a b ≡ false

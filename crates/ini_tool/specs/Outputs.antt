@@ -6,8 +6,8 @@ use Rattle.ini.specs.Texts.{Text}
 use Rattle.ini.specs.Documents.{Document, value_in}
 use Rattle.ini.specs.Edits.{delete_in, set_in}
 use Rattle.ini.specs.Written.{written}
-use Rattle.ini_lines.specs.Lines.{entry, listed_pairs}
-use Rattle.ini_lines.specs.declared.form.Form.TheVariants.{Escaped, AsIs}
+use Rattle.ini_words.specs.Lines.{entry, listed_pairs}
+use Rattle.ini_words.specs.declared.lines.form.Form.TheVariants.{Escaped, AsIs}
 use Rattle.ini_tool.specs.Requests.{Request, Fmt, Listing, Get, Set, Del}
 
 -- what the request writes of a document; no text where the pair that it asks for isn't there

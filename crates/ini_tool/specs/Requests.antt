@@ -2,7 +2,7 @@
 use Rattle.std.specs.Prelude.{Option}
 use Rattle.std.specs.Option.{option_map}
 use Rattle.ini.specs.Texts.{Text, str_name, str_text}
-use Rattle.ini_options.specs.declared.options.Options.{Options}
+use Rattle.ini_words.specs.declared.options.Options.{Options}
 use Rattle.ini_tool.specs.declared.words.Change.{Change}
 use Rattle.ini_tool.specs.declared.words.Change.TheVariants as change
 use Rattle.ini_tool.specs.declared.words.Command.{Command}

@@ -13,8 +13,8 @@ use Rattle.ini_text.specs.declared.write.option.WriteOption.{WriteOption}
 use Rattle.ini.specs.Documents.{Document}
 use Rattle.ini.specs.Loading.{IsDocumentOf, IsStopOf, IsTextWith}
 use Rattle.ini.specs.Texts.{Text}
-use Rattle.ini_options.specs.Words.{IsWriteOption, default_options}
-use Rattle.ini_options.specs.declared.options.Options.{Options}
+use Rattle.ini_words.specs.Words.{IsWriteOption, default_options}
+use Rattle.ini_words.specs.declared.options.Options.{Options}
 use Rattle.ini_tool.specs.Outputs.{output}
 use Rattle.ini_tool.specs.Requests.{Request}
 use Rattle.ini_tool.specs.Words.{asks_of_words}

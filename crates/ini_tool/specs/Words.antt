@@ -3,8 +3,8 @@ use Rattle.std.specs.Prelude.{if◌then◌else◌, List, [], ◌∷◌, codes, c
 use Rattle.std.specs.Prelude.{Option, None, Some, option_and_then}
 use Rattle.std.specs.Option.{option_map}
 use Rattle.ini.specs.Texts.{is_text}
-use Rattle.ini_options.specs.Words.{Word, given}
-use Rattle.ini_options.specs.declared.options.Options.{Options}
+use Rattle.ini_words.specs.Words.{Word, given}
+use Rattle.ini_words.specs.declared.options.Options.{Options}
 use Rattle.ini_tool.specs.Requests.{Request, Fmt, Listing, Get, Set, Del}
 
 -- the request of a command and its arguments

@@ -4,12 +4,12 @@ ghost use Rattle.ini_text.specs.Device.Watched.{IsClear};
 ghost use Rattle.ini.specs.Texts.{str_name};
 ghost use Rattle.ini_tool.specs.Requests.{Del, Fmt, Set, change_of, question_of};
 ghost use Rattle.ini_tool.specs.Outputs.{output};
-ghost use Rattle.ini_lines.specs.Prints.{Prints};
+ghost use Rattle.ini_words.specs.Prints.{Prints};
 
 use crate::words::{Change, Question};
 use ini::{Error, Ini, Watched, WriteOption};
-use ini_lines::{Form, list, value};
 use ini_view::View;
+use ini_words::lines::{Form, list, value};
 use std::alloc::Global;
 use std::io::Write;
 use std::mem;

@@ -10,7 +10,7 @@ mod run;
 mod words;
 
 use ini::{Error, Watched};
-use ini_options::{Page, page_of, with_name, words_of};
+use ini_words::{Page, page_of, with_name, words_of};
 use run::{Outcome, run, status, tell};
 use std::io::Write;
 use std::process::ExitCode;

@@ -2,12 +2,12 @@
 //! device.
 ghost use Rattle.std.specs.Prelude.{◌≡◌, chars, map, string_bytes};
 ghost use Rattle.std.specs.Option.{option_map};
-ghost use Rattle.ini_options.specs.Words.{default_options};
+ghost use Rattle.ini_words.specs.Words.{default_options};
 ghost use Rattle.ini.specs.Texts.{str_name};
 ghost use Rattle.ini_tool.specs.Requests.{Del, Get, Set, given_by, request_of};
 ghost use Rattle.ini_tool.specs.Words.{asks_of_words, request_for};
 
-use ini_options::{Options, usage_line};
+use ini_words::{Options, usage_line};
 
 /// The line that tells what the program takes, with its line end.
 pub const USAGE: &str = usage_line!(

@@ -11,6 +11,7 @@ invariant-words l =
       default = option_map (λ value. value.now) l.default;
       separator = option_map (λ text. text.now) l.separator;
       wait = option_map (λ seconds. seconds.now) l.wait;
+      spacing = l.spacing;
     })
     (map string_bytes l.rest) ≡ chosen no_choice (map string_bytes l.words)
 

@@ -1,0 +1,113 @@
+-- The lines of changes and of conflicts, put together part by part.
+use Rattle.std.proofs.Common.{◌≡◌, ◌∙◌, ap, refl, ℕ, List, [], ◌++◌, append_assoc, Option, None, Some}
+use Rattle.std.proofs.lemmas.Str.{chars-nil}
+use Rattle.std.specs.Prelude.{codes}
+use Rattle.std.specs.Str.{chars}
+use Rattle.ini.specs.Texts.{Text}
+use Rattle.ini_file.specs.ChangeLines.{change_text, conflict_text, escaped_part, front, told}
+
+pub chars-open : chars (codes "[") ≡ codes "["
+unfolding chars
+chars-open = refl
+
+pub chars-close : chars (codes "] ") ≡ codes "] "
+unfolding chars
+chars-close = refl
+
+chars-colon : chars (codes ": ") ≡ codes ": "
+unfolding chars
+chars-colon = refl
+
+chars-arrow : chars (codes " -> ") ≡ codes " -> "
+unfolding chars
+chars-arrow = refl
+
+chars-end : chars (codes "\n") ≡ codes "\n"
+unfolding chars
+chars-end = refl
+
+chars-gone : chars (codes "- ") ≡ codes "- "
+unfolding chars
+chars-gone = refl
+
+chars-new : chars (codes "+ ") ≡ codes "+ "
+unfolding chars
+chars-new = refl
+
+pub chars-is : chars (codes " = ") ≡ codes " = "
+unfolding chars
+chars-is = refl
+
+pub chars-has_none : chars (codes " has none") ≡ codes " has none"
+unfolding chars
+chars-has_none = refl
+
+chars-conflict : chars (codes "conflict: ") ≡ codes "conflict: "
+unfolding chars
+chars-conflict = refl
+
+chars-base : chars (codes ": base") ≡ codes ": base"
+unfolding chars
+chars-base = refl
+
+chars-ours : chars (codes ", ours") ≡ codes ", ours"
+unfolding chars
+chars-ours = refl
+
+chars-theirs : chars (codes ", theirs") ≡ codes ", theirs"
+unfolding chars
+chars-theirs = refl
+
+-- a value that may be there, and what follows it
+of-value : (value : Option Text) (before shown : List ℕ) → chars before ++ escaped_part shown ≡ told value
+    → (after : List ℕ) → chars after ≡ after → (rest : Text)
+    → (escaped_part [] ++ chars before) ++ ((escaped_part shown ++ chars after) ++ rest)
+    ≡ told value ++ (after ++ rest)
+of-value value before shown is after is_after rest =
+    rw (← is, chars-nil, is_after) (simp append_assoc refl)
+
+module _ (name : Option Text) (left shown right key : List ℕ)
+    (is_front : chars left ++ (escaped_part shown ++ chars right) ≡ front name) where
+  pub of-changed : (old new : List ℕ) → (escaped_part [] ++ chars left) ++ ((escaped_part shown ++ chars right)
+      ++ ((escaped_part key ++ chars (codes ": ")) ++ ((escaped_part old ++ chars (codes " -> "))
+      ++ ((escaped_part new ++ chars (codes "\n")) ++ []))))
+      ≡ change_text name (chars key) (Some (chars old)) (Some (chars new))
+  of-changed old new =
+      rw (← is_front, chars-nil, chars-colon, chars-arrow, chars-end) (simp append_assoc refl)
+
+  pub of-gone : (old : List ℕ) → (escaped_part [] ++ chars (codes "- ")) ++ ((escaped_part [] ++ chars left)
+      ++ ((escaped_part shown ++ chars right) ++ ((escaped_part key ++ chars (codes ": "))
+      ++ ((escaped_part old ++ chars (codes "\n")) ++ []))))
+      ≡ change_text name (chars key) (Some (chars old)) None
+  of-gone old = rw (← is_front, chars-nil, chars-gone, chars-colon, chars-end) (simp append_assoc refl)
+
+  pub of-new : (new : List ℕ) → (escaped_part [] ++ chars (codes "+ ")) ++ ((escaped_part [] ++ chars left)
+      ++ ((escaped_part shown ++ chars right) ++ ((escaped_part key ++ chars (codes ": "))
+      ++ ((escaped_part new ++ chars (codes "\n")) ++ []))))
+      ≡ change_text name (chars key) None (Some (chars new))
+  of-new new = rw (← is_front, chars-nil, chars-new, chars-colon, chars-end) (simp append_assoc refl)
+
+  -- what stands before the values of a conflict
+  before-values : (values : Text) → (escaped_part [] ++ chars (codes "conflict: "))
+      ++ ((escaped_part [] ++ chars left) ++ ((escaped_part shown ++ chars right)
+      ++ ((escaped_part key ++ chars (codes ": base")) ++ values)))
+      ≡ codes "conflict: " ++ (front name ++ (escaped_part key ++ (codes ": base" ++ values)))
+  before-values values = rw (← is_front, chars-nil, chars-conflict, chars-base) (simp append_assoc refl)
+
+  pub of-conflict : (base ours theirs : Option Text) (of_base b of_ours o of_theirs t : List ℕ)
+      → chars of_base ++ escaped_part b ≡ told base → chars of_ours ++ escaped_part o ≡ told ours
+      → chars of_theirs ++ escaped_part t ≡ told theirs
+      → (escaped_part [] ++ chars (codes "conflict: ")) ++ ((escaped_part [] ++ chars left)
+      ++ ((escaped_part shown ++ chars right) ++ ((escaped_part key ++ chars (codes ": base"))
+      ++ ((escaped_part [] ++ chars of_base) ++ ((escaped_part b ++ chars (codes ", ours"))
+      ++ ((escaped_part [] ++ chars of_ours) ++ ((escaped_part o ++ chars (codes ", theirs"))
+      ++ ((escaped_part [] ++ chars of_theirs) ++ ((escaped_part t ++ chars (codes "\n")) ++ [])))))))))
+      ≡ conflict_text name (chars key) base ours theirs
+  of-conflict base ours theirs of_base b of_ours o of_theirs t is_base is_ours is_theirs =
+      let last = of-value theirs of_theirs t is_theirs (codes "\n") chars-end [] in
+      let middle = of-value ours of_ours o is_ours (codes ", theirs") chars-theirs _
+      ∙ ap (λ rest. told ours ++ (codes ", theirs" ++ rest)) last in
+      let values = of-value base of_base b is_base (codes ", ours") chars-ours _
+      ∙ ap (λ rest. told base ++ (codes ", ours" ++ rest)) middle in
+      before-values _ ∙ ap (λ rest. codes "conflict: " ++ (front name ++ (escaped_part key
+      ++ (codes ": base" ++ rest)))) values

@@ -1,0 +1,35 @@
+-- How a comparison of two files ends, and its exit status.
+use Rattle.std.specs.Prelude.{◌≡◌, ◌==◌, ℕ, if◌then◌else◌, List, flat_map, vec_len}
+use Rattle.ini_text.specs.declared.error.Error.{Error}
+use Rattle.ini_text.specs.declared.option.ParseOption.{ParseOption}
+use Rattle.ini.specs.Documents.{Document}
+use Rattle.ini_diff.specs.Differences.{difference}
+use Rattle.ini_file.specs.ChangeLines.{change_line}
+use Rattle.ini_file.specs.Merges.{Loads, RefusesFile}
+use Rattle.ini_file.specs.declared.compare.CompareEnd.{CompareEnd}
+use Rattle.ini_file.specs.declared.compare.CompareEnd.TheVariants.{Done, From, To}
+
+-- the lines are those of the settings that differ between the files' documents
+pub record AreDifferences (o : ParseOption) (from to lines : List ℕ) : Type 0 where
+  pub first : Document
+  pub second : Document
+  pub is_first : Loads o from first
+  pub is_second : Loads o to second
+  pub are_lines : lines ≡ flat_map change_line (difference first second)
+
+-- the second file has no document, and the first has one
+pub record RefusesSecond (o : ParseOption) (from to : List ℕ) (e : Error) : Type 0 where
+  pub first : Document
+  pub is_first : Loads o from first
+  pub is_refused : RefusesFile o to e
+
+-- how a comparison of files with these bytes ends
+abbrev pub HasComparison : ParseOption → (from to : List ℕ) → CompareEnd → Type 0
+HasComparison o from to (Done lines) = AreDifferences o from to lines.items
+HasComparison o from to (From e) = RefusesFile o from e
+HasComparison o from to (To e) = RefusesSecond o from to e
+
+-- the exit status: 1 where a setting differs, and 2 after a refusal
+abbrev pub compare_status : CompareEnd → ℕ
+compare_status (Done lines) = if vec_len lines == 0 then 0 else 1
+compare_status _ = 2

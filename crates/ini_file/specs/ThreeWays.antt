@@ -1,0 +1,124 @@
+-- How a three-way merge of files ends, and its exit status.
+use Rattle.std.specs.Prelude.{◌≡◌, ◌==◌, ℕ, false, true, if◌then◌else◌, List, [], ◌++◌, ⊤, chars, flat_map}
+use Rattle.std.specs.Prelude.{vec_len}
+use Rattle.std.specs.Str.{IsUtf8}
+use Rattle.ini_text.specs.Parsing.ByteOrderMarks.{has_byte_order_mark, without_byte_order_mark}
+use Rattle.ini_text.specs.declared.error.Error.{Error}
+use Rattle.ini_text.specs.declared.error.Error.TheVariants.{Memory, NotUtf8, Parse}
+use Rattle.ini_text.specs.declared.option.ParseOption.{ParseOption}
+use Rattle.ini_text.specs.declared.write.option.WriteOption.{WriteOption}
+use Rattle.ini.specs.Documents.{Document}
+use Rattle.ini.specs.Loading.{IsDocumentOf, IsStopOf, IsTextWith}
+use Rattle.ini.specs.Texts.{Text}
+use Rattle.ini_diff.specs.Merging.{IsMerged, conflicts_of, taken_changes}
+use Rattle.ini_diff.specs.SourceChanges.{AreMade, RefusesOne}
+use Rattle.ini_diff.specs.declared.merging.Side.{Side}
+use Rattle.ini_edit.specs.SourceReads.{AreRead}
+use Rattle.ini_edit.specs.Sources.{Pieces, document_in, text_in}
+use Rattle.ini_edit.specs.declared.edit_list.RefusedEdit.{RefusedEdit}
+use Rattle.ini_words.specs.Words.{IsWriteOption}
+use Rattle.ini_words.specs.declared.options.Options.{Options}
+use Rattle.ini_file.specs.Bytes.{byte_order_mark_of}
+use Rattle.ini_file.specs.ChangeLines.{conflict_line}
+use Rattle.ini_file.specs.Merges.{Loads, RefusesFile}
+use Rattle.ini_file.specs.declared.three_way.ThreeWayDone.{ThreeWayDone}
+use Rattle.ini_file.specs.declared.three_way.ThreeWayEnd.{ThreeWayEnd}
+use Rattle.ini_file.specs.declared.three_way.ThreeWayEnd.TheVariants.{Base, Change, Done, GetsMark, Ours}
+use Rattle.ini_file.specs.declared.three_way.ThreeWayEnd.TheVariants.{Theirs}
+
+-- the pieces are those of the text
+pub record AreOfText (o : ParseOption) (T : Text) (p : Pieces) : Type 0 where
+  pub option : p.option ≡ o
+  pub text : text_in p ≡ T
+  pub document : IsDocumentOf o T (document_in p)
+  pub placed : AreRead o p.sections
+
+-- the bytes are those of a mark, and of the text of the pieces, which gives no file a mark that has none
+pub record IsTextAfter (byte_order_mark : List ℕ) (p : Pieces) (bytes : List ℕ) : Type 0 where
+  pub text : List ℕ
+  pub is_utf8 : IsUtf8 text
+  pub is_text : chars text ≡ text_in p
+  pub is_after : bytes ≡ byte_order_mark ++ text
+  pub gets_none : byte_order_mark ≡ [] → has_byte_order_mark text ≡ false
+
+-- there is no mark, and the text of the pieces would be one
+pub record GetsMarkWith (byte_order_mark : List ℕ) (p : Pieces) : Type 0 where
+  pub text : List ℕ
+  pub is_utf8 : IsUtf8 text
+  pub is_text : chars text ≡ text_in p
+  pub has_none : byte_order_mark ≡ []
+  pub gets : has_byte_order_mark text ≡ true
+
+module _ (o : Options) (side : Side) (base ours : Document) (T : Text) where
+  -- theirs, which has the text T, with the changes of ours
+  pub record AreMerged (theirs new : Pieces) : Type 0 where
+    pub are_theirs : AreOfText o.reading T theirs
+    pub option : WriteOption
+    pub is_option : IsWriteOption o option
+    pub is_merged : IsMerged side base ours (document_in theirs) (document_in new)
+    pub are_made : AreMade option theirs (taken_changes side base ours (document_in theirs)) new
+
+  -- the bytes after the mark, and the lines of the conflicts
+  pub record IsThreeWay (byte_order_mark : List ℕ) (done : ThreeWayDone) : Type 0 where
+    pub theirs : Pieces
+    pub new : Pieces
+    pub are_merged : AreMerged theirs new
+    pub is_text : IsTextAfter byte_order_mark new done.bytes.items
+    pub are_conflicts : done.conflicts.items
+        ≡ flat_map conflict_line (conflicts_of base ours (document_in theirs))
+
+  -- it would get a mark
+  pub record GetsMarkThreeWay (byte_order_mark : List ℕ) : Type 0 where
+    pub theirs : Pieces
+    pub new : Pieces
+    pub are_merged : AreMerged theirs new
+    pub gets_mark : GetsMarkWith byte_order_mark new
+
+  -- one of the changes is refused
+  pub record RefusesChange (refused : RefusedEdit) : Type 0 where
+    pub theirs : Pieces
+    pub are_theirs : AreOfText o.reading T theirs
+    pub option : WriteOption
+    pub is_option : IsWriteOption o option
+    pub is_refused : RefusesOne option theirs (taken_changes side base ours (document_in theirs)) refused
+
+-- how a merge of two documents into a text after a mark ends
+abbrev pub EndsOnSides : Options → Side → (base ours : Document) → List ℕ → Text → ThreeWayEnd → Type 0
+EndsOnSides o side base ours byte_order_mark T (Done done) = IsThreeWay o side base ours T byte_order_mark done
+EndsOnSides o side base ours byte_order_mark T (Change refused) = RefusesChange o side base ours T refused
+EndsOnSides o side base ours byte_order_mark T GetsMark = GetsMarkThreeWay o side base ours T byte_order_mark
+EndsOnSides o side base ours byte_order_mark T (Theirs (Parse e)) = IsStopOf o.reading T e
+EndsOnSides o side base ours byte_order_mark T (Theirs (Memory _)) = ⊤
+EndsOnSides o side base ours byte_order_mark T _ = ⊥
+
+-- the same of the bytes of theirs, which may be no text
+abbrev pub EndsOnTheirs : Options → Side → (base ours : Document) → List ℕ → ThreeWayEnd → Type 0
+EndsOnTheirs o side base ours theirs (Theirs NotUtf8) = ¬ (IsUtf8 (without_byte_order_mark theirs))
+EndsOnTheirs o side base ours theirs end =
+    IsTextWith (λ T. EndsOnSides o side base ours (byte_order_mark_of theirs) T end)
+    (without_byte_order_mark theirs)
+
+-- ours has no document, and the base has one
+pub record RefusesOurs (o : ParseOption) (base ours : List ℕ) (e : Error) : Type 0 where
+  pub base_document : Document
+  pub is_base : Loads o base base_document
+  pub is_refused : RefusesFile o ours e
+
+-- the base and ours have documents, and so it ends
+pub record EndsOnDocuments (o : Options) (side : Side) (base ours theirs : List ℕ) (end : ThreeWayEnd)
+    : Type 0 where
+  pub base_document : Document
+  pub ours_document : Document
+  pub is_base : Loads o.reading base base_document
+  pub is_ours : Loads o.reading ours ours_document
+  pub ends : EndsOnTheirs o side base_document ours_document theirs end
+
+-- how a merge of files with these bytes ends
+abbrev pub HasThreeWay : Options → Side → (base ours theirs : List ℕ) → ThreeWayEnd → Type 0
+HasThreeWay o side base ours theirs (Base e) = RefusesFile o.reading base e
+HasThreeWay o side base ours theirs (Ours e) = RefusesOurs o.reading base ours e
+HasThreeWay o side base ours theirs end = EndsOnDocuments o side base ours theirs end
+
+-- the exit status of a merge whose bytes were handed on: 1 where settings are in conflict
+abbrev pub three_way_status : ThreeWayDone → ℕ
+three_way_status done = if vec_len done.conflicts == 0 then 0 else 1

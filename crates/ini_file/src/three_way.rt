@@ -1,0 +1,147 @@
+//! Two files that come from one, merged setting by setting, as a function of their bytes. This file knows no
+//! word of the program and no device.
+ghost use Rattle.std.specs.Prelude.{◌≡◌, IfErr, IfOk, MatchOption, OnErr, chars, flat_map};
+ghost use Rattle.ini_edit.specs.Sources.{document_in};
+ghost use Rattle.ini_diff.specs.Merging.{conflicts_of};
+ghost use Rattle.ini_file.specs.ChangeLines.{conflict_line};
+ghost use Rattle.ini_file.specs.ThreeWays.{EndsOnSides, GetsMarkWith, HasThreeWay, IsTextAfter};
+ghost use Rattle.ini_file.specs.ThreeWays.{three_way_status};
+
+use crate::bytes::{concat, text_of};
+use crate::change_lines::conflict_lines;
+use crate::edit::gets_byte_order_mark;
+use crate::merge::load;
+use ini::{Error, Ini};
+use ini_diff::{Side, conflicts, merge};
+use ini_edit::{RefusedEdit, Source};
+use ini_words::Options;
+use std::alloc::{AllocError, Global};
+
+/// What is made of three files.
+#[derive(Debug, Drop)]
+pub struct ThreeWayDone {
+    /// The bytes of theirs with the changes of ours.
+    pub bytes: Vec<u8>,
+    /// A line for each setting that both sides changed, to different values.
+    pub conflicts: Vec<u8>,
+}
+
+/// How a three-way merge ended.
+#[derive(Debug, Drop)]
+pub enum ThreeWayEnd {
+    /// What is made of the files.
+    Done(ThreeWayDone),
+    /// The base was refused.
+    Base(Error),
+    /// Ours was refused.
+    Ours(Error),
+    /// Theirs was refused; or memory was scarce.
+    Theirs(Error),
+    /// A change of ours can't be made in theirs: the one with this index among those that are taken.
+    Change(RefusedEdit),
+    /// Theirs has no mark, and with the changes of ours it would get one: a key that begins with U+FEFF would
+    /// come to its front.
+    GetsMark,
+}
+
+/// The bytes of theirs with the changes of ours to the base, and a line for each conflict, of which the side
+/// says whose value stands. A mark (EF BB BF) at the front of any file is no part of its text; that of theirs
+/// stays.
+pub fn merge_sides(
+    alloc: Global,
+    options: Options,
+    side: Side,
+    base: &[u8],
+    ours: &[u8],
+    theirs: &[u8],
+) -> ThreeWayEnd
+    ensures { HasThreeWay options side base.now ours.now theirs.now result }
+{
+    let base = match load(alloc, options.reading, base) {
+        Ok(base) => base,
+        Err(refused) => return ThreeWayEnd::Base(refused),
+    };
+    let ours = match load(alloc, options.reading, ours) {
+        Ok(ours) => ours,
+        Err(refused) => return ThreeWayEnd::Ours(refused),
+    };
+    match text_of(theirs) {
+        Ok((front, text)) => merge_into(alloc, options, side, (&base, &ours), front, text),
+        Err(refused) => ThreeWayEnd::Theirs(refused),
+    }
+}
+
+// The same of two documents, and of a text after a mark.
+fn merge_into(
+    alloc: Global,
+    options: Options,
+    side: Side,
+    sides: (&Ini, &Ini),
+    byte_order_mark: &[u8],
+    text: &str,
+) -> ThreeWayEnd
+    ensures { EndsOnSides options side sides.entry.0.now sides.entry.1.now byte_order_mark.now
+        (chars text.now) result }
+{
+    let (base, ours) = sides;
+    let theirs = match Source::read(alloc, text, options.reading) {
+        Ok(theirs) => theirs,
+        Err(refused) => return ThreeWayEnd::Theirs(refused),
+    };
+    let new = match merge(alloc, &options.write_option(), base, ours, &theirs, side) {
+        Ok(new) => new,
+        Err(refused) => return ThreeWayEnd::Change(refused),
+    };
+    let Ok(conflicts) = lines_of_conflicts(alloc, base, ours, &theirs) else {
+        return ThreeWayEnd::Theirs(Error::Memory(AllocError));
+    };
+    match text_after(alloc, byte_order_mark, &new) {
+        Ok(Some(bytes)) => ThreeWayEnd::Done(ThreeWayDone { bytes, conflicts }),
+        Ok(None) => ThreeWayEnd::GetsMark,
+        Err(AllocError) => ThreeWayEnd::Theirs(Error::Memory(AllocError)),
+    }
+}
+
+// A line for each conflict.
+fn lines_of_conflicts(
+    alloc: Global,
+    base: &Ini,
+    ours: &Ini,
+    theirs: &Source<'_>,
+) -> Result<Vec<u8>, AllocError>
+    ensures { IfOk result (λ lines. lines.items
+        ≡ flat_map conflict_line (conflicts_of base.now ours.now (document_in theirs.now))) }
+{
+    let Ok(conflicts) = conflicts(alloc, base, ours, theirs) else {
+        return Err(AllocError);
+    };
+    conflict_lines(alloc, conflicts.as_slice())
+}
+
+// The bytes of a mark and of a text in pieces; `None` where there is no mark, and the text would get one.
+fn text_after(
+    alloc: Global,
+    byte_order_mark: &[u8],
+    source: &Source<'_>,
+) -> Result<Option<Vec<u8>>, AllocError>
+    ensures { IfOk result (λ bytes. MatchOption bytes (GetsMarkWith byte_order_mark.now source.now)
+        (λ bytes. IsTextAfter byte_order_mark.now source.now bytes.items)) }
+{
+    let Ok(text) = source.to_text(alloc) else {
+        return Err(AllocError);
+    };
+    if gets_byte_order_mark(byte_order_mark, text.as_str()) {
+        return Ok(None);
+    }
+    match concat(alloc, byte_order_mark, text.as_str()) {
+        Ok(bytes) => Ok(Some(bytes)),
+        Err(_) => Err(AllocError),
+    }
+}
+
+/// The exit status of a merge whose bytes were handed on: 1 where settings are in conflict.
+pub fn three_way_status(done: &ThreeWayDone) -> u8
+    ensures { result ≡ three_way_status done.now }
+{
+    if done.conflicts.is_empty() { 0 } else { 1 }
+}

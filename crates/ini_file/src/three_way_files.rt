@@ -1,0 +1,159 @@
+//! A three-way merge of files that are there: they are read, what is made of them is handed on, and conflicts
+//! and refusals are reported. This file knows the process's streams, and no word of the program.
+
+use crate::bytes::text_of;
+use crate::files::{lock_place, read_file, read_input, write_output};
+use crate::merge::load;
+use crate::merge_files::setting_of_file;
+use crate::notes::note_reason;
+use crate::reasons::{Help, Reason};
+use crate::refusals::refuse;
+use crate::run::Outcome;
+use crate::side_words::ThreeWay;
+use crate::target::Target;
+use crate::three_way::{ThreeWayEnd, merge_sides, three_way_status};
+use crate::unwritable::reason_of;
+use ini::Error;
+use ini_diff::taken;
+use ini_edit::{Edit, EditError, RefusedEdit, Source};
+use std::alloc::{AllocError, Global};
+use std::io::Write;
+
+// The bytes of the three files.
+#[derive(Drop)]
+struct Sides {
+    base: Vec<u8>,
+    ours: Vec<u8>,
+    theirs: Vec<u8>,
+}
+
+/// Merges three files, and answers the exit status. All of them are read before anything is written, and
+/// where one is refused nothing is. With conflicts the merged text is written too.
+///
+/// No contract says what a disk gets; `tests/program/sides.sh` tests it.
+pub fn merge_three_files(rt: &HostRuntime, asked: &ThreeWay<'_>) -> u8 {
+    let target = Target::of_three_way(*asked);
+    let _lock = match lock_place(rt, target) {
+        Ok(lock) => lock,
+        Err(refusal) => return refuse_file(rt, asked, target.reported(), &[], refusal),
+    };
+    match read_sides(rt, asked, target) {
+        Ok(sides) => merge_read(rt, asked, &sides),
+        Err((file, refusal)) => refuse_file(rt, asked, file, &[], refusal),
+    }
+}
+
+// Reads the files; else the name of one that can't be read.
+fn read_sides<'a>(
+    rt: &HostRuntime,
+    asked: &ThreeWay<'a>,
+    target: Target<'a>,
+) -> Result<Sides, (&'a str, Error)> {
+    let base = match read_input(rt, asked.base) {
+        Ok(base) => base,
+        Err(refusal) => return Err((asked.base, refusal)),
+    };
+    let ours = match read_input(rt, asked.ours) {
+        Ok(ours) => ours,
+        Err(refusal) => return Err((asked.ours, refusal)),
+    };
+    match read_file(rt, target) {
+        Ok(theirs) => Ok(Sides {
+            base,
+            ours,
+            theirs: theirs.unwrap_or(Vec::new(rt.alloc())),
+        }),
+        Err(refusal) => Err((asked.theirs, refusal)),
+    }
+}
+
+// Merges files that were read.
+fn merge_read(rt: &HostRuntime, asked: &ThreeWay<'_>, sides: &Sides) -> u8 {
+    let (base, ours) = (sides.base.as_slice(), sides.ours.as_slice());
+    let theirs = sides.theirs.as_slice();
+    match merge_sides(rt.alloc(), asked.options, asked.side(), base, ours, theirs) {
+        ThreeWayEnd::Done(done) => {
+            let target = Target::of_three_way(*asked);
+            match write_output(rt, target, Some(theirs), done.bytes.as_slice()) {
+                Ok(()) => {
+                    let _ = rt.stderr().write_all(done.conflicts.as_slice());
+                    three_way_status(&done)
+                }
+                Err(refusal) => refuse_file(rt, asked, target.reported(), &[], refusal),
+            }
+        }
+        ThreeWayEnd::Base(refusal) => refuse_file(rt, asked, asked.base, base, refusal),
+        ThreeWayEnd::Ours(refusal) => refuse_file(rt, asked, asked.ours, ours, refusal),
+        ThreeWayEnd::Theirs(refusal) => refuse_file(rt, asked, asked.theirs, theirs, refusal),
+        ThreeWayEnd::Change(refused) => refuse_change(rt, asked, sides, refused),
+        ThreeWayEnd::GetsMark => {
+            let outcome = Outcome::Refused(EditError::Key);
+            let refused = refuse(rt, asked.options.reading, asked.theirs, theirs, &outcome);
+            note_reason(rt, Reason::ByteOrderMark, None);
+            refused
+        }
+    }
+}
+
+// Tells what is refused of a file.
+fn refuse_file(
+    rt: &HostRuntime,
+    asked: &ThreeWay<'_>,
+    file: &str,
+    input: &[u8],
+    refusal: Error,
+) -> u8 {
+    refuse(
+        rt,
+        asked.options.reading,
+        file,
+        input,
+        &Outcome::from(refusal),
+    )
+}
+
+// Tells that a change of ours can't be made in theirs, and why.
+fn refuse_change(
+    rt: &HostRuntime,
+    asked: &ThreeWay<'_>,
+    sides: &Sides,
+    refused: RefusedEdit,
+) -> u8 {
+    let (read, theirs) = (asked.options.reading, asked.theirs);
+    let RefusedEdit { index, refusal } = refused;
+    let found = change_at(rt.alloc(), asked, sides, index, &refusal);
+    let outcome = Outcome::Refused(refusal);
+    let Ok((name, reason)) = found else {
+        return refuse(rt, read, theirs, &[], &outcome);
+    };
+    let status = refuse(rt, read, name.as_str(), &[], &outcome);
+    if let Some((reason, help)) = reason {
+        note_reason(rt, reason, help);
+    }
+    status
+}
+
+// The file, and the setting that the change with this index sets there; and why it is refused.
+fn change_at(
+    alloc: Global,
+    asked: &ThreeWay<'_>,
+    sides: &Sides,
+    index: usize,
+    refusal: &EditError,
+) -> Result<(String, Option<(Reason, Option<Help>)>), Error> {
+    let read = asked.options.reading;
+    let base = load(alloc, read, sides.base.as_slice())?;
+    let ours = load(alloc, read, sides.ours.as_slice())?;
+    let (_, text) = text_of(sides.theirs.as_slice())?;
+    let theirs = Source::read(alloc, text, read)?;
+    let changes = taken(alloc, &base, &ours, &theirs, asked.side())?;
+    let change = *changes.get(index).ok_or(AllocError)?;
+    let (name, key) = (change.name, change.key);
+    let edit = Edit::Set {
+        name,
+        key,
+        value: change.new.unwrap_or(""),
+    };
+    let reason = reason_of(Some(edit), asked.options, refusal);
+    Ok((setting_of_file(alloc, asked.theirs, name, key)?, reason))
+}

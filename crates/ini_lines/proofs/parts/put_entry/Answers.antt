@@ -1,4 +1,0 @@
-use Rattle.ini_lines.proofs.parts.put_entry.Goals as goal
-
-pub returns : goal.returns
-returns g c = simp c.end.ensures at c.put_part.ensures

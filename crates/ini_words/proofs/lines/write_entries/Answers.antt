@@ -1,0 +1,13 @@
+use Rattle.std.proofs.lemmas.Result.{err_from_is_err_and}
+use Rattle.ini_text.proofs.WriteLemmas.SendLemmas.{Sends-flushed, Sends-refused}
+use Rattle.ini_words.proofs.lines.write_entries.Goals as goal
+
+pub returns-in_err-put_entries : goal.returns-in_err-put_entries
+returns-in_err-put_entries g c =
+    let p = err_from_is_err_and c.from_residual.result c.from_residual.ensures.1 in
+    rw (p.1, p.2) (Sends-refused c.new-lines.ensures c.in_err-put_entries.ensures)
+
+pub returns : goal.returns
+returns g c =
+    Sends-flushed c.requires c.new-lines.ensures
+    c.in_ok-put_entries.ensures c.flush.ensures.sends c.flush.ensures.empty

@@ -1,0 +1,13 @@
+use Rattle.std.proofs.lemmas.Result.{err_from_is_err_and}
+use Rattle.ini_text.proofs.WriteLemmas.SendLemmas.{Sends-flushed, Sends-refused}
+use Rattle.ini_words.proofs.lines.write_parts.Goals as goal
+
+pub returns-in_err-put_parts : goal.returns-in_err-put_parts
+returns-in_err-put_parts g c =
+    let p = err_from_is_err_and c.from_residual.result c.from_residual.ensures.1 in
+    rw (p.1, p.2) (Sends-refused c.new-lines.ensures c.in_err-put_parts.ensures)
+
+pub returns : goal.returns
+returns g c =
+    Sends-flushed c.requires c.new-lines.ensures
+    c.in_ok-put_parts.ensures c.flush.ensures.sends c.flush.ensures.empty

@@ -1,0 +1,5 @@
+pub mod Lines
+pub mod Pages
+pub mod Prints
+pub mod Refusals
+pub mod Words
