@@ -19,7 +19,7 @@ pub fn separates(separator: Option<&str>) -> bool
 }
 
 /// How the options have documents written, with the separator between a key and its value; where none is
-/// chosen with `=` alone. Refused only when out of memory.
+/// chosen with `=` alone. Refused only when out of memory; another separator is copied, and never freed.
 pub fn writing(
     alloc: Global,
     options: Options,
@@ -32,6 +32,9 @@ pub fn writing(
     let Some(separator) = separator else {
         return Ok(option);
     };
+    if separator == option.kv_separator {
+        return Ok(option);
+    }
     Ok(WriteOption {
         kv_separator: leaked_copy(alloc, separator)?,
         ..option
