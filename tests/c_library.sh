@@ -29,7 +29,7 @@ installs_anew() {
     rm -rf "$tree"
     mkdir -p "$tree/bin"
     (cd "$top" && tar cf - --exclude=out crates.txt c share/man tools/c_library.sh crates/ini_multimap crates/ini_text crates/ini \
-        crates/ini_view crates/ini_dialect crates/ini_edit crates/ini_c) | (cd "$tree" && tar xf -)
+        crates/ini_view crates/ini_check crates/ini_dialect crates/ini_edit crates/ini_c) | (cd "$tree" && tar xf -)
     printf '#!/bin/sh\n[ "$1" = lib ] && echo new >out/libini_c.a\n' >"$tree/bin/rt"
     chmod +x "$tree/bin/rt"
     mkdir "$tree/crates/ini_c/out"

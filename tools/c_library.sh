@@ -30,12 +30,13 @@ soname=libbigrosk_ini.so.${version%%.*}
 room=$(mktemp -d)
 trap 'rm -rf "$room"' EXIT
 built=$top/crates/ini_c/out/libini_c.a
+# the crates below it
+below='ini_multimap ini_text ini ini_view ini_check ini_edit ini_dialect'
 
 # the files that the library is made of, where they are newer than this one
 newer_than() {
-    (cd "$top" && find crates.txt crates/ini_multimap crates/ini_text crates/ini crates/ini_view crates/ini_dialect \
-        crates/ini_edit crates/ini_c \
-        -name out -prune -o \
+    # shellcheck disable=SC2046
+    (cd "$top" && find crates.txt $(printf 'crates/%s ' $below ini_c) -name out -prune -o \
         -name must-fail -prune -o -name wrong-bodies.txt -prune -o -name tests -prune -o -name tests.rt -prune -o \
         -name '*.md' -prune -o -type f -newer "$1" -print)
 }
@@ -51,7 +52,7 @@ is_built() {
 is_proved_below() {
     since=${BIGROSK_PROVED_SINCE:-}
     [ -n "$since" ] && [ -f "$since" ] || return 1
-    for it in ini_multimap ini_text ini ini_view ini_dialect ini_edit; do
+    for it in $below; do
         made=$top/crates/$it/out/rlib
         [ -n "$(find "$made/$it.rlib/format" -cnewer "$since" 2>/dev/null)" ] && [ ! -f "$made/stamp" ] || return 1
     done
@@ -66,7 +67,7 @@ build_over() {
         if [ -d "$top/crates/$it" ]; then it=$it=$top/crates/$it/out/rlib/$it.rlib; else it=$it=$kit/rlibs/$it.rlib; fi
         set -- "$@" --extern "$it"
     done
-    for it in ini_multimap ini_text ini ini_view ini_dialect ini_edit; do set -- "$@" -L "dependency=$top/crates/$it/out/rlib"; done
+    for it in $below; do set -- "$@" -L "dependency=$top/crates/$it/out/rlib"; done
     mkdir -p "$top/crates/ini_c/out"
     (cd "$top/crates/ini_c" && "$kit/bin/rattle" build "$@" --antt-project "$kit/rattle/logic/antt-project.json" \
         --logic-built "$kit/logic_built" --links ini_c= --crate-type staticlib --jobs 2 --toolchain "$kit/toolchain" -o "$built")
