@@ -106,7 +106,8 @@ def run(program, path):
         words = ["time", "--quiet", "--format=%M", f"--output={peak.name}", *shlex.split(program)]
         process = subprocess.Popen(words, stdin=source, stdout=subprocess.DEVNULL)
         _, status, usage = os.wait4(process.pid, 0)
-        if status != 0:
+        # 1 is a look-up that finds nothing
+        if os.waitstatus_to_exitcode(status) not in (0, 1):
             sys.exit(f"{program} failed on {path}")
         return usage.ru_utime + usage.ru_stime, int(peak.read()) / 1024
 
