@@ -31,7 +31,7 @@ shown_after() {
 readme_runs() {
     commands | while read -r number command; do
         # the programs that were installed, in place of the scripts
-        command=$(printf '%s\n' "$command" | sed 's,[./]*/\(ini_[a-z]*\)\.sh,\1,g')
+        command=$(printf '%s\n' "$command" | sed 's,\./bigrosk ,,g')
         is "$1: $command" "$(shown_after "$number")" "$(cd "$2/share/doc/bigrosk" && without "$2" sh -c "$command" 2>&1)"
         echo "$passed $failed" >"$room/counts"
     done

@@ -81,7 +81,7 @@ gather() {
     "$top/tools/c_library.sh" "$stage"
     mkdir -p "$doc/docs"
     install -m 644 "$top/README.md" "$top/CHANGELOG.md" "$doc"
-    install -m 644 "$top"/docs/*.md "$doc/docs"
+    install -m 644 "$top"/docs/*.md "$top"/docs/*.svg "$doc/docs"
     (cd "$top" && find examples -type f -exec install -D -m 644 {} "$doc/{}" \;)
     for it in "$top"/LICENSE* "$top"/LICENCE* "$top"/COPYING*; do
         [ ! -f "$it" ] || install -m 644 "$it" "$doc"
