@@ -833,7 +833,7 @@ unmerged() {
     count 'no file is made where a merge is refused'
 }
 
-# the warnings of files; the traps are those of crates/ini_check/README.md
+# the warnings of files; the traps are those of docs/TRAPS.md
 checking() {
     fresh
     escape='a backslash begins an escape in this value'

@@ -39,9 +39,11 @@ pub fn mended_traps() -> &'static [Trap]
     ]
 }
 
-/// The text with the traps mended, one after another. Nothing is mended where a mended element, read by
-/// itself, or the whole text would have no fewer warnings of the trap, or more of those that no mend helps.
-/// No character changes but those that mends put in or take out.
+/// The text with the traps mended, one after another. An element becomes the mended one only where that, read
+/// by itself, is better: it is read, with fewer warnings of the trap, and no more of `runs-on`,
+/// `dropped-line`, `lone-cr`, `header-in-value`, `pair-in-value`, `text-after-quote` and `half-quote`; so a
+/// quote that is closed further down on purpose stays. The whole text is judged in the same way. No character
+/// changes but those that mends put in or take out.
 ///
 /// # Errors
 ///

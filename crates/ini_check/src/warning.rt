@@ -8,57 +8,75 @@ use std::fmt;
 /// What a text says that its writer may not have meant.
 #[derive(Clone, Copy, PartialEq, Eq, Debug)]
 pub enum Trap {
-    /// A header's bracket isn't closed on its line, so the name goes on up to the next `]`.
+    /// A header's bracket isn't closed on its line: a line end stands in its source, and the name goes on
+    /// up to the next `]`. At the header: `[server⏎port=80⏎[client]`. Mend: `]` at the end of its first
+    /// line, before the white space there.
     UnclosedBracket,
-    /// A quote isn't closed on its line, so the value goes on up to the next such mark.
+    /// A quote isn't closed on its line, so the value goes on up to the next such mark. At the quote:
+    /// `a = 'tis⏎port = 80⏎b = don't`. Mend: the mark at its line's end, before the white space there.
     UnclosedQuote,
-    /// A backslash at a line's end joins the next line to a value.
+    /// A backslash at a line's end joins the next line to a value: outside quotes, before LF, or before CR
+    /// without LF. At the backslash: `p=C:\⏎q=1`. Mend: it is doubled; where escapes are off a space stands
+    /// after it, which trimming takes.
     JoinedLine,
-    /// A line without a separator runs on into the next one: the key's source has a line end in it.
+    /// A line without a separator runs on into the next one: a line end stands in the key's source, also
+    /// after a backslash. At the key: `one⏎two = 2`.
     RunsOn,
-    /// The same where an indented comment mark begins the key.
+    /// The same where after blanks a comment mark begins the key. At the key: `  ; note⏎k = v`. Mend: the
+    /// blanks before comments that stand in the key go.
     CommentRunsOn,
-    /// The text ends in indented text without a separator, which gives nothing.
+    /// The text ends in indented text without a separator, which gives nothing, with a line in it that is
+    /// no comment. At the text: `a=1⏎  port 80`.
     DroppedLine,
-    /// A CR without LF doesn't end a comment, which goes on over the next line.
+    /// A CR without LF doesn't end a comment, which goes on over the next line, and that is none. At the
+    /// CR: `; c␍k=v`. Mend: LF after it.
     LoneCr,
-    /// A line that looks like a header goes on with a multiline value.
+    /// A line of a multiline value is a bracket and what it closes. At the line: `k = v⏎  [b]`.
     HeaderInValue,
-    /// A line that looks like a pair goes on with a multiline value that is no list.
+    /// A line of a multiline value begins with a word, and has a separator after what keys have; but in a
+    /// list: below an empty first line, after a key that isn't indented. At the line: `k = v⏎  port = 80`.
     PairInValue,
-    /// The key is there twice: an earlier pair of the section has it.
+    /// An earlier pair since the last header has the key. At the later key: `k=1⏎k=2`.
     RepeatedKey,
-    /// The section is there twice: an earlier header has the name.
+    /// An earlier header has the name. At the later header: `[a]⏎[a]`.
     RepeatedSection,
-    /// A header or a pair stands on the line of a header.
+    /// A header or a pair stands on the line of a header. At the key or header: `[a] k=v`.
     AfterHeader,
-    /// The name of a section is empty.
+    /// The name of a section is empty. At the header: `[]`.
     EmptyName,
-    /// An earlier header has a name that differs in the case of ASCII letters alone.
+    /// An earlier header has a name that differs in the case of ASCII letters alone. At the later header:
+    /// `[a]⏎[A]`.
     SectionCase,
-    /// An earlier pair of the section has a key that differs in the case of ASCII letters alone.
+    /// An earlier pair of the section has a key that differs in the case of ASCII letters alone. At the
+    /// later key: `Port=1⏎port=2`.
     KeyCase,
-    /// An indented comment mark begins a key on its own line.
+    /// After blanks a comment mark begins a key, on one line. At the key: `  #k = v`. Mend: the blanks
+    /// before comments that stand in the key go.
     MarkBeginsKey,
-    /// A colon separates a pair, and an equals sign follows it on its line.
+    /// A colon separates a pair, and `=` follows on its line: no white space stands after the colon, or
+    /// some before the `=`. At the colon: `12:30 = job`.
     ColonSeparates,
-    /// A backslash begins an escape in a name.
+    /// Where escapes are read, a backslash stands in a name before another character than a backslash, a
+    /// quote, a separator, a comment mark, a line end or `]`. At the header: `[C:\temp]`. Mend: the
+    /// backslash of each such escape is doubled.
     EscapeInName,
-    /// A backslash begins an escape in a key.
+    /// The same in a key; `\]` is one there too. At the key: `a\tb = 1`. Mend: the same.
     EscapeInKey,
-    /// A backslash begins an escape in a value.
+    /// The same in a value; `\]` is one there too. At the value: `path = C:\temp`. Mend: the same.
     Escape,
-    /// A comment mark stands in a value, outside quotes and after white space, or begins it as a note
-    /// does (`#fff` is none): it is part of the value.
+    /// Outside quotes a comment mark stands in a value after white space; or `;` begins the value, or `#`
+    /// with white space or nothing after it. At the value: `k = v ; note`.
     MarkInValue,
-    /// Text stands after a quoted part of a value, and is part of the value.
+    /// Text stands after a quoted part of a value, is no other and no note, and is part of the value. At
+    /// the text: `k="a"b`.
     TextAfterQuote,
-    /// A value ends with a quote that nothing opens.
+    /// No quote begins a value, and the first of its kind ends its line. At the value: `k=a"`.
     HalfQuote,
-    /// White space that is neither a blank nor a line end stands around a value, and is taken off.
+    /// White space that is neither a blank nor a line end stands beside a value, and is taken off. At the
+    /// value: `k=␣v` where ␣ is U+00A0.
     OddSpace,
-    /// The name, or the key with its value, isn't plain: written by the default options, it isn't sure to
-    /// be read back as it is.
+    /// Where escapes are read, a name, or a key with its value, isn't plain: written by the default
+    /// options, it isn't sure to be read back as it is. At the key or header: `k = " a "`.
     NotPlain,
 }
 
@@ -258,7 +276,7 @@ impl fmt::Display for Trap {
 /// A trap, and where in the text it is: at a stretch, from its first character up to the one after its last.
 ///
 /// Lines and columns count from 1, and columns count characters. LF alone ends a line here. Which stretch it
-/// is stands at each trap in the crate's README.
+/// is stands at each trap.
 #[derive(Clone, Copy, PartialEq, Eq, Debug)]
 pub struct Warning {
     /// The line where the stretch begins.
