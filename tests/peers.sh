@@ -1,8 +1,8 @@
 #!/bin/sh
 # Runs ini_file beside crudini, `git config` and toml_edit on the same files: what each of them reads, and what stands in the file
-# after an edit, by its values, and by its bytes where both keep the layout. A peer that isn't here is skipped and reported, and so is a
-# command that the program hasn't. Each case that fails is reported. The last line is 'N passed, M failed', and the status is 1 if a
-# case failed.
+# after an edit, by its values, and by its bytes where both keep the layout; and beside the merges of git and diff3, which are counted.
+# A peer that isn't here is skipped and reported, and so is a command that the program hasn't. Each case that fails is reported. The
+# last line is 'N passed, M failed', and the status is 1 if a case failed.
 #
 #     tests/peers.sh [INI_FILE]
 #
@@ -196,5 +196,7 @@ if has cc 'what is compared with GKeyFile' && has pkg-config 'what is compared w
         echo "skipped: what is compared with GKeyFile, since glib-2.0 isn't there"
     fi
 fi
+
+. "$top/tests/peers/merges.sh"
 
 finish
