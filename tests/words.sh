@@ -47,9 +47,9 @@ list settings.ini more|more is one word too many: list takes FILE
 list --policy Basic settings.ini|Basic is no policy; --policy takes one of $policies
 list settings.ini --policy=basics|basics is no policy; --policy takes one of $policies
 list settings.ini --policy|--policy takes NAME
-list settings.ini --like Git|Git is no dialect; --like takes one of $dialects
---like= list settings.ini --policy x| is no dialect; --like takes one of $dialects
-check settings.ini --like fish|fish is no dialect; --like takes one of $dialects
+list settings.ini --like Git|Git is no dialect; --like takes auto or one of $dialects
+--like= list settings.ini --policy x| is no dialect; --like takes auto or one of $dialects
+check settings.ini --like fish|fish is no dialect; --like takes auto or one of $dialects
 list settings.ini --like|--like takes NAME
 get settings.ini k --default|--default takes VALUE
 set settings.ini k v --wait|--wait takes SECONDS
@@ -211,11 +211,45 @@ END
     ends 'a dialect of the environment' 0 '8080\n' '' get settings.ini PORT SERVER
     ends 'a dialect of the environment, and --like' 1 '' '' --like crate get settings.ini PORT SERVER
     INI_LIKE=fish
-    ends 'a dialect of the environment that is none' 2 '' "ini_file: fish is no dialect; --like takes one of $dialects
+    ends 'a dialect of the environment that is none' 2 '' "ini_file: fish is no dialect; --like takes auto or one of $dialects
 Try 'ini_file --help'." list settings.ini
     INI_LIKE=
     ends 'an empty dialect of the environment' 1 '' '' get settings.ini PORT SERVER
     unset INI_LIKE
+}
+
+# The dialect that a file's name tells, else its text. WORDS|STATUS|OUTPUT|TOLD
+autos() {
+    others='several dialects read it as well; name one by --like'
+    while IFS='|' read -r words status output told; do
+        fresh
+        mkdir sub
+        printf '[A]\nk = 1\n[a]\nK = 2\n' >.gitconfig
+        cp .gitconfig sub/.gitmodules
+        cp .gitconfig sub/app.gitconfig
+        printf '[U]\nk = "a\\b"\n[U]\nk = 2\n' >app.service
+        printf '[*.c]\nk = 1\n[[ab].c]\nk = 2\n' >x.ini
+        printf 'k = C:\\temp\n[s]\nj = 1\n' >path.ini
+        printf '[a\n' >none.ini
+        printf '[a]\nk = 1\n' >my.cnf
+        # shellcheck disable=SC2086
+        ends "auto: $words" "$status" "$output" "$(echo "$told" | tr '~' '\n')" $words
+    done <<END
+--like auto get .gitconfig k a|0|2\\n|
+get ./sub/.gitmodules k A --like=auto|0|2\\n|
+--like auto get sub/app.gitconfig k a|1||note: sub/app.gitconfig: read as crate
+--like auto get app.service k U|0|2\\n|
+--like auto get path.ini k|0|C:\\\\temp\\n|note: path.ini: read as systemd
+--like auto get x.ini k [ab].c|0|2\\n|note: x.ini: read as kde
+--like auto set my.cnf j 2 a --output -|0|[a]\\nk = 1\\nj = 2\\n|
+--like auto set .gitconfig k 3 a --output -|0|[A]\\nk = 1\\n[a]\\nK = 3\\n|
+--like auto set settings.ini name two|2||ini_file: settings.ini: $others
+--like auto delete path.ini k|2||ini_file: path.ini: $others
+--like auto get settings.ini name|0|one\\n|note: settings.ini: read as crate
+--like auto get - name|2||ini_file: -: --like auto reads no standard input
+--like auto get gone.ini name|4||ini_file: gone.ini: No such file or directory (os error 2)
+--like auto get|2||ini_file: FILE is missing: get takes FILE KEY [SECTION]~Try 'ini_file --help'.
+END
 }
 
 # The dialects that read a file, those first under which a backslash is a character like others.
@@ -494,6 +528,7 @@ END
 mistakes
 places
 likes
+autos
 suggests
 helps
 refused

@@ -65,7 +65,7 @@ function __bigrosk_ini_file
             __bigrosk_policies
             return
         case --like
-            printf '%s\n' crate git systemd desktop python php mysql samba windows kde supervisor fail2ban aws editorconfig npm qt hg \
+            printf '%s\n' auto crate git systemd desktop python php mysql samba windows kde supervisor fail2ban aws editorconfig npm qt hg \
                 pulseaudio odbc freetds sssd openssl uwsgi xrdp openttd
             return
         case --output

@@ -2,6 +2,7 @@ pub mod Bytes
 pub mod ChangeLines
 pub mod CheckWords
 pub mod Checks
+pub mod FileNames
 pub mod Fixes
 pub mod Choices
 pub mod Comparisons

@@ -5,6 +5,7 @@
 //! file, and hands on what it answers. Nothing goes out before all is known.
 #![tactic(auto)]
 
+mod auto;
 mod beside;
 mod bytes;
 mod change_lines;
@@ -20,6 +21,7 @@ mod diagnosis;
 mod diff;
 mod edit;
 mod fault_words;
+mod file_names;
 mod files;
 mod fix;
 mod format;
@@ -63,6 +65,7 @@ mod usage_error;
 mod words;
 mod writing;
 
+use auto::dialect_of_file;
 use bytes::text_of;
 use check_files::check_files;
 use check_words::check_of;
@@ -155,6 +158,12 @@ fn run_like<'a>(rt: &HostRuntime, given: &'a [String], named: Option<&'a str>) -
     sorted.like_if_none(named);
     if sorted.asks_help() {
         return print_help(rt, &sorted);
+    }
+    if sorted.like == Some("auto") {
+        match dialect_of_file(rt, &sorted) {
+            Ok(name) => sorted.like = Some(name),
+            Err(refused) => return refused,
+        }
     }
     match in_order(rt.alloc(), &sorted) {
         Ok(Some(words)) => run_words(rt, &sorted, words.as_slice()),

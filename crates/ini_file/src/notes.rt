@@ -38,6 +38,12 @@ pub fn note_hint(rt: &HostRuntime, file: &str, warning: Warning) {
     );
 }
 
+/// Prints as which dialect a file is read.
+pub fn note_dialect(rt: &HostRuntime, file: &str, name: &str) {
+    let file = Shown(file);
+    let _ = writeln!(rt.stderr(), "note: {file}: read as {name}");
+}
+
 /// Prints whether a file is changed.
 pub fn tell_change(rt: &HostRuntime, is_changed: bool) {
     let line: &[u8] = if is_changed {

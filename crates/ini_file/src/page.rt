@@ -76,11 +76,12 @@ Commands; no SECTION is the general one, FILE - is standard input:
                                             lost, and what may surprise
 
 Options, of reading and of writing:
-  --like NAME    files are read, written and looked up as those of a program: crate
-                 (where none is named) git systemd desktop python php mysql samba
-                 windows kde supervisor fail2ban aws editorconfig npm qt hg
-                 pulseaudio odbc freetds sssd openssl uwsgi xrdp openttd; the other
-                 options count on top of it, and INI_LIKE names one too
+  --like NAME    files are read, written and looked up as those of a program: auto
+                 (what the name tells, else the text) crate (where none is named)
+                 git systemd desktop python php mysql samba windows kde supervisor
+                 fail2ban aws editorconfig npm qt hg pulseaudio odbc freetds sssd
+                 openssl uwsgi xrdp openttd; the other options count on top of it,
+                 and INI_LIKE names one too
   --noescape     a backslash begins no escape
   --noquote      quotes are characters like others
   --multiline    a value goes on over indented lines

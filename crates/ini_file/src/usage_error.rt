@@ -344,7 +344,7 @@ fn print_trap<W: Write>(name: &str, err: &mut W) -> io::Result<()> {
 // Prints that no dialect has this name, and which do.
 fn print_dialect<W: Write>(name: &str, err: &mut W) -> io::Result<()> {
     let name = Shown(name);
-    write!(err, "{name} is no dialect; --like takes one of")?;
+    write!(err, "{name} is no dialect; --like takes auto or one of")?;
     for named in dialects() {
         write!(err, " {}", named.name)?;
     }
