@@ -49,7 +49,9 @@ if has bash completions; then
     offered 'add check delete delete-section diff format get keys list merge merge3 rename-key rename-section rewrite sections set ' ini_file ''
     offered 'one two one.ini ' ini_file get ''
     offered '--existing ' ini_file set --e
-    offered '-- --force --in-place --output --verbose --wait ' ini_file diff --
+    offered '-- --color --force --format --in-place --output --verbose --wait ' ini_file diff --
+    offered 'json ' ini_file diff --format ''
+    offered 'always auto never ' ini_file diff --color ''
     offered '--ours --output ' ini_file merge3 --o
     offered 'one.ini ' ini_file merge3 one.ini one.ini one.
     offered '--dry-run ' ini_file delete --d

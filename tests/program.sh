@@ -399,6 +399,7 @@ is_cut 'an output that is full before the end' $? "$out_fault$large" "$room/some
 . "$top/tests/program/merge.sh"
 . "$top/tests/program/check.sh"
 . "$top/tests/program/sides.sh"
+. "$top/tests/program/forms.sh"
 
 # The commands that a page shows: in its blocks marked `console`, each line that begins with '$ ' is a command, and what
 # follows it, up to the next one, is what the shell then shows. A page's commands run in turn, in a folder with the examples.

@@ -97,9 +97,13 @@ set --existing --separator : settings.ini name v|--existing writes no new line, 
 merge - -|- is standard input, which can't be read twice
 diff settings.ini|OTHER is missing: diff takes FILE OTHER
 diff - -|- is standard input, which can't be read twice
-diff -n settings.ini settings.ini|diff doesn't take --dry-run, but --output --in-place --force --wait --verbose
+diff -n settings.ini settings.ini|diff doesn't take --dry-run, but --format --color --output --in-place --force --wait --verbose
 diff --verbose settings.ini settings.ini|diff takes --verbose with --output alone
 diff settings.ini settings.ini more|more is one word too many: diff takes FILE OTHER
+diff --format xml settings.ini settings.ini|xml is no form; --format takes json
+diff --color=red settings.ini settings.ini|red is no colour; --color takes auto, always or never
+diff settings.ini settings.ini --color|--color takes WHEN
+list --color always settings.ini|list doesn't take --color, but --null --output --in-place --force --wait --verbose
 merge3 settings.ini - -|- is standard input, which can't be read twice
 merge3 settings.ini settings.ini|THEIRS is missing: merge3 takes BASE OURS THEIRS
 merge3 --force settings.ini settings.ini settings.ini|merge3 takes --force with --output alone

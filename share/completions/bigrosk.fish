@@ -75,7 +75,10 @@ function __bigrosk_ini_file
             __bigrosk_sections
             return
         case --format
-            printf '%s\n' json sarif github
+            test "$command" = diff; and echo json; or printf '%s\n' json sarif github
+            return
+        case --color
+            printf '%s\n' auto always never
             return
         case '?*'
             return

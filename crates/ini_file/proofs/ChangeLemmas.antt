@@ -1,5 +1,5 @@
 -- The lines of changes and of conflicts, put together part by part.
-use Rattle.std.proofs.Common.{◌≡◌, ◌∙◌, ap, refl, ℕ, List, [], ◌++◌, append_assoc, Option, None, Some}
+use Rattle.std.proofs.Common.{◌≡◌, ◌∙◌, ap, refl, ℕ, List, [], ◌++◌, append-nil, append_assoc, Option, None, Some}
 use Rattle.std.proofs.lemmas.Str.{chars-nil}
 use Rattle.std.specs.Prelude.{codes}
 use Rattle.std.specs.Str.{chars}
@@ -58,34 +58,39 @@ chars-theirs : chars (codes ", theirs") ≡ codes ", theirs"
 unfolding chars
 chars-theirs = refl
 
--- a value that may be there, and what follows it
-of-value : (value : Option Text) (before shown : List ℕ) → chars before ++ escaped_part shown ≡ told value
+-- what is told of a value, and what follows it
+of-value : (value : Text) (before shown : List ℕ) → chars before ++ escaped_part shown ≡ value
     → (after : List ℕ) → chars after ≡ after → (rest : Text)
     → (escaped_part [] ++ chars before) ++ ((escaped_part shown ++ chars after) ++ rest)
-    ≡ told value ++ (after ++ rest)
+    ≡ value ++ (after ++ rest)
 of-value value before shown is after is_after rest =
     rw (← is, chars-nil, is_after) (simp append_assoc refl)
 
 module _ (name : Option Text) (left shown right key : List ℕ)
     (is_front : chars left ++ (escaped_part shown ++ chars right) ≡ front name) where
-  pub of-changed : (old new : List ℕ) → (escaped_part [] ++ chars left) ++ ((escaped_part shown ++ chars right)
+  pub of-changed : (before old new end : List ℕ) → (escaped_part [] ++ chars before)
+      ++ ((escaped_part [] ++ chars left) ++ ((escaped_part shown ++ chars right)
       ++ ((escaped_part key ++ chars (codes ": ")) ++ ((escaped_part old ++ chars (codes " -> "))
-      ++ ((escaped_part new ++ chars (codes "\n")) ++ []))))
-      ≡ change_text name (chars key) (Some (chars old)) (Some (chars new))
-  of-changed old new =
-      rw (← is_front, chars-nil, chars-colon, chars-arrow, chars-end) (simp append_assoc refl)
+      ++ ((escaped_part new ++ chars end) ++ [])))))
+      ≡ change_text (chars before) name (chars key) (Some (chars old)) (Some (chars new)) (chars end)
+  of-changed before old new end =
+      rw (← is_front, chars-nil, chars-colon, chars-arrow) (simp (append_assoc, append-nil) refl)
 
-  pub of-gone : (old : List ℕ) → (escaped_part [] ++ chars (codes "- ")) ++ ((escaped_part [] ++ chars left)
+  pub of-gone : (before old end : List ℕ) → (escaped_part [] ++ chars before)
+      ++ ((escaped_part [] ++ chars (codes "- ")) ++ ((escaped_part [] ++ chars left)
       ++ ((escaped_part shown ++ chars right) ++ ((escaped_part key ++ chars (codes ": "))
-      ++ ((escaped_part old ++ chars (codes "\n")) ++ []))))
-      ≡ change_text name (chars key) (Some (chars old)) None
-  of-gone old = rw (← is_front, chars-nil, chars-gone, chars-colon, chars-end) (simp append_assoc refl)
+      ++ ((escaped_part old ++ chars end) ++ [])))))
+      ≡ change_text (chars before) name (chars key) (Some (chars old)) None (chars end)
+  of-gone before old end =
+      rw (← is_front, chars-nil, chars-gone, chars-colon) (simp (append_assoc, append-nil) refl)
 
-  pub of-new : (new : List ℕ) → (escaped_part [] ++ chars (codes "+ ")) ++ ((escaped_part [] ++ chars left)
+  pub of-new : (before new end : List ℕ) → (escaped_part [] ++ chars before)
+      ++ ((escaped_part [] ++ chars (codes "+ ")) ++ ((escaped_part [] ++ chars left)
       ++ ((escaped_part shown ++ chars right) ++ ((escaped_part key ++ chars (codes ": "))
-      ++ ((escaped_part new ++ chars (codes "\n")) ++ []))))
-      ≡ change_text name (chars key) None (Some (chars new))
-  of-new new = rw (← is_front, chars-nil, chars-new, chars-colon, chars-end) (simp append_assoc refl)
+      ++ ((escaped_part new ++ chars end) ++ [])))))
+      ≡ change_text (chars before) name (chars key) None (Some (chars new)) (chars end)
+  of-new before new end =
+      rw (← is_front, chars-nil, chars-new, chars-colon) (simp (append_assoc, append-nil) refl)
 
   -- what stands before the values of a conflict
   before-values : (values : Text) → (escaped_part [] ++ chars (codes "conflict: "))
@@ -104,10 +109,10 @@ module _ (name : Option Text) (left shown right key : List ℕ)
       ++ ((escaped_part [] ++ chars of_theirs) ++ ((escaped_part t ++ chars (codes "\n")) ++ [])))))))))
       ≡ conflict_text name (chars key) base ours theirs
   of-conflict base ours theirs of_base b of_ours o of_theirs t is_base is_ours is_theirs =
-      let last = of-value theirs of_theirs t is_theirs (codes "\n") chars-end [] in
-      let middle = of-value ours of_ours o is_ours (codes ", theirs") chars-theirs _
+      let last = of-value (told theirs) of_theirs t is_theirs (codes "\n") chars-end [] in
+      let middle = of-value (told ours) of_ours o is_ours (codes ", theirs") chars-theirs _
       ∙ ap (λ rest. told ours ++ (codes ", theirs" ++ rest)) last in
-      let values = of-value base of_base b is_base (codes ", ours") chars-ours _
+      let values = of-value (told base) of_base b is_base (codes ", ours") chars-ours _
       ∙ ap (λ rest. told base ++ (codes ", ours" ++ rest)) middle in
       before-values _ ∙ ap (λ rest. codes "conflict: " ++ (front name ++ (escaped_part key
       ++ (codes ": base" ++ rest)))) values

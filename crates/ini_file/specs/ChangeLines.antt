@@ -1,5 +1,5 @@
 -- What is written of a change of a setting, and of a conflict: a line, with the basic escapes.
-use Rattle.std.specs.Prelude.{ℕ, List, [], ◌++◌, Option, None, Some, chars, codes, encode_utf8_all}
+use Rattle.std.specs.Prelude.{ℕ, Bool, true, false, List, [], ◌++◌, Option, None, Some, chars, codes, encode_utf8_all}
 use Rattle.ini_text.specs.Escaping.EscapedTexts.{escaped}
 use Rattle.ini_text.specs.declared.write.policy.EscapePolicy.TheVariants.{Basics}
 use Rattle.ini.specs.Texts.{Text}
@@ -15,20 +15,34 @@ abbrev pub front : Option Text → Text
 front None = []
 front (Some name) = codes "[" ++ (escaped Basics name ++ codes "] ")
 
--- the section's name, the key, a colon, and what is told of it
-abbrev pub of_setting : Option Text → Text → Text → Text
-of_setting name key told = front name ++ (escaped Basics key ++ (codes ": " ++ (told ++ codes "\n")))
+-- the section's name, the key, a colon, and what is told of it, to the end
+abbrev pub of_setting : Option Text → Text → (told end : Text) → Text
+of_setting name key told end = front name ++ (escaped Basics key ++ (codes ": " ++ (told ++ end)))
 
 -- the setting has another value; it is gone; it is there now
-abbrev pub change_text : Option Text → Text → (old new : Option Text) → Text
-change_text name key (Some old) (Some new) =
-    of_setting name key (escaped Basics old ++ (codes " -> " ++ escaped Basics new))
-change_text name key (Some old) None = codes "- " ++ of_setting name key (escaped Basics old)
-change_text name key None (Some new) = codes "+ " ++ of_setting name key (escaped Basics new)
-change_text name key None None = []
+abbrev pub change_text : (before : Text) → Option Text → Text → (old new : Option Text) → (end : Text) → Text
+change_text before name key (Some old) (Some new) end =
+    before ++ of_setting name key (escaped Basics old ++ (codes " -> " ++ escaped Basics new)) end
+change_text before name key (Some old) None end =
+    before ++ (codes "- " ++ of_setting name key (escaped Basics old) end)
+change_text before name key None (Some new) end =
+    before ++ (codes "+ " ++ of_setting name key (escaped Basics new) end)
+change_text before name key None None end = []
 
-abbrev pub change_line : SettingChange → List ℕ
-change_line c = encode_utf8_all (change_text c.name c.key c.old c.new)
+abbrev pub words_between : (before : List ℕ) → SettingChange → (end : List ℕ) → List ℕ
+words_between before c end = encode_utf8_all (change_text (chars before) c.name c.key c.old c.new (chars end))
+
+-- the control sequence of a colour: yellow, red or green
+abbrev pub color_of : (old new : Option Text) → List ℕ
+color_of (Some old) (Some new) = codes "\u{1b}[33m"
+color_of (Some old) None = codes "\u{1b}[31m"
+color_of None (Some new) = codes "\u{1b}[32m"
+color_of None None = []
+
+-- the line, and in colours the control sequences around it
+abbrev pub change_line : (is_colored : Bool) → SettingChange → List ℕ
+change_line true c = words_between (color_of c.old c.new) c (codes "\u{1b}[m\n")
+change_line false c = words_between [] c (codes "\n")
 
 -- what is told of a value that may be there
 abbrev pub told : Option Text → Text

@@ -10,14 +10,16 @@ use Rattle.std.specs.Str.{bytes_eq}
 use Rattle.std.specs.declared.alloc.Global.{Global}
 use Rattle.ini_diff.specs.declared.merging.Side.TheVariants.{Ours, Theirs}
 use Rattle.ini_words.specs.Words.{Word}
+use Rattle.ini_file.specs.Formed.{is_formed, no_form, takes_form, with_name}
 use Rattle.ini_file.specs.Spacing.{is_spaced, no_spacing, takes_number, with_number}
 use Rattle.ini_file.specs.declared.choices.Choices.{Choices}
 use Rattle.ini_file.specs.declared.choices.Switches.{Switches}
+use Rattle.ini_file.specs.declared.form.Form.{Form}
 use Rattle.ini_file.specs.declared.spacing.Spacing.{Spacing}
 
 -- what is chosen by a word alone; the name of the file that is written, where it isn't the one that is read;
 -- the value that is got where there is none; what stands between key and value of new lines, or of each; how
--- many seconds a run waits for others that write the file; how a text is spaced
+-- many seconds a run waits for others that write the file; how a text is spaced; the form of what is found
 pub record Chosen : Type 0 where
   pub switches : Switches
   pub output : Option Word
@@ -25,6 +27,7 @@ pub record Chosen : Type 0 where
   pub separator : Option Word
   pub wait : Option Word
   pub spacing : Spacing
+  pub form : Form
 
 abbrev pub no_switch : Switches
 no_switch = record {
@@ -47,6 +50,7 @@ no_choice = record {
   separator = None;
   wait = None;
   spacing = no_spacing;
+  form = no_form;
 }
 
 -- whether the command writes names, keys or values of the document
@@ -95,6 +99,7 @@ abbrev pub takes_of_texts : Word → Chosen → Bool
 takes_of_texts command c =
     (not c.switches.dry_run || not (answers command))
     && (not (is_some c.switches.side) || bytes_eq command (codes "merge3"))
+    && (not (is_formed c.form) || bytes_eq command (codes "diff"))
 
 -- whether the command takes the choices that are about a layout
 abbrev pub takes_layout : Word → Chosen → Bool
@@ -151,6 +156,7 @@ abbrev mutual
       else if bytes_eq word (codes "--wait")
       then chosen_text (λ seconds. record c { wait = Some seconds }) words
       else if takes_number word then chosen_number word c words
+      else if takes_form word then chosen_form word c words
       else option_map_or (λ s. chosen (record c { switches = s }) words) (with_switch word c.switches)
       (if have_no_option (word ∷ words) then Some (c, word ∷ words) else None)
 
@@ -165,6 +171,12 @@ abbrev mutual
   chosen_number word c (text ∷ words) =
       option_and_then (λ s. chosen (record c { spacing = s }) words) (with_number word text c.spacing)
 
+  -- the same after a word that a form's name follows
+  pub chosen_form : Word → Chosen → List Word → Option (Chosen × List Word)
+  chosen_form word c [] = None
+  chosen_form word c (name ∷ words) =
+      option_and_then (λ f. chosen (record c { form = f }) words) (with_name word name c.form)
+
 -- the choices that are kept as borrowed words
 abbrev pub chosen_of : Choices → Chosen
 chosen_of c = record {
@@ -174,6 +186,7 @@ chosen_of c = record {
   separator = option_map (λ text. text.now) c.separator;
   wait = option_map (λ seconds. seconds.now) c.wait;
   spacing = c.spacing;
+  form = c.form;
 }
 
 -- what a call answers: the choices, and the words after them

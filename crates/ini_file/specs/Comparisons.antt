@@ -1,21 +1,37 @@
 -- How a comparison of two files ends, and its exit status.
-use Rattle.std.specs.Prelude.{◌≡◌, ◌==◌, ℕ, if◌then◌else◌, List, flat_map, vec_len}
+use Rattle.std.specs.Prelude.{◌≡◌, ◌==◌, ℕ, Bool, if◌then◌else◌, List, flat_map, map, vec_len}
 use Rattle.ini_text.specs.declared.error.Error.{Error}
 use Rattle.ini_text.specs.declared.option.ParseOption.{ParseOption}
 use Rattle.ini.specs.Documents.{Document}
-use Rattle.ini_diff.specs.Differences.{difference}
+use Rattle.ini_diff.specs.Differences.{SettingChange, difference, setting_change}
+use Rattle.ini_diff.specs.declared.change.Change.{Change}
 use Rattle.ini_file.specs.ChangeLines.{change_line}
+use Rattle.ini_file.specs.JsonLines.{json_line}
 use Rattle.ini_file.specs.Merges.{Loads, RefusesFile}
 use Rattle.ini_file.specs.declared.compare.CompareEnd.{CompareEnd}
 use Rattle.ini_file.specs.declared.compare.CompareEnd.TheVariants.{Done, From, To}
+use Rattle.ini_file.specs.declared.form.ChangeForm.{ChangeForm}
+use Rattle.ini_file.specs.declared.form.ChangeForm.TheVariants.{Json, Lines}
+
+-- the lines of changes in JSON, of changes that are lent
+pub record AreJsonLines (changes : List SettingChange) (lines : List ℕ) : Type 0 where
+  pub lent : List Change
+  pub are_lent : map setting_change lent ≡ changes
+  pub are_lines : lines ≡ flat_map json_line lent
+
+-- the lines of changes in a form
+abbrev pub AreLinesOf : ChangeForm → Bool → List SettingChange → List ℕ → Type 0
+AreLinesOf Lines is_colored changes lines = lines ≡ flat_map (change_line is_colored) changes
+AreLinesOf Json is_colored changes lines = AreJsonLines changes lines
 
 -- the lines are those of the settings that differ between the files' documents
-pub record AreDifferences (o : ParseOption) (from to lines : List ℕ) : Type 0 where
+pub record AreDifferences (o : ParseOption) (form : ChangeForm) (is_colored : Bool)
+    (from to lines : List ℕ) : Type 0 where
   pub first : Document
   pub second : Document
   pub is_first : Loads o from first
   pub is_second : Loads o to second
-  pub are_lines : lines ≡ flat_map change_line (difference first second)
+  pub are_lines : AreLinesOf form is_colored (difference first second) lines
 
 -- the second file has no document, and the first has one
 pub record RefusesSecond (o : ParseOption) (from to : List ℕ) (e : Error) : Type 0 where
@@ -24,10 +40,10 @@ pub record RefusesSecond (o : ParseOption) (from to : List ℕ) (e : Error) : Ty
   pub is_refused : RefusesFile o to e
 
 -- how a comparison of files with these bytes ends
-abbrev pub HasComparison : ParseOption → (from to : List ℕ) → CompareEnd → Type 0
-HasComparison o from to (Done lines) = AreDifferences o from to lines.items
-HasComparison o from to (From e) = RefusesFile o from e
-HasComparison o from to (To e) = RefusesSecond o from to e
+abbrev pub HasComparison : ParseOption → ChangeForm → Bool → (from to : List ℕ) → CompareEnd → Type 0
+HasComparison o form is_colored from to (Done lines) = AreDifferences o form is_colored from to lines.items
+HasComparison o form is_colored from to (From e) = RefusesFile o from e
+HasComparison o form is_colored from to (To e) = RefusesSecond o from to e
 
 -- the exit status: 1 where a setting differs, and 2 after a refusal
 abbrev pub compare_status : CompareEnd → ℕ

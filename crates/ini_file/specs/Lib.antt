@@ -11,9 +11,11 @@ pub mod Edits
 pub mod FaultWords
 pub mod FormatWords
 pub mod Formats
+pub mod Formed
 pub mod Forms
 pub mod Hints
 pub mod Inside
+pub mod JsonLines
 pub mod Likes
 pub mod Looks
 pub mod MergeWords

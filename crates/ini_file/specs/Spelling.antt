@@ -26,7 +26,7 @@ kind_of name =
     || bytes_eq name (codes "--separator") || bytes_eq name (codes "--wait")
     || bytes_eq name (codes "--format") || bytes_eq name (codes "--allow")
     || bytes_eq name (codes "--deny") || bytes_eq name (codes "--indent-pairs")
-    || bytes_eq name (codes "--blank-lines") then Some ChoiceText
+    || bytes_eq name (codes "--blank-lines") || bytes_eq name (codes "--color") then Some ChoiceText
     else if bytes_eq name (codes "--section") then Some Section
     else if bytes_eq name (codes "--like") then Some Like
     else if bytes_eq name (codes "--help") then Some Help

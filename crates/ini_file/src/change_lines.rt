@@ -3,7 +3,8 @@ ghost use Rattle.std.specs.Prelude.{◌≡◌, ◌++◌, IfOk, OnOk, chars, enco
 ghost use Rattle.ini.specs.Texts.{str_name};
 ghost use Rattle.ini_diff.specs.Differences.{setting_change};
 ghost use Rattle.ini_diff.specs.Merging.{setting_conflict};
-ghost use Rattle.ini_file.specs.ChangeLines.{change_line, conflict_line, escaped_part, front, told};
+ghost use Rattle.ini_file.specs.ChangeLines.{change_line, color_of, conflict_line, escaped_part, front, told};
+ghost use Rattle.ini_file.specs.ChangeLines.{words_between};
 ghost use Rattle.ini_words.specs.Prints.{part_text};
 
 use ini::Watched;
@@ -11,13 +12,19 @@ use ini_diff::{Change, Conflict};
 use ini_words::lines::{Form, write_parts};
 use std::alloc::{AllocError, Global};
 
-/// What is written of changes, in order. Refused when out of memory alone.
-pub fn change_lines(alloc: Global, changes: &[Change<'_>]) -> Result<Vec<u8>, AllocError>
-    ensures { IfOk result (λ lines. lines.items ≡ flat_map change_line (map setting_change changes.now)) }
+/// What is written of changes, in order; in colours where they are asked for: red where a setting is gone,
+/// green where it is new, and else yellow. Refused when out of memory alone.
+pub fn change_lines(
+    alloc: Global,
+    is_colored: bool,
+    changes: &[Change<'_>],
+) -> Result<Vec<u8>, AllocError>
+    ensures { IfOk result (λ lines. lines.items
+        ≡ flat_map (change_line is_colored) (map setting_change changes.now)) }
 {
     let mut lines = Vec::new(alloc);
     for change in changes {
-        push_change(&mut lines, *change)?;
+        push_change(&mut lines, is_colored, *change)?;
     }
     Ok(lines)
 }
@@ -35,9 +42,38 @@ pub fn conflict_lines(alloc: Global, conflicts: &[Conflict<'_>]) -> Result<Vec<u
 }
 
 // Puts last what is written of a change.
-fn push_change(lines: &mut Vec<u8>, change: Change<'_>) -> Result<(), AllocError>
+fn push_change(lines: &mut Vec<u8>, is_colored: bool, change: Change<'_>) -> Result<(), AllocError>
     ensures { OnOk result
-        (lines.new.items ≡ lines.old.items ++ change_line (setting_change change.entry)) }
+        (lines.new.items ≡ lines.old.items ++ change_line is_colored (setting_change change.entry)) }
+{
+    if is_colored {
+        push_words(lines, color_of(change), change, "\x1B[m\n")
+    } else {
+        push_words(lines, "", change, "\n")
+    }
+}
+
+// The control sequence that begins a change's colour.
+fn color_of(change: Change<'_>) -> &'static str
+    ensures { result.now ≡ color_of (str_name change.entry.old) (str_name change.entry.new) }
+{
+    match (change.old, change.new) {
+        (Some(_), Some(_)) => "\x1B[33m",
+        (Some(_), None) => "\x1B[31m",
+        (None, Some(_)) => "\x1B[32m",
+        (None, None) => "",
+    }
+}
+
+// Puts last what is written of a change, between a front and an end.
+fn push_words<'a>(
+    lines: &mut Vec<u8>,
+    front: &'a str,
+    change: Change<'a>,
+    end: &'a str,
+) -> Result<(), AllocError>
+    ensures { OnOk result (lines.new.items ≡ lines.old.items
+        ++ words_between front.now (setting_change change.entry) end.now) }
 {
     let (open, name, close) = front_of(change.name);
     let key = change.key;
@@ -45,31 +81,34 @@ fn push_change(lines: &mut Vec<u8>, change: Change<'_>) -> Result<(), AllocError
         (Some(old), Some(new)) => push_parts(
             lines,
             &[
+                ("", front),
                 ("", open),
                 (name, close),
                 (key, ": "),
                 (old, " -> "),
-                (new, "\n"),
+                (new, end),
             ],
         ),
         (Some(old), None) => push_parts(
             lines,
             &[
+                ("", front),
                 ("", "- "),
                 ("", open),
                 (name, close),
                 (key, ": "),
-                (old, "\n"),
+                (old, end),
             ],
         ),
         (None, Some(new)) => push_parts(
             lines,
             &[
+                ("", front),
                 ("", "+ "),
                 ("", open),
                 (name, close),
                 (key, ": "),
-                (new, "\n"),
+                (new, end),
             ],
         ),
         (None, None) => Ok(()),

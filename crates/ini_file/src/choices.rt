@@ -8,6 +8,7 @@ ghost use Rattle.ini_file.specs.Choices.{answers, goes_out, is_short_number, tak
 ghost use Rattle.ini_file.specs.Choices.{takes_of_texts, takes_saving, takes_writing, writes_pairs};
 ghost use Rattle.ini_file.specs.Choices.{writes_texts};
 
+use crate::form::{Form, takes_form};
 use crate::spacing::{Spacing, takes_number};
 use ini_diff::Side;
 
@@ -96,12 +97,15 @@ pub struct Choices<'a> {
     pub wait: Option<&'a str>,
     /// How a text is spaced that is laid out.
     pub spacing: Spacing,
+    /// The form in which what is found is written.
+    pub form: Form,
 }
 
 impl<'a> Choices<'a> {
     /// The options that words have at their front, and the words after them: those after `--`, else those
     /// from the first one on that is no option. `None` where, without `--`, one of the words from there on
-    /// begins with `--`, or where the text that an option takes is missing, or no number where it takes one.
+    /// begins with `--`, or where the text that an option takes is missing, or no number or form where it takes
+    /// one.
     /// Of several texts of an option the last holds. Takes no memory.
     pub fn of_words(words: &'a [String]) -> Option<(Choices<'a>, &'a [String])>
         ensures { chosen_by result ≡ chosen no_choice (map string_bytes words.now) }
@@ -112,6 +116,7 @@ impl<'a> Choices<'a> {
         let mut separator: Option<&'a str> = None;
         let mut wait: Option<&'a str> = None;
         let mut spacing = Spacing::none();
+        let mut form = Form::none();
         let mut rest = words;
         'words: while let Some((word, after)) = rest.split_first() {
             let word = word.as_str();
@@ -123,6 +128,7 @@ impl<'a> Choices<'a> {
                     separator,
                     wait,
                     spacing,
+                    form,
                 };
                 return Some((choices, after));
             } else if word == "--output" {
@@ -145,6 +151,10 @@ impl<'a> Choices<'a> {
                 let (number, after) = after.split_first()?;
                 spacing = spacing.with_number(word, number.as_str())?;
                 rest = after;
+            } else if takes_form(word) {
+                let (name, after) = after.split_first()?;
+                form = form.with_name(word, name.as_str())?;
+                rest = after;
             } else if let Some(changed) = switches.with_switch(word) {
                 switches = changed;
                 rest = after;
@@ -158,6 +168,7 @@ impl<'a> Choices<'a> {
                     separator,
                     wait,
                     spacing,
+                    form,
                 };
                 return Some((choices, rest));
             }
@@ -169,6 +180,7 @@ impl<'a> Choices<'a> {
             separator,
             wait,
             spacing,
+            form,
         };
         Some((choices, rest))
     }
@@ -212,6 +224,7 @@ impl<'a> Choices<'a> {
     {
         implies(self.switches.dry_run, !answers(command))
             && implies(self.switches.side.is_some(), command == "merge3")
+            && implies(self.form.is_chosen(), command == "diff")
     }
 
     // Whether the command takes the choices that are about a file that is written.

@@ -1,11 +1,12 @@
 //! What differs between two files, setting by setting, as a function of their bytes. This file knows no word
 //! of the program and no device.
-ghost use Rattle.std.specs.Prelude.{◌≡◌, IfOk, flat_map};
+ghost use Rattle.std.specs.Prelude.{◌≡◌, IfOk};
 ghost use Rattle.ini_diff.specs.Differences.{difference};
-ghost use Rattle.ini_file.specs.ChangeLines.{change_line};
-ghost use Rattle.ini_file.specs.Comparisons.{HasComparison, compare_status};
+ghost use Rattle.ini_file.specs.Comparisons.{AreLinesOf, HasComparison, compare_status};
 
 use crate::change_lines::change_lines;
+use crate::form::ChangeForm;
+use crate::json_lines::json_lines;
 use crate::merge::load;
 use ini::{Error, Ini, ParseOption};
 use ini_diff::diff;
@@ -22,10 +23,17 @@ pub enum CompareEnd {
     To(Error),
 }
 
-/// A line for each setting that differs: those of the second file in their order, and then those that it
-/// lacks. A mark (EF BB BF) at the front of either is no part of its text.
-pub fn compare(alloc: Global, read: ParseOption, from: &[u8], to: &[u8]) -> CompareEnd
-    ensures { HasComparison read from.now to.now result }
+/// A line for each setting that differs, in the form: those of the second file in their order, and then those
+/// that it lacks. A mark (EF BB BF) at the front of either is no part of its text.
+pub fn compare(
+    alloc: Global,
+    read: ParseOption,
+    form: ChangeForm,
+    is_colored: bool,
+    from: &[u8],
+    to: &[u8],
+) -> CompareEnd
+    ensures { HasComparison read form is_colored from.now to.now result }
 {
     let from = match load(alloc, read, from) {
         Ok(from) => from,
@@ -35,20 +43,30 @@ pub fn compare(alloc: Global, read: ParseOption, from: &[u8], to: &[u8]) -> Comp
         Ok(to) => to,
         Err(refused) => return CompareEnd::To(refused),
     };
-    match difference_lines(alloc, &from, &to) {
+    match difference_lines(alloc, form, is_colored, &from, &to) {
         Ok(lines) => CompareEnd::Done(lines),
         Err(AllocError) => CompareEnd::From(Error::Memory(AllocError)),
     }
 }
 
 // A line for each setting that differs between two documents.
-fn difference_lines(alloc: Global, from: &Ini, to: &Ini) -> Result<Vec<u8>, AllocError>
-    ensures { IfOk result (λ lines. lines.items ≡ flat_map change_line (difference from.now to.now)) }
+fn difference_lines(
+    alloc: Global,
+    form: ChangeForm,
+    is_colored: bool,
+    from: &Ini,
+    to: &Ini,
+) -> Result<Vec<u8>, AllocError>
+    ensures { IfOk result (λ lines. AreLinesOf form is_colored (difference from.now to.now) lines.items) }
 {
     let Ok(changes) = diff(alloc, from, to) else {
         return Err(AllocError);
     };
-    change_lines(alloc, changes.as_slice())
+    let changes = changes.as_slice();
+    match form {
+        ChangeForm::Lines => change_lines(alloc, is_colored, changes),
+        ChangeForm::Json => json_lines(alloc, changes),
+    }
 }
 
 /// The exit status of a comparison: 0 where no setting differs, 1 where one does, and 2 after a refusal.

@@ -2,11 +2,13 @@
 
 use crate::compare::{CompareEnd, compare, compare_status};
 use crate::files::{lock_place, read_input, write_output};
+use crate::form::{ChangeForm, Color};
 use crate::refusals::refuse;
 use crate::run::Outcome;
 use crate::side_words::Comparison;
 use crate::target::Target;
 use ini::Error;
+use std::io::IsTerminal;
 
 /// Compares two files, and answers the exit status, which is 2 after whatever is refused.
 ///
@@ -26,7 +28,10 @@ pub fn compare_files(rt: &HostRuntime, asked: &Comparison<'_>) -> u8 {
         Err(refusal) => return refuse_comparison(rt, asked, asked.to, &[], refusal),
     };
     let (from, to) = (from.as_slice(), to.as_slice());
-    let end = compare(rt.alloc(), asked.options.reading, from, to);
+    let form = asked.choices.form.named.unwrap_or(ChangeForm::Lines);
+    let is_colored = has_colors(rt, asked, target);
+    let read = asked.options.reading;
+    let end = compare(rt.alloc(), read, form, is_colored, from, to);
     let status = compare_status(&end);
     match end {
         CompareEnd::Done(lines) => match write_output(rt, target, None, lines.as_slice()) {
@@ -35,6 +40,15 @@ pub fn compare_files(rt: &HostRuntime, asked: &Comparison<'_>) -> u8 {
         },
         CompareEnd::From(refusal) => refuse_comparison(rt, asked, asked.from, from, refusal),
         CompareEnd::To(refusal) => refuse_comparison(rt, asked, asked.to, to, refusal),
+    }
+}
+
+// Whether lines have colours: `auto` stands for a terminal.
+fn has_colors(rt: &HostRuntime, asked: &Comparison<'_>, target: Target<'_>) -> bool {
+    match asked.choices.form.color.unwrap_or(Color::Auto) {
+        Color::Always => true,
+        Color::Never => false,
+        Color::Auto => target.place == "-" && rt.stdout().is_terminal(),
     }
 }
 

@@ -110,7 +110,9 @@ Choices:
   --force          a write-protected file is written too
   --wait SECONDS   how long a run waits for others that write the file (10)
   --verbose        a line tells whether the file is changed or unchanged
-  --format FORM    of check: warnings for programs, as json, sarif or github
+  --format FORM    of check: warnings for programs, as json, sarif or github; of
+                   diff: changes, as json
+  --color WHEN     of diff: auto (on a terminal), always or never
   --allow NAME     of check: warnings of this name, as runs-on or surprises or
                    all, aren't reported
   --deny NAME      of check: they are, after a wider --allow

@@ -174,8 +174,8 @@ fn push_byte(reports: &mut Vec<u8>, format: Format, byte: u8) -> Result<(), Allo
     }
 }
 
-// Puts a byte of a string in JSON last.
-fn push_json_byte(reports: &mut Vec<u8>, byte: u8) -> Result<(), AllocError>
+/// Puts a byte of a string in JSON last. Refused when out of memory alone.
+pub(crate) fn push_json_byte(reports: &mut Vec<u8>, byte: u8) -> Result<(), AllocError>
     ensures { OnOk result (reports.new.items ≡ reports.old.items ++ json_byte byte) }
 {
     if byte == b'"' || byte == b'\\' {

@@ -63,7 +63,8 @@ pub fn kind_of(name: &str) -> Option<Kind>
         | "--allow"
         | "--deny"
         | "--indent-pairs"
-        | "--blank-lines" => { Some(Kind::ChoiceText) }
+        | "--blank-lines"
+        | "--color" => { Some(Kind::ChoiceText) }
         "--section" => Some(Kind::Section),
         "--like" => Some(Kind::Like),
         "--help" => Some(Kind::Help),

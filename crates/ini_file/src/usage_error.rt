@@ -6,6 +6,7 @@
 
 use crate::choices::{goes_out, is_short_number};
 use crate::commands::{COMMANDS, Shape, nearest, shape_of};
+use crate::form::{ChangeForm, Color};
 use crate::order::{Sorted, before_section};
 use crate::report_format::Format;
 use crate::reported::names_traps;
@@ -37,6 +38,10 @@ pub enum UsageError<'a> {
     Number(&'a str),
     /// No form has this name.
     Format(&'a str),
+    /// No form of changes has this name.
+    ChangeForm(&'a str),
+    /// This is no word on colours.
+    Color(&'a str),
     /// No trap and no level has this name.
     Trap(&'a str),
     /// No command is there.
@@ -121,7 +126,7 @@ fn choice_error<'a>(shape: Shape, choices: &[&'a str]) -> Option<UsageError<'a>>
     for word in choices {
         let word = *word;
         if kind_of(before).is_some_and(|kind| kind.takes_text()) {
-            if let Some(error) = text_error(before, word) {
+            if let Some(error) = text_error(shape, before, word) {
                 return Some(error);
             }
             before = "";
@@ -165,8 +170,13 @@ fn output_error<'a>(
 }
 
 // What is wrong with the text of a choice.
-fn text_error<'a>(choice: &str, text: &'a str) -> Option<UsageError<'a>> {
+fn text_error<'a>(shape: Shape, choice: &str, text: &'a str) -> Option<UsageError<'a>> {
     match choice {
+        "--color" if Color::of_name(text).is_none() => Some(UsageError::Color(text)),
+        "--format" if shape.command == "diff" => match ChangeForm::of_name(text) {
+            Some(_) => None,
+            None => Some(UsageError::ChangeForm(text)),
+        },
         "--wait" if !is_short_number(text) => Some(UsageError::Seconds(text)),
         "--indent-pairs" | "--blank-lines" if small_number(text).is_none() => {
             Some(UsageError::Number(text))
@@ -257,6 +267,17 @@ fn print_error<W: Write>(error: UsageError<'_>, err: &mut W) -> io::Result<()> {
             writeln!(
                 err,
                 "{name} is no form; --format takes json, sarif or github"
+            )
+        }
+        UsageError::ChangeForm(name) => {
+            let name = Shown(name);
+            writeln!(err, "{name} is no form; --format takes json")
+        }
+        UsageError::Color(word) => {
+            let word = Shown(word);
+            writeln!(
+                err,
+                "{word} is no colour; --color takes auto, always or never"
             )
         }
         UsageError::Trap(name) => print_trap(name, err),
@@ -360,11 +381,12 @@ fn print_command<W: Write>(word: &str, err: &mut W) -> io::Result<()> {
     }
 }
 
-const CHOICES: [&str; 22] = [
+const CHOICES: [&str; 23] = [
     "--all",
     "--default",
     "--null",
     "--format",
+    "--color",
     "--allow",
     "--deny",
     "--fix",
@@ -397,6 +419,7 @@ fn text_of(name: &str) -> &'static str {
         "--separator" => "TEXT",
         "--wait" => "SECONDS",
         "--format" => "FORM",
+        "--color" => "WHEN",
         "--indent-pairs" | "--blank-lines" => "N",
         _ => "NAME",
     }

@@ -5,4 +5,4 @@ use Rattle.ini_file.proofs.change_lines.change_lines.Given as goal
 
 abbrev pub invariant-loop-change : goal.invariant-loop-change
 invariant-loop-change l = l.lines.items
-    ≡ flat_map change_line (map setting_change (take l.change-index l.changes))
+    ≡ flat_map (change_line l.is_colored) (map setting_change (take l.change-index l.changes))

@@ -12,6 +12,7 @@ invariant-words l =
       separator = option_map (λ text. text.now) l.separator;
       wait = option_map (λ seconds. seconds.now) l.wait;
       spacing = l.spacing;
+      form = l.form;
     })
     (map string_bytes l.rest) ≡ chosen no_choice (map string_bytes l.words)
 
