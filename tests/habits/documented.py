@@ -50,8 +50,8 @@ def offered(*words):
 
 
 def options_in(text):
-    """The long names of options, but for those of pages."""
-    return set(re.findall(r"(?<![\w-])--[a-z][a-z-]*", text)) - {"--help", "--version"}
+    """The long names of options, but for those of pages and of git."""
+    return set(re.findall(r"(?<![\w-])--[a-z][a-z-]*", text)) - {"--help", "--version", "--unidiff-zero"}
 
 
 def page(program):
@@ -150,7 +150,7 @@ def policies():
 
 def dialects():
     """The names of dialects, each of which the program takes."""
-    told = run("ini_file", "--like", "", "list", "nowhere.ini")[2].split("\n")[0].split(" one of ")[1]
+    told = run("ini_file", "--like", "", "list", "nowhere.ini")[2].split("\n")[0].split(" takes ")[1].replace("or one of", "")
     named = page("ini_file").split('.BI --like " NAME"\n')[1].split("The other")[0]
     shown = run("ini_file", "--help")[1].split("\n  --like NAME ")[1].split(": ")[1].split(";")[0]
     same(
@@ -158,7 +158,7 @@ def dialects():
         program=set(told.split()),
         help=set(re.sub(r"\(.*?\)", "", shown, flags=re.S).split()),
         page=set(re.findall(r"^\.BR? (\w+)", named, re.M)),
-        document=set(re.findall(r"^\| `([a-z0-9]+)` \|[^|]*\|[^|]*\| (?:first|joined)", documented("ini_file"), re.M)),
+        document={"auto", *re.findall(r"^\| `([a-z0-9]+)` \|[^|]*\|[^|]*\| (?:first|joined)", documented("ini_file"), re.M)},
         completions=offered("ini_file", "--like", ""),
     )
 

@@ -1,6 +1,6 @@
-//! The dialect of a file where `--like auto` names it: the one that its name tells; else of those that read it
-//! the one with the fewest warnings. This file knows the process's streams, and of the program's words the
-//! file and the command.
+//! The dialect of a file where `--like auto` names it: the one that its name tells; else of those that
+//! read it the one with the fewest warnings. This file knows the process's streams, and of the program's
+//! words the file and the command.
 //!
 //! No contract says which it is or what is told; `tests/words.sh` tests it.
 

@@ -104,9 +104,8 @@ pub struct Choices<'a> {
 impl<'a> Choices<'a> {
     /// The options that words have at their front, and the words after them: those after `--`, else those
     /// from the first one on that is no option. `None` where, without `--`, one of the words from there on
-    /// begins with `--`, or where the text that an option takes is missing, or no number or form where it takes
-    /// one.
-    /// Of several texts of an option the last holds. Takes no memory.
+    /// begins with `--`, or where the text that an option takes is missing, or no number or form where it
+    /// takes one. Of several texts of an option the last holds. Takes no memory.
     pub fn of_words(words: &'a [String]) -> Option<(Choices<'a>, &'a [String])>
         ensures { chosen_by result ≡ chosen no_choice (map string_bytes words.now) }
     {

@@ -7,8 +7,8 @@ use crate::report::push_json_byte;
 use ini_diff::Change;
 use std::alloc::{AllocError, Global};
 
-/// An object for each change, in order: `section`, which is null for the general section, `key`, and `old` and
-/// `new`, which are null where the setting isn't there. Refused when out of memory alone.
+/// An object for each change, in order: `section`, which is null for the general section, `key`, and `old`
+/// and `new`, which are null where the setting isn't there. Refused when out of memory alone.
 pub fn json_lines(alloc: Global, changes: &[Change<'_>]) -> Result<Vec<u8>, AllocError>
     ensures { IfOk result (λ lines. lines.items ≡ flat_map json_line changes.now) }
 {

@@ -3,8 +3,9 @@
 ghost use Rattle.std.specs.Prelude.{◌≡◌, map, string_bytes};
 ghost use Rattle.std.specs.Option.{option_map};
 ghost use Rattle.ini_file.specs.Choices.{chosen_of};
-ghost use Rattle.ini_file.specs.SideWords.{comparison_asked, compared_of, files_after, files_with, given_files};
-ghost use Rattle.ini_file.specs.SideWords.{side_of, three_way_asked, three_way_between, three_way_of};
+ghost use Rattle.ini_file.specs.SideWords.{compared_of, comparison_asked, comparison_between, files_after};
+ghost use Rattle.ini_file.specs.SideWords.{files_with, given_files, side_of, three_way_asked};
+ghost use Rattle.ini_file.specs.SideWords.{three_way_between, three_way_of};
 
 use crate::choices::Choices;
 use crate::like::options_of;
@@ -55,6 +56,18 @@ pub fn comparison_of(words: &[String]) -> Option<Comparison<'_>>
     ensures { option_map compared_of result ≡ comparison_asked (map string_bytes words.now) }
 {
     let (options, choices, files) = files_after("diff", words)?;
+    comparison_between(options, choices, files)
+}
+
+// The comparison of the files, if there are two.
+fn comparison_between<'a>(
+    options: Options,
+    choices: Choices<'a>,
+    files: &'a [String],
+) -> Option<Comparison<'a>>
+    ensures { option_map compared_of result
+        ≡ comparison_between options (chosen_of choices.entry) (map string_bytes files.now) }
+{
     match files {
         [from, to] => Some(Comparison {
             options,
