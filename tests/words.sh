@@ -249,6 +249,9 @@ get ./sub/.gitmodules k A --like=auto|0|2\\n|
 --like auto set .gitconfig k 3 a --output -|0|[A]\\nk = 1\\n[a]\\nK = 3\\n|
 --like auto set settings.ini name two|2||ini_file: settings.ini: $others
 --like auto delete path.ini k|2||ini_file: path.ini: $others
+--like auto check path.ini --fix|2||ini_file: path.ini: $others
+--like auto check path.ini|0||note: path.ini: read as systemd
+--like auto diff settings.ini settings.ini|0||note: settings.ini: read as crate
 --like auto get settings.ini name|0|one\\n|note: settings.ini: read as crate
 --like auto get - name|2||ini_file: -: --like auto reads no standard input
 --like auto get gone.ini name|4||ini_file: gone.ini: No such file or directory (os error 2)

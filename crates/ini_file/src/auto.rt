@@ -45,12 +45,17 @@ pub fn dialect_of_file(rt: &HostRuntime, sorted: &Sorted<'_>) -> Result<&'static
         Ok(found) => found,
         Err(refusal) => return Err(tell_refusal(rt, file, &Outcome::from(refusal))),
     };
-    dialect_of_guesses(rt, file, is_question(command), found.as_slice())
+    let asks = is_question(command, sorted.choices.as_slice());
+    dialect_of_guesses(rt, file, asks, found.as_slice())
 }
 
-// Whether the command changes no file.
-fn is_question(command: &str) -> bool {
-    answers(command) || command == "check"
+// Whether the command, with its choices, changes no file.
+fn is_question(command: &str, choices: &[&str]) -> bool {
+    match command {
+        "check" => !choices.iter().any(|choice| *choice == "--fix"),
+        "diff" => true,
+        _ => answers(command),
+    }
 }
 
 // The best of what is guessed; an edit takes it only where no other is as good that differs.
