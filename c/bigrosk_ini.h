@@ -172,7 +172,7 @@ struct bigrosk_ini_borrowed {
 };
 #define BIGROSK_INI_NOTHING_BORROWED { (const uint8_t *)"", 0 }
 
-/* In what bigrosk_ini_items lists, the count of the general section's name, which is none. */
+/* In what is listed, the count of the general section's name, which is none, and of a value that is not there. */
 #define BIGROSK_INI_UNNAMED SIZE_MAX
 
 /* 10000 * major + 100 * minor */
@@ -450,6 +450,37 @@ uint32_t bigrosk_ini_text_set_comment(struct bigrosk_ini_text *text, const struc
  * OK; ABSENT; NO_PLACE where the pair is not in column one, or a CR alone ends its line; NOT_UTF8; NO_MEMORY; NO_DOCUMENT. */
 uint32_t bigrosk_ini_text_comment_out(struct bigrosk_ini_text *text, bool named, const uint8_t *section,
                                       size_t section_count, const uint8_t *key, size_t key_count);
+
+/* ---- What differs between texts, setting by setting: comments, order and spelling are none. The texts are different structs. ---- */
+
+/* Lists the settings whose values differ, each once: four texts of each, the name of its section, its key, its value in `from`, and
+ * its value in `to`. In place of the general section's name, and of a value that is not there, there is no text, and
+ * BIGROSK_INI_UNNAMED as its count. Those of `to` come in their order, and then those that it lacks.
+ * OK; NO_ROOM; NO_MEMORY; NO_DOCUMENT. */
+uint32_t bigrosk_ini_text_diff(struct bigrosk_ini_text *from, struct bigrosk_ini_text *to, uint8_t *bytes,
+                               size_t bytes_room, size_t *counts, size_t counts_room, struct bigrosk_ini_sizes *sizes);
+
+/* Makes changes that stand as they are listed, all or none, whatever values the settings have: one with a value to have is set, and
+ * one without loses all pairs of its key in its section.
+ * What bigrosk_ini_text_set answers of the first change that is refused, whose number, from 0, is in `refused` then; NOT_UTF8 where
+ * these are no changes. */
+uint32_t bigrosk_ini_text_apply(struct bigrosk_ini_text *text, const struct bigrosk_ini_write_option *write,
+                                const uint8_t *bytes, size_t bytes_count, const size_t *counts, size_t counts_count,
+                                size_t *refused);
+
+/* Lists the settings that ours and theirs both changed in `base`, to different values: five texts of each, those of the change from
+ * `base` to ours, and the value of theirs.
+ * OK; NO_ROOM; NO_MEMORY; NO_DOCUMENT. */
+uint32_t bigrosk_ini_text_conflicts(struct bigrosk_ini_text *base, struct bigrosk_ini_text *ours,
+                                    struct bigrosk_ini_text *theirs, uint8_t *bytes, size_t bytes_room, size_t *counts,
+                                    size_t counts_room, struct bigrosk_ini_sizes *sizes);
+
+/* Makes what ours changed in `base` in theirs, all or none. A setting that one side changed has that side's value, and one in
+ * conflict that of ours with take_ours, and else that of theirs.
+ * What bigrosk_ini_text_apply answers of the changes that it makes. */
+uint32_t bigrosk_ini_text_merge3(struct bigrosk_ini_text *base, struct bigrosk_ini_text *ours,
+                                 struct bigrosk_ini_text *theirs, const struct bigrosk_ini_write_option *write,
+                                 bool take_ours, size_t *refused);
 
 /* How many bytes of the text are a mark at its front: 3 or 0. Plain C. */
 static inline size_t bigrosk_ini_mark(const uint8_t *text, size_t text_count)
@@ -1006,8 +1037,8 @@ static inline bool bigrosk_ini_is_over(const struct bigrosk_ini_walk *walk) { re
 /* The next number; something must be left. */
 static inline size_t bigrosk_ini_number(struct bigrosk_ini_walk *walk) { return *walk->counts++; }
 
-/* The next text, which ends in 0, or NULL for the general section's name; count, where it isn't NULL, is how many bytes it has.
- * Something must be left. */
+/* The next text, which ends in 0, or NULL where there is none, as of the general section's name; count, where it isn't NULL, is
+ * how many bytes it has. Something must be left. */
 static inline const char *bigrosk_ini_text(struct bigrosk_ini_walk *walk, size_t *count)
 {
     const char *text = (const char *)walk->at;

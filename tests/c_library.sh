@@ -29,7 +29,7 @@ installs_anew() {
     rm -rf "$tree"
     mkdir -p "$tree/bin"
     (cd "$top" && tar cf - --exclude=out crates.txt c share/man tools/c_library.sh crates/ini_multimap crates/ini_text crates/ini \
-        crates/ini_view crates/ini_check crates/ini_dialect crates/ini_edit crates/ini_c) | (cd "$tree" && tar xf -)
+        crates/ini_view crates/ini_check crates/ini_dialect crates/ini_edit crates/ini_layers crates/ini_c) | (cd "$tree" && tar xf -)
     printf '#!/bin/sh\n[ "$1" = lib ] && echo new >out/libini_c.a\n' >"$tree/bin/rt"
     chmod +x "$tree/bin/rt"
     mkdir "$tree/crates/ini_c/out"
@@ -93,7 +93,7 @@ if has valgrind 'the run under valgrind'; then
     run 'what look-ups cost' look_ups_cost_alike
 fi
 for it in '' crates.txt crates/ini_multimap/src/lib.rt crates/ini_text/src/lib.rt crates/ini/src/lib.rt \
-    crates/ini_dialect/src/presets.rt crates/ini_edit/src/lib.rt crates/ini_c/src/lib.rt crates/ini_c/specs/Statuses.antt; do
+    crates/ini_dialect/src/presets.rt crates/ini_edit/src/lib.rt crates/ini_layers/src/lib.rt crates/ini_c/src/lib.rt crates/ini_c/specs/Statuses.antt; do
     run "a library older than ${it:-nothing}" installs_anew "$it"
 done
 

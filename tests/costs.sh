@@ -5,13 +5,14 @@
 # is no valgrind it says that it skipped all. Each case that fails is reported. The last line is 'N passed, M failed', and the
 # status is 1 if a case failed.
 #
-#     tests/costs.sh [INI_TOOL [INI_REPLAY]]
+#     tests/costs.sh [INI_TOOL [INI_REPLAY [INI_FILE]]]
 #
 # The programs are by default those that tools/run.sh builds.
 . "$(dirname "$0")/cases.sh"
 has valgrind all || finish
 tool=$(program_of ini_tool "${1:-}") || exit 1
 calls=$(program_of ini_replay "${2:-}") || exit 1
+file=$(program_of ini_file "${3:-}") || exit 1
 
 # instructions STATUS COMMAND ..: how many the command takes over the file `in`, in thousands; nothing where it
 # ends otherwise, or takes two minutes
@@ -68,6 +69,13 @@ doubles 'a value full of escapes' 0 escapes 50000 fmt
 doubles 'pairs of one section, one set' 0 pairs 20000 set key7 v
 doubles 'pairs of one section, listed' 0 pairs 20000 list
 doubles 'a text that is refused at its end' 3 refused 20000 fmt
+# A file laid out and sorted, by the program for files.
+: >"$room/in"
+own_of_tool=$own own=$(instructions 0 "$file" format -) of_texts=$tool tool=$file
+doubles 'separators below each other' 0 pairs 4000 format --align -
+doubles 'pairs sorted by key' 0 pairs 4000 format --sort keys -
+doubles 'sections sorted by name' 0 sections 4000 format --sort sections -
+own=$own_of_tool tool=$of_texts
 grows_no_faster 'items' pairs 20000 items
 grows_no_faster 'elements' pairs 20000 elements
 

@@ -16,6 +16,8 @@ usage="Try 'ini_file --help'."
 unwritable=" \"'"
 edges='
 note: white space begins or ends it'
+# bytes that are no UTF-8, and look like another encoding
+latin='this byte is no UTF-8; the file looks like Latin-1: use --encoding latin1'
 source='; a server\nname = one\n[server]\nport = 8080\nhost = a\\tb\nport = 9090\n[client]\n[server]\nlast = 1\n'
 written='name=one\n\n[server]\nport=8080\nhost=a\\tb\nport=9090\n[client]\n\n[server]\nlast=1\n'
 
@@ -67,7 +69,7 @@ reading() {
   =v
   ^' get refused.ini a
     printf '\377' >refused.ini
-    case_of 'bytes that are no text' 3 '' 'refused.ini:1:1: this byte is no UTF-8; the file looks like Latin-1' get refused.ini a
+    case_of 'bytes that are no text' 3 '' "refused.ini:1:1: $latin" get refused.ini a
     printf 'k = 1\n[a\n' >refused.ini
     case_of 'a header without an end: where it begins' 3 '' "refused.ini:2:1: this bracket isn't closed
 [a
@@ -171,6 +173,69 @@ editing() {
     refused 'delete in a section that is not there' 1 '' delete settings.ini port nowhere
     refused 'delete in a later section of the name' 1 '' delete settings.ini last server
     fresh
+    edit 'unset-all: each pair of the key in the first section of the name' \
+        '; a server\nname = one\n[server]\nhost = a\\tb\n[client]\n[server]\nlast = 1\n' unset-all settings.ini port server
+    refused 'unset-all of a key that is not there' 1 '' unset-all settings.ini port -s server
+    refused 'unset-all in a later section of the name' 1 '' unset-all settings.ini last server
+    edit 'unset-all in joined sections' '; a server\nname = one\n[server]\nhost = a\\tb\n[client]\n[server]\n' \
+        --like php unset-all settings.ini last server
+    edit 'unset-all in the general section' '; a server\n[server]\nhost = a\\tb\n[client]\n[server]\n' unset-all settings.ini name
+    fresh
+    edit 'set --all: its pairs one after another, and one more after them' \
+        '; a server\nname = one\n[server]\nport = 1\nhost = a\\tb\nport = 2\nport = 3\n[client]\n[server]\nlast = 1\n' \
+        set --all settings.ini port 1 2 3 -s server
+    edit 'set --all: one value, and the others go' \
+        '; a server\nname = one\n[server]\nport = 4\nhost = a\\tb\n[client]\n[server]\nlast = 1\n' \
+        set settings.ini port 4 --section=server --all
+    edit 'set --all in the general section' \
+        '; a server\nname = a\nname = server\n[server]\nport = 4\nhost = a\\tb\n[client]\n[server]\nlast = 1\n' \
+        set --all settings.ini name a server
+    fresh
+    edit 'set --all in joined sections: where add puts a pair' \
+        '; a server\nname = one\n[server]\nhost = a\\tb\n[client]\n[server]\nlast = 1\nport = 1\nport = 2\n' \
+        --like php set --all settings.ini port 1 2 -s server
+    refused 'set --all without a value' 2 "$usage" set --all settings.ini port -s server
+    refused 'set --all of a value that is not written' 2 "ini_file: settings.ini: this value can't be written so that it is read back$edges" \
+        set --all settings.ini port 1 "$unwritable" -s server
+    fresh
+    edit 'comment: the first pair of the key' \
+        '; a server\nname = one\n[server]\n; port = 8080\nhost = a\\tb\nport = 9090\n[client]\n[server]\nlast = 1\n' \
+        comment settings.ini port server
+    edit 'comment: the first one that is left' \
+        '; a server\nname = one\n[server]\n; port = 8080\nhost = a\\tb\n; port = 9090\n[client]\n[server]\nlast = 1\n' \
+        comment settings.ini port -s server
+    refused 'comment of a key that is not there' 1 '' comment settings.ini port server
+    fresh
+    no_comment="ini_file: settings.ini: this pair can't be made a comment: it doesn't begin its line, or isn't the first of its key in the \
+first section of the name"
+    refused 'comment where a later pair counts' 3 "$no_comment" --like php comment settings.ini port server
+    refused 'comment where a later section counts' 3 "$no_comment" --like php comment settings.ini last server
+    edit 'comment under a rule' \
+        '; a server\nname = one\n[server]\nport = 8080\n; host = a\\tb\nport = 9090\n[client]\n[server]\nlast = 1\n' \
+        --like php comment settings.ini host server
+    printf '[a] k = v\n' >settings.ini
+    refused 'comment of a pair behind a header' 3 "$no_comment" comment settings.ini k a
+    case_of 'comment in standard input' 0 'j=1\n; k=2\n' '' comment - k <<END
+j=1
+k=2
+END
+    case_of 'comment in standard input of a key that is not there: the text goes on' 1 'j=1\n' '' comment - k <<END
+j=1
+END
+    fresh
+    edit 'add-section: at the end, after an empty line' "$source\n[new]\n" add-section settings.ini new
+    edit 'add-section of a name that is there' "$source\n[new]\n" add-section settings.ini client
+    edit 'add-section of a name in other case' "$source\n[new]\n\n[NEW]\n" add-section settings.ini --section NEW
+    edit 'add-section of a name that is there in other case' "$source\n[new]\n\n[NEW]\n" --like git add-section settings.ini Server
+    refused 'add-section with a bracket' 2 "ini_file: settings.ini: this name can't be written so that it is read back
+note: it has ]: use --brackets" add-section settings.ini 'a]b'
+    case_of 'add-section --dry-run' 0 '--- settings.ini\n+++ settings.ini\n@@ -13,0 +14,2 @@\n+\n+[more]\n' '' \
+        add-section -n settings.ini more
+    rm settings.ini
+    edit 'add-section makes a file' '[a]\r\n' --crlf add-section settings.ini a
+    rm settings.ini
+    case_of 'comment makes no file' 4 '' 'ini_file: settings.ini: No such file or directory (os error 2)' comment settings.ini k
+    fresh
     edit 'set --existing: in its place, and the later pair goes' \
         '; a server\nname = one\n[server]\nport = 443\nhost = a\\tb\n[client]\n[server]\nlast = 1\n' \
         set --existing settings.ini port 443 server
@@ -197,7 +262,7 @@ editing() {
   =v
   ^' delete settings.ini k
     printf 'k = \377\n' >settings.ini
-    refused 'delete in bytes that are no text' 3 'settings.ini:1:5: this byte is no UTF-8; the file looks like Latin-1' delete settings.ini k
+    refused 'delete in bytes that are no text' 3 "settings.ini:1:5: $latin" delete settings.ini k
     case_of 'delete in a file that is not there' 4 '' 'ini_file: none.ini: No such file or directory (os error 2)' \
         delete none.ini k
     case_of 'delete in standard input' 0 '# c\nj=2\n' '' delete - k <<END
@@ -553,7 +618,7 @@ choosing() {
     refused 'set --existing, twice, without a value' 2 "$usage" set --existing --existing settings.ini name
     for words in 'get --existing none.ini k' 'add --existing none.ini k v' 'list --existing none.ini' \
         'delete --existing none.ini k' 'rewrite --existing none.ini' 'rename-key --existing none.ini k j' \
-        'keys --all none.ini' 'list --all none.ini' 'set --all none.ini k v' \
+        'keys --all none.ini' 'list --all none.ini' 'add --all none.ini k v' \
         'keys --default v none.ini' 'set --default v none.ini k v' 'delete --default v none.ini k' \
         'rewrite --null none.ini' 'set --null none.ini k v' 'delete --null none.ini k' 'rename-section --null none.ini a b'
     do
@@ -611,6 +676,25 @@ laying_out() {
     edit 'format --blank-lines 2' 'k=v\n\n\n# c \n\n\nj=w\n' format --blank-lines 2 settings.ini
     edit 'format: one blank line at most' 'k=v\n\n# c \n\nj=w\n' format settings.ini
     edit 'format --blank-lines 0' 'k=v\n# c \nj=w\n' format --blank-lines 0 settings.ini
+    printf 'a: 1\nb=2\nc=3\n[d]\ne =\n' >settings.ini
+    edit 'format --separator keep' 'a: 1\nb=2\nc=3\n\n[d]\ne =\n' format --separator keep settings.ini
+    edit 'format: the separator that most pairs have' 'a=1\nb=2\nc=3\n\n[d]\ne=\n' format settings.ini
+    printf 'a: 1\nb=2\n' >settings.ini
+    edit 'format: of as many the first one' 'a: 1\nb: 2\n' format settings.ini
+    printf 'a = 1\nlong = 2\n# c\nb = 3\n' >settings.ini
+    edit 'format --align' 'a    = 1\nlong = 2\n# c\nb = 3\n' format --align settings.ini
+    refused 'format --check --align: a file that is so' 0 '' format --check --align settings.ini
+    refused 'format --check: a file that is aligned' 1 "$isnt" format --check settings.ini
+    printf 'z = 1\n# of y\ny = 2\nz = 0\n[b]\nk = 3\n# of a\n[a]\nj = 4' >settings.ini
+    edit 'format --sort keys' '# of y\ny = 2\nz = 1\nz = 0\n\n[b]\nk = 3\n\n# of a\n[a]\nj = 4\n' \
+        format --sort keys settings.ini
+    edit 'format --sort sections' '# of y\ny = 2\nz = 1\nz = 0\n\n# of a\n[a]\nj = 4\n\n[b]\nk = 3\n' \
+        format --sort sections settings.ini
+    refused 'format --check --sort both: a file that is so' 0 '' format --check --sort both settings.ini
+    printf '\n  port 80' >settings.ini
+    case_of 'format: why a file is left as it is' 0 '' \
+        "ini_file: settings.ini: note: it is left as it is: laid out it couldn't be read" format settings.ini
+    stands 'format: a file is left as it is' '\n  port 80'
     printf 'k = 1\n  2\nj = 3  ' >settings.ini
     edit '--multiline format: a value that runs on stays' 'k: 1\n  2\nj: 3\n' --multiline format --separator ': ' settings.ini
     printf '\357\273\277k=v\r\n\r\n\r\n[a]\n' >settings.ini
@@ -639,7 +723,7 @@ laying_out() {
         "ini_file: settings.ini: this separator can't be written so that it is read back
 note: it isn't one = or : with spaces and tabs alone around it" format --separator - settings.ini
     printf '\377' >settings.ini
-    refused 'format of bytes that are no text' 3 'settings.ini:1:1: this byte is no UTF-8; the file looks like Latin-1' \
+    refused 'format of bytes that are no text' 3 "settings.ini:1:1: $latin" \
         format settings.ini
     case_of 'format of a file that is not there' 4 '' 'ini_file: none.ini: No such file or directory (os error 2)' format none.ini
     several_laid_out
@@ -801,7 +885,7 @@ unmerged() {
     refused 'merge of a refused text' 3 '../refused.ini:2:3: no key stands before this
   =v
   ^' merge settings.ini ../plain.ini ../refused.ini
-    refused 'merge of bytes that are no text' 3 '../bytes.ini:1:1: this byte is no UTF-8; the file looks like Latin-1' \
+    refused 'merge of bytes that are no text' 3 "../bytes.ini:1:1: $latin" \
         merge settings.ini ../bytes.ini ../refused.ini
     refused 'merge of a value that would not be read back' 2 \
         "ini_file: settings.ini: [new] k: this value can't be written so that it is read back$edges" \
@@ -815,7 +899,7 @@ unmerged() {
   =v
   ^' merge settings.ini ../plain.ini
     cp ../bytes.ini settings.ini
-    refused 'merge into bytes that are no text' 3 'settings.ini:1:1: this byte is no UTF-8; the file looks like Latin-1' \
+    refused 'merge into bytes that are no text' 3 "settings.ini:1:1: $latin" \
         merge settings.ini ../plain.ini
     printf 'k = 1\n=\n' >settings.ini
     printf '; nothing\n[a]\n' >../nothing.ini
@@ -847,6 +931,21 @@ traps.ini:6:5: warning: a comment mark is part of this value
 traps.ini:7:1: warning: $repeated
 traps.ini:8:1: warning: a section of this name was there before
 " '' check traps.ini
+    # What the rule of a dialect makes right
+    printf '[a]\nk = 1\nk = 2\nK = 3\n[b]\n[a]\n[A]\n' >rule.ini
+    came='a section of this name was there before'
+    case_of 'check: sections that are joined, and values of which the last counts' 1 "\
+rule.ini:4:1: warning: a key was there before in its section that differs in case alone
+rule.ini:7:1: warning: a section was there before whose name differs in case alone
+" '' --like systemd check rule.ini
+    case_of 'check: the same where case is no matter' 0 '' '' --like git check rule.ini
+    case_of 'check: the first section and the first value' 1 "\
+rule.ini:3:1: warning: $repeated
+rule.ini:4:1: warning: a key was there before in its section that differs in case alone
+rule.ini:6:1: warning: $came
+rule.ini:7:1: warning: a section was there before whose name differs in case alone
+" '' --like windows check rule.ini
+    case_of 'check: what is right, asked for' 1 "rule.ini:3:1: warning: $repeated\n" '' --like git check --deny repeated-key rule.ini
     printf 'path = C:\\temp\n' >path.ini
     case_of 'check: options of reading apply' 0 '' '' --noescape check path.ini
     printf '\357\273\277path = C:\\temp\n' >mark.ini
@@ -864,7 +963,7 @@ traps.ini:8:1: warning: a section of this name was there before
 = 3
 ^' check late.ini
     printf 'k = \377\n' >bytes.ini
-    case_of 'check: bytes that are no text' 3 '' 'bytes.ini:1:5: this byte is no UTF-8; the file looks like Latin-1' \
+    case_of 'check: bytes that are no text' 3 '' "bytes.ini:1:5: $latin" \
         check bytes.ini clean.ini
     case_of 'check: a file that is not there' 4 "path.ini:1:8: warning: $escape\n" \
         'ini_file: none.ini: No such file or directory (os error 2)
@@ -1121,6 +1220,90 @@ at_once() {
     count 'thirty runs at once: the statuses'
 }
 
+# files in other encodings than UTF-8, which a byte order mark tells or an option names
+encodings() {
+    fresh
+    printf '\377\376a\000 \000=\000 \000\351\000\r\000\n\000;\000\254\040' >settings.ini
+    case_of 'get in UTF-16' 0 '\303\251\n' '' get settings.ini a
+    edit 'set in UTF-16, low bytes first: the mark and every other byte stay' \
+        '\377\376a\000 \000=\000 \000=\330\000\336\r\000\n\000;\000\254\040' \
+        set settings.ini a "$(printf '\360\237\230\200')"
+    case_of 'list in UTF-16' 0 '\ta\t\360\237\230\200\n' '' list settings.ini
+    printf '\376\377\000k\000=\0001\000\n' >settings.ini
+    edit 'set in UTF-16, low bytes last' '\376\377\000k\000=\000\344\000\n' set settings.ini k "$(printf '\303\244')"
+    edit 'a mark counts before the option' '\376\377\000k\000=\0002\000\n' set --encoding latin1 settings.ini k 2
+    edit 'rewrite in UTF-16: the mark stays' '\376\377\000k\000=\0002\000\n' rewrite settings.ini
+    edit 'format in UTF-16' '\376\377\000k\000:\0002\000\n' format --separator : settings.ini
+    case_of 'a change in UTF-16 is shown in UTF-8' 0 \
+        '\055-- settings.ini\n+++ settings.ini\n@@ -1,1 +1,1 @@\n-\357\273\277k:2\n+\357\273\277k:3\n' '' set -n settings.ini k 3
+    printf '\377\376k\000=\000\000\330\n\000' >settings.ini
+    refused 'half of a pair in UTF-16' 3 'settings.ini:1:3: no character of utf-16le begins here' set settings.ini k 2
+    printf '\377\376k\000=\000\n\000j' >settings.ini
+    refused 'half of a unit in UTF-16' 3 'settings.ini:2:1: no character of utf-16le begins here' delete settings.ini k
+    printf 'k\000=\0001\000' >settings.ini
+    edit 'UTF-16 that is named' 'k\000=\0002\000' set settings.ini k 2 --encoding utf-16le
+    printf '; \344\nk = \366\n' >settings.ini
+    case_of 'get in Latin-1' 0 '\303\266\n' '' --encoding=latin1 get settings.ini k
+    edit 'set in Latin-1' '; \344\nk = \377\n' set settings.ini k "$(printf '\303\277')" --encoding latin1
+    refused 'set of a character that Latin-1 lacks' 2 'settings.ini:2:5: latin1 has no U+20AC' \
+        set --encoding latin1 settings.ini k "$(printf '\342\202\254')"
+    refused 'the same where the change is shown' 2 'settings.ini:2:5: latin1 has no U+20AC' \
+        set -n --encoding latin1 settings.ini k "$(printf '\342\202\254')"
+    edit 'set in Windows-1252' '; \344\nk = \200\n' \
+        set --encoding windows1252 settings.ini k "$(printf '\342\202\254')"
+    printf 'k=\303\244\n' >../other.ini
+    printf '\377\376k\000=\000\344\000' >../marked.ini
+    case_of 'diff of two encodings: the same values' 0 '' '' diff ../other.ini ../marked.ini
+    edit 'merge into Latin-1 of UTF-16' '; \344\nk = \344\n' merge --encoding latin1 settings.ini ../marked.ini
+    printf 'k=1' >settings.ini
+    edit 'UTF-8 that is named' 'k=\303\244' set --encoding utf-8 settings.ini k "$(printf '\303\244')"
+    rm settings.ini
+    edit 'a file that is made' '\000k\000=\000v\000\n' set --encoding utf-16be settings.ini k v
+    printf '\376\377\000k\000=\0001' >"$room/input"
+    case_of 'a stream in UTF-16' 0 '\376\377\000k\000=\0002' '' set - k 2 <"$room/input"
+    printf '\377\376k\000=\0001\000' >x.desktop
+    case_of 'a dialect by the name of a file in UTF-16' 0 '1\n' '' get --like auto x.desktop k
+    rm -f x.desktop ../other.ini ../marked.ini
+}
+
+# the same by the other commands: what is told, and layers, are in UTF-8, as are edits without a mark
+further_encodings() {
+    fresh
+    printf '\377\376p\000=\000C\000:\000\134\000t\000\351\000\n\000' >settings.ini
+    case_of 'check in UTF-16: the mark is no column' 1 \
+        'settings.ini:1:3: warning: a backslash begins an escape in this value\n' '' check settings.ini
+    edit 'check --fix in UTF-16' '\377\376p\000=\000C\000:\000\134\000\134\000t\000\351\000\n\000' check --fix settings.ini
+    printf '\376\377\000k\000=\000\344\000\n' >settings.ini
+    edit 'comment in UTF-16' '\376\377\000;\000 \000k\000=\000\344\000\n' comment settings.ini k
+    edit 'add-section in UTF-16' '\376\377\000;\000 \000k\000=\000\344\000\n\000\n\000[\000a\000]\000\n' add-section settings.ini a
+    printf '\tk\t-\303\244\t+\303\266\n' >../edits
+    printf '\376\377\000k\000=\000\344\000\n' >settings.ini
+    edit 'apply in UTF-16' '\376\377\000k\000=\000\366\000\n' apply settings.ini ../edits
+    printf 'k=\344\n' >settings.ini
+    edit 'apply in Latin-1' 'k=\366\n' apply --encoding latin1 settings.ini ../edits
+    rm settings.ini
+    printf '\tk\t\t+\303\266\n' >../edits
+    edit 'apply makes a file' 'k=\366\n' apply --encoding latin1 settings.ini ../edits
+    printf '\377\376j\000=\000\344\000' >../marked.ini
+    case_of 'layers of two encodings' 0 'k=\303\266\nj=\303\244\n' '' layers --encoding latin1 settings.ini ../marked.ini
+    case_of 'diff of two encodings as edits' 1 '\tj\t\t+\303\244\n\tk\t-\303\266\t\n' '' \
+        diff --format edits --encoding latin1 settings.ini ../marked.ini
+    printf 'k=1\n' >../base.ini
+    printf 'k=1\nj=\344\n' >../ours.ini
+    printf '\376\377\000k\000=\0002\000\n' >settings.ini
+    edit 'merge3 of Latin-1 into UTF-16' '\376\377\000k\000=\0002\000\n\000j\000=\000\344\000\n' \
+        merge3 --encoding latin1 ../base.ini ../ours.ini settings.ini --output settings.ini
+    printf 'n=8080\nk=\200\n' >settings.ini
+    case_of 'JSON in Windows-1252' 0 '"\342\202\254"\n' '' get --format json --encoding windows1252 settings.ini k
+    case_of 'origins in Windows-1252' 0 'settings.ini:1:\tn\t8080\nsettings.ini:2:\tk\t\342\202\254\n' '' \
+        list --origin settings.ini --encoding windows1252
+    case_of 'an answer in a file' 0 '' '' get --encoding windows1252 --output ../told settings.ini k
+    printf '\342\202\254\n' >"$room/want"
+    cp ../told "$room/have"
+    count 'an answer in a file is UTF-8'
+    rm -f ../edits ../marked.ini ../base.ini ../ours.ini ../told
+}
+
 reading
 editing
 adding
@@ -1128,6 +1311,8 @@ making
 renaming
 paths
 marks
+encodings
+further_encodings
 placing
 merging
 unmerged

@@ -6,7 +6,7 @@
 . "$(dirname "$0")/cases.sh"
 
 # Pages.
-programs='ini_tool ini_merge ini_file'
+programs='ini_tool ini_file'
 if has man 'pages under man'; then
     for name in $programs; do
         is "man $name" '' "$(man --warnings -E UTF-8 -l -Tutf8 -Z "$top/share/man/$name.1" 2>&1 >/dev/null)"
@@ -42,33 +42,38 @@ if has bash completions; then
     offered "$options" ini_tool -
     offered '--noescape --noquote ' ini_tool --crlf --no
     offered 'Nothing ' ini_tool --policy N
-    offered 'Reserved ReservedUnicode ReservedUnicodeExtended ' ini_merge --policy Res
+    offered 'Reserved ReservedUnicode ReservedUnicodeExtended ' ini_file --policy Res
     offered ' ' ini_tool get ''
-    offered 'one two one.ini ' ini_merge ''
-    offered 'one.ini ' ini_merge --crlf one.ini one.
-    offered 'add check delete delete-section diff format get keys list merge merge3 rename-key rename-section rewrite sections set ' ini_file ''
+    offered 'one two one.ini ' ini_file layers ''
+    offered 'one.ini ' ini_file --crlf layers one.ini one.
+    offered 'add add-section apply check comment delete delete-section diff format get keys layers list merge merge3 rename-key rename-section rewrite sections set unset-all ' ini_file ''
     offered 'one two one.ini ' ini_file get ''
     offered '--existing ' ini_file set --e
     offered '-- --color --force --format --in-place --output --verbose --wait ' ini_file diff --
-    offered 'json ' ini_file diff --format ''
+    offered 'edits json lines ' ini_file diff --format ''
     offered 'always auto never ' ini_file diff --color ''
+    offered 'both keys sections ' ini_file format --sort ''
+    offered '--reverse ' ini_file apply --r
+    offered 'one.ini ' ini_file apply one.ini one.
     offered '--ours --output ' ini_file merge3 --o
     offered 'one.ini ' ini_file merge3 one.ini one.ini one.
     offered '--dry-run ' ini_file delete --d
     offered '-- --allow --deny --dry-run --fix --force --format --in-place --null --suggest --verbose --wait ' ini_file check --
     offered 'github json sarif ' ini_file check --format ''
     offered 'samba sssd supervisor systemd ' ini_file --like s
-    offered '-- --all --default --force --in-place --null --output --section --verbose --wait ' ini_file get --
+    offered 'utf-16be utf-16le utf-8 ' ini_file list --encoding u
+    offered '-- --all --default --force --format --in-place --last --null --output --section --type --verbose --wait ' ini_file get --
     offered '--null ' ini_file --crlf list --n
     offered '-- --dry-run --force --in-place --output --separator --verbose --wait ' ini_file rewrite --
-    offered '-- --blank-lines --check --dry-run --force --in-place --indent-pairs --output --separator --verbose --wait ' \
+    offered '-- --align --blank-lines --check --dry-run --force --in-place --indent-pairs --output --separator --sort --verbose --wait ' \
         ini_file format --
     offered '-- --dry-run --force --in-place --output --section --verbose --wait ' ini_file delete --
     offered ' ' ini_file set --wait ''
     offered ' ' ini_file get --default ''
     offered 'one.ini ' ini_file set --existing --output one.
     offered 'one.ini ' ini_tool get key '<' one.
-    offered 'one.ini ' ini_merge one.ini '>' one.
+    offered 'one.ini ' ini_file layers one.ini '>' one.
+    offered '-- --force --in-place --output --separator --verbose --wait ' ini_file layers --
     is 'completions are registered' "$programs" "$(bash -c '. "$0" && for name; do complete -p "$name"; done' \
         "$top/share/completions/bigrosk" $programs | sed 's/^complete -F _bigrosk //' | tr '\n' ' ' | sed 's/ $//')"
 fi
@@ -87,8 +92,8 @@ ini_file get a|ini_file get a\ folder/|
 ini_file get a\ folder/i|ini_file get a\ folder/in/|
 ini_file --crlf list a\ folder/in/|ini_file --crlf list a\ folder/in/x.ini |
 ini_file check i|ini_file check it\'s |
-ini_merge \$|ini_merge \$HOME |
-ini_merge --policy Basics ~/a|ini_merge --policy Basics ~/a\ folder/|
+ini_file layers \$|ini_file layers \$HOME |
+ini_file --policy Basics layers ~/a|ini_file --policy Basics layers ~/a\ folder/|
 ini_tool get k <one|ini_tool get k <one\ two |
 ini_tool fmt >a|ini_tool fmt >a\ folder/|
 ROWS
@@ -128,7 +133,7 @@ ini_file set x.ini --wait |
 ini_file check --policy |Basics|BasicsUnicode|BasicsUnicodeExtended|Everything|Nothing|Reserved|ReservedUnicode|ReservedUnicodeExtended
 ini_tool |del|fmt|get|list|set
 ini_tool get |
-ini_merge |x.ini
+ini_file layers x.ini |x.ini
 ROWS
 mkdir "$room/asked" "$room/bin"
 printf 'top = 1\n[a b]\none = 1\n[c]\nlast two keys = 3\n' >"$room/asked/x.ini"
@@ -179,7 +184,7 @@ for name in $programs; do
 done
 "$copy/tools/install.sh" "$room/a place" >"$room/told" 2>&1
 is 'installing' 'status 0, ' "status $?, $(cat "$room/told")"
-is 'programs are built' '--build ini_tool --build ini_merge --build ini_file' "$(tr '\n' ' ' <"$room/built" | sed 's/ $//')"
+is 'programs are built' '--build ini_tool --build ini_file' "$(tr '\n' ' ' <"$room/built" | sed 's/ $//')"
 for name in $programs; do
     is "$name runs where it was installed" "$name" "$("$room/a place/bin/$name")"
     cmp -s "$top/share/man/$name.1" "$room/a place/share/man/man1/$name.1"
@@ -191,7 +196,7 @@ for name in $programs; do
 done
 cmp -s "$top/share/completions/_bigrosk" "$room/a place/share/zsh/site-functions/_bigrosk"
 is 'the completions for zsh' 0 $?
-is 'nothing else is installed' 13 "$(find "$room/a place" -type f | wc -l | tr -d ' ')"
+is 'nothing else is installed' 9 "$(find "$room/a place" -type f | wc -l | tr -d ' ')"
 for mask in 000 077; do
     (umask "$mask" && "$copy/tools/install.sh" "$room/under $mask" 2>/dev/null)
     wanted=$(printf '644 file in share\n755 file in bin\n755 folder')
@@ -203,7 +208,7 @@ for mask in 000 077; do
         } | sed 's,\./\([a-z]*\)/.*,\1,' | sort -u
     )"
 done
-echo ini_merge >"$room/broken"
+echo ini_file >"$room/broken"
 "$copy/tools/install.sh" "$room/nothing" >/dev/null 2>&1
 is 'a program that is not built' 'status 1, nothing there' "status $?, $([ -e "$room/nothing" ] || echo nothing there)"
 "$copy/tools/install.sh" >"$room/told" 2>&1

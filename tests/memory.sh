@@ -6,7 +6,7 @@
 # a C compiler, or a heap that can be counted so, these cases are skipped, and that is reported. Each case that fails is reported. The
 # last line is 'N passed, M failed', and the status is 1 if a case failed.
 #
-#     tests/memory.sh [INI_REPLAY [INI_TOOL [INI_MERGE [INI_FILE]]]]
+#     tests/memory.sh [INI_REPLAY [INI_TOOL [INI_FILE]]]
 #
 # The programs are by default those that tools/run.sh builds.
 #
@@ -24,7 +24,7 @@
 #     merged, clone, delete_from, layered      300,000 sections, or keys
 #     set_to                                   150,000 new sections
 #     remove_all, setters, Entry               70,000 (crates/ini_vectors)
-#     ini_merge                                5,000 files, and as many words
+#     ini_file layers                          5,000 files, and as many words
 #     skip_trivia                              200 MB (tests/passing.sh)
 #     ini_file get, list, rewrite, check       14 MB: a section of 1,000,000 pairs (tests/long.sh, also what follows)
 #     set, add, delete, rename-key, delete-section, merge of a key    the same, by name and by a pipe
@@ -38,8 +38,7 @@
 . "$(dirname "$0")/cases.sh"
 calls=$(program_of ini_replay "${1:-}") || exit 1
 tool=$(program_of ini_tool "${2:-}") || exit 1
-merge=$(program_of ini_merge "${3:-}") || exit 1
-file=$(program_of ini_file "${4:-}") || exit 1
+file=$(program_of ini_file "${3:-}") || exit 1
 
 # at_most NAME MOST NUMBER: whether the number is one, and no larger
 at_most() {
@@ -155,7 +154,7 @@ count_kept() {
             echo "$form 3 $room/text" >"$room/in"
             kept "$form of text $n" "$calls" files
         done
-        kept "ini_merge of text $n" "$merge" "$room/text" "$room/text"
+        kept "layers of text $n" "$file" layers "$room/text" "$room/text"
         cp "$room/text" "$room/in"
         kept "items of text $n" "$calls" items
         kept "elements of text $n" "$calls" elements
@@ -270,7 +269,7 @@ refuse_each() {
     refused 'ini_tool del' '[a]\nx=y\\;\n' "$tool" --policy Reserved del k
     refused 'ini_tool list' '\tk\tv\n[a]\tx\ty;\n' "$tool" list
     refused 'ini_tool get' 'y;\n' "$tool" get x a
-    refused 'ini_merge' 'k=v\n\n[a]\nx=y;\n' "$merge" "$room/in" "$room/in"
+    refused 'ini_file layers' 'k=v\n\n[a]\nx=y;\n' "$file" layers "$room/in" "$room/in"
 }
 
 if cc -shared -fPIC -O1 -o "$room/heap.so" "$top/tests/memory/heap.c" 2>/dev/null &&
@@ -313,7 +312,7 @@ done
 mkfifo "$room/pipe"
 timeout 60 cp "$room/text" "$room/pipe" &
 writer=$!
-is 'ini_merge of a pipe' 'k=v [s] j=a\tb ' "$(timeout 60 "$merge" "$room/pipe" 2>&1 | tr -s '\n' ' ')"
+is 'layers of a pipe' 'k=v [s] j=a\tb ' "$(timeout 60 "$file" layers "$room/pipe" 2>&1 | tr -s '\n' ' ')"
 kill "$writer" 2>/dev/null
 wait "$writer" 2>/dev/null
 
@@ -393,7 +392,7 @@ CALLS
 mkdir "$room/files"
 (cd "$room/files" && awk 'BEGIN { for (i = 10000; i < 15000; i++) { f = i ""; print "k" i "=\nk=" i > f; close(f) } }')
 { echo 'k10000='; echo 'k=14999'; awk 'BEGIN { for (i = 10001; i < 15000; i++) print "k" i "=" }'; } >"$room/merged"
-is 'ini_merge of 5,000 files with 64 descriptors' "$(sums "$room/merged")" \
-    "$(cd "$room/files" && ulimit -n 64 && bounded "$merge" ./* 2>&1 | cksum)"
+is 'layers of 5,000 files with 64 descriptors' "$(sums "$room/merged")" \
+    "$(cd "$room/files" && ulimit -n 64 && bounded "$file" layers ./* 2>&1 | cksum)"
 
 finish

@@ -1,11 +1,11 @@
 #!/bin/sh
-# Makes the pages anew that are made of the sources, and compares them: docs/API.md, LEMMAS.md and TRAPS.md, and the tables of
-# docs/PROGRAM.md, by the scripts of these names in tools/pages. What differs is shown. Then the edits of must-fail and
+# Makes the pages anew that are made of the sources, and compares them: docs/API.md, LEMMAS.md and TRAPS.md, the tables of
+# docs/PROGRAM.md and CONTRACTS.md, by the scripts of these names in tools/pages. What differs is shown. Then the edits of must-fail and
 # wrong-bodies.txt are read: whether each can be made still. The last line is 'N passed, M failed', and the status is 1 if
 # anything failed.
 . "$(dirname "$0")/cases.sh"
 has python3 'the pages made of the sources and the edits of wrong bodies' || finish
-for page in API LEMMAS TRAPS PROGRAM; do
+for page in API LEMMAS TRAPS PROGRAM CONTRACTS; do
     maker=tools/pages/$(echo "$page" | tr A-Z a-z).py
     is "docs/$page.md; $maker > docs/$page.md makes it" '' "$("$top/$maker" | diff "$top/docs/$page.md" - 2>&1)"
 done

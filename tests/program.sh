@@ -1,22 +1,19 @@
 #!/bin/sh
 # Runs the built programs over real streams and files. The cases are the rows of a table, the streams, the large inputs, the
-# runs of ini_merge and the warnings below it, and the commands that README.md and docs/PROGRAM.md show. Each case that fails is
+# runs of `ini_file layers` and its warnings, and the commands that README.md and docs/PROGRAM.md show. Each case that fails is
 # told. The last line is 'N passed, M failed', and the status is 1 if a case failed.
 #
-#     tests/program.sh [INI_TOOL [INI_MERGE [INI_FILE]]]
+#     tests/program.sh [INI_TOOL [INI_FILE]]
 #
 # Each is by default the one that tools/run.sh builds; a page's `./bigrosk` runs these too.
 . "$(dirname "$0")/cases.sh"
 program=$(program_of ini_tool "${1:-}") || exit 1
-merge=$(program_of ini_merge "${2:-}") || exit 1
-file=$(program_of ini_file "${3:-}") || exit 1
+file=$(program_of ini_file "${2:-}") || exit 1
 mkdir "$room/bin"
 ln -s "$program" "$room/bin/ini_tool"
-ln -s "$merge" "$room/bin/ini_merge"
 ln -s "$file" "$room/bin/ini_file"
 options='[--noescape] [--noquote] [--multiline] [--indent] [--brackets] [--crlf] [--policy NAME]'
 usage="usage: ini_tool $options fmt|list|get KEY [SECTION]|set KEY VALUE [SECTION]|del KEY [SECTION]"
-merge_usage="usage: ini_merge $options [--] FILE.."
 
 # told NAME STATUS WANTED ERROR: the last run's status, and what it wrote on standard error
 told() {
@@ -267,7 +264,7 @@ ROWS
 # How a fault of a stream is reported.
 in_fault='ini_tool: standard input: '
 out_fault='ini_tool: standard output: '
-merge_fault='ini_merge: standard output: '
+layers_fault='ini_file: standard output: '
 closed='Bad file descriptor (os error 9)'
 full='No space left on device (os error 28)'
 broken='Broken pipe (os error 32)'
@@ -334,8 +331,9 @@ for words in '' frob 'fmt x' get 'get k s x' 'set k' del --crlf '--policy none f
     timeout 20 "$program" $words <"$room/pipe" >"$room/out" 2>"$room/err" 3<&-
     told "'$words', an input that stays empty" $? 2 "$usage"
 done
-timeout 20 "$merge" <"$room/pipe" >"$room/out" 2>"$room/err" 3<&-
-told 'ini_merge without words, an input that stays empty' $? 2 "$merge_usage"
+timeout 20 "$file" layers <"$room/pipe" >"$room/out" 2>"$room/err" 3<&-
+told 'layers without files, an input that stays empty' $? 2 "ini_file: FILE is missing: layers takes FILE ..
+Try 'ini_file --help'."
 exec 3>&-
 
 # A line of 20 MB.
@@ -394,12 +392,12 @@ lines 5000 'k%d=%d\n' >"$room/some"
 )
 is_cut 'an output that is full before the end' $? "$out_fault$large" "$room/some"
 
-# Large texts, ini_merge, and warnings by ini_file.
+# Large texts, and by ini_file layers, warnings, and merges of both sides.
 . "$top/tests/program/large.sh"
-. "$top/tests/program/merge.sh"
+. "$top/tests/program/layers.sh"
 . "$top/tests/program/check.sh"
 . "$top/tests/program/sides.sh"
-. "$top/tests/program/forms.sh"
+. "$top/tests/program/apply.sh"
 
 # The commands that a page shows: in its blocks marked `console`, each line that begins with '$ ' is a command, and what
 # follows it, up to the next one, is what the shell then shows. A page's commands run in turn, in a folder with the examples.

@@ -6,7 +6,7 @@
 . "$(dirname "$0")/cases.sh"
 # where no kit is
 system=/usr/bin:/bin
-programs='ini_file ini_merge ini_tool'
+programs='ini_file ini_tool'
 
 # without PREFIX COMMAND..: runs it with the release's programs in PATH, and no kit
 without() {

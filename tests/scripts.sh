@@ -86,13 +86,13 @@ first staticlib: of_the_kit second # third
 ini_tool: thiserror first
 second:
 third:
-ini_merge: second
+ini_file: second
 CRATES
     for crate in other first second third; do
         mkdir -p "$top/crates/$crate/src" "$top/crates/$crate/proofs/tests" "$top/crates/$crate/specs"
         : >"$top/crates/$crate/src/lib.rt"
     done
-    for crate in ini_tool ini_merge; do
+    for crate in ini_tool ini_file; do
         mkdir -p "$top/crates/$crate/src/tests" "$top/crates/$crate/specs" "$top/crates/$crate/must-fail"
         : >"$top/crates/$crate/src/main.rt"
         : >"$top/crates/$crate/src/a.rt"
@@ -149,7 +149,7 @@ lines'
     status=$?
 }
 checkout
-for it in ini_tool ini_merge; do
+for it in ini_tool ini_file; do
     for run in 'the run that builds' 'a later run'; do
         with_odd_words "$it"
         is "$it, $run: the words, the input and the status go through as they are" "$shown
@@ -158,8 +158,8 @@ status $status"
     done
     is "$it: a program that is built tells nothing" '' "$(cat "$room/err")"
 done
-is 'one build each, of an empty text or file' 'ini_tool <run> <--> <fmt>
-ini_merge <run> <--> </dev/null>' "$(cat "$calls")"
+is 'one build each, by a run that asks nothing of a file' 'ini_tool <run> <--> <fmt>
+ini_file <run> <--> <--version>' "$(cat "$calls")"
 checkout
 script ini_tool
 is 'a build tells how far it is, and no more' 'so far: 1 of 2 functions' "$(tail -n +2 "$room/err")"
@@ -226,7 +226,7 @@ checkout
 script ini_tool
 mkdir -p "$top/crates/mine/src"
 echo 'mine: ini_tool first' >>"$top/crates.txt"
-for it in mine/src/lib.rt other/src/lib.rt third/src/lib.rt ini_merge/src/main.rt ini_tool/README.md ini_tool/must-fail/an.edit \
+for it in mine/src/lib.rt other/src/lib.rt third/src/lib.rt ini_file/src/main.rt ini_tool/README.md ini_tool/must-fail/an.edit \
     ini_tool/src/tests.rt ini_tool/src/tests/rows.rt ini_tool/stdin second/proofs/tests/Answers.antt; do
     touch "$top/crates/$it"
 done
@@ -264,25 +264,25 @@ sed -n 's/^\([a-z_0-9]*\).*:.*/\1/p' "$from/crates.txt" | while read -r it; do
     touch -t 202001010000 "$top/crates/$it/src/lib.rt" "$top/crates/$it/src"
 done
 script ini_tool
-script ini_merge
+script ini_file
 built 'this crates.txt' 2
 for it in ini_examples ini_cases ini_hostile; do
     touch "$top/crates/$it/src/lib.rt"
 done
 script ini_tool
 built 'a crate of tests is newer than ini_tool' 1
-script ini_merge
-built 'a crate of tests is newer than ini_merge' 2
+script ini_file
+built 'a crate of tests is newer than ini_file' 2
 touch "$top/crates/ini_layers/src/lib.rt"
 script ini_tool
 built 'ini_layers is newer than ini_tool' 1
-script ini_merge
-built 'ini_layers is newer than ini_merge' 3
+script ini_file
+built 'ini_layers is newer than ini_file' 3
 touch "$top/crates/ini_multimap/src/lib.rt"
 script ini_tool
 built 'ini_multimap is newer than ini_tool' 4
-script ini_merge
-built 'ini_multimap is newer than ini_merge' 5
+script ini_file
+built 'ini_multimap is newer than ini_file' 5
 
 # A build that fails: status 125, and the old program does not run.
 for it in fails fails_late makes_nothing; do
@@ -290,8 +290,8 @@ for it in fails fails_late makes_nothing; do
     mode "$it"
     script ini_tool get k
     refused "the first build $it" 'ini_tool could not be built: mend '
-    script ini_merge a b
-    refused "the first build $it, ini_merge" 'ini_merge could not be built: mend '
+    script ini_file a b
+    refused "the first build $it, ini_file" 'ini_file could not be built: mend '
     is "the first build $it: all that it said is shown" 1 "$(grep -c '^a line that only a failure shows$' "$room/err")"
     is "the first build $it: no log is left" '' "$(ls "$TMPDIR")"
 done
@@ -325,7 +325,7 @@ status=$?
 refused 'no folder for temporary files' 'ini_tool is not built, and there is no room for its log: '
 script
 refused 'no name' 'which program? '
-for it in none '' . first ../crates/ini_tool 'ini_tool ini_merge'; do
+for it in none '' . first ../crates/ini_tool 'ini_tool ini_file'; do
     script "$it"
     refused "no program: '$it'" "$it is no program of crates.txt"
 done

@@ -4,12 +4,12 @@
 # faults and shows the calls; where it isn't, the cases that need it are skipped, and their number is reported before the last
 # line. Each case that fails is reported. The last line is 'N passed, M failed', and the status is 1 if a case failed.
 #
-#     tests/streams.sh [INI_TOOL [INI_MERGE]]
+#     tests/streams.sh [INI_TOOL [INI_FILE]]
 #
 # The programs are by default those that tools/run.sh builds.
 . "$(dirname "$0")/cases.sh"
 tool=$(program_of ini_tool "${1:-}") || exit 1
-merge=$(program_of ini_merge "${2:-}") || exit 1
+file=$(program_of ini_file "${2:-}") || exit 1
 skipped=0
 
 # The files: a pair, 20,000 pairs, a text that is refused, a folder. A pair that is written like this stays as it is.
@@ -30,38 +30,37 @@ told() {
 closed='Bad file descriptor (os error 9)'
 full='No space left on device (os error 28)'
 folder='Is a directory (os error 21)'
+refused='refused:2:1: no key stands before this
+=w
+^'
 cd "$room" || exit 1
 cp nothing wrote
 cp nothing out
 "$tool" fmt <pair >&- 2>err
 told 'ini_tool, output closed' $? 4 "ini_tool: standard output: $closed"
-"$merge" pair pair >&- 2>err
-told 'ini_merge, output closed' $? 4 "ini_merge: standard output: $closed"
+"$file" layers pair pair >&- 2>err
+told 'layers, output closed' $? 4 "ini_file: standard output: $closed"
 "$tool" fmt <&- >out 2>err
 told 'ini_tool, input closed' $? 4 "ini_tool: standard input: $closed"
 "$tool" fmt <folder >out 2>err
 told 'ini_tool, a folder as input' $? 4 "ini_tool: standard input: $folder"
 "$tool" fmt <folder >&- 2>err
 told 'ini_tool, a folder as input, output closed' $? 4 "ini_tool: standard input: $folder"
-"$merge" pair folder >out 2>err
-told 'ini_merge, a folder as file' $? 4 "ini_merge: folder: $folder"
-"$merge" --crlf pair folder >out 2>err
-told 'ini_merge, a folder as file after an option' $? 4 "ini_merge: folder: $folder"
-"$merge" pair none >out 2>err
-told 'ini_merge, a file that is not there' $? 4 'ini_merge: none: No such file or directory (os error 2)'
+"$file" layers pair none >out 2>err
+told 'layers, a file that is not there' $? 4 'ini_file: none: No such file or directory (os error 2)'
 "$tool" get "$(printf '\303')" <pair >out 2>err
 told 'ini_tool, a word that is no text' $? 4 'ini_tool: word 2 is not UTF-8'
-"$merge" pair pair "$(printf '\377')" >out 2>err
-told 'ini_merge, a word that is no text' $? 4 'ini_merge: word 3 is not UTF-8'
+"$file" layers pair pair "$(printf '\377')" >out 2>err
+told 'layers, a word that is no text' $? 4 'ini_file: word 4 is not UTF-8'
 if [ -c /dev/full ]; then
     for name in pair pairs; do
         "$tool" fmt <"$name" >/dev/full 2>err
         told "ini_tool, $name, a full device" $? 4 "ini_tool: standard output: $full"
-        "$merge" pair "$name" >/dev/full 2>err
-        told "ini_merge, $name, a full device" $? 4 "ini_merge: standard output: $full"
+        "$file" layers pair "$name" >/dev/full 2>err
+        told "layers, $name, a full device" $? 4 "ini_file: standard output: $full"
     done
-    "$merge" pair refused >/dev/full 2>err
-    told 'ini_merge, a refused text, a full device' $? 3 'ini_merge: refused: 2:2 missing key'
+    "$file" layers pair refused >/dev/full 2>err
+    told 'layers, a refused text, a full device' $? 3 "$refused"
 fi
 
 # whether a program can be traced, and a fault be made
@@ -101,21 +100,18 @@ for words in fmt list 'get k' 'set k w'; do
     # shellcheck disable=SC2086
     [ -c /dev/full ] && traced "$words, a full device" 4 1 "ini_tool: standard output: $full" none pair /dev/full "$tool" $words
 done
-for fault in 'write:error=EINTR:when=1|ini_merge: standard output: Interrupted system call (os error 4)' \
-    'write:error=EIO:when=1|ini_merge: standard output: Input/output error (os error 5)' \
-    'write:retval=0:when=1|ini_merge: a write took no bytes'; do
-    traced "ini_merge, ${fault%%|*}" 4 1 "${fault#*|}" "${fault%%|*}" nothing out "$merge" pair pair
-done
-[ -c /dev/full ] && traced 'ini_merge, a full device' 4 1 "ini_merge: standard output: $full" none nothing /dev/full "$merge" pair
+traced 'layers, a fault' 4 1 'ini_file: standard output: Input/output error (os error 5)' write:error=EIO:when=1 nothing out \
+    "$file" layers pair pair
+[ -c /dev/full ] && traced 'layers, a full device' 4 1 "ini_file: standard output: $full" none nothing /dev/full "$file" layers pair
 
 # No call where nothing is to be written, or where a run is refused before it writes.
 traced 'fmt, a refused text' 3 0 'ini_tool: 2:2 missing key' none refused out "$tool" fmt
 traced 'fmt, a folder as input' 4 0 "ini_tool: standard input: $folder" none folder out "$tool" fmt
 traced 'get, not found' 1 0 '' none pair out "$tool" get z
 traced 'fmt, no text' 0 0 '' none nothing out "$tool" fmt
-traced 'ini_merge, a refused text' 3 0 'ini_merge: refused: 2:2 missing key' none nothing out "$merge" pair refused
-traced 'ini_merge, a file that is not there' 4 0 'ini_merge: none: No such file or directory (os error 2)' none nothing out \
-    "$merge" pair none
+traced 'layers, a refused text' 3 0 "$refused" none nothing out "$file" layers pair refused
+traced 'layers, a file that is not there' 4 0 'ini_file: none: No such file or directory (os error 2)' none nothing out \
+    "$file" layers pair none
 
 # A fault at the third call of a long text: what the first two took went out, and no call follows. The lines are short, so each
 # call that takes what is gathered takes more than half of 16,384 bytes.
@@ -146,7 +142,6 @@ long() {
     count "$program, a fault at the third call"
 }
 long ini_tool pairs "$tool" fmt
-long ini_merge nothing "$merge" pairs
 
 # A reader that fails at a call, the first or the one after the last byte, isn't asked again.
 reads() {

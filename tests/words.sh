@@ -17,7 +17,7 @@ traps='unclosed-bracket, unclosed-quote, joined-line, runs-on, comment-runs-on, 
 traps="$traps, pair-in-value, repeated-key, repeated-section, after-header, empty-name, section-case, key-case"
 traps="$traps, mark-begins-key, colon-separates, escape-in-name, escape-in-key, escape, mark-in-value, text-after-quote"
 traps="$traps, half-quote, odd-space, not-plain"
-commands='get keys sections list set add delete delete-section rename-key rename-section merge diff merge3 rewrite format check'
+commands='get keys sections list set add delete unset-all comment add-section delete-section rename-key rename-section merge layers diff apply merge3 rewrite format check'
 
 # Each mistake is reported by one sentence, and where help is; nothing is read or written. WORDS|TOLD
 mistakes() {
@@ -51,7 +51,15 @@ list settings.ini --like Git|Git is no dialect; --like takes auto or one of $dia
 --like= list settings.ini --policy x| is no dialect; --like takes auto or one of $dialects
 check settings.ini --like fish|fish is no dialect; --like takes auto or one of $dialects
 list settings.ini --like|--like takes NAME
+list settings.ini --encoding latin-1|latin-1 is no encoding; --encoding takes one of utf-8 utf-16le utf-16be latin1 windows1252
+check --encoding= settings.ini| is no encoding; --encoding takes one of utf-8 utf-16le utf-16be latin1 windows1252
+list settings.ini --encoding|--encoding takes NAME
 get settings.ini k --default|--default takes VALUE
+get settings.ini k --type|--type takes NAME
+get --last --all settings.ini k|--all gets each value, so --last has no place
+keys --last settings.ini|keys doesn't take --last, but --null --section --output --in-place --force --wait --verbose
+get settings.ini k --type boolean|boolean is no type; --type takes bool, int, size, float, duration or path
+keys --type int settings.ini|keys doesn't take --type, but --null --section --output --in-place --force --wait --verbose
 set settings.ini k v --wait|--wait takes SECONDS
 set settings.ini k v --output|--output takes FILE
 set settings.ini k v --separator|--separator takes TEXT
@@ -64,7 +72,7 @@ get --frob=1 settings.ini k|--frob=1 is no option; after -- it is an argument
 get -sserver settings.ini port|-sserver is no option; after -- it is an argument
 get --all=1 settings.ini k|--all takes no text
 set --dry-run=yes settings.ini k v|--dry-run takes no text
-list --all settings.ini|list doesn't take --all, but --null --output --in-place --force --wait --verbose
+list --all settings.ini|list doesn't take --all, but --origin --null --format --output --in-place --force --wait --verbose
 check --all settings.ini|check doesn't take --all, but --null --format --allow --deny --fix --suggest --dry-run --in-place --force --wait --verbose
 check --force settings.ini|check takes --force with --fix alone
 check settings.ini -n|check takes --dry-run with --fix alone
@@ -73,37 +81,66 @@ check --fix --suggest settings.ini|check takes --suggest without --fix, --null a
 check settings.ini --suggest --format json|check takes --suggest without --fix, --null and --format
 check --fix --wait x settings.ini|x is no number of seconds; --wait takes one, as 10
 check --format xml settings.ini|xml is no form; --format takes json, sarif or github
+check --format sh settings.ini|sh is no form; --format takes json, sarif or github
+list --format github settings.ini|github is no form; --format takes lines, json, sh or ini
+get --format ini settings.ini k|ini is no form; --format takes lines, json or sh
+keys --format json settings.ini|keys doesn't take --format, but --null --section --output --in-place --force --wait --verbose
+get --format json --null settings.ini k|--format writes one form, so --null, --origin and --type have no place
+list --format json --origin settings.ini|--format writes one form, so --null, --origin and --type have no place
+get --format sh --type int settings.ini k|--format writes one form, so --null, --origin and --type have no place
 rewrite settings.ini more|more is one word too many: rewrite takes FILE
 rewrite --check settings.ini|rewrite doesn't take --check, but --separator --dry-run --output --in-place --force --wait --verbose
 format|FILE is missing: format takes FILE ..
-format --all settings.ini|format doesn't take --all, but --separator --indent-pairs --blank-lines --check --dry-run --output --in-place --force --wait --verbose
+format --all settings.ini|format doesn't take --all, but --separator --indent-pairs --blank-lines --align --sort --check --dry-run --output --in-place --force --wait --verbose
 format --indent-pairs x settings.ini|x is no number of one or two digits
 format --blank-lines=100 settings.ini|100 is no number of one or two digits
 format --blank-lines= settings.ini| is no number of one or two digits
 format settings.ini --indent-pairs|--indent-pairs takes N
+format --sort names settings.ini|names is nothing to sort; --sort takes keys, sections or both
+format settings.ini --sort|--sort takes WHAT
+format --align=2 settings.ini|--align takes no text
+rewrite --align settings.ini|rewrite doesn't take --align, but --separator --dry-run --output --in-place --force --wait --verbose
 format --check --output o settings.ini|--check writes no file, so --output has no place
 format --wait 3 settings.ini --check|--check writes no file, so --wait has no place
 format --output o settings.ini other.ini|--output takes what is made of one file alone
 format - -|- is standard input, which can't be read twice
-list --blank-lines 1 settings.ini|list doesn't take --blank-lines, but --null --output --in-place --force --wait --verbose
+list --blank-lines 1 settings.ini|list doesn't take --blank-lines, but --origin --null --format --output --in-place --force --wait --verbose
 check --allow frob settings.ini|frob is no warning; they are all, loses-data, surprises, $traps
 check settings.ini --deny|--deny takes NAME
-list --allow escape settings.ini|list doesn't take --allow, but --null --output --in-place --force --wait --verbose
-get -n settings.ini name|get doesn't take --dry-run, but --all --default --null --section --output --in-place --force --wait --verbose
+list --allow escape settings.ini|list doesn't take --allow, but --origin --null --format --output --in-place --force --wait --verbose
+get -n settings.ini name|get doesn't take --dry-run, but --all --last --default --type --null --format --section --output --in-place --force --wait --verbose
 get --force settings.ini name|get takes --force with --output alone
 keys --wait 5 settings.ini|keys takes --wait with --output alone
 merge settings.ini - -|- is standard input, which can't be read twice
 set --existing --separator : settings.ini name v|--existing writes no new line, so --separator has no place
 merge - -|- is standard input, which can't be read twice
+unset-all settings.ini|KEY is missing: unset-all takes FILE KEY [SECTION]
+unset-all settings.ini --all k|unset-all doesn't take --all, but --section --dry-run --output --in-place --force --wait --verbose
+add-section settings.ini|SECTION is missing: add-section takes FILE SECTION
+add-section settings.ini a b|b is one word too many: add-section takes FILE SECTION
+comment settings.ini a b c|c is one word too many: comment takes FILE KEY [SECTION]
+layers|FILE is missing: layers takes FILE ..
+layers - settings.ini -|- is standard input, which can't be read twice
+layers -n settings.ini|layers doesn't take --dry-run, but --separator --output --in-place --force --wait --verbose
+layers --force settings.ini|layers takes --force with --output alone
+layers -s server settings.ini|layers has no section, so --section server has no place
 diff settings.ini|OTHER is missing: diff takes FILE OTHER
 diff - -|- is standard input, which can't be read twice
 diff -n settings.ini settings.ini|diff doesn't take --dry-run, but --format --color --output --in-place --force --wait --verbose
 diff --verbose settings.ini settings.ini|diff takes --verbose with --output alone
 diff settings.ini settings.ini more|more is one word too many: diff takes FILE OTHER
-diff --format xml settings.ini settings.ini|xml is no form; --format takes json
+diff --format xml settings.ini settings.ini|xml is no form; --format takes lines, json or edits
+diff --format sh settings.ini settings.ini|sh is no form; --format takes lines, json or edits
+list --format edits settings.ini|edits is no form; --format takes lines, json, sh or ini
+set --format lines settings.ini k v|set doesn't take --format, but --all --existing --separator --section --dry-run --output --in-place --force --wait --verbose
 diff --color=red settings.ini settings.ini|red is no colour; --color takes auto, always or never
 diff settings.ini settings.ini --color|--color takes WHEN
-list --color always settings.ini|list doesn't take --color, but --null --output --in-place --force --wait --verbose
+list --color always settings.ini|list doesn't take --color, but --origin --null --format --output --in-place --force --wait --verbose
+apply|FILE is missing: apply takes FILE [EDITS]
+apply -|- is standard input, which can't be read twice
+apply - -|- is standard input, which can't be read twice
+apply settings.ini edits more|more is one word too many: apply takes FILE [EDITS]
+apply --format edits settings.ini|apply doesn't take --format, but --reverse --dry-run --output --in-place --force --wait --verbose
 merge3 settings.ini - -|- is standard input, which can't be read twice
 merge3 settings.ini settings.ini|THEIRS is missing: merge3 takes BASE OURS THEIRS
 merge3 --force settings.ini settings.ini settings.ini|merge3 takes --force with --output alone
@@ -141,6 +178,7 @@ get settings.ini -- name|one\n
 get settings.ini name --|one\n
 set settings.ini name two -n|\055-- settings.ini\n+++ settings.ini\n@@ -2,1 +2,1 @@\n-name=one\n+name=two\n
 --dry-run set settings.ini name two|\055-- settings.ini\n+++ settings.ini\n@@ -2,1 +2,1 @@\n-name=one\n+name=two\n
+--diff set settings.ini name two|\055-- settings.ini\n+++ settings.ini\n@@ -2,1 +2,1 @@\n-name=one\n+name=two\n
 -n set settings.ini name -5|\055-- settings.ini\n+++ settings.ini\n@@ -2,1 +2,1 @@\n-name=one\n+name=-5\n
 -n set settings.ini name -- -x|\055-- settings.ini\n+++ settings.ini\n@@ -2,1 +2,1 @@\n-name=one\n+name=-x\n
 -n set settings.ini -- name --x|\055-- settings.ini\n+++ settings.ini\n@@ -2,1 +2,1 @@\n-name=one\n+name=--x\n
@@ -172,7 +210,14 @@ likes() {
     done <<'END'
 get rules.ini k a|0|4\n
 get rules.ini m a|1|
+get rules.ini k a --last|0|4\n
+get rules.ini m a --last --default 0|0|0\n
 sections rules.ini|0|A\nb\na\nB\n
+sections rules.ini --all|0|A\nb\na\nB\na\n
+sections --all --null rules.ini|0|A\000b\000a\000B\000a\000
+--like git sections rules.ini --all|0|A\nb\na\nB\na\n
+--like windows get rules.ini k a --last|0|2\n
+--like systemd get rules.ini k a --last|0|7\n
 --like systemd get rules.ini k a|0|7\n
 --like systemd get rules.ini m a|0|8\n
 --like systemd get rules.ini K a|1|
@@ -220,6 +265,153 @@ Try 'ini_file --help'." list settings.ini
     INI_LIKE=
     ends 'an empty dialect of the environment' 1 '' '' get settings.ini PORT SERVER
     unset INI_LIKE
+}
+
+# Values with types, as git writes those that it has; what a value is not is told at its place. WORDS|STATUS|OUTPUT|TOLD
+types() {
+    HOME=/home/ada
+    export HOME
+    while IFS='|' read -r words status output told; do
+        fresh
+        printf '[a]\nb = yes\nb = Off\nn = 16k\nm = -3\n\tg = +2G\nf = 1.50\ne = 1e3\nt = 90\nu = 1500ms\n' >types.ini
+        printf 'h = 2h\np = ~/x\nq = /etc\nr = ~root/x\ns = ~\no =\nl = 1\nl = "x" \n[A]\nn = 7\n' >>types.ini
+        # shellcheck disable=SC2086
+        ends "$words" "$status" "$output" "${told:+types.ini:$told}" $words
+    done <<'END'
+get types.ini b a --type bool|0|true\n|
+get types.ini b a --all --type=bool|0|true\nfalse\n|
+get types.ini b a --all --type bool --null|0|true\000false\000|
+--like systemd get types.ini b a --type bool|0|false\n|
+get types.ini b a --last --type bool|0|false\n|
+get types.ini n a --type int|0|16384\n|
+get types.ini m a --type int|0|-3\n|
+get types.ini g a --type int|0|2147483648\n|
+get types.ini g a --type size|0|2147483648\n|
+--like git get types.ini n a --type int|0|7\n|
+get types.ini f a --type float|0|1.5\n|
+get types.ini e a --type float|0|1000\n|
+get types.ini t a --type duration|0|90\n|
+get types.ini u a --type duration|0|1.500000\n|
+get types.ini h a --type duration|0|7200\n|
+get types.ini p a --type path|0|/home/ada/x\n|
+get types.ini s a --type path|0|/home/ada\n|
+get types.ini q a --type path|0|/etc\n|
+get types.ini o a --type path|0|\n|
+get types.ini x a --type int|1||
+get types.ini x a --type int --default 1k|0|1024\n|
+get types.ini n a --type int --default x|0|16384\n|
+END
+    while IFS='~' read -r words told line caret; do
+        fresh
+        printf '[a]\nb = yes\nn = 16kb\n\tm = -3\nl = 1\nl = "x" \n[a]\nk=\n[A]\nb=7\nr = ^root/x\n' | tr '^' '~' >types.ini
+        # shellcheck disable=SC2086
+        ends "no such value: $words" 2 '' "types.ini:$told
+$(printf "$line")
+$(printf "$caret")" $words
+    done <<'END'
+get types.ini n a --type int~3:5: expected a whole number, as 8080 or 16k~n = 16kb~    ^
+get types.ini m a --type size~4:6: expected a number of bytes, as 512 or 16k~\tm = -3~\t    ^
+get types.ini b a --type float~2:5: expected a number, as 0.5~b = yes~    ^
+get types.ini b a --type duration~2:5: expected a span of time, as 90, 500ms or 1h~b = yes~    ^
+get types.ini l a --all --type int~6:5: expected a whole number, as 8080 or 16k~l = "x" ~    ^
+get types.ini l a --last --type int~6:5: expected a whole number, as 8080 or 16k~l = "x" ~    ^
+--like systemd get types.ini l a --type int~6:5: expected a whole number, as 8080 or 16k~l = "x" ~    ^
+--like systemd get types.ini k a --type int~8:3: expected a whole number, as 8080 or 16k~k=~  ^
+--like git get types.ini b a --type bool~10:3: expected a bool: true, yes, on, 1, false, no, off or 0~b=7~  ^
+END
+    ends 'another user'"'"'s home folder' 2 '' "types.ini:11:5: expected a file's name; ~ is the folder of HOME, before / alone
+r = ~root/x
+    ^" get types.ini r A --type path
+    ends 'a default that is none' 2 '' 'ini_file: types.ini: --default: expected a whole number, as 8080 or 16k' \
+        get types.ini x a --type int --default x
+    printf 'p = ~/x\nh = 1\n' >types.ini
+    (unset HOME; ends 'no home folder' 2 '' "types.ini:1:5: expected a file's name; ~ is the folder of HOME, before / alone
+p = ~/x
+    ^" get types.ini p --type path; echo "$passed $failed" >"$room/counts")
+    read -r passed failed <"$room/counts"
+    printf 'k = "v\n' >types.ini
+    ends 'a type in a text that is refused' 3 '' "types.ini:1:5: this quote isn't closed
+k = \"v
+    ^
+note: the text ends at 2:1" get types.ini k --type int
+    ends 'a type of a file that is not there' 4 '' 'ini_file: none.ini: No such file or directory (os error 2)' \
+        get none.ini k --type int
+    printf 'foo\nport = 80\n' >types.ini
+    ends 'a type of a pair that a line hides' 1 '' 'note: types.ini:1:1: this line has no separator and runs on into the next' \
+        get types.ini port --type int
+    ends 'a type, into a file' 0 '' 'changed' get types.ini x --default 1k --type int --output out.txt --verbose
+    is 'a type, into a file: the file' 1024 "$(cat out.txt)"
+}
+
+# Each pair with its file and its line, also of values of several lines and of a pair after others on its line.
+origins() {
+    fresh
+    printf 'k = 1\n\n; a note\n[a b]\n\tj = "x\ny"\nm = 2\n  n=\n' >o.ini
+    ends 'origins' 0 'o.ini:1:\tk\t1\no.ini:5:[a b]\tj\tx\\ny\no.ini:7:[a b]\tm\t2\no.ini:8:[a b]\tn\t\n' '' list --origin o.ini
+    ends 'origins, as they stand' 0 'o.ini\0001\000\000k\0001\000o.ini\0005\000[a b]\000j\000x\ny\000o.ini\0007\000[a b]\000m\0002\000o.ini\0008\000[a b]\000n\000\000' '' \
+        list --origin --null --output - o.ini --like crate
+    printf 'k = v\r\nlong = a\r\n  b\r\nn = 1\r\n' >"an ini.ini"
+    ends 'origins after a value of several lines' 0 'an ini.ini:1:\tk\tv\nan ini.ini:2:\tlong\ta\\nb\nan ini.ini:4:\tn\t1\n' '' \
+        --multiline list "an ini.ini" --origin
+    printf '\357\273\277k = 1\n' >o.ini
+    ends 'origins after a mark' 0 'o.ini:1:\tk\t1\n' '' --origin list o.ini
+    : >o.ini
+    ends 'no origins' 0 '' '' list --origin o.ini
+    printf 'k = 1\n = 2\n' >o.ini
+    ends 'origins of a text that is refused' 3 '' "o.ini:2:2: no key stands before this
+ = 2
+ ^" list --origin o.ini
+    ends 'origins of bytes of standard input' 0 '-:1:\tk\t1\n' '' list --origin - <<'END'
+k = 1
+END
+}
+
+# Pairs and values for programs. A shell that evaluates the assignments has the values.
+forms() {
+    fresh
+    printf 'k = 1\n[a b]\nj = it'"'"'s "q"\\\\ \\tz\nJ = 2\n[\303\251]\nx =\n[a b]\nj = 3\n[9]\nx.y = $(echo no)`no`\\n$k\n' >f.ini
+    ends 'JSON of all pairs' 0 '{"":{"k":"1"},"a b":{"j":["it'"'"'s \\"q\\"\\\\ \\u0009z","3"],"J":"2"},"\303\251":{"x":""},"9":{"x.y":"$(echo no)`no`\\u000A$k"}}\n' \
+        '' list --format json f.ini
+    ends 'JSON of all pairs in any case' 0 '{"":{"k":"1"},"a b":{"j":["it'"'"'s \\"q\\"\\\\ \\u0009z","2","3"]},"\303\251":{"x":""},"9":{"x.y":"$(echo no)`no`\\u000A$k"}}\n' \
+        '' --like git list f.ini --format=json
+    ends 'assignments' 0 '_k='"'1'"'\na_b_j='"'it'\\\\''s"' "q"\\ \tz'"'"'\na_b_J='"'2'"'\n___x='"''"'\na_b_j='"'3'"'\n_9_x_y='"'"'$(echo no)`no`\n$k'"'"'\n' \
+        '' list --format sh f.ini
+    "$program" list --format sh f.ini >assignments
+    is 'the values that a shell has' "1 3 2  \$(echo no)\`no\`
+\$k" "$(eval "$(cat assignments)"; printf '%s %s %s %s %s' "$_k" "$a_b_j" "$a_b_J" "$___x" "$_9_x_y")"
+    is 'a value with an apostrophe in a shell' "it's \"q\"\\ $(printf '\t')z" \
+        "$(eval "$("$program" get --format sh f.ini j 'a b')"; printf %s "$a_b_j")"
+    "$program" rewrite --output - f.ini >"$room/want"
+    "$program" list --format ini f.ini >"$room/have" 2>&1
+    count 'the document, written anew'
+    "$program" list f.ini >"$room/want"
+    "$program" list f.ini --format lines >"$room/have" 2>&1
+    count 'the form of lines'
+    : >none.ini
+    ends 'JSON of no text' 0 '{"":{}}\n' '' list --format json none.ini
+    while IFS='|' read -r words status output; do
+        # shellcheck disable=SC2086
+        ends "$words" "$status" "$output" '' $words
+    done <<'END'
+get --format json f.ini k|0|"1"\n
+get --format json f.ini x.y 9 --all|0|"$(echo no)`no`\\u000A$k"\n
+--like systemd get --format json f.ini x \303\251|1|
+--like systemd get --format json --default a"b f.ini none|0|"a\\"b"\n
+get --format json f.ini none|1|
+get --format sh f.ini k|0|_k='1'\n
+get --format sh --default it's f.ini none 9|0|_9_none='it'\\''s'\n
+get --format sh f.ini none|1|
+get --format lines f.ini k|0|1\n
+END
+    ends 'JSON of several values' 0 '["it'"'"'s \\"q\\"\\\\ \\u0009z","3"]\n' '' --like kde get --all --format json f.ini j 'a b'
+    ends 'assignments of several values' 0 'a_b_j='"'it'\\\\''s"' "q"\\ \tz'"'"'\na_b_j='"'3'"'\n' '' \
+        --like kde get --all --format sh f.ini j 'a b'
+    printf 'k = 1\n = 2\n' >f.ini
+    for form in json sh ini; do
+        ends "a text that is refused: $form" 3 '' "f.ini:2:2: no key stands before this
+ = 2
+ ^" list --format $form f.ini
+    done
 }
 
 # The dialect that a file's name tells, else its text. WORDS|STATUS|OUTPUT|TOLD
@@ -301,7 +493,7 @@ helps() {
     ends 'the help of no command' 2 '' "ini_file: frob is no command; one of $commands
 Try 'ini_file --help'." frob -h
     "$program" set -h | grep -o '^  --[a-z-]*' | sort -u >"$room/have"
-    printf '  %s\n' -- --dry-run --existing --force --in-place --output --section --separator --verbose --wait >"$room/want"
+    printf '  %s\n' -- --all --dry-run --existing --force --in-place --output --section --separator --verbose --wait >"$room/want"
     count 'set -h: its choices'
 }
 
@@ -371,15 +563,13 @@ bytes() {
             ends "$command of bytes that are no UTF-8: '$bytes'" 3 '' "settings.ini:$told" $command settings.ini "$@"
         done
     done <<'END'
-\377\376k\000=\0001\000|1:1: this byte is no UTF-8; the file looks like UTF-16
-\376\377\000k\000=\0001|1:1: this byte is no UTF-8; the file looks like UTF-16
-name = caf\351\n|1:11: this byte is no UTF-8; the file looks like Latin-1
-a = 1\r\n\n\tb = \303\251t\351\n|3:8: this byte is no UTF-8; the file looks like Latin-1
-\357\273\277k = \344|1:5: this byte is no UTF-8; the file looks like Latin-1
-k = \303\n|1:5: this byte is no UTF-8; the file looks like Latin-1
-a = \000\nk = \351\n|2:5: this byte is no UTF-8
-k = \200\n|1:5: this byte is no UTF-8
-\n\001\377|2:2: this byte is no UTF-8
+k\000=\000\344\000|1:5: this byte is no UTF-8; the file looks like UTF-16: use --encoding utf-16le or utf-16be
+name = caf\351\n|1:11: this byte is no UTF-8; the file looks like Latin-1: use --encoding latin1
+a = 1\r\n\n\tb = \303\251t\351\n|3:8: this byte is no UTF-8; the file looks like Latin-1: use --encoding latin1
+\357\273\277k = \344|1:5: this byte is no UTF-8, of which the file has the byte order mark
+k = \303\n|1:5: this byte is no UTF-8; the file looks like Latin-1: use --encoding latin1
+k = \200\n|1:5: this byte is no UTF-8; the file looks like Windows-1252: use --encoding windows1252
+\n\001\377|2:2: this byte is no UTF-8; --encoding names another encoding
 END
 }
 
@@ -535,6 +725,9 @@ END
 mistakes
 places
 likes
+types
+origins
+forms
 autos
 suggests
 helps

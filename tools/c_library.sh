@@ -31,7 +31,7 @@ room=$(mktemp -d)
 trap 'rm -rf "$room"' EXIT
 built=$top/crates/ini_c/out/libini_c.a
 # the crates below it
-below='ini_multimap ini_text ini ini_view ini_check ini_edit ini_dialect'
+below='ini_multimap ini_text ini ini_view ini_check ini_edit ini_dialect ini_layers'
 
 # the files that the library is made of, where they are newer than this one
 newer_than() {

@@ -1,5 +1,5 @@
 #!/bin/sh
-# Installs ini_tool, ini_merge and ini_file, their pages and the completions of bash, zsh and fish:
+# Installs ini_tool and ini_file, their pages and the completions of bash, zsh and fish:
 #
 #     tools/install.sh PREFIX
 #
@@ -13,7 +13,7 @@ if [ $# -ne 1 ] || [ -z "$1" ]; then
     echo 'usage: tools/install.sh PREFIX' >&2
     exit 2
 fi
-programs='ini_tool ini_merge ini_file'
+programs='ini_tool ini_file'
 for name in $programs; do
     "$top/tools/run.sh" --build "$name"
 done

@@ -56,7 +56,7 @@ Bigrosk $version for x86_64 Linux, of $(commit)
 Each function of these files was proved before it was built, with $kit:
 
 END
-    for it in bin/ini_tool bin/ini_merge bin/ini_file lib/libbigrosk_ini.a "lib/libbigrosk_ini.so.$version"; do
+    for it in bin/ini_tool bin/ini_file lib/libbigrosk_ini.a "lib/libbigrosk_ini.so.$version"; do
         mark=$(marks "$stage/$it")
         case $mark in
         *" "* | '') echo "tools/release.sh: $it bears no mark of a proof" >&2 && return 1 ;;

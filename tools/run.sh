@@ -15,6 +15,7 @@ builder=
 shower=
 # what the first build of a program takes, where no library of it is proved
 cost='about 23 minutes of processor time (some 8 minutes on four cores), up to 4 GB of memory and 2.5 GB of disk'
+cost_of_ini_file='about 90 minutes of processor time (some 50 minutes on four cores), up to 6 GB of memory and 2.5 GB of disk'
 
 say() {
     printf '%s\n' "$1" >&2 || true
@@ -94,6 +95,7 @@ show() {
 # Proves and builds the program. Its time is then that of the build's start, so that a file that was changed meanwhile is newer.
 build() {
     look_ahead
+    case $program in */ini_file) cost=$cost_of_ini_file ;; esac
     say "building $program: each function is proved first, which the first time takes $cost"
     for signal in HUP INT TERM; do
         # shellcheck disable=SC2064
@@ -102,7 +104,7 @@ build() {
     trap 'rm -rf "$room"' EXIT
     { room=$(mktemp -d) && : >"$room/log" && : >"$room/start" && mkfifo "$room/said"; } ||
         give_up "$name is not built, and there is no room for its log: set TMPDIR to a folder that can be written to"
-    # the run that builds it: an empty text to format, the version, no questions, or an empty file to merge
+    # the run that builds it: an empty text to format, the version, no questions, or an empty file
     case $name in ini_tool) word=fmt ;; ini_file) word=--version ;; ini_replay) word=calls ;; *) word=/dev/null ;; esac
     (cd "$top/crates/$name" && TMPDIR=$room && export TMPDIR && exec rt run -- "$word") </dev/null >"$room/said" 2>&1 &
     builder=$!

@@ -154,6 +154,10 @@ for _call, _arguments, _result in [
     ("text_comment", [_handle] + _name + _text + _out, ctypes.c_uint32),
     ("text_set_comment", [_handle, _write] + _name + _text + _text, ctypes.c_uint32),
     ("text_comment_out", [_handle] + _name + _text, ctypes.c_uint32),
+    ("text_diff", [_handle, _handle] + _list, ctypes.c_uint32),
+    ("text_apply", [_handle, _write] + _text + _counts + _counts[:1], ctypes.c_uint32),
+    ("text_conflicts", [_handle] * 3 + _list, ctypes.c_uint32),
+    ("text_merge3", [_handle] * 3 + [_write, ctypes.c_bool] + _counts[:1], ctypes.c_uint32),
     ("version", [], ctypes.c_uint32),
 ]:
     _function = getattr(library, "bigrosk_ini_" + _call)
@@ -176,10 +180,11 @@ class Broken(ValueError):
 
 class Unwritable(ValueError):
     """A value, a key or a section's name that an edit of a text can't write so that it is read back, or a
-    line that finds no place: .what is "value", "key", "name" or "place"."""
+    line that finds no place: .what is "value", "key", "name" or "place"; of several changes .index, from 0, is
+    that of the one that was refused."""
 
-    def __init__(self, what: str) -> None:
-        self.what = what
+    def __init__(self, what: str, index: Optional[int] = None) -> None:
+        self.what, self.index = what, index
         super().__init__(f"no {what} for an edit of this text")
 
 

@@ -1,4 +1,4 @@
-# Completions of fish for ini_tool, ini_merge and ini_file. fish finds this file under each program's name.
+# Completions of fish for ini_tool and ini_file. fish finds this file under each program's name.
 
 # The words before the one that is typed: those that are no options and no option's text come to `bigrosk_arguments`, the section
 # that is named by itself to `bigrosk_section`, the option whose text is typed to `bigrosk_option`.
@@ -12,7 +12,7 @@ function __bigrosk_sort
             set bigrosk_option
         else
             switch $word
-                case --like --policy --output --default --separator --wait --format --allow --deny --section -s --indent-pairs --blank-lines
+                case --like --encoding --policy --output --default --type --separator --wait --format --allow --deny --section -s --indent-pairs --blank-lines --color --sort
                     set bigrosk_option $word
                 case '-?*'
                 case '*'
@@ -68,6 +68,9 @@ function __bigrosk_ini_file
             printf '%s\n' auto crate git systemd desktop python php mysql samba windows kde supervisor fail2ban aws editorconfig npm qt hg \
                 pulseaudio odbc freetds sssd openssl uwsgi xrdp openttd
             return
+        case --encoding
+            printf '%s\n' utf-8 utf-16le utf-16be latin1 windows1252
+            return
         case --output
             __fish_complete_path
             return
@@ -75,16 +78,31 @@ function __bigrosk_ini_file
             __bigrosk_sections
             return
         case --format
-            test "$command" = diff; and echo json; or printf '%s\n' json sarif github
+            switch "$command"
+                case get
+                    printf '%s\n' lines json sh
+                case list
+                    printf '%s\n' lines json sh ini
+                case diff
+                    printf '%s\n' lines json edits
+                case '*'
+                    printf '%s\n' json sarif github
+            end
             return
         case --color
             printf '%s\n' auto always never
+            return
+        case --sort
+            printf '%s\n' keys sections both
+            return
+        case --type
+            printf '%s\n' bool int size float duration path
             return
         case '?*'
             return
     end
     if string match -q -- '-*' (commandline -ct)
-        echo --like
+        printf '%s\n' --like --encoding
         __bigrosk_options
         test $count -gt 0; and __bigrosk_help -- ini_file $command --help
         return
@@ -92,11 +110,11 @@ function __bigrosk_ini_file
     switch "$command,$count"
         case ',0'
             __bigrosk_help '[a-z]' ini_file --help
-        case '*,1' 'merge,*' 'diff,*' 'merge3,*' 'check,*' 'format,*'
+        case '*,1' 'merge,*' 'layers,*' 'diff,*' 'apply,*' 'merge3,*' 'check,*' 'format,*'
             __fish_complete_path
-        case get,2 set,2 add,2 delete,2 rename-key,2
+        case get,2 set,2 add,2 delete,2 unset-all,2 comment,2 rename-key,2
             __bigrosk_keys
-        case keys,2 delete-section,2 rename-section,2 get,3 delete,3 set,4 add,4 rename-key,4
+        case keys,2 delete-section,2 rename-section,2 get,3 delete,3 unset-all,3 comment,3 set,4 add,4 rename-key,4
             __bigrosk_sections
     end
 end
@@ -114,17 +132,6 @@ function __bigrosk_ini_tool
     end
 end
 
-function __bigrosk_ini_merge
-    __bigrosk_sort
-    if test "$bigrosk_option" = --policy
-        __bigrosk_policies
-    else if test (count $bigrosk_arguments) -eq 0; and string match -q -- '-*' (commandline -ct)
-        __bigrosk_options
-    else
-        __fish_complete_path
-    end
-end
-
-for program in ini_tool ini_merge ini_file
+for program in ini_tool ini_file
     complete -c $program -f -a "(__bigrosk_$program)"
 end

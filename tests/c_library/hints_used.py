@@ -2,7 +2,8 @@
 from pathlib import Path
 from typing import List, Optional, Tuple
 
-from bigrosk_ini import Broken, Document, ReadOption, Settings, WriteOption, dialect, edit_set, load
+from bigrosk_ini import Broken, Change, Conflict, Document, ReadOption, Settings, WriteOption, apply, dialect
+from bigrosk_ini import diff, edit_set, load, merge3
 
 document = Document(Path("settings.ini"), ReadOption(multiline=True))
 port: Optional[str] = document.get("server", "port")
@@ -17,6 +18,11 @@ document["server"]["port"] = 443  # type: ignore[assignment]
 edit_set(Path("a"), None, "a", "2")  # type: ignore[type-var]
 options: Tuple[ReadOption, WriteOption] = dialect("systemd")
 unit: Settings = load(Path("some.service"), dialect="systemd")
+changed: List[Change] = diff(unit, Settings())
+was: Optional[str] = changed[0].old
+conflicts: List[Conflict] = merge3(unit, Settings(), Settings(), side="ours")
+apply(changed, unit)
+apply([1], unit)  # type: ignore[list-item]
 try:
     document.is_plain()
 except Broken as broken:

@@ -4,8 +4,8 @@ import threading
 import time
 from ctypes import c_int, c_long
 from bigrosk_ini._calls import library
-from bigrosk_ini import Document, Settings, edit_add, edit_delete, edit_delete_section
-from bigrosk_ini import edit_rename_key, edit_rename_section, edit_set
+from bigrosk_ini import Change, Document, Settings, apply, diff, edit_add, edit_delete, edit_delete_section
+from bigrosk_ini import edit_rename_key, edit_rename_section, edit_set, merge3
 
 requests = c_long.in_dll(library, "heap_requests")
 refused = c_long.in_dll(library, "heap_refused")
@@ -44,6 +44,9 @@ SETTINGS_CALLS = {
     "get_all": lambda settings: settings.get_all("s", "k"),
     "walk": lambda settings: settings.walk(),
     "text": lambda settings: str(settings),
+    "diff": lambda settings: diff(Settings("k=2\n[u]\nk=1\n"), settings),
+    "apply": lambda settings: apply([Change("s", "k", "2", None), Change("u", "k", None, "v")], settings),
+    "merge3": lambda settings: merge3(Settings("k=2\n"), Settings("k=3\nl=1\n"), settings, "ours"),
 }
 
 

@@ -9,7 +9,8 @@ import tempfile
 from pathlib import Path
 
 import bigrosk_ini
-from bigrosk_ini import Broken, Mistyped, NoOption, NoSection, SectionThere, Settings, Unwritable, load
+from bigrosk_ini import Broken, Change, Conflict, Conflicting, Mistyped, NoOption, NoSection, SectionThere
+from bigrosk_ini import Settings, Unwritable, apply, diff, load, merge3
 
 TEXT = """; the fleet
 port = 8080
@@ -281,7 +282,60 @@ def dialects():
         same(type(raised(load, path, dialect="gits")), ValueError)
 
 
-for part in (mapping, look_ups, changes, defaults, dialects, files, beside_configparser, random_runs):
+def differences():
+    old, new = Settings(TEXT), Settings(TEXT)
+    same(diff(old, new), [])
+    new[None]["port"] = "9090"
+    new["paths"]["tmp"] = "/t\n"
+    del new["flags"]["word"]
+    wanted = [
+        Change(None, "port", "8080", "9090"),
+        Change("paths", "tmp", None, "/t\n"),
+        Change("flags", "word", "some", None),
+    ]
+    same(diff(old, new), wanted)
+    same((wanted[0].section, wanted[0].key, wanted[0].old, wanted[0].new), (None, "port", "8080", "9090"))
+    same(repr(wanted[2]), "Change(section='flags', key='word', old='some', new=None)")
+    same((diff(old, old), str(old)), ([], TEXT))
+    apply(iter(wanted), old)
+    same(str(old), str(new))
+    same(diff(old, new), [])
+    apply([], old)
+    refused = raised(apply, [("flags", "debug", None, "No"), (None, "", None, "v")], old)
+    same((type(refused), refused.what, refused.index), (Unwritable, "key", 1))
+    same(raised(old.set, None, "", "v").index, None)
+    same(type(raised(apply, [(None, None, None, "v")], old)), TypeError)
+    same(type(raised(apply, [(None, "k", 1, "v")], old)), TypeError)
+    same(type(raised(diff, old, TEXT)), TypeError)
+    same(str(old), str(new))
+    # values in a listing that is longer than the first room
+    long = Settings("".join(f"k{it} = {'v' * 99}\n" for it in range(300)))
+    same(diff(Settings(), long), [Change(None, f"k{it}", None, "v" * 99) for it in range(300)])
+
+
+def merges():
+    base, ours = Settings("a = 1\nb = 1\nc = 1\n"), Settings("a = 2\nb = 1\nc = 2\n")
+    theirs = Settings("# theirs\na = 1\nb = 3\nc = 3\n")
+    refused = raised(merge3, base, ours, theirs)
+    same((type(refused), refused.conflicts), (Conflicting, [Conflict(None, "c", "1", "2", "3")]))
+    same(str(theirs), "# theirs\na = 1\nb = 3\nc = 3\n")
+    same(type(raised(merge3, base, ours, theirs, side="mine")), ValueError)
+    same(merge3(base, ours, theirs, side="theirs"), refused.conflicts)
+    same(str(theirs), "# theirs\na = 2\nb = 3\nc = 3\n")
+    same(merge3(base, ours, theirs, side="ours")[0].ours, "2")
+    same(str(theirs), "# theirs\na = 2\nb = 3\nc = 2\n")
+    same(merge3(base, ours, theirs), [])
+    same((merge3(base, base, theirs), merge3(base, theirs, theirs)), ([], []))
+    same(str(theirs), "# theirs\na = 2\nb = 3\nc = 2\n")
+    same((merge3(base, ours, base), str(base)), ([], "a = 2\nb = 1\nc = 2\n"))
+    ours.set(None, "b", "x\ny")
+    bare = Settings("a = 2\nb = 1\n", bigrosk_ini.ReadOption(quotes=False, escapes=False))
+    refused = raised(merge3, base, ours, bare)
+    same((type(refused), refused.what, refused.index, str(bare)), (Unwritable, "value", 0, "a = 2\nb = 1\n"))
+
+
+parts = mapping, look_ups, changes, defaults, dialects, differences, merges, files
+for part in (*parts, beside_configparser, random_runs):
     part()
 same(hasattr(bigrosk_ini, "load"), True)
 print("all of the settings of the Python module")

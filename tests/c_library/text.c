@@ -1,4 +1,4 @@
-/* Texts in pieces that stay open, typed look-ups, the buffer that grows, and files. The last line is 'N checks, M failed'. */
+/* Texts in pieces that stay open, what differs between them, typed look-ups, the buffer that grows, and files. The last line is 'N checks, M failed'. */
 #include "checks.h"
 
 typedef struct bigrosk_ini_text text;
@@ -184,6 +184,101 @@ static void repeated(void)
     bigrosk_ini_text_close(&t);
 }
 
+static const char before[] = "# of the text\nport = 80\nname = web\n\n[paths]\nlog = /a\ncache = /c\n";
+static const char after[] = "name = web\nport = 443\n[paths]\ncache = /c\ntmp = /t\n[more]\nk = v\n";
+
+static void differences(void)
+{
+    text from = BIGROSK_INI_TEXT_EMPTY, to = BIGROSK_INI_TEXT_EMPTY;
+    fault f = { 0, 0, 0, "" };
+    uint8_t bytes[64] = { 'x' };
+    size_t counts[24] = { 7 }, n = BIGROSK_INI_UNNAMED, number = 5;
+    struct bigrosk_ini_sizes sizes = BIGROSK_INI_NO_SIZES;
+    CHECK(bigrosk_ini_text_diff(&from, &to, bytes, 64, counts, 24, &sizes) == BIGROSK_INI_NO_DOCUMENT);
+    CHECK(bigrosk_ini_text_apply(&from, &plain, bytes, 0, counts, 0, &number) == BIGROSK_INI_NO_DOCUMENT);
+    CHECK(opened(&from, before, &f) == BIGROSK_INI_OK);
+    CHECK(bigrosk_ini_text_diff(&from, &to, bytes, 64, counts, 24, &sizes) == BIGROSK_INI_NO_DOCUMENT);
+    CHECK(bigrosk_ini_text_diff(&to, &from, bytes, 64, counts, 24, &sizes) == BIGROSK_INI_NO_DOCUMENT);
+    CHECK(opened(&to, after, &f) == BIGROSK_INI_OK);
+    CHECK(bigrosk_ini_text_diff(&from, &to, bytes, 46, counts, 24, &sizes) == BIGROSK_INI_NO_ROOM);
+    CHECK(bigrosk_ini_text_diff(&from, &to, bytes, 47, counts, 15, &sizes) == BIGROSK_INI_NO_ROOM);
+    CHECK(sizes.bytes == 47 && sizes.counts == 16 && bytes[0] == 'x' && counts[0] == 7 && number == 5);
+    CHECK(bigrosk_ini_text_diff(&from, &to, bytes, 47, counts, 16, &sizes) == BIGROSK_INI_OK);
+    const char texts[] = "port\0" "80\0" "443\0" "paths\0" "tmp\0" "/t\0" "more\0" "k\0" "v\0" "paths\0" "log\0" "/a";
+    const size_t lengths[] = { n, 4, 2, 3, 5, 3, n, 2, 4, 1, n, 1, 5, 3, 2, n };
+    CHECK(sizes.bytes == sizeof texts && !memcmp(bytes, texts, sizeof texts));
+    CHECK(sizes.counts == 16 && !memcmp(counts, lengths, sizeof lengths));
+    struct bigrosk_ini_walk walk = bigrosk_ini_walk_over(bytes, counts, sizes);
+    CHECK(bigrosk_ini_text(&walk, NULL) == NULL && !strcmp(bigrosk_ini_text(&walk, NULL), "port"));
+    CHECK(bigrosk_ini_text_apply(&from, &plain, bytes, 47, counts, 16, &number) == BIGROSK_INI_OK && number == 5);
+    CHECK(is_text(&from, "# of the text\nport = 443\nname = web\n\n[paths]\ncache = /c\ntmp = /t\n\n[more]\nk = v\n"));
+    CHECK(is_text(&to, after));
+    CHECK(bigrosk_ini_text_diff(&from, &to, bytes, 0, counts, 0, &sizes) == BIGROSK_INI_OK && sizes.counts == 0);
+    CHECK(opened(&to, "[paths]\nlog = 1\nother = 2\nlog = 3\n", &f) == BIGROSK_INI_OK);
+    CHECK(bigrosk_ini_text_apply(&to, &plain, (const uint8_t *)texts + 34, 13, lengths + 12, 4, &number)
+        == BIGROSK_INI_OK && is_text(&to, "[paths]\nother = 2\n"));
+    bigrosk_ini_text_close(&from);
+    bigrosk_ini_text_close(&to);
+}
+
+/* Changes of which the second one is refused, and what is no list of changes: the text stays. */
+static void refused_changes(void)
+{
+    text t = BIGROSK_INI_TEXT_EMPTY;
+    fault f = { 0, 0, 0, "" };
+    size_t n = BIGROSK_INI_UNNAMED, number = 5;
+    const uint8_t *bytes = (const uint8_t *)"a\0" "1\0" "\0" "v\0" "]\0" "k\0" "v";
+    const size_t two[] = { n, 1, n, 1, n, 0, n, 1 }, section[] = { 1, 1, n, 1 }, no_key[] = { n, n, n, 1 };
+    CHECK(opened(&t, "k = v\n", &f) == BIGROSK_INI_OK);
+    CHECK(bigrosk_ini_text_apply(&t, &plain, bytes, 7, two, 7, &number) == BIGROSK_INI_NOT_UTF8);
+    CHECK(bigrosk_ini_text_apply(&t, &plain, bytes, 6, two, 8, &number) == BIGROSK_INI_NOT_UTF8);
+    CHECK(bigrosk_ini_text_apply(&t, &plain, bytes, 7, no_key, 4, &number) == BIGROSK_INI_NOT_UTF8);
+    CHECK(bigrosk_ini_text_apply(&t, &plain, (const uint8_t *)"\xff\0" "1", 4, two, 4, &number) == BIGROSK_INI_NOT_UTF8);
+    CHECK(number == 5 && is_text(&t, "k = v\n"));
+    CHECK(bigrosk_ini_text_apply(&t, &plain, bytes, 7, two, 8, &number) == BIGROSK_INI_UNPLAIN_KEY && number == 1);
+    CHECK(bigrosk_ini_text_apply(&t, &plain, bytes + 7, 6, section, 4, &number) == BIGROSK_INI_UNPLAIN_NAME);
+    CHECK(number == 0 && is_text(&t, "k = v\n"));
+    CHECK(bigrosk_ini_text_apply(&t, &plain, bytes, 7, two, 0, &number) == BIGROSK_INI_OK && is_text(&t, "k = v\n"));
+    CHECK(bigrosk_ini_text_apply(&t, &plain, bytes, 7, two, 4, &number) == BIGROSK_INI_OK);
+    CHECK(is_text(&t, "k = v\na = 1\n"));
+    bigrosk_ini_text_close(&t);
+}
+
+static void merges(void)
+{
+    text base = BIGROSK_INI_TEXT_EMPTY, ours = BIGROSK_INI_TEXT_EMPTY, theirs = BIGROSK_INI_TEXT_EMPTY;
+    fault f = { 0, 0, 0, "" };
+    uint8_t bytes[64] = { 'x' };
+    size_t counts[8] = { 7 }, number = 5;
+    struct bigrosk_ini_sizes sizes = BIGROSK_INI_NO_SIZES;
+    struct bigrosk_ini_read_option bare = { false, false, false, false, false };
+    const char *mine = "a = 2\nb = 1\nc = 2\nd = 1\n", *others = "# theirs\na = 1\nb = 3\nc = 3\nd = 1\n";
+    CHECK(opened(&base, "a = 1\nb = 1\nc = 1\nd = 1\n", &f) == BIGROSK_INI_OK);
+    CHECK(opened(&ours, mine, &f) == BIGROSK_INI_OK);
+    CHECK(bigrosk_ini_text_conflicts(&base, &ours, &theirs, bytes, 64, counts, 8, &sizes) == BIGROSK_INI_NO_DOCUMENT);
+    CHECK(bigrosk_ini_text_merge3(&base, &ours, &theirs, &plain, true, &number) == BIGROSK_INI_NO_DOCUMENT);
+    CHECK(bigrosk_ini_text_merge3(&base, &theirs, &ours, &plain, true, &number) == BIGROSK_INI_NO_DOCUMENT);
+    CHECK(bigrosk_ini_text_merge3(&theirs, &base, &ours, &plain, true, &number) == BIGROSK_INI_NO_DOCUMENT);
+    CHECK(opened(&theirs, others, &f) == BIGROSK_INI_OK);
+    CHECK(bigrosk_ini_text_conflicts(&base, &ours, &theirs, bytes, 7, counts, 8, &sizes) == BIGROSK_INI_NO_ROOM);
+    CHECK(sizes.bytes == 8 && sizes.counts == 5 && bytes[0] == 'x' && counts[0] == 7);
+    CHECK(bigrosk_ini_text_conflicts(&base, &ours, &theirs, bytes, 8, counts, 5, &sizes) == BIGROSK_INI_OK);
+    CHECK(!memcmp(bytes, "c\0" "1\0" "2\0" "3", 8) && counts[0] == BIGROSK_INI_UNNAMED && counts[1] == 1);
+    CHECK(bigrosk_ini_text_merge3(&base, &ours, &theirs, &plain, false, &number) == BIGROSK_INI_OK && number == 5);
+    CHECK(is_text(&theirs, "# theirs\na = 2\nb = 3\nc = 3\nd = 1\n") && is_text(&ours, mine));
+    CHECK(opened(&theirs, others, &f) == BIGROSK_INI_OK);
+    CHECK(bigrosk_ini_text_merge3(&base, &ours, &theirs, &plain, true, &number) == BIGROSK_INI_OK);
+    CHECK(is_text(&theirs, "# theirs\na = 2\nb = 3\nc = 2\nd = 1\n"));
+    /* a value that these reading options have no form of */
+    CHECK(opened(&ours, "a = 1\nb = \"x\\ny\"\nc = 1\nd = 1\n", &f) == BIGROSK_INI_OK);
+    CHECK(bigrosk_ini_text_open((const uint8_t *)"a = 1\nb = 1\n", 12, &bare, &theirs, &f) == BIGROSK_INI_OK);
+    CHECK(bigrosk_ini_text_merge3(&base, &ours, &theirs, &plain, true, &number) == BIGROSK_INI_UNPLAIN_VALUE);
+    CHECK(number == 0 && is_text(&theirs, "a = 1\nb = 1\n"));
+    bigrosk_ini_text_close(&base);
+    bigrosk_ini_text_close(&ours);
+    bigrosk_ini_text_close(&theirs);
+}
+
 static void typed(void)
 {
     text t = BIGROSK_INI_TEXT_EMPTY;
@@ -296,6 +391,9 @@ int main(int argc, char **argv)
     edits();
     comments();
     repeated();
+    differences();
+    refused_changes();
+    merges();
     typed();
     files(argc > 1 ? argv[1] : "text_client.ini");
     dialects(argc > 1 ? argv[1] : "text_client.ini");

@@ -44,7 +44,9 @@ void rattle_dealloc(void *at)
 static const char lines[] = "# of the text\nport = 80\n\n[s]\n# of c\nc = 3\nd = 4\nc = \"5\"\n\n# of t\n[t]\n  e = 1\n";
 static const struct bigrosk_ini_write_option option = BIGROSK_INI_WRITE_DEFAULT;
 enum { open, set, set_new, set_section, add, delete, delete_all, set_nth, set_all, rename_key, rename_section, delete_section,
-    add_section, set_comment, comment_out, items, pairs, all, to_buffer, calls };
+    add_section, set_comment, comment_out, items, pairs, all, diff, apply, conflicts, merge3, to_buffer, calls };
+
+static bool is_text(struct bigrosk_ini_text *t, const char *want);
 
 /* one call with n requests granted */
 static uint32_t call(int which, long n, struct bigrosk_ini_text *t)
@@ -55,7 +57,11 @@ static uint32_t call(int which, long n, struct bigrosk_ini_text *t)
     struct bigrosk_ini_fault f = { 0, 0, 0, "" };
     size_t count = 0;
     const uint8_t *bytes = (const uint8_t *)"word";
+    const char base[] = "port = 1\n[s]\nc = 3\nd = 4\n", ours[] = "port = 2\n[s]\nc = 9\nnew = 1\n";
+    const size_t two[] = { BIGROSK_INI_UNNAMED, 4, 2, 1, 1, 1, 1, BIGROSK_INI_UNNAMED };
+    struct bigrosk_ini_text b = BIGROSK_INI_TEXT_EMPTY, o = BIGROSK_INI_TEXT_EMPTY;
     uint32_t status = BIGROSK_INI_OK;
+    CHECK(bigrosk_ini_text_open_str(base, &b, &f) == BIGROSK_INI_OK && bigrosk_ini_text_open_str(ours, &o, &f) == BIGROSK_INI_OK);
     left = n;
     switch (which) {
     case open: status = bigrosk_ini_text_open_str("k = v\n[a]\nl = \"w\"\n", t, &f); break;
@@ -78,9 +84,18 @@ static uint32_t call(int which, long n, struct bigrosk_ini_text *t)
     case items: status = bigrosk_ini_text_items(t, out, sizeof out, counts, 64, &sizes); break;
     case pairs: status = bigrosk_ini_text_pairs(t, true, (const uint8_t *)"s", 1, out, sizeof out, counts, 64, &sizes); break;
     case all: status = bigrosk_ini_text_get_all(t, BIGROSK_INI_AT("s", "c"), out, sizeof out, counts, 64, &sizes); break;
+    case diff: status = bigrosk_ini_text_diff(&o, t, out, sizeof out, counts, 64, &sizes); break;
+    case apply:
+        status = bigrosk_ini_text_apply(t, &option, (const uint8_t *)"port\0" "80\0" "9\0" "s\0" "d\0" "4", 16, two, 8, &count);
+        break;
+    case conflicts: status = bigrosk_ini_text_conflicts(&b, &o, t, out, sizeof out, counts, 64, &sizes); break;
+    case merge3: status = bigrosk_ini_text_merge3(&b, &o, t, &option, true, &count); break;
     default: status = bigrosk_ini_text_write(t, out, sizeof out, &count); break;
     }
     left = 1000000000;
+    CHECK(is_text(&b, base) && is_text(&o, ours));
+    bigrosk_ini_text_close(&b);
+    bigrosk_ini_text_close(&o);
     return status;
 }
 

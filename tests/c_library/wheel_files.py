@@ -27,7 +27,7 @@ def sum_of(path):
     return "sha256=" + total.rstrip(b"=").decode()
 
 
-sources = [f"bigrosk_ini/{it}" for it in ("__init__.py", "_calls.py", "_refusals.py", "_settings.py", "py.typed")]
+sources = [f"bigrosk_ini/{it}" for it in ("__init__.py", "_calls.py", "_differences.py", "_refusals.py", "_settings.py", "py.typed")]
 library = "bigrosk_ini/libbigrosk_ini.so"
 files = sorted([*sources, library, *(f"{info}/{it}" for it in ("METADATA", "RECORD", "WHEEL"))])
 same("files", sorted(wheel.namelist()), files)

@@ -1,5 +1,5 @@
-"""Compares what is documented of the programs with what they do: options, commands, policies, dialects and exit
-statuses in `ini_file --help`, the usage lines, the pages of the manual, the tables of docs/PROGRAM.md and the
+"""Compares what is documented of the programs with what they do: options, commands, policies, dialects, encodings and
+exit statuses in `ini_file --help`, the usage lines, the pages of the manual, the tables of docs/PROGRAM.md and the
 completions of bash.
 
     documented.py TOP
@@ -14,7 +14,7 @@ import sys
 import tempfile
 
 TOP = pathlib.Path(sys.argv[1]).resolve()
-PROGRAMS = ("ini_tool", "ini_merge", "ini_file")
+PROGRAMS = ("ini_tool", "ini_file")
 OFFER = """. "$0" && COMP_WORDS=("$@") COMP_CWORD=$(($# - 1)) && _bigrosk
 printf '%s\\n' "${COMPREPLY[@]}" """
 # What each outcome is called, wherever a status is explained.
@@ -50,8 +50,8 @@ def offered(*words):
 
 
 def options_in(text):
-    """The long names of options, but for those of pages and of git."""
-    return set(re.findall(r"(?<![\w-])--[a-z][a-z-]*", text)) - {"--help", "--version", "--unidiff-zero"}
+    """The long names of options, but for those of pages and of git, and for another name of one."""
+    return set(re.findall(r"(?<![\w-])--[a-z][a-z-]*", text)) - {"--help", "--version", "--unidiff-zero", "--diff"}
 
 
 def page(program):
@@ -116,11 +116,10 @@ def options():
     shown = run("ini_file", "--help")[1]
     before = options_in(shown.split("\nChoices:\n")[0])
     same("options of ini_file", help=before, completions=offered("ini_file", "-"))
-    for program in ("ini_tool", "ini_merge"):
-        usage = options_in(run(program)[2])
-        shared = before - {"--like"}
-        same(f"options of {program}", usage=usage, help=shared, completions=offered(program, "-"))
-        same(f"options on the page of {program}", help=shared, page=options_in(page(program)))
+    usage = options_in(run("ini_tool")[2])
+    shared = before - {"--like", "--encoding"}
+    same("options of ini_tool", usage=usage, help=shared, completions=offered("ini_tool", "-"))
+    same("options on the page of ini_tool", help=shared, page=options_in(page("ini_tool")))
     by_commands = set()
     for command in offered("ini_file", ""):
         by_commands |= offered("ini_file", command, "--") - {"--"}
@@ -163,6 +162,22 @@ def dialects():
     )
 
 
+def encodings():
+    """The names of encodings, each of which the program takes."""
+    told = run("ini_file", "--encoding", "", "list", "nowhere.ini")[2].split("\n")[0].split(" one of ")[1]
+    named = page("ini_file").split('.BI --encoding " NAME"\n')[1].split("A byte order mark")[0]
+    shown = run("ini_file", "--help")[1].split("\n  --encoding NAME")[1].split(": ")[1].split(";")[0]
+    explained = below("Options").split("\n| `--encoding NAME` |")[1].split("A byte order mark")[0]
+    same(
+        "encodings",
+        program=set(told.split()),
+        help=set(re.sub(r"\(.*?\)", "", shown, flags=re.S).split()),
+        page=set(re.findall(r"^\.BR? ([\w-]+)", named, re.M)),
+        document=set(re.findall(r"`([a-z][a-z0-9-]*)`", explained)),
+        completions=offered("ini_file", "--encoding", ""),
+    )
+
+
 def statuses():
     """What each status of a run is called, in the help and on the page."""
     pathlib.Path("plain.ini").write_text("k=v\n")
@@ -174,10 +189,6 @@ def statuses():
         ("ini_tool", "wrong words"): run("ini_tool", "frob"),
         ("ini_tool", "a refused text"): run("ini_tool", "fmt", stdin=open("refused.ini", "rb")),
         ("ini_tool", "a fault"): run("ini_tool", "fmt", stdin=folder),
-        ("ini_merge", "done"): run("ini_merge", "plain.ini"),
-        ("ini_merge", "wrong words"): run("ini_merge"),
-        ("ini_merge", "a refused text"): run("ini_merge", "refused.ini"),
-        ("ini_merge", "a fault"): run("ini_merge", "nowhere.ini"),
         ("ini_file", "done"): run("ini_file", "get", "plain.ini", "k"),
         ("ini_file", "not found"): run("ini_file", "get", "plain.ini", "j"),
         ("ini_file", "wrong words"): run("ini_file", "frob"),
@@ -210,7 +221,7 @@ def neighbours():
 def main():
     with tempfile.TemporaryDirectory() as folder:
         os.chdir(folder)
-        for compared in (commands, options, policies, dialects, statuses, neighbours):
+        for compared in (commands, options, policies, dialects, encodings, statuses, neighbours):
             compared()
         os.chdir("/")
     print("\n".join(differences))

@@ -51,13 +51,13 @@ done <<'ROWS'
 |k=1\nj=1\n|j=1\n|k=1\nj=1\ni=1\n|0|j=1\ni=1\n|
 |k=1\nj=1\n|k=1\nj=1\n|j=1\n|0|j=1\n|
 ||[a]\nk=1\n|[b]\nk=1\n|0|[b]\nk=1\n\n[a]\nk=1\n|
-|[a]\nk=1\n|[a]\nk=2\n|[a]\n; c\nk = 3\n|1|[a]\n; c\nk = 2\n|conflict: [a] k: base = 1, ours = 2, theirs = 3\n
---ours|[a]\nk=1\n|[a]\nk=2\n|[a]\nk = 3\n|1|[a]\nk = 2\n|conflict: [a] k: base = 1, ours = 2, theirs = 3\n
---theirs|[a]\nk=1\n|[a]\nk=2\n|[a]\nk = 3\n|1|[a]\nk = 3\n|conflict: [a] k: base = 1, ours = 2, theirs = 3\n
---ours --theirs|k=1\n||k=3\nj=1\n|1|k=3\nj=1\n|conflict: k: base = 1, ours has none, theirs = 3\n
---theirs --ours|k=1\n||k=3\nj=1\n|1|j=1\n|conflict: k: base = 1, ours has none, theirs = 3\n
-|k=1\nj=1\n|k=a\\tb\nj=2\n|j=3\n|1|j=2\nk=a\\tb\n|conflict: k: base = 1, ours = a\\tb, theirs has none\nconflict: j: base = 1, ours = 2, theirs = 3\n
-||k=2\n|k=3\n|1|k=2\n|conflict: k: base has none, ours = 2, theirs = 3\n
+|[a]\nk=1\n|[a]\nk=2\n|[a]\n; c\nk = 3\n|1|[a]\n; c\nk = 2\n|conflict: [a] k: base = 1, ours = 2, theirs = 3\nnote: [a] k: base.ini:2:1, ours.ini:2:1, theirs.ini:3:1\n
+--ours|[a]\nk=1\n|[a]\nk=2\n|[a]\nk = 3\n|1|[a]\nk = 2\n|conflict: [a] k: base = 1, ours = 2, theirs = 3\nnote: [a] k: base.ini:2:1, ours.ini:2:1, theirs.ini:2:1\n
+--theirs|[a]\nk=1\n|[a]\nk=2\n|[a]\nk = 3\n|1|[a]\nk = 3\n|conflict: [a] k: base = 1, ours = 2, theirs = 3\nnote: [a] k: base.ini:2:1, ours.ini:2:1, theirs.ini:2:1\n
+--ours --theirs|k=1\n||k=3\nj=1\n|1|k=3\nj=1\n|conflict: k: base = 1, ours has none, theirs = 3\nnote: k: base.ini:1:1, theirs.ini:1:1\n
+--theirs --ours|k=1\n||k=3\nj=1\n|1|j=1\n|conflict: k: base = 1, ours has none, theirs = 3\nnote: k: base.ini:1:1, theirs.ini:1:1\n
+|k=1\nj=1\n|k=a\\tb\nj=2\n|j=3\n|1|j=2\nk=a\\tb\n|conflict: k: base = 1, ours = a\\tb, theirs has none\nconflict: j: base = 1, ours = 2, theirs = 3\nnote: k: base.ini:1:1, ours.ini:1:1\nnote: j: base.ini:2:1, ours.ini:2:1, theirs.ini:1:1\n
+||k=2\n|k=3\n|1|k=2\n|conflict: k: base has none, ours = 2, theirs = 3\nnote: k: ours.ini:1:1, theirs.ini:1:1\n
 |k=1|k=2|\0357\0273\0277k=1\r\n|0|\0357\0273\0277k=2\r\n|
 --dry-run|k=1\n|k=2\n|k=1\nj=1\n|0|--- theirs.ini\n+++ theirs.ini\n@@ -1,1 +1,1 @@\n-k=1\n+k=2\n|
 --policy=Nothing|k=1\n|k="a\\\\b"\n|k=1\n|2||ini_file: theirs.ini: k: this value can't be written so that it is read back\nnote: it has a backslash: use --policy Basics\n
@@ -71,7 +71,8 @@ side base.ini 'k=1\nj=1\n'
 side ours.ini 'k=2\nj=2\n'
 side theirs.ini '; c\nk = 1\nj = 3\n'
 side "$room/merged" '; c\nk = 2\nj = 2\n'
-line='conflict: j: base = 1, ours = 2, theirs = 3'
+line='conflict: j: base = 1, ours = 2, theirs = 3
+note: j: base.ini:2:1, ours.ini:2:1, theirs.ini:3:1'
 for place in ours.ini theirs.ini new.ini; do
     side ours.ini 'k=2\nj=2\n'
     side theirs.ini '; c\nk = 1\nj = 3\n'
@@ -84,7 +85,7 @@ done
 side ours.ini 'k=2\nj=2\n'
 side theirs.ini '; c\nk = 1\nj = 3\n'
 "$room/bin/ini_file" merge3 base.ini - theirs.ini <ours.ini >text 2>"$room/err"
-told 'ini_file merge3, ours by standard input' $? 1 "$line"
+told 'ini_file merge3, ours by standard input' $? 1 "$(echo "$line" | sed 's/ours.ini/-/')"
 cp "$room/merged" "$room/want"
 cp text "$room/have"
 count 'ini_file merge3, ours by standard input: what is written'

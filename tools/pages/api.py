@@ -13,7 +13,7 @@ import sys
 from pathlib import Path
 
 TOP = Path(__file__).resolve().parents[2]
-CRATES = ("ini", "ini_view", "ini_text", "ini_multimap", "ini_layers", "ini_dialect", "ini_edit", "ini_diff", "ini_check")
+CRATES = ("ini", "ini_view", "ini_text", "ini_multimap", "ini_layers", "ini_dialect", "ini_edit", "ini_check")
 FUNCTION = re.compile(r"(pub )?(?:const |unsafe )*fn (\w+)")
 CONSTANT = re.compile(r"pub (const (\w+): [^=]+?) =")
 ITEM = re.compile(r"pub (struct|enum|trait|type|fn|const fn) (\w+)")

@@ -93,8 +93,10 @@ def commands(program):
 
 
 def options():
-    """The options that all programs take."""
-    return table(("Option", "Effect"), ((name_of(line), text) for line, text in entries(part("ini_tool", "OPTIONS"))))
+    """The options that all programs take, and of those of ini_file the one that isn't explained elsewhere."""
+    own = [entry for entry in entries(part("ini_file", "OPTIONS")) if "encoding" in entry[0]]
+    found = entries(part("ini_tool", "OPTIONS")) + own
+    return table(("Option", "Effect"), ((name_of(line), text) for line, text in found))
 
 
 def choices():

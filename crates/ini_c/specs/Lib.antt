@@ -1,3 +1,4 @@
+pub mod Changes
 pub mod Choices
 pub mod Faults
 pub mod Given

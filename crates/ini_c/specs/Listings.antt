@@ -30,11 +30,11 @@ with_number l n = record { bytes = l.bytes; counts = l.counts ++ n ∷ [] }
 abbrev pub with_pair : Listed → Text × Text → Listed
 with_pair l p = with_text (with_text l p.0) p.1
 
--- stands for the number of bytes of a name where there is no name
+-- stands for the number of bytes of a name, or of a value, where there is none
 abbrev pub no_name_length : ℕ
 no_name_length = 2 ^ 64 - 1
 
--- a section's name goes last
+-- a section's name, or a value, goes last, or that there is none
 abbrev pub with_name : Listed → Option Text → Listed
 with_name l (Some name) = with_text l name
 with_name l None = with_number l no_name_length

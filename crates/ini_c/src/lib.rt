@@ -52,6 +52,7 @@ pub use crate::options::{ReadChoice, WriteChoice};
 pub use crate::pieces::comments::{
     bigrosk_ini_text_comment, bigrosk_ini_text_comment_out, bigrosk_ini_text_set_comment,
 };
+pub use crate::pieces::differences::{bigrosk_ini_text_apply, bigrosk_ini_text_diff};
 pub use crate::pieces::listing::{
     bigrosk_ini_text_get_all, bigrosk_ini_text_items, bigrosk_ini_text_pairs,
 };
@@ -59,6 +60,7 @@ pub use crate::pieces::look_ups::{
     Place, bigrosk_ini_text_borrow, bigrosk_ini_text_get, bigrosk_ini_text_has,
     bigrosk_ini_text_has_section, bigrosk_ini_text_place,
 };
+pub use crate::pieces::merging::{bigrosk_ini_text_conflicts, bigrosk_ini_text_merge3};
 pub use crate::pieces::names::{
     bigrosk_ini_text_add_section, bigrosk_ini_text_delete_section, bigrosk_ini_text_rename_key,
     bigrosk_ini_text_rename_section,

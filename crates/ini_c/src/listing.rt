@@ -11,8 +11,8 @@ ghost use Rattle.ini_c.specs.Listings.{with_name, with_number, with_pair, with_s
 use ini::{Ini, Properties};
 use std::alloc::{AllocError, Global};
 
-// Stands for the number of bytes of a name where there is no name.
-const UNNAMED: usize = usize::MAX;
+// Stands for the number of bytes of a name, or of a value, where there is none.
+pub(crate) const UNNAMED: usize = usize::MAX;
 
 // The bytes of texts, a 0 after each, and the numbers.
 #[derive(Drop)]
@@ -49,7 +49,7 @@ impl Listing {
         Ok(())
     }
 
-    // Puts a section's name last.
+    // Puts a section's name, or a value, last, or that there is none.
     pub(crate) fn name(&mut self, name: Option<&str>) -> Result<(), AllocError>
         ensures { OnOk result (contents self.new ≡ with_name (contents self.old) (str_name name.entry)) }
     {

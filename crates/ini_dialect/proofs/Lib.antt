@@ -1,10 +1,14 @@
+pub mod BeginLemmas
+pub mod ByteLemmas
 pub mod DefaultLemmas
 pub mod DeletedUnderLemmas
 pub mod EditLemmas
+pub mod EncodingLemmas
 pub mod GuessLemmas
 pub mod KeyLemmas
 pub mod LetterLemmas
 pub mod LookupLawLemmas
+pub mod MarkLemmas
 pub mod PairLemmas
 pub mod PutUnderLemmas
 pub mod ReadLemmas
@@ -13,3 +17,4 @@ pub mod RuledTextLemmas
 pub mod SectionLemmas
 pub mod SourceLookupLemmas
 pub mod TextLemmas
+pub mod UnitLemmas

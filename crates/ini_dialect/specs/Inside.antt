@@ -13,6 +13,7 @@ use Rattle.ini_dialect.specs.declared.rule.SectionRule.{SectionRule}
 use Rattle.ini_dialect.specs.declared.rule.SectionRule.TheVariants.{First as FirstSection, Joined}
 use Rattle.ini_dialect.specs.declared.rule.ValueRule.{ValueRule}
 use Rattle.ini_dialect.specs.declared.rule.ValueRule.TheVariants.{First as FirstValue, Last}
+pub mod Coding
 
 -- a list from its front, or from its back
 abbrev pub turned : {X : Type 0} → ValueRule → List X → List X

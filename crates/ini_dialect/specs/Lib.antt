@@ -1,4 +1,7 @@
 pub mod Dialects
+pub mod EncodingLaws
+pub mod EncodingNames
+pub mod Encodings
 pub mod Guesses
 pub mod Inside
 pub mod LookupLaws

@@ -1,11 +1,15 @@
-//! Laws of look-ups and edits under a rule, each the contract of a function that does nothing. They speak of
-//! the definitions alone.
-ghost use Rattle.std.specs.Prelude.{◌≡◌, Option};
+//! Laws of look-ups and edits under a rule, and of encodings, each the contract of a function that does
+//! nothing. They speak of the definitions alone.
+ghost use Rattle.std.specs.Prelude.{◌≡◌, ◌++◌, ℕ, List, Option, Some};
 ghost use Rattle.ini.specs.Texts.{Text};
+ghost use Rattle.ini_dialect.specs.EncodingLaws.{BeginsWithMark, ChangesInside};
+ghost use Rattle.ini_dialect.specs.EncodingNames.{marked};
+ghost use Rattle.ini_dialect.specs.Encodings.{IsDecoded, IsMalformedAt, IsUnencodableAt, encoded};
 ghost use Rattle.ini_dialect.specs.LookupLaws.{AnswersAsCrate, AnswersNothing, AnswersSet};
 ghost use Rattle.ini_dialect.specs.LookupLaws.{KeepsOtherLookups};
 ghost use Rattle.ini_dialect.specs.Lookups.{delete_under, set_under};
 ghost use Rattle.ini_dialect.specs.Rules.{default_lookup};
+ghost use Rattle.ini_dialect.specs.declared.encoding.Encoding.{Encoding};
 ghost use Rattle.ini_dialect.specs.declared.rule.Lookup.{Lookup};
 
 /// After `set` the look-up answers the value; by each name or key that doesn't fit it answers what it
@@ -28,4 +32,31 @@ pub fn deleted_is_gone()
 /// section's keys answer.
 pub fn default_is_the_crates()
     ensures { AnswersAsCrate default_lookup }
+{}
+
+/// Encoding what was decoded gives the bytes back, and decoding what was encoded gives the text back;
+/// neither is refused.
+pub fn codings_are_inverse()
+    ensures bytes_back { (encoding : Encoding) (bytes text : List ℕ) → IsDecoded encoding bytes text
+        → encoded encoding text ≡ Some bytes }
+    ensures text_back { (encoding : Encoding) (bytes text other : List ℕ) → IsDecoded encoding bytes text
+        → IsDecoded encoding bytes other → other ≡ text }
+    ensures decodes { (encoding : Encoding) (bytes text : List ℕ) (line column : ℕ)
+        → IsDecoded encoding bytes text → ¬ (IsMalformedAt encoding bytes line column) }
+    ensures encodes { (encoding : Encoding) (text bytes : List ℕ) (character line column : ℕ)
+        → encoded encoding text ≡ Some bytes → ¬ (IsUnencodableAt encoding text character line column) }
+{}
+
+/// A change of a part of a text changes the bytes of that part alone.
+pub fn other_bytes_stay()
+    ensures { (encoding : Encoding) (front old new back before after : List ℕ)
+        → encoded encoding (front ++ (old ++ back)) ≡ Some before
+        → encoded encoding (front ++ (new ++ back)) ≡ Some after
+        → ChangesInside encoding front old new back before after }
+{}
+
+/// A byte order mark that tells an encoding is the text's first character, U+FEFF.
+pub fn mark_is_a_character()
+    ensures { (encoding : Encoding) (bytes text : List ℕ) → marked bytes ≡ Some encoding
+        → IsDecoded encoding bytes text → BeginsWithMark encoding bytes text }
 {}

@@ -2,10 +2,13 @@
 //!
 //! A `Lookup` is a rule: which sections of a name are looked at, which value of a key counts, whether case
 //! tells keys apart. `get`, `set` and their like go by one. From the text of a value come bools, numbers,
-//! sizes and spans of time.
+//! sizes and spans of time. An `Encoding` makes a text of bytes that are no UTF-8, and bytes of a text.
 #![tactic(auto)]
 
+mod character;
+mod coding;
 mod edit;
+mod encoding;
 mod get;
 mod guessing;
 pub mod laws;
@@ -19,6 +22,8 @@ mod tests;
 mod typed;
 mod walk;
 
+pub use coding::{DecodeError, EncodeError};
+pub use encoding::Encoding;
 pub use guessing::{Guess, count_warnings, guesses};
 pub use presets::{Dialect, NamedDialect, dialects};
 pub use rule::{CaseRule, Lookup, SectionRule, ValueRule};

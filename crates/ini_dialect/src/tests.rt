@@ -11,6 +11,7 @@ use std::fmt::Write;
 use std::panic::Expect;
 use std::process::Abort;
 
+mod encoding;
 mod source;
 
 /// What is edited.

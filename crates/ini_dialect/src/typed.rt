@@ -62,12 +62,12 @@ pub fn as_float(text: &str) -> Option<f64>
     text.parse::<f64>().ok()
 }
 
-/// The span of time that the text says: digits, before which a plus may stand, and one of the units `us`, `ms`,
-/// `s` or `sec`, `m` or `min`, `h`, `d` and `w`, in either case; without a unit, seconds. `None` too where its
-/// microseconds don't fit 64 bits.
+/// The span of time that the text says: digits, before which a plus may stand, and one of the units `us`,
+/// `ms`, `s` or `sec`, `m` or `min`, `h`, `d` and `w`, in either case; without a unit, seconds. `None` too
+/// where its microseconds don't fit 64 bits.
 pub fn as_duration(text: &str) -> Option<Duration>
     ensures value { IfSome result
-        (λ span. (n : ℕ) × Counts spans text.now n × (as_nanos span ≡ n * 1000)) }
+        (λ span. (n : ℕ) × (n < 2 ^ 64) × Counts spans text.now n × (as_nanos span ≡ n * 1000)) }
     ensures none { IfNone result ((n : ℕ) → n < 2 ^ 64 → Counts spans text.now n → ⊥) }
 {
     let (number, unit) = split_unit(text);

@@ -13,7 +13,8 @@ use Rattle.ini_text.specs.Parsing.Fronts.{IsRest, front_of}
 use Rattle.ini_edit.specs.Inside.SourceLayouts.{EndsInRest}
 use Rattle.ini_edit.specs.SourceLayout.{Rules, laid_gap, laid_pair, laid_pairs, laid_section, laid_sections}
 use Rattle.ini_edit.specs.SourceEditsSections.{section_rest}
-use Rattle.ini_edit.specs.SourceLayout.{above_next, first_lines, laid_lines, line_ends, lines_of, one_more}
+use Rattle.ini_edit.specs.SourceLayout.{above_next, column_after, column_at, first_lines, laid_lines}
+use Rattle.ini_edit.specs.SourceLayout.{line_ends, lines_of, one_more}
 use Rattle.ini_edit.specs.SourceLayout.{white_before}
 use Rattle.ini_edit.specs.SourceLines.{comments_at_end, indentation_at_end}
 use Rattle.ini_edit.specs.SourcePlaces.{gap_of, is_nil, last_gap}
@@ -143,34 +144,41 @@ module _ (r : Rules) (follower : Follower) where
 
 module _ (r : Rules) where
   -- pairs, of which one more is laid out
-  pub pairs_step : (follower : Follower) (rest : Text) (last : ℕ) (out : Text) {next : ℕ}
+  pub pairs_step : (follower : Follower) (rest : Text) (last column : ℕ) (out : Text) {here_is next more : ℕ}
       (ps : List PairPiece) (i : ℕ) (p : PairPiece) {ends : Bool} {one two whole : Text}
       → i < length ps → p ≡ get_or ps i p
-      → out ++ laid_pairs r follower rest last (drop i ps) ≡ whole
-      → one ≡ out ++ laid_pair r (is_line_feed last) p
+      → out ++ laid_pairs r follower rest last column (drop i ps) ≡ whole
+      → here_is ≡ column_at r (is_line_feed last) column (drop i ps)
+      → one ≡ out ++ laid_pair r (is_line_feed last) here_is p
       → ends ≡ is_nil (drop (i + 1) ps)
       → two ≡ one ++ laid_gap r (cond ends follower AsItIs) (lines_of p (cond ends rest []))
-      → next ≡ last_or last (pair_text p)
-      → two ++ laid_pairs r follower rest next (drop (i + 1) ps) ≡ whole
-  pairs_step follower rest last out {next} ps i p {ends} {one} {two} within is so_far one_is nil
-      two_is next_is =
+      → more ≡ column_after r here_is p → next ≡ last_or last (pair_text p)
+      → two ++ laid_pairs r follower rest next more (drop (i + 1) ps) ≡ whole
+  pairs_step follower rest last column out {here_is} {next} {more} ps i p {ends} {one} {two} within is so_far
+      here_at one_is nil two_is more_is next_is =
       let left = drop (i + 1) ps in
-      let line = laid_pair r (is_line_feed last) p in
+      let end = last_or last (pair_text p) in
+      let at : here_is ≡ column_at r (is_line_feed last) column (p ∷ left) =
+      here_at ∙ ap (column_at r (is_line_feed last) column) (here ps i p within is) in
+      let line : ℕ → Text = λ n. laid_pair r (is_line_feed last) n p in
       let gap : Bool → Text = λ b. laid_gap r (cond b follower AsItIs) (lines_of p (cond b rest [])) in
-      let more : ℕ → Text = λ n. laid_pairs r follower rest n left in
-      let text : two ≡ (out ++ line) ++ gap (is_nil left) =
+      let after : ℕ → ℕ → Text = λ n m. laid_pairs r follower rest n m left in
+      let text : two ≡ (out ++ line here_is) ++ gap (is_nil left) =
       two_is ∙ ap (λ b. one ++ gap b) nil ∙ ap (λ t. t ++ gap (is_nil left)) one_is in
-      ap (λ t. t ++ more next) text ∙ ap (λ n. ((out ++ line) ++ gap (is_nil left)) ++ more n) next_is
-      ∙ three out line (gap (is_nil left)) (more (last_or last (pair_text p)))
-      ∙ ap (λ l. out ++ laid_pairs r follower rest last l) (sym (here ps i p within is)) ∙ so_far
+      ap (λ t. t ++ after next more) text
+      ∙ ap (λ n. ((out ++ line here_is) ++ gap (is_nil left)) ++ after n more) next_is
+      ∙ ap (λ m. ((out ++ line here_is) ++ gap (is_nil left)) ++ after end m) more_is
+      ∙ three out (line here_is) (gap (is_nil left)) (after end (column_after r here_is p))
+      ∙ ap (λ n. out ++ (line n ++ (gap (is_nil left) ++ after end (column_after r n p)))) at
+      ∙ ap (λ l. out ++ laid_pairs r follower rest last column l) (sym (here ps i p within is)) ∙ so_far
 
   -- all are
-  pub pairs_end : (follower : Follower) (rest : Text) (last : ℕ) (ps : List PairPiece) (i : ℕ)
-      {out whole : Text} → length ps ≤ i → out ++ laid_pairs r follower rest last (drop i ps) ≡ whole
+  pub pairs_end : (follower : Follower) (rest : Text) (last column : ℕ) (ps : List PairPiece) (i : ℕ)
+      {out whole : Text} → length ps ≤ i → out ++ laid_pairs r follower rest last column (drop i ps) ≡ whole
       → out ≡ whole
-  pairs_end follower rest last ps i {out} all so_far =
+  pairs_end follower rest last column ps i {out} all so_far =
       sym (append-nil out)
-      ∙ sym (ap (λ l. out ++ laid_pairs r follower rest last l) (drop_all i ps all)) ∙ so_far
+      ∙ sym (ap (λ l. out ++ laid_pairs r follower rest last column l) (drop_all i ps all)) ∙ so_far
 
   -- sections
   pub sections_step : (front : ℕ) (out : Text) {next : ℕ} (ss : List SectionPiece) (i : ℕ)
@@ -260,20 +268,20 @@ module _ (r : Rules) (s : SectionPiece) where
       → last ≡ last_or (last_or front s.header) s.after → one ≡ out ++ s.header
       → two ≡ one ++ laid_gap r (cond (is_nil s.pairs) follower AsItIs)
       (first_lines s (front_of s.after (cond (is_nil s.pairs) rest [])))
-      → three_text ≡ two ++ laid_pairs r follower rest last s.pairs
+      → three_text ≡ two ++ laid_pairs r follower rest last 0 s.pairs
       → four ≡ three_text ++ laid_gap r AsItIs rest → four ≡ out ++ laid_section r ends front s
   section_is ends front out {follower} {rest} {last} follower_is rest_is last_is one_is
       two_is three_is four_is =
       let first : Follower → Text → Text = λ f t. laid_gap r (cond (is_nil s.pairs) f AsItIs)
       (first_lines s (front_of s.after (cond (is_nil s.pairs) t []))) in
       let whole : Follower → Text → ℕ → Text = λ f t n.
-      out ++ (s.header ++ (first f t ++ (laid_pairs r f t n s.pairs
+      out ++ (s.header ++ (first f t ++ (laid_pairs r f t n 0 s.pairs
       ++ laid_gap r AsItIs t))) in
       four_is
       ∙ ap (λ x. x ++ laid_gap r AsItIs rest) (three_is
-      ∙ ap (λ x. x ++ laid_pairs r follower rest last s.pairs) (two_is
+      ∙ ap (λ x. x ++ laid_pairs r follower rest last 0 s.pairs) (two_is
       ∙ ap (λ x. x ++ first follower rest) one_is))
-      ∙ three (out ++ s.header) (first follower rest) (laid_pairs r follower rest last s.pairs)
+      ∙ three (out ++ s.header) (first follower rest) (laid_pairs r follower rest last 0 s.pairs)
       (laid_gap r AsItIs rest)
       ∙ append_assoc out s.header _
       ∙ ap (λ f. whole f rest last) follower_is ∙ ap (λ t. whole (cond ends End Header) t last) rest_is

@@ -7,6 +7,7 @@ pub mod BlankValueLemmas
 pub mod CharsLemmas
 pub mod ClosedLemmas
 pub mod ClosedPairLemmas
+pub mod ColumnLemmas
 pub mod CommentLemmas
 pub mod CommentLineLemmas
 pub mod CommentOutLemmas
@@ -71,6 +72,7 @@ pub mod PairOutLemmas
 pub mod PairPutLemmas
 pub mod PlacedSpanLemmas
 pub mod PlainKeyLemmas
+pub mod PrevailingLemmas
 pub mod PutAfterLemmas
 pub mod PutAfterMoreLemmas
 pub mod PutBeforeLemmas
@@ -94,6 +96,10 @@ pub mod SendingLemmas
 pub mod SetAloneLemmas
 pub mod SetDocumentLemmas
 pub mod SolidLemmas
+pub mod SortAnswersLemmas
+pub mod SortCommentLemmas
+pub mod SortedLemmas
+pub mod SortedTextLemmas
 pub mod SourceAddLemmas
 pub mod SourceCommentLemmas
 pub mod SourceDeleteLemmas
@@ -121,6 +127,9 @@ pub mod TakenLemmas
 pub mod TrailingCutLemmas
 pub mod TrailingLemmas
 pub mod TriedLineLemmas
+pub mod UnitLemmas
+pub mod UnitSaidLemmas
+pub mod UnitStepLemmas
 pub mod ValueCutLemmas
 pub mod ValueLemmas
 pub mod WalkLemmas

@@ -75,7 +75,7 @@ module _ {o : ParseOption} (w : WriteOption) (name : Option Text) (key value : T
         pieces_refuse e (subst (λ x. RefusesToSetIn x w p.sections name key value e) read.option refused)
 
 -- a text that has a document isn't refused
-loads_or_stops : {o : ParseOption} {T : Text} {d : Document} {e : ParseError} → IsDocumentOf o T d
+pub loads_or_stops : {o : ParseOption} {T : Text} {d : Document} {e : ParseError} → IsDocumentOf o T d
     → IsStopOf o T e → ⊥
 loads_or_stops {o} {T} {e = e} is stop = at (text_laws.one_outcome o T)
   where

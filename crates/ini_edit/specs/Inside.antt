@@ -3,6 +3,7 @@ pub mod KeyEdges
 pub mod Lines
 pub mod Quotes
 pub mod RawTests
+pub mod Sortings
 pub mod SourceElementWalks
 pub mod SourceEnds
 pub mod SourceLayouts

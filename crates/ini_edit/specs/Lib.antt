@@ -11,9 +11,11 @@ pub mod Messages
 pub mod NewLines
 pub mod NewSections
 pub mod Places
+pub mod Prevailing
 pub mod Quotes
 pub mod Renamed
 pub mod Sections
+pub mod Sorting
 pub mod SourceEdits
 pub mod SourceEditsAdd
 pub mod SourceEditsAdded

@@ -1,44 +1,53 @@
 -- How a text in pieces is laid out: the white space around separators, what indents pairs, blank lines and
 -- line ends. Comments, headers and what is written of values stay to the character.
-use Rattle.std.specs.Prelude.{◌==◌, ◌&&◌, ◌||◌, not, if◌then◌else◌, ℕ, zero, suc, nat_le, Bool, true, false}
-use Rattle.std.specs.Prelude.{List}
-use Rattle.std.specs.Prelude.{[]}
-use Rattle.std.specs.Prelude.{◌∷◌, ◌++◌, Option, None, Some, is_none, replicate}
-use Rattle.std.specs.Option.{option_map}
+use Rattle.std.specs.Prelude.{◌==◌, ◌&&◌, ◌||◌, ◌-◌, not, if◌then◌else◌, ℕ, zero, suc, max, nat_le}
+use Rattle.std.specs.Prelude.{Bool, true, false, List, [], ◌∷◌, ◌++◌, Option, None, Some, is_none, length}
+use Rattle.std.specs.Prelude.{replicate}
 use Rattle.ini_text.specs.Grammar.CharacterKinds.{backslash, carriage_return, line_feed, open_bracket, space}
-use Rattle.ini_text.specs.Grammar.CharacterKinds.{is_blank, is_comment_mark, is_line_end, is_line_feed}
+use Rattle.ini_text.specs.Grammar.CharacterKinds.{is_blank, is_comment_mark, is_line_feed}
 use Rattle.ini_text.specs.Grammar.Positions.{last_or}
 use Rattle.ini_text.specs.Inside.PlainTests.{begins}
 use Rattle.ini_text.specs.Options.WriteOptions.{line_end}
 use Rattle.ini_text.specs.Parsing.Fronts.{front_of}
 use Rattle.ini_text.specs.declared.option.ParseOption.{ParseOption}
 use Rattle.ini_text.specs.declared.write.option.LineSeparator.TheVariants.{SystemDefault}
-use Rattle.ini.specs.Texts.{Text, str_name}
+use Rattle.ini.specs.Texts.{Text, is_text, str_text}
 use Rattle.ini_edit.specs.NewLines.{line_end_of}
+use Rattle.ini_edit.specs.Prevailing.{leaves_line_empty, prevailing_style}
 use Rattle.ini_edit.specs.SourceEditsSections.{section_rest}
 use Rattle.ini_edit.specs.SourceLines.{after_blank_lines, after_blanks, blanks_at_end, is_empty}
 use Rattle.ini_edit.specs.SourcePlaces.{is_nil, last_before_gap, last_gap}
 use Rattle.ini_edit.specs.SourceWritten.{Style, option_style}
 use Rattle.ini_edit.specs.Sources.{PairPiece, Pieces, SectionPiece, pair_text, section_text, sections_text}
 use Rattle.ini_edit.specs.declared.source.layout.Layout.{Layout}
+use Rattle.ini_edit.specs.declared.source.layout.Separators.{Separators}
+use Rattle.ini_edit.specs.declared.source.layout.Separators.TheVariants.{Given, Kept, Prevailing}
 use Rattle.ini_edit.specs.declared.source.layout.lines.Follower.{Follower}
 use Rattle.ini_edit.specs.declared.source.layout.lines.Follower.TheVariants.{AsItIs, Header, End}
 
 -- the rules of a layout for one text: how separators are written, or none where each stays; how many spaces
--- indent a pair, or none where each stays; the most blank lines; and the line end
+-- indent a pair, or none where each stays; the most blank lines; whether separators are aligned; and the line
+-- end
 pub record Rules : Type 0 where
   pub option : ParseOption
   pub style : Option Style
   pub indentation : Option ℕ
   pub blank_lines : ℕ
+  pub aligned : Bool
   pub line_end : Text
+
+abbrev pub style_for : (aligned : Bool) → List SectionPiece → Separators → Option Style
+style_for aligned ss Kept = None
+style_for aligned ss Prevailing = prevailing_style aligned ss
+style_for aligned ss (Given separator) = Some (option_style (str_text separator))
 
 abbrev pub rules_for : ParseOption → Layout → List SectionPiece → Rules
 rules_for o l ss = record {
   option = o;
-  style = option_map option_style (str_name l.separator);
+  style = style_for l.aligned ss l.separator;
   indentation = l.pair_indentation;
   blank_lines = l.blank_lines;
+  aligned = l.aligned;
   line_end = line_end (line_end_of SystemDefault (sections_text ss));
 }
 
@@ -67,7 +76,7 @@ space_for (Some style) before = style.space_before
 -- no white space before a value that gives its line nothing
 abbrev pub laid_space : Option Style → (raw_value before : Text) → Text
 laid_space style raw_value before =
-    if is_empty raw_value || begins is_line_end raw_value then [] else space_for style before
+    if leaves_line_empty raw_value then [] else space_for style before
 
 -- what stands after a pair's value, up to this rest
 abbrev pub lines_of : PairPiece → (rest : Text) → Text
@@ -82,6 +91,10 @@ first_lines s lines = if is_none s.name then after_blank_lines lines else lines
 abbrev pub above_next : (is_last : Bool) (front : ℕ) → SectionPiece → Text
 above_next is_last front s =
     if is_last then [] else section_rest false (last_before_gap front s s.pairs) (last_gap s)
+
+-- a key with spaces up to this column
+abbrev pub aligned_key : (column : ℕ) → Text → Text
+aligned_key column key = key ++ replicate (column - length key) space
 
 -- a text takes no line end: it is empty, or a backslash would take that
 abbrev pub takes_no_end : Text → Bool
@@ -128,19 +141,40 @@ module _ (r : Rules) where
       indent_for r.indentation starts (front_of key own) own
       ++ (bare ++ pad_for r.style bare (blanks_at_end own))
 
-  -- a pair up to the end of its value
-  abbrev pub laid_pair : (starts : Bool) → PairPiece → Text
-  laid_pair starts p =
-      laid_key starts p.stretches.key ++ separator_for r.style p.stretches.separator
+  -- a pair up to the end of its value, its separator in this column at least
+  abbrev pub laid_pair : (starts : Bool) (column : ℕ) → PairPiece → Text
+  laid_pair starts column p =
+      aligned_key column (laid_key starts p.stretches.key) ++ separator_for r.style p.stretches.separator
       ∷ (laid_space r.style p.stretches.raw_value p.stretches.space_before ++ p.stretches.raw_value)
 
-  -- Pairs after this character, the last one's gap up to this rest, which follows so.
-  abbrev pub laid_pairs : Follower → (rest : Text) (last : ℕ) → List PairPiece → Text
-  laid_pairs follower rest last [] = []
-  laid_pairs follower rest last (p ∷ ps) =
-      laid_pair (is_line_feed last) p
+  -- between a pair and the next one stands nothing but a line end, once it is laid out
+  abbrev pub joins : PairPiece → Bool
+  joins p = is_text (laid_gap AsItIs (lines_of p [])) r.line_end
+
+  -- the column of the farthest separator of the pairs that are joined from here on
+  abbrev pub run_column : List PairPiece → ℕ
+  run_column [] = 0
+  run_column (p ∷ ps) =
+      max (length (laid_key true p.stretches.key)) (if joins p then run_column ps else 0)
+
+  -- The column of the first of pairs: none is aligned that begins no line; the column is the one before it,
+  -- where that is joined to it.
+  abbrev pub column_at : (starts : Bool) (column : ℕ) → List PairPiece → ℕ
+  column_at starts column ps =
+      if not (r.aligned && starts) then 0 else (if column == 0 then run_column ps else column)
+
+  abbrev pub column_after : (column : ℕ) → PairPiece → ℕ
+  column_after column p = if column == 0 || not (joins p) then 0 else column
+
+  -- Pairs after this character, and after a pair with this column, the last one's gap up to this rest, which
+  -- follows so.
+  abbrev pub laid_pairs : Follower → (rest : Text) (last column : ℕ) → List PairPiece → Text
+  laid_pairs follower rest last column [] = []
+  laid_pairs follower rest last column (p ∷ ps) =
+      let here = column_at (is_line_feed last) column (p ∷ ps) in
+      laid_pair (is_line_feed last) here p
       ++ (laid_gap (if is_nil ps then follower else AsItIs) (lines_of p (if is_nil ps then rest else []))
-      ++ laid_pairs follower rest (last_or last (pair_text p)) ps)
+      ++ laid_pairs follower rest (last_or last (pair_text p)) (column_after here p) ps)
 
   -- A section, before which this character stands. The comments directly above the next header are its own:
   -- the blank line stands before them.
@@ -151,7 +185,7 @@ module _ (r : Rules) where
       s.header
       ++ (laid_gap (if is_nil s.pairs then follower else AsItIs)
       (first_lines s (front_of s.after (if is_nil s.pairs then rest else [])))
-      ++ (laid_pairs follower rest (last_or (last_or front s.header) s.after) s.pairs
+      ++ (laid_pairs follower rest (last_or (last_or front s.header) s.after) 0 s.pairs
       ++ laid_gap AsItIs rest))
 
   abbrev pub laid_sections : (front : ℕ) → List SectionPiece → Text

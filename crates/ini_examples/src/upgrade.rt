@@ -1,12 +1,12 @@
 //! A new default file with a user's own changes in it: those between the old default and the user's file.
 ghost use Rattle.std.specs.Prelude.{IfOk};
 ghost use Rattle.ini_edit.specs.Sources.{document_in};
-ghost use Rattle.ini_diff.specs.Merging.{IsMerged};
-ghost use Rattle.ini_diff.specs.declared.merging.Side.TheVariants.{Ours};
+ghost use Rattle.ini_layers.specs.Merging.{IsMerged};
+ghost use Rattle.ini_layers.specs.declared.merging.Side.TheVariants.{Ours};
 
 use ini::{Ini, WriteOption};
-use ini_diff::{Side, merge};
 use ini_edit::{RefusedEdit, Source};
+use ini_layers::{Side, merge};
 use std::alloc::Global;
 
 /// The new default, where the user's value stands if both changed a setting.

@@ -1,9 +1,16 @@
 -- The lines of changes and of conflicts, put together part by part.
-use Rattle.std.proofs.Common.{◌≡◌, ◌∙◌, ap, refl, ℕ, List, [], ◌++◌, append-nil, append_assoc, Option, None, Some}
+use Rattle.std.proofs.Common.{◌≡◌, ◌∙◌, ap, refl, sym, ℕ, if◌then◌else◌, List, [], ◌∷◌, ◌++◌, append-nil}
+use Rattle.std.proofs.Common.{append_assoc, Option, None, Some}
+use Rattle.std.proofs.lemmas.Grind.{flat_map-append}
 use Rattle.std.proofs.lemmas.Str.{chars-nil}
 use Rattle.std.specs.Prelude.{codes}
 use Rattle.std.specs.Str.{chars}
+use Rattle.ini_text.specs.Escaping.EscapedTexts.{escape, escaped}
+use Rattle.ini_text.specs.Escaping.Policies.{is_escaped}
+use Rattle.ini_text.specs.declared.write.policy.EscapePolicy.TheVariants.{Basics}
 use Rattle.ini.specs.Texts.{Text}
+use Rattle.ini_layers.specs.Differences.{SettingChange}
+use Rattle.ini_file.specs.EditLines.{edit_text, in_brackets, signed}
 use Rattle.ini_file.specs.ChangeLines.{change_text, conflict_text, escaped_part, front, told}
 
 pub chars-open : chars (codes "[") ≡ codes "["
@@ -41,6 +48,22 @@ chars-is = refl
 pub chars-has_none : chars (codes " has none") ≡ codes " has none"
 unfolding chars
 chars-has_none = refl
+
+chars-tab : chars (codes "\t") ≡ codes "\t"
+unfolding chars
+chars-tab = refl
+
+chars-close_tab : chars (codes "]\t") ≡ codes "]\t"
+unfolding chars
+chars-close_tab = refl
+
+chars-minus : chars (codes "-") ≡ codes "-"
+unfolding chars
+chars-minus = refl
+
+chars-plus : chars (codes "+") ≡ codes "+"
+unfolding chars
+chars-plus = refl
 
 chars-conflict : chars (codes "conflict: ") ≡ codes "conflict: "
 unfolding chars
@@ -116,3 +139,59 @@ module _ (name : Option Text) (left shown right key : List ℕ)
       ∙ ap (λ rest. told base ++ (codes ", ours" ++ rest)) middle in
       before-values _ ∙ ap (λ rest. codes "conflict: " ++ (front name ++ (escaped_part key
       ++ (codes ": base" ++ rest)))) values
+
+-- the parts of an edit
+in_brackets-escaped : (name : Text)
+    → escaped Basics (in_brackets (Some name)) ++ codes "\t"
+    ≡ codes "[" ++ (escaped Basics name ++ codes "]\t")
+in_brackets-escaped name =
+    ap (λ x. codes "[" ++ (x ++ codes "\t"))
+    (flat_map-append (λ c. if is_escaped Basics c then escape c else c ∷ []) name (codes "]"))
+    ∙ ap (λ x. codes "[" ++ x) (append_assoc (escaped Basics name) (codes "]") (codes "\t"))
+
+pub of-name : (name : List ℕ) → chars (codes "[") ++ (escaped_part name ++ chars (codes "]\t"))
+    ≡ escaped Basics (in_brackets (Some (chars name))) ++ codes "\t"
+of-name name = rw (chars-open, chars-close_tab) (sym (in_brackets-escaped (chars name)))
+
+pub of-no_name : chars [] ++ (escaped_part [] ++ chars (codes "\t")) ≡ codes "\t"
+of-no_name = rw (chars-nil, chars-tab) refl
+
+pub of-old : (value : List ℕ) → chars (codes "-") ++ escaped_part value
+    ≡ escaped Basics (signed 0x2D (Some (chars value)))
+of-old value = rw chars-minus refl
+
+pub of-new_value : (value : List ℕ) → chars (codes "+") ++ escaped_part value
+    ≡ escaped Basics (signed 0x2B (Some (chars value)))
+of-new_value value = rw chars-plus refl
+
+pub of-no_value : chars [] ++ escaped_part [] ≡ []
+of-no_value = rw chars-nil refl
+
+pub of-edit : (c : SettingChange) (left shown right key before_old old before_new new : List ℕ)
+    → chars left ++ (escaped_part shown ++ chars right) ≡ escaped Basics (in_brackets c.name) ++ codes "\t"
+    → chars key ≡ c.key
+    → chars before_old ++ escaped_part old ≡ escaped Basics (signed 0x2D c.old)
+    → chars before_new ++ escaped_part new ≡ escaped Basics (signed 0x2B c.new)
+    → (escaped_part [] ++ chars left) ++ ((escaped_part shown ++ chars right)
+    ++ ((escaped_part key ++ chars (codes "\t")) ++ ((escaped_part [] ++ chars before_old)
+    ++ ((escaped_part old ++ chars (codes "\t")) ++ ((escaped_part [] ++ chars before_new)
+    ++ ((escaped_part new ++ chars (codes "\n")) ++ [])))))) ≡ edit_text c
+of-edit c left shown right key before_old old before_new new is_name is_key is_old is_new =
+    let last =
+    of-value (escaped Basics (signed 0x2B c.new)) before_new new is_new (codes "\n") chars-end [] in
+    let values = of-value (escaped Basics (signed 0x2D c.old)) before_old old is_old (codes "\t") chars-tab _
+    ∙ ap (λ rest. escaped Basics (signed 0x2D c.old) ++ (codes "\t" ++ rest)) last in
+    let keyed : (rest : Text) → (escaped_part key ++ chars (codes "\t")) ++ rest
+    ≡ escaped Basics c.key ++ (codes "\t" ++ rest) =
+    λ (rest : Text). rw (← is_key, chars-tab) (append_assoc (escaped_part key) (codes "\t") rest) in
+    let fronted : (rest : Text)
+    → (escaped_part [] ++ chars left) ++ ((escaped_part shown ++ chars right) ++ rest)
+    ≡ escaped Basics (in_brackets c.name) ++ (codes "\t" ++ rest) =
+    λ (rest : Text). ap (λ x. (x ++ chars left) ++ ((escaped_part shown ++ chars right) ++ rest)) nothing
+    ∙ sym (append_assoc (chars left) (escaped_part shown ++ chars right) rest)
+    ∙ ap (λ x. x ++ rest) is_name ∙ append_assoc (escaped Basics (in_brackets c.name)) (codes "\t") rest in
+    fronted _ ∙ ap (λ rest. escaped Basics (in_brackets c.name) ++ (codes "\t" ++ rest))
+    (keyed _ ∙ ap (λ rest. escaped Basics c.key ++ (codes "\t" ++ rest)) values)
+  where
+    nothing : escaped_part [] ≡ []
+    nothing = rw chars-nil refl

@@ -1,19 +1,24 @@
 -- No edit is refused as if the file were no text.
-use Rattle.std.proofs.Common.{ℕ, Bool, true, false, List, Option}
+use Rattle.std.proofs.Common.{◌≡◌, refl, ℕ, Bool, true, false, List, Option}
 use Rattle.ini_text.specs.declared.error.Error.TheVariants.{Io, Memory, NoProgress, NotUtf8, Parse}
 use Rattle.ini_text.specs.declared.option.ParseOption.{ParseOption}
 use Rattle.ini_text.specs.declared.write.option.WriteOption.{WriteOption}
 use Rattle.ini.specs.Texts.{Text}
 use Rattle.ini_edit.specs.Editings.{Editing}
-use Rattle.ini_edit.specs.SourceEditsAdded.{RefusesAdding}
+use Rattle.ini_edit.specs.SourceEditsAdded.{RefusesAdding, RefusesOneValue}
 use Rattle.ini_edit.specs.SourceEditsAt.{RefusesAtIndex}
+use Rattle.ini_edit.specs.SourceEditsComments.{RefusesToCommentOut}
 use Rattle.ini_edit.specs.Sources.{Pieces, SectionPiece}
 use Rattle.ini_edit.specs.WholeTexts.{RefusesOfText, RefusesToAddTo}
+use Rattle.ini_edit.specs.declared.error.EditError.{EditError}
 use Rattle.ini_edit.specs.declared.error.EditError.TheVariants.{Text as TextError}
 use Rattle.ini_dialect.specs.RuledTexts.{RefusesInText, RefusesMadeUnder}
 use Rattle.ini_dialect.specs.SourceLookups.{RefusesToPutUnder, RefusesUnder}
 use Rattle.ini_dialect.specs.declared.rule.Lookup.{Lookup}
 use Rattle.ini_file.specs.Edits.{RefusesMadeBy}
+use Rattle.ini_file.specs.Edits.{is_own}
+use Rattle.ini_file.specs.ValueLists.{RefusesReplaced, RefusesValuesBy}
+use Rattle.ini_file.specs.Further.{FurtherEditing, RefusesFurtherText, RefusesToComment}
 
 adding : {o : ParseOption} {w : WriteOption} {ss : List SectionPiece} {name : Option Text} {key value : Text}
     → RefusesAdding o w ss name key value (TextError NotUtf8) → ⊥
@@ -67,3 +72,33 @@ pub no_text_by : (own : Bool) (rule : Lookup) (o : ParseOption) (w : WriteOption
     → RefusesMadeBy own rule o w e T (TextError NotUtf8) → ⊥
 no_text_by true rule o w T e r = no_text o w T e r
 no_text_by false rule o w T e r = no_text_under rule o w T e r
+
+-- nor one that is none of the list
+commenting_out : {o : ParseOption} {ss : List SectionPiece} {name : Option Text} {key : Text} {e : EditError}
+    → RefusesToCommentOut o ss name key e → e ≡ TextError NotUtf8 → ⊥
+commenting_out (RefusesToCommentOut.no_place_out was none) is = cc
+commenting_out RefusesToCommentOut.no_memory_out is = cc
+
+commenting : {rule : Lookup} {name : Option Text} {key : Text} {p : Pieces}
+    → RefusesToComment rule name key p (TextError NotUtf8) → ⊥
+commenting (RefusesToComment.no_place r) = commenting_out r refl
+
+values_by : (own : Bool) (rule : Lookup) (w : WriteOption) (name : Option Text) (key : Text)
+    (values : List Text) (p : Pieces) → RefusesValuesBy rule w name key own values p (TextError NotUtf8) → ⊥
+values_by true rule w name key values p (RefusesOneValue.refused_value after value is are_put r) =
+    adding r.1.1
+values_by false rule w name key values p (RefusesReplaced.memory h) = h
+values_by false rule w name key values p (RefusesReplaced.adding option out r) = adding_under r.is_refused
+
+pub no_text_further : (rule : Lookup) (o : ParseOption) (w : WriteOption) (T : Text) (e : FurtherEditing)
+    → RefusesFurtherText rule o w e T (TextError NotUtf8) → ⊥
+no_text_further rule o w T (FurtherEditing.DeleteAll name key) r =
+    no_text_under rule o w T (Editing.Delete name key) r
+no_text_further rule o w T (FurtherEditing.SetAll name key values) (RefusesInText.reading h) = h
+no_text_further rule o w T (FurtherEditing.SetAll name key values) (RefusesInText.pieces r) =
+    values_by (is_own rule) rule w name key values r.pieces r.refused
+no_text_further rule o w T (FurtherEditing.AddSection name) (RefusesInText.reading h) = h
+no_text_further rule o w T (FurtherEditing.AddSection name) (RefusesInText.pieces r) = r.refused
+no_text_further rule o w T (FurtherEditing.CommentOut name key) (RefusesInText.reading h) = h
+no_text_further rule o w T (FurtherEditing.CommentOut name key) (RefusesInText.pieces r) =
+    commenting r.refused

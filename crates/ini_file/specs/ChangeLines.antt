@@ -1,10 +1,11 @@
 -- What is written of a change of a setting, and of a conflict: a line, with the basic escapes.
-use Rattle.std.specs.Prelude.{ℕ, Bool, true, false, List, [], ◌++◌, Option, None, Some, chars, codes, encode_utf8_all}
+use Rattle.std.specs.Prelude.{ℕ, Bool, true, false, List, [], ◌++◌, Option, None, Some, chars, codes}
+use Rattle.std.specs.Prelude.{encode_utf8_all}
 use Rattle.ini_text.specs.Escaping.EscapedTexts.{escaped}
 use Rattle.ini_text.specs.declared.write.policy.EscapePolicy.TheVariants.{Basics}
 use Rattle.ini.specs.Texts.{Text}
-use Rattle.ini_diff.specs.Differences.{SettingChange}
-use Rattle.ini_diff.specs.Merging.{SettingConflict}
+use Rattle.ini_layers.specs.Differences.{SettingChange}
+use Rattle.ini_layers.specs.Merging.{SettingConflict}
 
 -- the characters of a text of these bytes, with the basic escapes
 abbrev pub escaped_part : List ℕ → Text

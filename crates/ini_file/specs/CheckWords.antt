@@ -7,22 +7,37 @@ use Rattle.std.specs.Str.{bytes_eq}
 use Rattle.ini_text.specs.declared.option.ParseOption.{ParseOption}
 use Rattle.ini_check.specs.Kinds.{level, level_name, name, trap_named}
 use Rattle.ini_check.specs.declared.warning.Trap.{Trap}
+use Rattle.ini_check.specs.declared.warning.Trap.TheVariants.{KeyCase, RepeatedKey}
+use Rattle.ini_check.specs.declared.warning.Trap.TheVariants.{RepeatedSection, SectionCase}
+use Rattle.ini_dialect.specs.declared.rule.CaseRule.{CaseRule}
+use Rattle.ini_dialect.specs.declared.rule.CaseRule.TheVariants.{Ignored}
+use Rattle.ini_dialect.specs.declared.rule.Lookup.{Lookup}
+use Rattle.ini_dialect.specs.declared.rule.SectionRule.{SectionRule}
+use Rattle.ini_dialect.specs.declared.rule.SectionRule.TheVariants.{Joined}
+use Rattle.ini_dialect.specs.declared.rule.ValueRule.{ValueRule}
+use Rattle.ini_dialect.specs.declared.rule.ValueRule.TheVariants.{Last}
 use Rattle.ini_words.specs.Words.{Word}
 use Rattle.ini_words.specs.declared.options.Options.{Options}
 use Rattle.ini_file.specs.Choices.{are_of_saving, have_no_option, is_short_number, no_switch, with_switch}
-use Rattle.ini_file.specs.Likes.{given_like}
+use Rattle.ini_file.specs.Fronts.{Fronted}
 use Rattle.ini_file.specs.declared.check_words.Check.{Check}
 use Rattle.ini_file.specs.declared.check_words.CheckChoices.{CheckChoices}
+use Rattle.ini_file.specs.declared.reported.Reporting.{Reporting}
 use Rattle.ini_file.specs.declared.report_format.Format.{Format}
 use Rattle.ini_file.specs.declared.report_format.Format.TheVariants.{Github, Json, Lines, Null, Sarif}
 
+-- what is reported: the rule by which values count, and the words that choose
+pub record Reporter : Type 0 where
+  pub rule : Lookup
+  pub choices : List Word
+
 -- the files that a check looks at, one at least, and how they are read; how it is made, and how long it
--- waits for others that write a file; the words that choose what is reported
+-- waits for others that write a file; what it reports
 pub record Checking : Type 0 where
   pub reading : ParseOption
   pub made : CheckChoices
   pub wait : Option Word
-  pub choices : List Word
+  pub reporting : Reporter
   pub files : List Word
 
 -- nothing is chosen
@@ -46,6 +61,19 @@ names_several word =
 abbrev pub names_traps : Word → Bool
 names_traps word = names_several word || is_some (trap_named word)
 
+-- sections of one name are joined; a key's last value counts; the case of letters doesn't
+abbrev pub is_joined : SectionRule → Bool
+is_joined Joined = true
+is_joined _ = false
+
+abbrev pub is_last : ValueRule → Bool
+is_last Last = true
+is_last _ = false
+
+abbrev pub is_ignored : CaseRule → Bool
+is_ignored Ignored = true
+is_ignored _ = false
+
 -- the word is the trap's name, its level's, or `all`
 abbrev pub covers : Word → Trap → Bool
 covers word trap =
@@ -66,6 +94,19 @@ abbrev mutual
   reported_with trap before choice [] = before
   reported_with trap before choice (word ∷ words) =
       is_reported trap (if covers word trap then choice else before) words
+
+-- by the rule it is right: where sections are joined those of one name are, where the last value counts a key
+-- may come again, and where case doesn't matter also in other case
+abbrev pub is_right_by : Lookup → Trap → Bool
+is_right_by rule RepeatedSection = is_joined rule.sections
+is_right_by rule SectionCase = is_joined rule.sections && is_ignored rule.case
+is_right_by rule RepeatedKey = is_last rule.values
+is_right_by rule KeyCase = is_last rule.values && is_ignored rule.case
+is_right_by rule _ = false
+
+-- the trap is reported: unless words say otherwise where it isn't right
+abbrev pub reports : Reporter → Trap → Bool
+reports r trap = is_reported trap (not (is_right_by r.rule trap)) r.choices
 
 -- what is chosen after a word that stands alone, if it is a choice
 abbrev pub with_word : Word → CheckChoices → Option CheckChoices
@@ -128,37 +169,35 @@ abbrev mutual
       option_and_then (λ c. files_named c wait words) (with_text word text c)
 
 -- the check of files, one at least, by choices that go together
-abbrev pub check_made : Options → List Word → CheckChoices → Option Word → List Word → Option Checking
-check_made o words c wait [] = None
-check_made o words c wait (file ∷ files) =
+abbrev pub check_made : Options → Reporter → CheckChoices → Option Word → List Word → Option Checking
+check_made o r c wait [] = None
+check_made o r c wait (file ∷ files) =
     if are_right (is_some wait) c
     then Some (record {
       reading = o.reading;
       made = c;
       wait = wait;
-      choices = words;
+      reporting = r;
       files = file ∷ files;
     })
     else None
 
--- what is checked after the options, if `check` stands there
-abbrev pub check_after : Options → List Word → Option Checking
-check_after o [] = None
-check_after o (command ∷ words) =
-    if bytes_eq command (codes "check")
-    then option_and_then (λ p. check_made o words p.0 p.1 p.2) (files_named no_check_choice None words)
-    else None
+-- what the words after `check` check; None where they are no check
+abbrev pub check_asked : Fronted → Option Checking
+check_asked f =
+    option_and_then
+    (λ p. check_made f.options (record { rule = f.dialect.lookup; choices = f.words }) p.0 p.1 p.2)
+    (files_named no_check_choice None f.words)
 
--- what words check; None where they are no check
-abbrev pub check_asked : List Word → Option Checking
-check_asked words = option_and_then (λ p. check_after p.0 p.1) (given_like words)
+-- what is kept as borrowed words: what is reported, and the check
+abbrev pub reporter_of : Reporting → Reporter
+reporter_of r = record { rule = r.rule; choices = map string_bytes r.choices.now }
 
--- the check that is kept as borrowed words
 abbrev pub checking_of : Check → Checking
 checking_of c = record {
   reading = c.reading;
   made = c.made;
   wait = option_map (λ seconds. seconds.now) c.wait;
-  choices = map string_bytes c.choices.now;
+  reporting = reporter_of c.reporting;
   files = map string_bytes c.files.now;
 }

@@ -1,5 +1,6 @@
 -- Which words after the command are options, what they choose, and where the words after them begin.
-use Rattle.std.specs.Prelude.{Bool, true, false, not, ◌&&◌, ◌||◌, ◌==◌, if◌then◌else◌, nat_eq, nat_lt, count_by}
+use Rattle.std.specs.Prelude.{Bool, true, false, not, ◌&&◌, ◌||◌, ◌==◌, if◌then◌else◌, nat_eq, nat_lt}
+use Rattle.std.specs.Prelude.{count_by}
 use Rattle.std.specs.Prelude.{List, [], ◌∷◌, codes, length, map, Option, None, Some, is_some}
 use Rattle.std.specs.Prelude.{option_and_then, String, string_bytes}
 use Rattle.std.specs.Borrow.{Bor}
@@ -8,31 +9,36 @@ use Rattle.std.specs.List.{starts_with}
 use Rattle.std.specs.Option.{option_map, option_map_or}
 use Rattle.std.specs.Str.{bytes_eq}
 use Rattle.std.specs.declared.alloc.Global.{Global}
-use Rattle.ini_diff.specs.declared.merging.Side.TheVariants.{Ours, Theirs}
+use Rattle.ini_layers.specs.declared.merging.Side.TheVariants.{Ours, Theirs}
 use Rattle.ini_words.specs.Words.{Word}
-use Rattle.ini_file.specs.Formed.{is_formed, no_form, takes_form, with_name}
-use Rattle.ini_file.specs.Spacing.{is_spaced, no_spacing, takes_number, with_number}
+use Rattle.ini_file.specs.Manners.{has_manner, no_manner, takes_name, with_name, writes_form}
+use Rattle.ini_file.specs.Spacing.{is_spaced, no_spacing, takes_spacing, with_spacing}
 use Rattle.ini_file.specs.declared.choices.Choices.{Choices}
 use Rattle.ini_file.specs.declared.choices.Switches.{Switches}
-use Rattle.ini_file.specs.declared.form.Form.{Form}
+use Rattle.ini_file.specs.declared.manner.AnswerForm.{AnswerForm}
+use Rattle.ini_file.specs.declared.manner.Manner.{Manner}
 use Rattle.ini_file.specs.declared.spacing.Spacing.{Spacing}
 
 -- what is chosen by a word alone; the name of the file that is written, where it isn't the one that is read;
 -- the value that is got where there is none; what stands between key and value of new lines, or of each; how
--- many seconds a run waits for others that write the file; how a text is spaced; the form of what is found
+-- many seconds a run waits for others that write the file; the section, of a list of values; how a text is
+-- spaced; in which manner an answer is told
 pub record Chosen : Type 0 where
   pub switches : Switches
   pub output : Option Word
   pub default : Option Word
   pub separator : Option Word
   pub wait : Option Word
+  pub section : Option Word
   pub spacing : Spacing
-  pub form : Form
+  pub manner : Manner
 
 abbrev pub no_switch : Switches
 no_switch = record {
   existing = false;
   all = false;
+  last = false;
+  origin = false;
   null = false;
   dry_run = false;
   in_place = false;
@@ -40,6 +46,8 @@ no_switch = record {
   verbose = false;
   side = None;
   check = false;
+  reverse = false;
+  align = false;
 }
 
 abbrev pub no_choice : Chosen
@@ -49,8 +57,9 @@ no_choice = record {
   default = None;
   separator = None;
   wait = None;
+  section = None;
   spacing = no_spacing;
-  form = no_form;
+  manner = no_manner;
 }
 
 -- whether the command writes names, keys or values of the document
@@ -58,9 +67,11 @@ abbrev pub writes_texts : Word → Bool
 writes_texts command = bytes_eq command (codes "get") || bytes_eq command (codes "keys")
     || bytes_eq command (codes "sections") || bytes_eq command (codes "list")
 
--- whether the command tells something of files, and makes no file's text
+-- whether the command makes nothing that belongs into a file: it tells something of files, or lays them over
+-- each other
 abbrev pub answers : Word → Bool
 answers command = writes_texts command || bytes_eq command (codes "diff")
+    || bytes_eq command (codes "layers")
 
 -- whether what the command makes goes to standard output, where no file is named for it
 abbrev pub goes_out : Word → Bool
@@ -70,6 +81,7 @@ goes_out command = answers command || bytes_eq command (codes "merge3")
 abbrev pub writes_pairs : Word → Bool
 writes_pairs command = bytes_eq command (codes "set") || bytes_eq command (codes "add")
     || bytes_eq command (codes "rewrite") || bytes_eq command (codes "format")
+    || bytes_eq command (codes "layers")
 
 -- whether a switch is about a file that is written
 abbrev pub are_of_saving : Switches → Bool
@@ -94,26 +106,57 @@ takes_saving command c =
     (not (are_of_saving c.switches || is_some c.wait) || (not (goes_out command) || is_some c.output))
     && are_seconds c.wait
 
+-- something is chosen of the manner in which an answer is told
+abbrev pub has_own_manner : Chosen → Bool
+has_own_manner c = has_manner c.manner || c.switches.origin
+
+-- whether the command takes the form that is chosen with the other choices
+abbrev pub takes_form : Word → Chosen → Option AnswerForm → Bool
+takes_form command c None = true
+takes_form command c (Some form) =
+    writes_form command form && not (c.switches.null || (c.switches.origin || is_some c.manner.kind))
+
+-- whether the command takes the choices that are about the manner in which an answer is told
+abbrev pub takes_manner : Word → Chosen → Bool
+takes_manner command c =
+    (not (is_some c.manner.kind) || bytes_eq command (codes "get"))
+    && (not c.switches.last || (bytes_eq command (codes "get") && not c.switches.all))
+    && (not c.switches.origin || bytes_eq command (codes "list"))
+    && (not (is_some c.manner.color) || bytes_eq command (codes "diff"))
+    && takes_form command c c.manner.form
+
 -- whether the command takes the choices that are about the text that it makes
 abbrev pub takes_of_texts : Word → Chosen → Bool
 takes_of_texts command c =
     (not c.switches.dry_run || not (answers command))
     && (not (is_some c.switches.side) || bytes_eq command (codes "merge3"))
-    && (not (is_formed c.form) || bytes_eq command (codes "diff"))
+    && (not c.switches.reverse || bytes_eq command (codes "apply"))
+    && takes_manner command c
 
 -- whether the command takes the choices that are about a layout
 abbrev pub takes_layout : Word → Chosen → Bool
 takes_layout command c =
-    not (c.switches.check || is_spaced c.spacing) || bytes_eq command (codes "format")
+    not (c.switches.check || c.switches.align || is_spaced c.spacing) || bytes_eq command (codes "format")
 
 abbrev pub takes_writing : Word → Chosen → Bool
 takes_writing command c = takes_layout command c && takes_saving command c
 
+-- whether the command is about one value or name, or about all
+abbrev pub takes_all : Word → Bool
+takes_all command = bytes_eq command (codes "get") || bytes_eq command (codes "set")
+    || bytes_eq command (codes "sections")
+
+-- whether the command takes the choices that are about one value or a list of them
+abbrev pub takes_values : Word → Chosen → Bool
+takes_values command c =
+    (not c.switches.existing || (bytes_eq command (codes "set") && not c.switches.all))
+    && (not c.switches.all || takes_all command)
+    && (not (is_some c.section) || (bytes_eq command (codes "set") && c.switches.all))
+
 -- whether the command takes the choices
 abbrev pub takes : Word → Chosen → Bool
 takes command c =
-    (not c.switches.existing || bytes_eq command (codes "set"))
-    && (not c.switches.all || bytes_eq command (codes "get"))
+    takes_values command c
     && (not (is_some c.default) || bytes_eq command (codes "get"))
     && (not c.switches.null || writes_texts command)
     && (not (is_some c.separator) || (writes_pairs command && not c.switches.existing))
@@ -125,6 +168,8 @@ abbrev pub with_switch : Word → Switches → Option Switches
 with_switch word s =
     if bytes_eq word (codes "--existing") then Some (record s { existing = true })
     else if bytes_eq word (codes "--all") then Some (record s { all = true })
+    else if bytes_eq word (codes "--last") then Some (record s { last = true })
+    else if bytes_eq word (codes "--origin") then Some (record s { origin = true })
     else if bytes_eq word (codes "--null") then Some (record s { null = true })
     else if bytes_eq word (codes "--dry-run") then Some (record s { dry_run = true })
     else if bytes_eq word (codes "--in-place") then Some (record s { in_place = true })
@@ -133,6 +178,8 @@ with_switch word s =
     else if bytes_eq word (codes "--ours") then Some (record s { side = Some Ours })
     else if bytes_eq word (codes "--theirs") then Some (record s { side = Some Theirs })
     else if bytes_eq word (codes "--check") then Some (record s { check = true })
+    else if bytes_eq word (codes "--reverse") then Some (record s { reverse = true })
+    else if bytes_eq word (codes "--align") then Some (record s { align = true })
     else None
 
 -- no word begins with `--`
@@ -140,8 +187,8 @@ abbrev pub have_no_option : List Word → Bool
 have_no_option words = count_by (λ word. starts_with nat_eq word (codes "--")) words == 0
 
 -- the choices of words where `c` holds before them, and the words after: those after `--`, else those from
--- the first one on that is no option. None where a text is missing, or is no number where one follows, or
--- where, without `--`, one of the words from there on begins with `--`
+-- the first one on that is no option. None where a text is missing, or is no number or name where one
+-- follows, or where, without `--`, one of the words from there on begins with `--`
 abbrev mutual
   pub chosen : Chosen → List Word → Option (Chosen × List Word)
   chosen c [] = Some (c, [])
@@ -155,8 +202,10 @@ abbrev mutual
       then chosen_text (λ text. record c { separator = Some text }) words
       else if bytes_eq word (codes "--wait")
       then chosen_text (λ seconds. record c { wait = Some seconds }) words
-      else if takes_number word then chosen_number word c words
-      else if takes_form word then chosen_form word c words
+      else if bytes_eq word (codes "--section")
+      then chosen_text (λ name. record c { section = Some name }) words
+      else if takes_spacing word then chosen_number word c words
+      else if takes_name word then chosen_name word c words
       else option_map_or (λ s. chosen (record c { switches = s }) words) (with_switch word c.switches)
       (if have_no_option (word ∷ words) then Some (c, word ∷ words) else None)
 
@@ -169,13 +218,13 @@ abbrev mutual
   pub chosen_number : Word → Chosen → List Word → Option (Chosen × List Word)
   chosen_number word c [] = None
   chosen_number word c (text ∷ words) =
-      option_and_then (λ s. chosen (record c { spacing = s }) words) (with_number word text c.spacing)
+      option_and_then (λ s. chosen (record c { spacing = s }) words) (with_spacing word text c.spacing)
 
-  -- the same after a word that a form's name follows
-  pub chosen_form : Word → Chosen → List Word → Option (Chosen × List Word)
-  chosen_form word c [] = None
-  chosen_form word c (name ∷ words) =
-      option_and_then (λ f. chosen (record c { form = f }) words) (with_name word name c.form)
+  -- the same after a word that a name follows
+  pub chosen_name : Word → Chosen → List Word → Option (Chosen × List Word)
+  chosen_name word c [] = None
+  chosen_name word c (name ∷ words) =
+      option_and_then (λ m. chosen (record c { manner = m }) words) (with_name word name c.manner)
 
 -- the choices that are kept as borrowed words
 abbrev pub chosen_of : Choices → Chosen
@@ -185,8 +234,9 @@ chosen_of c = record {
   default = option_map (λ value. value.now) c.default;
   separator = option_map (λ text. text.now) c.separator;
   wait = option_map (λ seconds. seconds.now) c.wait;
+  section = option_map (λ name. name.now) c.section;
   spacing = c.spacing;
-  form = c.form;
+  manner = c.manner;
 }
 
 -- what a call answers: the choices, and the words after them

@@ -3,15 +3,16 @@ use Rattle.std.specs.Prelude.{◌≡◌, ◌==◌, ℕ, Bool, if◌then◌else�
 use Rattle.ini_text.specs.declared.error.Error.{Error}
 use Rattle.ini_text.specs.declared.option.ParseOption.{ParseOption}
 use Rattle.ini.specs.Documents.{Document}
-use Rattle.ini_diff.specs.Differences.{SettingChange, difference, setting_change}
-use Rattle.ini_diff.specs.declared.change.Change.{Change}
+use Rattle.ini_layers.specs.Differences.{SettingChange, difference, setting_change}
+use Rattle.ini_layers.specs.declared.change.Change.{Change}
 use Rattle.ini_file.specs.ChangeLines.{change_line}
+use Rattle.ini_file.specs.EditLines.{edit_line}
 use Rattle.ini_file.specs.JsonLines.{json_line}
 use Rattle.ini_file.specs.Merges.{Loads, RefusesFile}
 use Rattle.ini_file.specs.declared.compare.CompareEnd.{CompareEnd}
 use Rattle.ini_file.specs.declared.compare.CompareEnd.TheVariants.{Done, From, To}
-use Rattle.ini_file.specs.declared.form.ChangeForm.{ChangeForm}
-use Rattle.ini_file.specs.declared.form.ChangeForm.TheVariants.{Json, Lines}
+use Rattle.ini_file.specs.declared.manner.AnswerForm.{AnswerForm}
+use Rattle.ini_file.specs.declared.manner.AnswerForm.TheVariants.{Edits, Json}
 
 -- the lines of changes in JSON, of changes that are lent
 pub record AreJsonLines (changes : List SettingChange) (lines : List ℕ) : Type 0 where
@@ -19,13 +20,14 @@ pub record AreJsonLines (changes : List SettingChange) (lines : List ℕ) : Type
   pub are_lent : map setting_change lent ≡ changes
   pub are_lines : lines ≡ flat_map json_line lent
 
--- the lines of changes in a form
-abbrev pub AreLinesOf : ChangeForm → Bool → List SettingChange → List ℕ → Type 0
-AreLinesOf Lines is_colored changes lines = lines ≡ flat_map (change_line is_colored) changes
+-- the lines of changes in a form; no other one is of `diff`
+abbrev pub AreLinesOf : AnswerForm → Bool → List SettingChange → List ℕ → Type 0
 AreLinesOf Json is_colored changes lines = AreJsonLines changes lines
+AreLinesOf Edits is_colored changes lines = lines ≡ flat_map edit_line changes
+AreLinesOf _ is_colored changes lines = lines ≡ flat_map (change_line is_colored) changes
 
 -- the lines are those of the settings that differ between the files' documents
-pub record AreDifferences (o : ParseOption) (form : ChangeForm) (is_colored : Bool)
+pub record AreDifferences (o : ParseOption) (form : AnswerForm) (is_colored : Bool)
     (from to lines : List ℕ) : Type 0 where
   pub first : Document
   pub second : Document
@@ -40,7 +42,7 @@ pub record RefusesSecond (o : ParseOption) (from to : List ℕ) (e : Error) : Ty
   pub is_refused : RefusesFile o to e
 
 -- how a comparison of files with these bytes ends
-abbrev pub HasComparison : ParseOption → ChangeForm → Bool → (from to : List ℕ) → CompareEnd → Type 0
+abbrev pub HasComparison : ParseOption → AnswerForm → Bool → (from to : List ℕ) → CompareEnd → Type 0
 HasComparison o form is_colored from to (Done lines) = AreDifferences o form is_colored from to lines.items
 HasComparison o form is_colored from to (From e) = RefusesFile o from e
 HasComparison o form is_colored from to (To e) = RefusesSecond o from to e

@@ -1,7 +1,7 @@
 -- The change of a file's bytes as a unified diff without context: one hunk, between the first lines that
 -- the old bytes and the new ones share, and the last ones.
-use Rattle.std.specs.Prelude.{◌≡◌, ◌+◌, ◌==◌, ◌&&◌, ℕ, if◌then◌else◌, List, [], ◌∷◌, ◌++◌, codes, flat_map, length}
-use Rattle.std.specs.Prelude.{Option, None, Some}
+use Rattle.std.specs.Prelude.{◌≡◌, ◌+◌, ◌==◌, ◌&&◌, ℕ, if◌then◌else◌, List, [], ◌∷◌, ◌++◌, codes, flat_map}
+use Rattle.std.specs.Prelude.{Option, None, Some, length}
 use Rattle.std.specs.Fmt.{decimal}
 use Rattle.std.specs.List.{list_any, onto_first}
 use Rattle.ini_text.specs.Grammar.CharacterKinds.{line_feed}

@@ -1,5 +1,5 @@
 -- The forms in which names, keys and values are written, and which values are got.
-use Rattle.std.specs.Prelude.{Bool, true, false, if◌then◌else◌, flat_map, Option, None, Some, is_some}
+use Rattle.std.specs.Prelude.{Bool, true, false, if◌then◌else◌, flat_map, map, Option, None, Some, is_some}
 use Rattle.std.specs.List.{list_any}
 use Rattle.std.specs.Option.{option_map, option_or}
 use Rattle.ini.specs.Texts.{Text}
@@ -37,8 +37,10 @@ abbrev pub names_by : CaseRule → Lookup → Form → Document → Text
 names_by Kept rule form d = name_entries form d
 names_by Ignored rule form d = flat_map (name_entry form) (names_under rule d)
 
-abbrev pub names_listed : Lookup → Form → Document → Text
-names_listed rule form d = names_by rule.case rule form d
+-- or that of each section, in order
+abbrev pub names_listed : Lookup → (all : Bool) → Form → Document → Text
+names_listed rule all form d =
+    if all then flat_map (name_entry form) (map (λ s. s.0) d) else names_by rule.case rule form d
 
 -- each key once, of the sections of the name that are looked at; no text where there is none
 abbrev pub keys_once : Lookup → Form → Option Text → Document → Option Text

@@ -1,1 +1,2 @@
+pub mod EditReading
 pub mod Shared

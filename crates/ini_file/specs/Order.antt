@@ -1,25 +1,29 @@
 -- The words of the program in order. Options may stand anywhere before `--`; in order are the options of
 -- reading and writing, the command, its choices, `--`, and its arguments.
-use Rattle.std.specs.Prelude.{◌==◌, ◌||◌, ◌++◌, Bool, true, false, not, if◌then◌else◌, ℕ, length, map}
+use Rattle.std.specs.Prelude.{◌==◌, ◌&&◌, ◌||◌, ◌++◌, Bool, true, false, not, if◌then◌else◌, ℕ, length, map}
+use Rattle.std.specs.Prelude.{count_by, nat_lt}
 use Rattle.std.specs.Prelude.{option_to_list, List, [], ◌∷◌, codes, Option, None, Some, is_some, string_bytes}
 use Rattle.std.specs.Borrow.{Bor}
 use Rattle.std.specs.List.{slice_get}
 use Rattle.std.specs.Option.{option_map, option_map_or, option_or}
 use Rattle.std.specs.Str.{bytes_eq}
+use Rattle.ini_dialect.specs.EncodingNames.{encoding_of}
+use Rattle.ini_dialect.specs.declared.encoding.Encoding as encodings
 use Rattle.ini_words.specs.Words.{Word}
 use Rattle.ini_file.specs.Spelling.{is_like_option, kind_of, spelled, takes_text}
 use Rattle.ini_file.specs.declared.order.Sorted as sorted_words
 use Rattle.ini_file.specs.declared.spelling.Kind.{Kind}
 use Rattle.ini_file.specs.declared.spelling.Kind.TheVariants.{Reading, ReadingText, Choice, ChoiceText}
-use Rattle.ini_file.specs.declared.spelling.Kind.TheVariants.{Section, Like, Help}
+use Rattle.ini_file.specs.declared.spelling.Kind.TheVariants.{Section, Like, Encoding, Help}
 
--- the options of reading and writing, and the choices, each with its text; the section that is named, and the
--- dialect; whether help is asked for; and the other words, of which the command is the first
+-- the options of reading and writing, and the choices, each with its text; the section that is named, the
+-- dialect and the encoding; whether help is asked for; and the other words, of which the command is the first
 pub record Sorted : Type 0 where
   pub options : List Word
   pub choices : List Word
   pub section : Option Word
   pub like : Option Word
+  pub encoding : Option Word
   pub help : Bool
   pub others : List Word
 
@@ -29,6 +33,7 @@ no_words = record {
   choices = [];
   section = None;
   like = None;
+  encoding = None;
   help = false;
   others = [];
 }
@@ -53,6 +58,7 @@ with_text ReadingText name text s = record s { options = s.options ++ name ∷ t
 with_text ChoiceText name text s = record s { choices = s.choices ++ name ∷ text ∷ [] }
 with_text Section name text s = record s { section = Some text }
 with_text Like name text s = record s { like = Some text }
+with_text Encoding name text s = record s { encoding = Some text }
 with_text _ name text s = s
 
 -- the words sorted, after those that s has; None where a word looks like an option and is none, or where an
@@ -79,8 +85,10 @@ abbrev mutual
 -- how many arguments stand before the section of a command that has one
 abbrev pub before_section : Word → Option ℕ
 before_section command =
-    if bytes_eq command (codes "keys") || bytes_eq command (codes "delete-section") then Some 1
-    else if bytes_eq command (codes "get") || bytes_eq command (codes "delete") then Some 2
+    if bytes_eq command (codes "keys") || bytes_eq command (codes "delete-section")
+    || bytes_eq command (codes "add-section") then Some 1
+    else if bytes_eq command (codes "get") || bytes_eq command (codes "delete")
+    || bytes_eq command (codes "unset-all") || bytes_eq command (codes "comment") then Some 2
     else if bytes_eq command (codes "set") || bytes_eq command (codes "add")
     || bytes_eq command (codes "rename-key") then Some 3
     else None
@@ -94,6 +102,10 @@ takes_section command count named =
 abbrev pub or_like : Option Word → Sorted → Sorted
 or_like name s = record s { like = option_or s.like name }
 
+-- the encoding that is named, if one is; None where no encoding has the name
+abbrev pub encoding_asked : Sorted → Option (Option encodings.Encoding)
+encoding_asked s = option_map_or (λ name. option_map Some (encoding_of name)) s.encoding (Some None)
+
 -- the words that name a dialect
 abbrev pub like_words : Option Word → List Word
 like_words None = []
@@ -103,11 +115,27 @@ like_words (Some name) = codes "--like" ∷ name ∷ []
 unfoldable pub front_words : Sorted → List Word
 front_words s = like_words s.like ++ s.options
 
+-- the command sets a list of values
+abbrev pub sets_all : Word → List Word → Bool
+sets_all command choices =
+    bytes_eq command (codes "set") && nat_lt 0 (count_by (λ word. bytes_eq word (codes "--all")) choices)
+
+-- the words that name the section of such a command
+abbrev pub section_words : Option Word → List Word
+section_words None = []
+section_words (Some name) = codes "--section" ∷ name ∷ []
+
+-- such a command and its arguments in order, between the others
+abbrev pub list_in_order : Sorted → Word → List Word → List Word
+list_in_order s command arguments =
+    front_words s ++ command ∷ (s.choices ++ (section_words s.section ++ codes "--" ∷ arguments))
+
 -- the command and its arguments in order, between the others
 abbrev pub in_order_after : Sorted → List Word → Option (List Word)
 in_order_after s [] = None
 in_order_after s (command ∷ arguments) =
-    if takes_section command (length arguments) (is_some s.section)
+    if sets_all command s.choices then Some (list_in_order s command arguments)
+    else if takes_section command (length arguments) (is_some s.section)
     then Some (front_words s ++ command ∷ (s.choices ++ codes "--" ∷ (arguments ++ option_to_list s.section)))
     else None
 
@@ -143,6 +171,7 @@ sorted_of s = record {
   choices = words_of s.choices.items;
   section = option_map (λ name. name.now) s.section;
   like = option_map (λ name. name.now) s.like;
+  encoding = option_map (λ name. name.now) s.encoding;
   help = s.help;
   others = words_of s.others.items;
 }

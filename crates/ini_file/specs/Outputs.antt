@@ -12,6 +12,6 @@ use Rattle.ini_file.specs.Requests.{Asking, Rewrite, Listing, Sections, Keys, Ge
 abbrev pub output : WriteOption → Asking → Document → Option Text
 output w Rewrite d = Some (written d w)
 output w (Listing null) d = Some (listed_pairs (listing_form null) d)
-output w (Sections rule null) d = Some (names_listed rule (listing_form null) d)
+output w (Sections rule null all) d = Some (names_listed rule all (listing_form null) d)
 output w (Keys rule null section) d = keys_listed rule (listing_form null) section d
 output w (Get rule null all key section default) d = got rule null all key section default d

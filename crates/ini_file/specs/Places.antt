@@ -5,7 +5,8 @@ use Rattle.std.specs.Str.{bytes_eq}
 use Rattle.ini_edit.specs.Editings.{Add, Set}
 use Rattle.ini_words.specs.Words.{Word}
 use Rattle.ini_file.specs.Choices.{Chosen}
-use Rattle.ini_file.specs.Requests.{Asks, Request, Ask, Change, Rewrite}
+use Rattle.ini_file.specs.Further.{AddSection, SetAll}
+use Rattle.ini_file.specs.Requests.{Asks, Request, Ask, Change, Further, Rewrite}
 use Rattle.ini_file.specs.declared.run.Outcome.{Outcome}
 use Rattle.ini_file.specs.declared.run.Outcome.TheVariants.{Done, NotFound}
 
@@ -13,17 +14,21 @@ use Rattle.ini_file.specs.declared.run.Outcome.TheVariants.{Done, NotFound}
 abbrev pub is_edit : Request → Bool
 is_edit (Ask q) = false
 is_edit (Change e) = true
+is_edit (Further e) = true
 
 -- what the request makes belongs into the file itself: so it is with an edit, and with the document
 abbrev pub is_of_file : Request → Bool
 is_of_file (Ask Rewrite) = true
 is_of_file (Ask _) = false
 is_of_file (Change e) = true
+is_of_file (Further e) = true
 
 -- the request makes a file that isn't there
 abbrev pub makes_file : Request → Bool
 makes_file (Change (Set name key value)) = true
 makes_file (Change (Add name key value)) = true
+makes_file (Further (AddSection name)) = true
+makes_file (Further (SetAll name key values)) = true
 makes_file _ = false
 
 -- The file that is written: the one that `--output` names; else the file itself, where what is made belongs

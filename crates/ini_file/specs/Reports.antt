@@ -10,23 +10,9 @@ use Rattle.ini_check.specs.declared.warning.Level.{Level}
 use Rattle.ini_check.specs.declared.warning.Level.TheVariants.{LosesData, Surprises}
 use Rattle.ini_check.specs.declared.warning.Warning.{Warning}
 use Rattle.ini_words.specs.Words.{Word}
+use Rattle.ini_file.specs.JsonStrings.{hex_digits, json_byte}
 use Rattle.ini_file.specs.declared.report_format.Format.{Format}
 use Rattle.ini_file.specs.declared.report_format.Format.TheVariants.{Github, Json, Lines, Null, Sarif}
-
--- the hexadecimal digit of a number below 16
-abbrev pub hex_digit : ℕ → ℕ
-hex_digit n = if nat_lt n 10 then 0x30 + n else 0x37 + n
-
--- the two digits of a byte
-abbrev pub hex_digits : ℕ → List ℕ
-hex_digits byte = hex_digit (byte / 16) ∷ hex_digit (byte % 16) ∷ []
-
--- a byte of a string in JSON
-abbrev pub json_byte : ℕ → List ℕ
-json_byte byte =
-    if byte == 0x22 || byte == 0x5C then 0x5C ∷ byte ∷ []
-    else if nat_lt byte 0x20 then codes "\\u00" ++ hex_digits byte
-    else byte ∷ []
 
 -- a byte that stands for itself in a path of a URI
 abbrev pub is_uri_byte : ℕ → Bool

@@ -1,6 +1,5 @@
--- What a run of the program is, as a function of its words and of a file's bytes.
-use Rattle.std.specs.Prelude.{◌≡◌, ℕ, List, Option, Some, None, ⊤, IfSome}
-use Rattle.std.specs.Prelude.{◌++◌, codes, encode_utf8_all, map, string_bytes, String}
+-- What a run of a command is, as a function of a file's bytes.
+use Rattle.std.specs.Prelude.{◌≡◌, ℕ, List, Option, Some, None, ⊤, ◌++◌, codes, encode_utf8_all}
 use Rattle.std.specs.Str.{IsUtf8}
 use Rattle.std.specs.declared.alloc.Global.{Global}
 use Rattle.std.specs.declared.vec.Vec.{Vec}
@@ -17,16 +16,15 @@ use Rattle.ini_words.specs.Words.{Word}
 use Rattle.ini_words.specs.declared.options.Options.{Options}
 use Rattle.ini_file.specs.Bytes.{byte_order_mark_of}
 use Rattle.ini_file.specs.Edits.{HasNothingBy, HasWritableWords, IsChanged, RefusesEdit, is_own}
+use Rattle.ini_file.specs.Further.{HasNothingFurther, IsFurtherChanged, RefusesFurther}
 use Rattle.ini_file.specs.Outputs.{output}
-use Rattle.ini_file.specs.Requests.{Asking, Asks, Request, Ask, Change, separator_asked}
-use Rattle.ini_file.specs.Words.{asks_of_words}
+use Rattle.ini_file.specs.Requests.{Asking, Asks, Request, Ask, Change, Further, separator_asked}
 use Rattle.ini_file.specs.Writing.{IsWriting, Separates}
+use Rattle.ini_file.specs.declared.coding.CodingError.TheVariants as coded
+use Rattle.ini_file.specs.declared.coding.FileError.{FileError}
+use Rattle.ini_file.specs.declared.coding.FileError.TheVariants as file_refusal
 use Rattle.ini_file.specs.declared.run.Outcome.{Outcome}
-use Rattle.ini_file.specs.declared.run.Outcome.TheVariants.{Done, NotFound, Usage, Refused}
-
--- what the words ask for, if they are the program's
-abbrev pub asked_by : List (String Global) → Option Asks
-asked_by words = asks_of_words (map string_bytes words)
+use Rattle.ini_file.specs.declared.run.Outcome.TheVariants.{Done, NotFound, Usage, Refused, Coding}
 
 -- what a question is answered of the document that a text gives; no text where what it asks for isn't there
 pub record IsAnswer (o : Options) (separator : Option Word) (q : Asking) (T : Text) (out : Option Text)
@@ -44,6 +42,8 @@ IsWritten rule o separator (Ask q) byte_order_mark T bytes =
     (out : Text) × IsAnswer o separator q T (Some out) × bytes ≡ encode_utf8_all out
 IsWritten rule o separator (Change e) byte_order_mark T bytes =
     IsChanged rule o separator e byte_order_mark T bytes
+IsWritten rule o separator (Further e) byte_order_mark T bytes =
+    IsFurtherChanged rule o separator e byte_order_mark T bytes
 
 -- what the request is about isn't in the text, and it has no word that can't be written
 abbrev pub IsAbsent : Lookup → Options → Option Word → Request → Text → Type 0
@@ -51,6 +51,7 @@ IsAbsent rule o separator (Ask q) T = IsAnswer o separator q T None
 IsAbsent rule o separator (Change e) T =
     HasNothingBy (is_own rule) rule o.reading e T
     × HasWritableWords (is_own rule) o.reading o.escape_policy e
+IsAbsent rule o separator (Further e) T = HasNothingFurther rule o.reading e T
 
 -- what a question is refused with: a separator that isn't read back, whatever the text is; else the text's
 -- fault, or memory's
@@ -65,6 +66,8 @@ abbrev pub RefusesRequest : Lookup → Options → Option Word → Request → L
 RefusesRequest rule o separator (Ask q) byte_order_mark T refused = RefusesQuestion o separator T refused
 RefusesRequest rule o separator (Change e) byte_order_mark T refused =
     RefusesEdit rule o separator e byte_order_mark T refused
+RefusesRequest rule o separator (Further e) byte_order_mark T refused =
+    RefusesFurther rule o separator e byte_order_mark T refused
 
 -- how a run ends that asks for the request of a file with this mark and text
 abbrev pub EndsAs : Lookup → Options → Option Word → Request → List ℕ → Text → Outcome → Type 0
@@ -74,6 +77,7 @@ EndsAs rule o separator r byte_order_mark T NotFound = IsAbsent rule o separator
 EndsAs rule o separator r byte_order_mark T Usage = ⊥
 EndsAs rule o separator r byte_order_mark T (Refused refused) =
     RefusesRequest rule o separator r byte_order_mark T refused
+EndsAs rule o separator r byte_order_mark T (Coding _) = ⊥
 
 -- the same of a file's bytes, which may be no text
 abbrev pub EndsOn : List ℕ → Asks → Outcome → Type 0
@@ -81,10 +85,6 @@ EndsOn input a (Refused (refusal.Text NotUtf8)) = ¬ (IsUtf8 (without_byte_order
 EndsOn input a end =
     IsTextWith (λ T. EndsAs a.dialect.lookup a.options (Some (separator_asked a)) a.request
     (byte_order_mark_of input) T end) (without_byte_order_mark input)
-
--- how a run of the words over the file's bytes ends
-abbrev pub HasOutcome : List (String Global) → List ℕ → Outcome → Type 0
-HasOutcome words input end = IfSome (asked_by words) (λ a. EndsOn input a end)
 
 -- the bytes that a call answers are those that answer the question; none where what it asks for isn't there
 abbrev pub IsAnsweredAs : Options → Option Word → Asking → Text → Option (Vec ℕ Global) → Type 0
@@ -119,6 +119,13 @@ status_of (Refused refusal.Name) = 2
 status_of (Refused refusal.Key) = 2
 status_of (Refused refusal.Value) = 2
 status_of (Refused refusal.Separator) = 2
+status_of (Coding (coded.Malformed _ _ _)) = 3
+status_of (Coding (coded.NoBytes _ _ _ _)) = 2
+
+-- how a run ends of which a file is refused
+abbrev pub outcome_of : FileError → Outcome
+outcome_of (file_refusal.Text refused) = Refused (refusal.Text refused)
+outcome_of (file_refusal.Coding refused) = Coding refused
 
 -- what is reported of words that are none of the program's
 abbrev pub usage_line : List ℕ

@@ -7,7 +7,7 @@ use Rattle.std.specs.Str.{bytes_eq}
 use Rattle.ini_words.specs.Words.{Word}
 use Rattle.ini_file.specs.declared.spelling.Kind.{Kind}
 use Rattle.ini_file.specs.declared.spelling.Kind.TheVariants.{Reading, ReadingText, Choice, ChoiceText}
-use Rattle.ini_file.specs.declared.spelling.Kind.TheVariants.{Section, Like, Help}
+use Rattle.ini_file.specs.declared.spelling.Kind.TheVariants.{Section, Like, Encoding, Help}
 
 -- what an option's long name names
 abbrev pub kind_of : Word → Option Kind
@@ -17,18 +17,24 @@ kind_of name =
     || bytes_eq name (codes "--brackets") || bytes_eq name (codes "--crlf") then Some Reading
     else if bytes_eq name (codes "--policy") then Some ReadingText
     else if bytes_eq name (codes "--existing") || bytes_eq name (codes "--all")
+    || bytes_eq name (codes "--last") || bytes_eq name (codes "--origin")
     || bytes_eq name (codes "--null") || bytes_eq name (codes "--dry-run")
     || bytes_eq name (codes "--in-place") || bytes_eq name (codes "--force")
     || bytes_eq name (codes "--verbose") || bytes_eq name (codes "--fix")
     || bytes_eq name (codes "--suggest") || bytes_eq name (codes "--check")
-    || bytes_eq name (codes "--ours") || bytes_eq name (codes "--theirs") then Some Choice
+    || bytes_eq name (codes "--ours") || bytes_eq name (codes "--theirs")
+    || bytes_eq name (codes "--reverse")
+    || bytes_eq name (codes "--align") then Some Choice
     else if bytes_eq name (codes "--output") || bytes_eq name (codes "--default")
     || bytes_eq name (codes "--separator") || bytes_eq name (codes "--wait")
     || bytes_eq name (codes "--format") || bytes_eq name (codes "--allow")
     || bytes_eq name (codes "--deny") || bytes_eq name (codes "--indent-pairs")
-    || bytes_eq name (codes "--blank-lines") || bytes_eq name (codes "--color") then Some ChoiceText
+    || bytes_eq name (codes "--blank-lines") || bytes_eq name (codes "--color")
+    || bytes_eq name (codes "--type")
+    || bytes_eq name (codes "--sort") then Some ChoiceText
     else if bytes_eq name (codes "--section") then Some Section
     else if bytes_eq name (codes "--like") then Some Like
+    else if bytes_eq name (codes "--encoding") then Some Encoding
     else if bytes_eq name (codes "--help") then Some Help
     else None
 
@@ -38,6 +44,7 @@ takes_text ReadingText = true
 takes_text ChoiceText = true
 takes_text Section = true
 takes_text Like = true
+takes_text Encoding = true
 takes_text _ = false
 
 -- what stands before the first `=` of a word, and after it; all of it where there is none
@@ -51,7 +58,7 @@ parted word =
 abbrev pub spelled : Word → Word × Option Word
 spelled word =
     if bytes_eq word (codes "-h") then (codes "--help", None)
-    else if bytes_eq word (codes "-n") then (codes "--dry-run", None)
+    else if bytes_eq word (codes "-n") || bytes_eq word (codes "--diff") then (codes "--dry-run", None)
     else if bytes_eq word (codes "-s") then (codes "--section", None)
     else if starts_with nat_eq word (codes "--") then parted word
     else (word, None)

@@ -10,9 +10,9 @@ use Rattle.ini_text.specs.declared.write.option.WriteOption.{WriteOption}
 use Rattle.ini.specs.Documents.{Document}
 use Rattle.ini.specs.Loading.{IsDocumentOf, IsStopOf, IsTextWith}
 use Rattle.ini.specs.Texts.{Text}
-use Rattle.ini_diff.specs.Merging.{IsMerged, conflicts_of, taken_changes}
-use Rattle.ini_diff.specs.SourceChanges.{AreMade, RefusesOne}
-use Rattle.ini_diff.specs.declared.merging.Side.{Side}
+use Rattle.ini_layers.specs.Merging.{IsMerged, conflicts_of, taken_changes}
+use Rattle.ini_layers.specs.SourceChanges.{AreMade, RefusesOne}
+use Rattle.ini_layers.specs.declared.merging.Side.{Side}
 use Rattle.ini_edit.specs.SourceReads.{AreRead}
 use Rattle.ini_edit.specs.Sources.{Pieces, document_in, text_in}
 use Rattle.ini_edit.specs.declared.edit_list.RefusedEdit.{RefusedEdit}
@@ -84,7 +84,8 @@ module _ (o : Options) (side : Side) (base ours : Document) (T : Text) where
 
 -- how a merge of two documents into a text after a mark ends
 abbrev pub EndsOnSides : Options → Side → (base ours : Document) → List ℕ → Text → ThreeWayEnd → Type 0
-EndsOnSides o side base ours byte_order_mark T (Done done) = IsThreeWay o side base ours T byte_order_mark done
+EndsOnSides o side base ours byte_order_mark T (Done done) =
+    IsThreeWay o side base ours T byte_order_mark done
 EndsOnSides o side base ours byte_order_mark T (Change refused) = RefusesChange o side base ours T refused
 EndsOnSides o side base ours byte_order_mark T GetsMark = GetsMarkThreeWay o side base ours T byte_order_mark
 EndsOnSides o side base ours byte_order_mark T (Theirs (Parse e)) = IsStopOf o.reading T e

@@ -6,6 +6,7 @@
 
 use crate::bytes::text_of;
 use crate::choices::answers;
+use crate::coding::FileError;
 use crate::file_names::dialect_told;
 use crate::files::read_input;
 use crate::notes::note_dialect;
@@ -33,11 +34,15 @@ pub fn dialect_of_file(rt: &HostRuntime, sorted: &Sorted<'_>) -> Result<&'static
     if file == "-" {
         return Err(refuse_auto(rt, file, "--like auto reads no standard input"));
     }
-    let bytes = match read_input(rt, file) {
-        Ok(bytes) => bytes,
-        Err(refusal) => return Err(tell_refusal(rt, file, &Outcome::from(refusal))),
+    let Some(named) = sorted.encoding_asked() else {
+        return Ok("crate");
     };
     // the run itself tells what is wrong with the bytes
+    let bytes = match read_input(rt, named, file) {
+        Ok(input) => input.text,
+        Err(FileError::Coding(_)) => return Ok("crate"),
+        Err(refusal) => return Err(tell_refusal(rt, file, &Outcome::from(refusal))),
+    };
     let Ok((_, text)) = text_of(bytes.as_slice()) else {
         return Ok("crate");
     };

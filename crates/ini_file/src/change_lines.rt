@@ -1,14 +1,14 @@
 //! What is written of changes and of conflicts, a line each. This file knows no text and no device.
 ghost use Rattle.std.specs.Prelude.{◌≡◌, ◌++◌, IfOk, OnOk, chars, encode_utf8_all, flat_map, map};
 ghost use Rattle.ini.specs.Texts.{str_name};
-ghost use Rattle.ini_diff.specs.Differences.{setting_change};
-ghost use Rattle.ini_diff.specs.Merging.{setting_conflict};
+ghost use Rattle.ini_layers.specs.Differences.{setting_change};
+ghost use Rattle.ini_layers.specs.Merging.{setting_conflict};
 ghost use Rattle.ini_file.specs.ChangeLines.{change_line, color_of, conflict_line, escaped_part, front, told};
 ghost use Rattle.ini_file.specs.ChangeLines.{words_between};
 ghost use Rattle.ini_words.specs.Prints.{part_text};
 
 use ini::Watched;
-use ini_diff::{Change, Conflict};
+use ini_layers::{Change, Conflict};
 use ini_words::lines::{Form, write_parts};
 use std::alloc::{AllocError, Global};
 
@@ -161,14 +161,26 @@ fn told(value: Option<&str>) -> (&'static str, &str)
     }
 }
 
-// Puts texts last with the basic escapes, and after each another as it is.
-fn push_parts(lines: &mut Vec<u8>, parts: &[(&str, &str)]) -> Result<(), AllocError>
+/// Puts texts last in the form, and after each another as it is. Refused when out of memory alone.
+pub(crate) fn push_parts_in(
+    lines: &mut Vec<u8>,
+    form: Form,
+    parts: &[(&str, &str)],
+) -> Result<(), AllocError>
     ensures { OnOk result (lines.new.items
-        ≡ lines.old.items ++ encode_utf8_all (flat_map (part_text Form.Escaped) parts.now)) }
+        ≡ lines.old.items ++ encode_utf8_all (flat_map (part_text form) parts.now)) }
 {
-    match write_parts(parts, Form::Escaped, &mut Watched::new(lines)) {
+    match write_parts(parts, form, &mut Watched::new(lines)) {
         Ok(()) => Ok(()),
         // Bytes in memory are refused only when out of memory.
         Err(_) => Err(AllocError),
     }
+}
+
+/// The same with the basic escapes.
+pub(crate) fn push_parts(lines: &mut Vec<u8>, parts: &[(&str, &str)]) -> Result<(), AllocError>
+    ensures { OnOk result (lines.new.items
+        ≡ lines.old.items ++ encode_utf8_all (flat_map (part_text Form.Escaped) parts.now)) }
+{
+    push_parts_in(lines, Form::Escaped, parts)
 }

@@ -1,15 +1,14 @@
 //! The check of a file: what is reported of its warnings, and the exit status. This file knows no word of the
 //! program and no device.
 ghost use Rattle.std.specs.Prelude.{◌≡◌, ◌++◌, IfErr, IfOk, IsOkUnless, OnOk, alloc_error, chars, flat_map};
-ghost use Rattle.std.specs.Prelude.{map, max, string_bytes};
 ghost use Rattle.ini_text.specs.declared.error.Error.TheVariants.{Memory};
 ghost use Rattle.ini.specs.Loading.{IfParse, IsParseOrMemory, IsStopOf};
+ghost use Rattle.ini_file.specs.CheckWords.{reporter_of};
 ghost use Rattle.ini_file.specs.Checks.{AreReports, IsChecked, check_status, report};
 
 use crate::bytes::text_of;
 use crate::check_words::Check;
 use crate::report::push_report;
-use crate::reported::is_reported;
 use ini::Error;
 use ini_check::{Warning, check};
 use std::alloc::{AllocError, Global};
@@ -28,7 +27,7 @@ pub fn check_file(
     file: &str,
     input: &[u8],
 ) -> Result<Vec<u8>, Error>
-    ensures { IsChecked asked.now.reading asked.now.made.format (map string_bytes asked.now.choices.now)
+    ensures { IsChecked asked.now.reading asked.now.made.format (reporter_of asked.now.reporting)
         file.now input.now result }
 {
     match text_of(input) {
@@ -45,7 +44,7 @@ fn reports_of_text(
     text: &str,
 ) -> Result<Vec<u8>, Error>
     ensures reports { IfOk result (λ reports. AreReports asked.now.reading asked.now.made.format
-        (map string_bytes asked.now.choices.now) file.now (chars text.now) reports.items) }
+        (reporter_of asked.now.reporting) file.now (chars text.now) reports.items) }
     ensures fault { IfParse result (IsStopOf asked.now.reading (chars text.now)) }
     ensures only { IfErr result IsParseOrMemory }
 {
@@ -61,7 +60,7 @@ fn reports_of(
     warnings: &[Warning],
 ) -> Result<Vec<u8>, Error>
     ensures reports { IfOk result (λ reports. reports.items ≡ flat_map
-        (report asked.now.made.format (map string_bytes asked.now.choices.now) file.now) warnings.now) }
+        (report asked.now.made.format (reporter_of asked.now.reporting) file.now) warnings.now) }
     ensures only { IsOkUnless result (Memory alloc_error) }
 {
     let mut reports = Vec::new(alloc);
@@ -80,9 +79,9 @@ fn push_reported(
     warning: Warning,
 ) -> Result<(), AllocError>
     ensures { OnOk result (reports.new.items ≡ reports.old.items
-        ++ report asked.now.made.format (map string_bytes asked.now.choices.now) file.now warning) }
+        ++ report asked.now.made.format (reporter_of asked.now.reporting) file.now warning) }
 {
-    if is_reported(warning.trap, asked.choices) {
+    if asked.reporting.reports(warning.trap) {
         push_report(alloc, reports, asked.made.format, file, warning)
     } else {
         Ok(())
@@ -100,11 +99,4 @@ pub fn status_of_check(checked: &Result<Vec<u8>, Error>) -> u8
         Err(Error::Parse(_) | Error::NotUtf8) => 3,
         Err(Error::Io(_) | Error::Memory(_) | Error::NoProgress) => 4,
     }
-}
-
-/// The exit status of two files that have one each: the larger one.
-pub fn worst_of(one: u8, other: u8) -> u8
-    ensures { result ≡ max one other }
-{
-    if one < other { other } else { one }
 }

@@ -1,9 +1,10 @@
 //! The check of files that are there: their warnings go to standard output, and what is refused is reported.
 //! This file knows the process's streams, and no word of the program.
 
-use crate::check::{check_file, status_of_check, worst_of};
+use crate::check::{check_file, status_of_check};
 use crate::check_words::Check;
-use crate::files::{lock_place, read_file, read_input, write_output};
+use crate::coding::FileError;
+use crate::files::{Input, lock_place, read_file, read_input, write_output};
 use crate::fix::fix;
 use crate::refusals::refuse;
 use crate::report_format::Format;
@@ -12,6 +13,7 @@ use crate::sarif::document_of;
 use crate::suggest::suggestions;
 use crate::target::Target;
 use ini::Error;
+use ini_dialect::Encoding;
 use std::alloc::AllocError;
 use std::io::Write;
 
@@ -20,19 +22,19 @@ use std::io::Write;
 /// largest of the files' statuses, or 4 where it can't be written.
 ///
 /// No contract says what a stream or a file gets; `tests/files.sh` tests it. Only what is mended is written.
-pub fn check_files(rt: &HostRuntime, check: &Check<'_>) -> u8 {
+pub fn check_files(rt: &HostRuntime, named: Option<Encoding>, check: &Check<'_>) -> u8 {
     let mut reports = Vec::new(rt.alloc());
     let mut worst = 0;
     for file in check.files {
-        let found = check_one(rt, check, file.as_str(), &mut reports);
-        worst = worst_of(worst, found);
+        let found = check_one(rt, named, check, file.as_str(), &mut reports);
+        worst = worst.max(found);
     }
     match write_reports(rt, check, reports) {
         Ok(()) => worst,
         Err(refusal) => {
             let outcome = Outcome::from(refusal);
             let status = refuse(rt, check.reading, "standard output", &[], &outcome);
-            worst_of(worst, status)
+            worst.max(status)
         }
     }
 }
@@ -57,12 +59,18 @@ fn writes_text(check: &Check<'_>) -> bool {
 }
 
 // Puts last what is reported of a file's warnings, or tells its refusal; and answers its status.
-fn check_one(rt: &HostRuntime, check: &Check<'_>, file: &str, reports: &mut Vec<u8>) -> u8 {
+fn check_one(
+    rt: &HostRuntime,
+    named: Option<Encoding>,
+    check: &Check<'_>,
+    file: &str,
+    reports: &mut Vec<u8>,
+) -> u8 {
     let read = check.reading;
     let looked_at = if check.made.fix {
-        fix_one(rt, check, file)
+        fix_one(rt, named, check, file)
     } else {
-        read_input(rt, file)
+        read_input(rt, named, file).map(|input| input.text)
     };
     let input = match looked_at {
         Ok(input) => input,
@@ -84,18 +92,24 @@ fn check_one(rt: &HostRuntime, check: &Check<'_>, file: &str, reports: &mut Vec<
 }
 
 // Mends a file, and answers the bytes that it has then, or would have; where they are refused, its own.
-fn fix_one(rt: &HostRuntime, check: &Check<'_>, file: &str) -> Result<Vec<u8>, Error> {
+fn fix_one(
+    rt: &HostRuntime,
+    named: Option<Encoding>,
+    check: &Check<'_>,
+    file: &str,
+) -> Result<Vec<u8>, FileError> {
     let target = Target::of_fixing(check.made, check.wait, file);
     let _lock = lock_place(rt, target)?;
-    let Some(input) = read_file(rt, target)? else {
+    let Some(Input { text, coding }) = read_file(rt, named, target)? else {
         return Ok(Vec::new(rt.alloc()));
     };
-    let fixed = match fix(rt.alloc(), check, input.as_slice()) {
+    let fixed = match fix(rt.alloc(), check, text.as_slice()) {
         Ok(fixed) => fixed,
-        Err(Error::Parse(_) | Error::NotUtf8) => return Ok(input),
-        Err(refusal) => return Err(refusal),
+        Err(Error::Parse(_) | Error::NotUtf8) => return Ok(text),
+        Err(refusal) => return Err(FileError::Text(refusal)),
     };
-    write_output(rt, target, Some(input.as_slice()), fixed.as_slice())?;
+    let (old, new) = (text.as_slice(), fixed.as_slice());
+    write_output(rt, coding, target, Some(old), new)?;
     Ok(fixed)
 }
 

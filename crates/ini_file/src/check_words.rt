@@ -1,15 +1,15 @@
-//! The words of a check: options of reading, `check`, choices, and files. This file knows no document and no
-//! device.
+//! The words of a check: choices, and files. This file knows no document and no device.
 ghost use Rattle.std.specs.Prelude.{◌≡◌, None, map, string_bytes};
 ghost use Rattle.std.specs.Option.{option_map};
 ghost use Rattle.ini_file.specs.CheckWords.{are_right, check_asked, check_made, checking_of};
-ghost use Rattle.ini_file.specs.CheckWords.{files_named, no_check_choice, takes_text};
+ghost use Rattle.ini_file.specs.CheckWords.{files_named, no_check_choice, reporter_of, takes_text};
 ghost use Rattle.ini_file.specs.CheckWords.{with_text, with_word};
+ghost use Rattle.ini_file.specs.Fronts.{front_of};
 
 use crate::choices::{Switches, have_no_option, is_short_number};
-use crate::like::options_of;
+use crate::front::Front;
 use crate::report_format::Format;
-use crate::reported::names_traps;
+use crate::reported::{Reporting, names_traps};
 use ini::ParseOption;
 use ini_words::Options;
 
@@ -91,36 +91,33 @@ pub struct Check<'a> {
     pub made: CheckChoices,
     /// How long a run waits for others that write a file, in seconds.
     pub wait: Option<&'a str>,
-    /// The words after the command, of which `is_reported` says which traps are reported.
-    pub choices: &'a [String],
+    /// Which traps are reported.
+    pub reporting: Reporting<'a>,
     /// The files' names, one at least; `-` is standard input.
     pub files: &'a [String],
 }
 
-/// What the words check, if they are a check: a dialect or none; options, of which those of reading count;
-/// then `check`, choices of its own, `--` or nothing, and one file or more, of which none begins with `--`
-/// where that word doesn't stand before it. Of several forms the last holds. Takes no memory.
-pub fn check_of(words: &[String]) -> Option<Check<'_>>
-    ensures { option_map checking_of result ≡ check_asked (map string_bytes words.now) }
+/// What the words check that stand after `check`: choices of its own, `--` or nothing, and one file or more,
+/// of which none begins with `--` where that word doesn't stand before it. Of several forms the last holds;
+/// of the options before it those of reading count. Takes no memory.
+pub fn check_of<'a>(front: Front<'a>) -> Option<Check<'a>>
+    ensures { option_map checking_of result ≡ check_asked (front_of front.entry) }
 {
-    let (options, following) = options_of(words)?;
-    let (command, choices) = following.split_first()?;
-    if command.as_str() != "check" {
-        return None;
-    }
+    let (rule, choices) = (front.dialect.lookup, front.words);
     let (made, wait, files) = files_of(choices)?;
-    check_made(options, choices, made, wait, files)
+    let reporting = Reporting { rule, choices };
+    check_made(front.options, reporting, made, wait, files)
 }
 
 // The check of files, one at least, that is made so.
 fn check_made<'a>(
     options: Options,
-    choices: &'a [String],
+    reporting: Reporting<'a>,
     made: CheckChoices,
     wait: Option<&'a str>,
     files: &'a [String],
 ) -> Option<Check<'a>>
-    ensures { option_map checking_of result ≡ check_made options (map string_bytes choices.now) made
+    ensures { option_map checking_of result ≡ check_made options (reporter_of reporting.entry) made
         (option_map (λ text. text.now) wait.entry) (map string_bytes files.now) }
 {
     if files.is_empty() {
@@ -133,7 +130,7 @@ fn check_made<'a>(
         reading: options.reading,
         made,
         wait,
-        choices,
+        reporting,
         files,
     })
 }

@@ -2,23 +2,28 @@
 //! commands their names alone.
 ghost use Rattle.std.specs.Prelude.{◌≡◌, ◌&&◌, ◌||◌, map, not, string_bytes};
 ghost use Rattle.std.specs.Option.{option_map};
-ghost use Rattle.ini_file.specs.Choices.{chosen, chosen_by, chosen_of, no_choice, no_switch, with_switch};
+ghost use Rattle.ini_file.specs.Choices.{chosen, chosen_by, chosen_of, has_own_manner, no_choice, no_switch};
+ghost use Rattle.ini_file.specs.Choices.{with_switch};
 ghost use Rattle.ini_file.specs.Choices.{are_of_saving, are_seconds, has_digits_alone, have_no_option};
 ghost use Rattle.ini_file.specs.Choices.{answers, goes_out, is_short_number, takes, takes_layout};
-ghost use Rattle.ini_file.specs.Choices.{takes_of_texts, takes_saving, takes_writing, writes_pairs};
-ghost use Rattle.ini_file.specs.Choices.{writes_texts};
+ghost use Rattle.ini_file.specs.Choices.{takes_form, takes_manner, takes_of_texts, takes_saving};
+ghost use Rattle.ini_file.specs.Choices.{takes_values, takes_writing, writes_pairs, writes_texts};
 
-use crate::form::{Form, takes_form};
-use crate::spacing::{Spacing, takes_number};
-use ini_diff::Side;
+use crate::manner::{Manner, takes_name};
+use crate::spacing::{Spacing, takes_spacing};
+use ini_layers::Side;
 
 /// What words after the command choose by themselves.
 #[derive(Clone, Copy)]
 pub struct Switches {
     /// A value is set only where its key is there.
     pub existing: bool,
-    /// Each value of a key is got, not the first alone.
+    /// Each value of a key is got, or set, not one alone; or each header's name.
     pub all: bool,
+    /// The last value of a key is got, whatever the rule.
+    pub last: bool,
+    /// Each pair is listed with its file and its line.
+    pub origin: bool,
     /// What is asked for is written as it stands, with NUL after each name, key and value.
     pub null: bool,
     /// What would change in a file is shown, and no file is written.
@@ -33,6 +38,10 @@ pub struct Switches {
     pub side: Option<Side>,
     /// A file's layout is checked, and no file is written.
     pub check: bool,
+    /// What undoes edits is made in place of them.
+    pub reverse: bool,
+    /// The separators of neighbouring pairs are laid out below each other.
+    pub align: bool,
 }
 
 impl Switches {
@@ -43,6 +52,8 @@ impl Switches {
         Switches {
             existing: false,
             all: false,
+            last: false,
+            origin: false,
             null: false,
             dry_run: false,
             in_place: false,
@@ -50,6 +61,8 @@ impl Switches {
             verbose: false,
             side: None,
             check: false,
+            reverse: false,
+            align: false,
         }
     }
 
@@ -68,6 +81,8 @@ impl Switches {
         match word {
             "--existing" => switches.existing = true,
             "--all" => switches.all = true,
+            "--last" => switches.last = true,
+            "--origin" => switches.origin = true,
             "--null" => switches.null = true,
             "--dry-run" => switches.dry_run = true,
             "--in-place" => switches.in_place = true,
@@ -76,6 +91,8 @@ impl Switches {
             "--ours" => switches.side = Some(Side::Ours),
             "--theirs" => switches.side = Some(Side::Theirs),
             "--check" => switches.check = true,
+            "--reverse" => switches.reverse = true,
+            "--align" => switches.align = true,
             _ => return None,
         }
         Some(switches)
@@ -95,16 +112,18 @@ pub struct Choices<'a> {
     pub separator: Option<&'a str>,
     /// How long a run waits for others that write the file, in seconds.
     pub wait: Option<&'a str>,
+    /// The section, of a command that has a list of values last.
+    pub section: Option<&'a str>,
     /// How a text is spaced that is laid out.
     pub spacing: Spacing,
-    /// The form in which what is found is written.
-    pub form: Form,
+    /// In which manner an answer is told.
+    pub manner: Manner,
 }
 
 impl<'a> Choices<'a> {
     /// The options that words have at their front, and the words after them: those after `--`, else those
     /// from the first one on that is no option. `None` where, without `--`, one of the words from there on
-    /// begins with `--`, or where the text that an option takes is missing, or no number or form where it
+    /// begins with `--`, or where the text that an option takes is missing, or no number or name where it
     /// takes one. Of several texts of an option the last holds. Takes no memory.
     pub fn of_words(words: &'a [String]) -> Option<(Choices<'a>, &'a [String])>
         ensures { chosen_by result ≡ chosen no_choice (map string_bytes words.now) }
@@ -114,8 +133,9 @@ impl<'a> Choices<'a> {
         let mut default: Option<&'a str> = None;
         let mut separator: Option<&'a str> = None;
         let mut wait: Option<&'a str> = None;
+        let mut section: Option<&'a str> = None;
         let mut spacing = Spacing::none();
-        let mut form = Form::none();
+        let mut manner = Manner::none();
         let mut rest = words;
         'words: while let Some((word, after)) = rest.split_first() {
             let word = word.as_str();
@@ -126,8 +146,9 @@ impl<'a> Choices<'a> {
                     default,
                     separator,
                     wait,
+                    section,
                     spacing,
-                    form,
+                    manner,
                 };
                 return Some((choices, after));
             } else if word == "--output" {
@@ -146,13 +167,17 @@ impl<'a> Choices<'a> {
                 let (seconds, after) = after.split_first()?;
                 wait = Some(seconds.as_str());
                 rest = after;
-            } else if takes_number(word) {
-                let (number, after) = after.split_first()?;
-                spacing = spacing.with_number(word, number.as_str())?;
-                rest = after;
-            } else if takes_form(word) {
+            } else if word == "--section" {
                 let (name, after) = after.split_first()?;
-                form = form.with_name(word, name.as_str())?;
+                section = Some(name.as_str());
+                rest = after;
+            } else if takes_spacing(word) {
+                let (number, after) = after.split_first()?;
+                spacing = spacing.with_spacing(word, number.as_str())?;
+                rest = after;
+            } else if takes_name(word) {
+                let (name, after) = after.split_first()?;
+                manner = manner.with_name(word, name.as_str())?;
                 rest = after;
             } else if let Some(changed) = switches.with_switch(word) {
                 switches = changed;
@@ -166,8 +191,9 @@ impl<'a> Choices<'a> {
                     default,
                     separator,
                     wait,
+                    section,
                     spacing,
-                    form,
+                    manner,
                 };
                 return Some((choices, rest));
             }
@@ -178,18 +204,25 @@ impl<'a> Choices<'a> {
             default,
             separator,
             wait,
+            section,
             spacing,
-            form,
+            manner,
         };
         Some((choices, rest))
+    }
+
+    /// Whether something is chosen of the manner in which an answer is told.
+    pub fn has_manner(self) -> bool
+        ensures { result ≡ has_own_manner (chosen_of self.entry) }
+    {
+        self.manner.is_chosen() || self.switches.origin
     }
 
     /// Whether the command of this name takes the choices.
     pub fn apply_to(self, command: &str) -> bool
         ensures { result ≡ takes command.now (chosen_of self.entry) }
     {
-        implies(self.switches.existing, command == "set")
-            && implies(self.switches.all, command == "get")
+        self.suit_values(command)
             && implies(self.default.is_some(), command == "get")
             && implies(self.switches.null, writes_texts(command))
             && implies(
@@ -198,6 +231,16 @@ impl<'a> Choices<'a> {
             )
             && self.suit_texts(command)
             && self.suit_writing(command)
+    }
+
+    // Whether the command takes the choices that are about one value or a list of them.
+    fn suit_values(self, command: &str) -> bool
+        ensures { result ≡ takes_values command.now (chosen_of self.entry) }
+    {
+        let all = self.switches.all;
+        implies(self.switches.existing, command == "set" && !all)
+            && implies(all, matches!(command, "get" | "set" | "sections"))
+            && implies(self.section.is_some(), command == "set" && all)
     }
 
     // Whether the command takes the choices that are about what is written: how, and into which file.
@@ -212,7 +255,7 @@ impl<'a> Choices<'a> {
         ensures { result ≡ takes_layout command.now (chosen_of self.entry) }
     {
         implies(
-            self.switches.check || self.spacing.is_chosen(),
+            self.switches.check || self.switches.align || self.spacing.is_chosen(),
             command == "format",
         )
     }
@@ -223,7 +266,32 @@ impl<'a> Choices<'a> {
     {
         implies(self.switches.dry_run, !answers(command))
             && implies(self.switches.side.is_some(), command == "merge3")
-            && implies(self.form.is_chosen(), command == "diff")
+            && implies(self.switches.reverse, command == "apply")
+            && self.suit_answer(command)
+    }
+
+    // Whether the command takes the choices that are about the manner in which an answer is told.
+    fn suit_answer(self, command: &str) -> bool
+        ensures { result ≡ takes_manner command.now (chosen_of self.entry) }
+    {
+        implies(self.manner.kind.is_some(), command == "get")
+            && implies(self.switches.last, command == "get" && !self.switches.all)
+            && implies(self.switches.origin, command == "list")
+            && implies(self.manner.color.is_some(), command == "diff")
+            && self.suit_form(command)
+    }
+
+    // Whether the command takes the form that is chosen with the other choices.
+    fn suit_form(self, command: &str) -> bool
+        ensures { result ≡ takes_form command.now (chosen_of self.entry) self.entry.manner.form }
+    {
+        match self.manner.form {
+            Some(form) => {
+                form.is_of(command)
+                    && !(self.switches.null || self.switches.origin || self.manner.kind.is_some())
+            }
+            None => true,
+        }
     }
 
     // Whether the command takes the choices that are about a file that is written.
@@ -290,7 +358,7 @@ fn may_separate(command: &str, existing: bool) -> bool
 pub(crate) fn writes_pairs(command: &str) -> bool
     ensures { result ≡ writes_pairs command.now }
 {
-    matches!(command, "set" | "add" | "rewrite" | "format")
+    matches!(command, "set" | "add" | "rewrite" | "format" | "layers")
 }
 
 /// Whether the command writes names, keys or values of the document.
@@ -300,11 +368,12 @@ pub(crate) fn writes_texts(command: &str) -> bool
     matches!(command, "get" | "keys" | "sections" | "list")
 }
 
-/// Whether the command tells something of files, and makes no file's text.
+/// Whether the command makes nothing that belongs into a file: it tells something of files, or lays them over
+/// each other.
 pub(crate) fn answers(command: &str) -> bool
     ensures { result ≡ answers command.now }
 {
-    writes_texts(command) || command == "diff"
+    writes_texts(command) || command == "diff" || command == "layers"
 }
 
 /// Whether what the command makes goes to standard output, where no file is named for it.

@@ -30,8 +30,8 @@ pub fn answer<W: Write>(
 {
     match question {
         Question::List { null } => list(document, listing_form(null), out),
-        Question::Sections { rule, null } => {
-            list_names(alloc, rule, document, listing_form(null), out)
+        Question::Sections { rule, null, all } => {
+            list_names(alloc, rule, all, document, listing_form(null), out)
         }
         Question::Keys {
             rule,

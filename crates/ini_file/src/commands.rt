@@ -4,14 +4,19 @@
 //! No contract says what the help is; `tests/words.sh` compares what is printed of each command with it.
 
 use crate::choices::{answers, writes_pairs, writes_texts};
+use crate::manner::AnswerForm;
 use crate::order::before_section;
 use crate::page::HELP;
+use crate::report_format::Format;
 use std::fmt;
 
 /// The commands.
 pub const COMMANDS: &str =
-    "get keys sections list set add delete delete-section rename-key rename-section merge diff merge3 \
-    rewrite format check";
+    "get keys sections list set add delete unset-all comment add-section delete-section rename-key \
+    rename-section merge layers diff apply merge3 rewrite format check";
+
+/// The names of the forms that commands write.
+pub const FORMS: [&str; 7] = ["lines", "json", "sh", "ini", "edits", "sarif", "github"];
 
 /// A command and what it takes.
 #[derive(Clone, Copy)]
@@ -30,12 +35,17 @@ impl Shape {
         let command = self.command;
         match choice {
             "--existing" => command == "set",
-            "--all" | "--default" => command == "get",
+            "--all" => matches!(command, "get" | "sections" | "set"),
+            "--origin" => command == "list",
+            "--last" | "--default" | "--type" => command == "get",
             "--null" => writes_texts(command) || command == "check",
-            "--format" => command == "check" || command == "diff",
+            "--format" => FORMS.iter().any(|form| self.writes(form)),
             "--color" => command == "diff",
+            "--reverse" => command == "apply",
             "--allow" | "--deny" | "--fix" | "--suggest" => command == "check",
-            "--check" | "--indent-pairs" | "--blank-lines" => command == "format",
+            "--check" | "--align" | "--indent-pairs" | "--blank-lines" | "--sort" => {
+                command == "format"
+            }
             "--separator" => writes_pairs(command),
             "--section" => before_section(command).is_some(),
             "--dry-run" => !answers(command),
@@ -43,6 +53,14 @@ impl Shape {
             "--output" => command != "check",
             _ => true,
         }
+    }
+
+    /// Whether the command writes a form of this name.
+    pub fn writes(self, form: &str) -> bool {
+        if self.command == "check" {
+            return Format::of_name(form).is_some();
+        }
+        AnswerForm::of_name(form).is_some_and(|form| form.is_of(self.command))
     }
 
     /// How many arguments there are at least.

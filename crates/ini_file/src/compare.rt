@@ -1,15 +1,16 @@
 //! What differs between two files, setting by setting, as a function of their bytes. This file knows no word
 //! of the program and no device.
 ghost use Rattle.std.specs.Prelude.{◌≡◌, IfOk};
-ghost use Rattle.ini_diff.specs.Differences.{difference};
+ghost use Rattle.ini_layers.specs.Differences.{difference};
 ghost use Rattle.ini_file.specs.Comparisons.{AreLinesOf, HasComparison, compare_status};
 
 use crate::change_lines::change_lines;
-use crate::form::ChangeForm;
+use crate::edit_lines::edit_lines;
 use crate::json_lines::json_lines;
+use crate::manner::AnswerForm;
 use crate::merge::load;
 use ini::{Error, Ini, ParseOption};
-use ini_diff::diff;
+use ini_layers::diff;
 use std::alloc::{AllocError, Global};
 
 /// How a comparison ended.
@@ -28,7 +29,7 @@ pub enum CompareEnd {
 pub fn compare(
     alloc: Global,
     read: ParseOption,
-    form: ChangeForm,
+    form: AnswerForm,
     is_colored: bool,
     from: &[u8],
     to: &[u8],
@@ -52,7 +53,7 @@ pub fn compare(
 // A line for each setting that differs between two documents.
 fn difference_lines(
     alloc: Global,
-    form: ChangeForm,
+    form: AnswerForm,
     is_colored: bool,
     from: &Ini,
     to: &Ini,
@@ -64,8 +65,9 @@ fn difference_lines(
     };
     let changes = changes.as_slice();
     match form {
-        ChangeForm::Lines => change_lines(alloc, is_colored, changes),
-        ChangeForm::Json => json_lines(alloc, changes),
+        AnswerForm::Json => json_lines(alloc, changes),
+        AnswerForm::Edits => edit_lines(alloc, changes),
+        _ => change_lines(alloc, is_colored, changes),
     }
 }
 

@@ -1,51 +1,58 @@
 //! A comparison of files that are there. This file knows the process's streams, and no word of the program.
 
+use crate::coding::{Coding, FileError};
 use crate::compare::{CompareEnd, compare, compare_status};
 use crate::files::{lock_place, read_input, write_output};
-use crate::form::{ChangeForm, Color};
+use crate::manner::{AnswerForm, Color};
 use crate::refusals::refuse;
 use crate::run::Outcome;
 use crate::side_words::Comparison;
 use crate::target::Target;
-use ini::Error;
+use ini_dialect::Encoding;
 use std::io::IsTerminal;
 
 /// Compares two files, and answers the exit status, which is 2 after whatever is refused.
 ///
 /// No contract says what a stream gets; `tests/program/sides.sh` tests it.
-pub fn compare_files(rt: &HostRuntime, asked: &Comparison<'_>) -> u8 {
+pub fn compare_files(rt: &HostRuntime, named: Option<Encoding>, asked: &Comparison<'_>) -> u8 {
     let target = Target::of_comparison(*asked);
     let _lock = match lock_place(rt, target) {
         Ok(lock) => lock,
         Err(refusal) => return refuse_comparison(rt, asked, target.reported(), &[], refusal),
     };
-    let from = match read_input(rt, asked.from) {
-        Ok(bytes) => bytes,
+    let from = match read_input(rt, named, asked.from) {
+        Ok(input) => input.text,
         Err(refusal) => return refuse_comparison(rt, asked, asked.from, &[], refusal),
     };
-    let to = match read_input(rt, asked.to) {
-        Ok(bytes) => bytes,
+    let to = match read_input(rt, named, asked.to) {
+        Ok(input) => input.text,
         Err(refusal) => return refuse_comparison(rt, asked, asked.to, &[], refusal),
     };
     let (from, to) = (from.as_slice(), to.as_slice());
-    let form = asked.choices.form.named.unwrap_or(ChangeForm::Lines);
+    let form = asked.choices.manner.form.unwrap_or(AnswerForm::Lines);
     let is_colored = has_colors(rt, asked, target);
     let read = asked.options.reading;
     let end = compare(rt.alloc(), read, form, is_colored, from, to);
     let status = compare_status(&end);
     match end {
-        CompareEnd::Done(lines) => match write_output(rt, target, None, lines.as_slice()) {
+        CompareEnd::Done(lines) => match write_output(
+            rt,
+            Coding::told(),
+            target,
+            None,
+            lines.as_slice(),
+        ) {
             Ok(()) => status,
             Err(refusal) => refuse_comparison(rt, asked, target.reported(), &[], refusal),
         },
-        CompareEnd::From(refusal) => refuse_comparison(rt, asked, asked.from, from, refusal),
-        CompareEnd::To(refusal) => refuse_comparison(rt, asked, asked.to, to, refusal),
+        CompareEnd::From(refusal) => refuse_comparison(rt, asked, asked.from, from, refusal.into()),
+        CompareEnd::To(refusal) => refuse_comparison(rt, asked, asked.to, to, refusal.into()),
     }
 }
 
 // Whether lines have colours: `auto` stands for a terminal.
 fn has_colors(rt: &HostRuntime, asked: &Comparison<'_>, target: Target<'_>) -> bool {
-    match asked.choices.form.color.unwrap_or(Color::Auto) {
+    match asked.choices.manner.color.unwrap_or(Color::Auto) {
         Color::Always => true,
         Color::Never => false,
         Color::Auto => target.place == "-" && rt.stdout().is_terminal(),
@@ -58,14 +65,9 @@ fn refuse_comparison(
     asked: &Comparison<'_>,
     file: &str,
     input: &[u8],
-    refusal: Error,
+    refusal: FileError,
 ) -> u8 {
-    refuse(
-        rt,
-        asked.options.reading,
-        file,
-        input,
-        &Outcome::from(refusal),
-    );
+    let outcome = Outcome::from(refusal);
+    refuse(rt, asked.options.reading, file, input, &outcome);
     2
 }

@@ -60,6 +60,24 @@ pub fn show_byte<W: Write>(file: &str, input: &[u8], err: &mut W) {
     let _ = writeln!(err, "{file}:{line}:{column}: {words}");
 }
 
+/// Prints words about the place in a text that has so many bytes before it; the line, and below it a caret. A
+/// fault of the writer, or of memory, is dropped.
+///
+/// No contract says what is printed; `tests/words.sh` tests it.
+pub fn show_place<W: Write>(
+    alloc: Global,
+    file: &str,
+    text: &str,
+    place: usize,
+    words: &str,
+    err: &mut W,
+) {
+    let (line, column) = end_of(text.get(..place).unwrap_or(""));
+    let file = Shown(file);
+    let _ = writeln!(err, "{file}:{line}:{column}: {words}");
+    show(alloc, text, line, column, err);
+}
+
 // The line and the column before the place of a fault: those of the last character that was looked at.
 fn before(text: &str, fault: &ParseError) -> (usize, usize) {
     if fault.col > 1 || fault.line < 2 {
@@ -106,8 +124,8 @@ fn position(text: &str, rest: &str) -> (usize, usize) {
     end_of(text.get(..count).unwrap_or(""))
 }
 
-// The line and the column after a text, each counted from one.
-fn end_of(front: &str) -> (usize, usize) {
+/// The line and the column after a text, each counted from one.
+pub(crate) fn end_of(front: &str) -> (usize, usize) {
     let line = front.split('\n').count();
     let last = front.rsplit('\n').next().unwrap_or("");
     (line, last.chars().count().saturating_add(1))

@@ -1,7 +1,7 @@
 //! The change of a file's bytes as a unified diff without context. This file knows bytes and their lines,
 //! and no device.
-ghost use Rattle.std.specs.Prelude.{◌≡◌, ◌≤◌, ◌<◌, ◌^◌, ◌++◌, IfOk, IsOkUnless, OnOk, alloc_error, flat_map, length};
-ghost use Rattle.std.specs.Prelude.{option_map, string_bytes};
+ghost use Rattle.std.specs.Prelude.{◌≡◌, ◌≤◌, ◌<◌, ◌^◌, ◌++◌, IfOk, IsOkUnless, OnOk, alloc_error, flat_map};
+ghost use Rattle.std.specs.Prelude.{length, option_map, string_bytes};
 ghost use Rattle.ini_text.specs.declared.error.Error.TheVariants.{Memory};
 ghost use Rattle.ini_file.specs.Diffs.{DifferFirst, DifferLast, IsDiff, IsDiffBetween, hunk, hunk_head};
 ghost use Rattle.ini_file.specs.Diffs.{hunk_where, lines_of, signed_line};

@@ -79,8 +79,8 @@ fn made_by(
     }
 }
 
-// Whether the rule is the crate's own.
-fn is_own(rule: Lookup) -> bool
+/// Whether the rule is the crate's own.
+pub(crate) fn is_own(rule: Lookup) -> bool
     ensures { result ≡ is_own rule }
 {
     match (rule.sections, rule.values, rule.case) {

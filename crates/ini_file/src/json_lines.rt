@@ -1,10 +1,9 @@
 //! Changes as JSON objects, a line each. This file knows no text of a file and no device.
 ghost use Rattle.std.specs.Prelude.{◌≡◌, ◌++◌, IfOk, OnOk, flat_map};
 ghost use Rattle.ini_file.specs.JsonLines.{json_field, json_line};
-ghost use Rattle.ini_file.specs.Reports.{json_byte};
 
-use crate::report::push_json_byte;
-use ini_diff::Change;
+use crate::json_string::push_json_string;
+use ini_layers::Change;
 use std::alloc::{AllocError, Global};
 
 /// An object for each change, in order: `section`, which is null for the general section, `key`, and `old`
@@ -35,20 +34,8 @@ fn push_field(lines: &mut Vec<u8>, name: &[u8], text: Option<&str>) -> Result<()
     ensures { OnOk result (lines.new.items ≡ lines.old.items ++ json_field name.now text.entry) }
 {
     lines.extend_from_slice(name)?;
-    let Some(text) = text else {
-        return lines.extend_from_slice(b"null");
-    };
-    lines.extend_from_slice(b"\"")?;
-    push_bytes(lines, text)?;
-    lines.extend_from_slice(b"\"")
-}
-
-// Puts the bytes of a text last, each as it stands in a string.
-fn push_bytes(lines: &mut Vec<u8>, text: &str) -> Result<(), AllocError>
-    ensures { OnOk result (lines.new.items ≡ lines.old.items ++ flat_map json_byte text.now) }
-{
-    for byte in text.as_bytes() {
-        push_json_byte(lines, *byte)?;
+    match text {
+        Some(text) => push_json_string(lines, text),
+        None => lines.extend_from_slice(b"null"),
     }
-    Ok(())
 }

@@ -1,27 +1,59 @@
 //! The names and the keys that are listed of a document under a rule. This file knows no word and no reader.
-ghost use Rattle.std.specs.Prelude.{◌≡◌, Some};
+ghost use Rattle.std.specs.Prelude.{◌≡◌, IfOk, Some, map};
 ghost use Rattle.std.specs.List.{list_any};
 ghost use Rattle.ini_text.specs.Device.Watched.{IsClear};
 ghost use Rattle.ini.specs.Texts.{str_name};
 ghost use Rattle.ini_dialect.specs.Lookups.{is_named};
-ghost use Rattle.ini_file.specs.Forms.{keys_listed, keys_once, names_listed};
+ghost use Rattle.ini_file.specs.Forms.{keys_listed, keys_once, names_by, names_listed};
 ghost use Rattle.ini_words.specs.Prints.{Prints};
 
 use ini::{Error, Watched};
 use ini_dialect::{AnyDocument, CaseRule, Lookup, SectionRule};
 use ini_view::View;
 use ini_words::lines::{Form, entries, keys, names, sections};
-use std::alloc::Global;
+use std::alloc::{AllocError, Global};
 use std::io::Write;
 
 /// Writes each name of a section, in the order of first occurrence; where case is ignored, one of those that
-/// differ in it alone. The answer is `true`.
+/// differ in it alone. With `all` the name of each section is written. The answer is `true`.
 ///
 /// # Errors
 ///
-/// Those of `get`; `Memory` only where case is ignored.
+/// Those of `get`; `Memory` only where case is ignored, and with `all`.
 #[tactic(auto, using(crate::proofs::ListedLemmas::lists))]
 pub fn list_names<W: Write>(
+    alloc: Global,
+    rule: Lookup,
+    all: bool,
+    document: &View<'_>,
+    form: Form,
+    out: &mut Watched<'_, W>,
+) -> Result<bool, Error>
+    requires { IsClear out.old }
+    ensures { Prints W.contents out.old out.new result
+        (Some (names_listed rule all form document.now)) }
+{
+    if all {
+        let all = all_names(alloc, document)?;
+        return names(all.as_slice(), form, out);
+    }
+    list_distinct_names(alloc, rule, document, form, out)
+}
+
+// The name of each section, in order.
+fn all_names<'v>(alloc: Global, document: &'v View<'_>) -> Result<Vec<Option<&'v str>>, AllocError>
+    ensures { IfOk result (λ names. map str_name names.items ≡ map (λ s. s.0) document.now) }
+{
+    let mut names = Vec::new(alloc);
+    for (name, _) in document {
+        names.push(name)?;
+    }
+    Ok(names)
+}
+
+// Writes each name of a section once.
+#[tactic(auto, using(crate::proofs::ListedLemmas::lists))]
+fn list_distinct_names<W: Write>(
     alloc: Global,
     rule: Lookup,
     document: &View<'_>,
@@ -29,7 +61,7 @@ pub fn list_names<W: Write>(
     out: &mut Watched<'_, W>,
 ) -> Result<bool, Error>
     requires { IsClear out.old }
-    ensures { Prints W.contents out.old out.new result (Some (names_listed rule form document.now)) }
+    ensures { Prints W.contents out.old out.new result (Some (names_by rule.case rule form document.now)) }
 {
     match rule.case {
         CaseRule::Kept => sections(document, form, out),

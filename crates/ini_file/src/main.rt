@@ -1,10 +1,12 @@
 //! The program: reads an INI file, and writes to standard output, or into the file's place, what its words
 //! ask.
 //!
-//! `run` is the program as a function of its words and of a file's bytes; this file hands it the bytes of a
-//! file, and hands on what it answers. Nothing goes out before all is known.
+//! `CommandLine` is what the words ask for, and `run` a command over one file as a function of its bytes;
+//! this file hands it these, and hands on what it answers. Nothing goes out before all is known.
 #![tactic(auto)]
 
+mod apply;
+mod apply_files;
 mod auto;
 mod beside;
 mod bytes;
@@ -13,34 +15,45 @@ mod check;
 mod check_files;
 mod check_words;
 mod choices;
+mod coding;
 mod command;
+mod command_line;
 mod commands;
 mod compare;
 mod compare_files;
+mod conflict_places;
 mod diagnosis;
 mod diff;
 mod edit;
+mod edit_lines;
+mod edit_reading;
 mod fault_words;
 mod file_names;
 mod files;
 mod fix;
-mod form;
 mod format;
 mod format_files;
-mod format_words;
+mod front;
+mod further;
 mod hints;
+mod json;
 mod json_lines;
-mod like;
+mod json_string;
+mod layer_files;
+mod layers;
 mod lines;
 mod listed;
 mod lock;
 mod looks;
 mod lookup;
+mod manner;
+mod manner_files;
 mod merge;
 mod merge_files;
 mod merge_words;
 mod notes;
 mod order;
+mod origins;
 mod over;
 mod page;
 mod reasons;
@@ -49,10 +62,12 @@ mod report;
 mod report_format;
 mod reported;
 mod rights;
+mod ruled_layers;
 mod run;
 mod sarif;
 mod save;
 mod settings;
+mod shell;
 mod shown;
 mod side_words;
 mod spacing;
@@ -61,40 +76,51 @@ mod suggest;
 mod target;
 mod three_way;
 mod three_way_files;
+mod told;
+mod typed;
+mod typed_get;
 mod unclosed;
 mod unwritable;
 mod usage_error;
+mod value_list;
+mod value_places;
 mod words;
 mod writing;
 
+use apply_files::apply_to_file;
 use auto::dialect_of_file;
 use bytes::text_of;
 use check_files::check_files;
-use check_words::check_of;
+use coding::Coding;
+use command_line::CommandLine;
 use commands::shape_of;
 use compare_files::compare_files;
 use files::{lock_place, print, read_file, write_output};
 use format_files::format_files;
-use format_words::format_of;
+use further::FurtherEdit;
 use hints::{hint, lacks_pair};
 use ini::Error;
+use ini_dialect::Encoding;
+use ini_edit::{Edit, EditError, is_writable_value};
 use ini_words::{Page, page_of, words_of};
+use layer_files::layer_files;
+use manner_files::answer_in_manner;
 use merge_files::merge_files;
-use merge_words::merge_of;
 use notes::{note_hint, note_reason};
 use order::{Sorted, in_order, sort};
 use page::{help_of, text_of_page};
 use refusals::refuse;
 use run::{Outcome, run, status, tell};
-use side_words::{comparison_of, three_way_of};
+use shown::Shown;
 use std::alloc::AllocError;
 use std::env::{self, VarError};
+use std::io::Write;
 use std::process::ExitCode;
 use target::{Target, handed_on};
 use three_way_files::merge_three_files;
 use unwritable::reason_of;
 use usage_error::{UsageError, tell_usage_error, usage_error_of};
-use words::{Invocation, parse};
+use words::{Command, Invocation};
 
 /// How a run over a file ended, and the file that it is reported of.
 #[derive(Drop)]
@@ -106,7 +132,7 @@ struct End<'a> {
 /// Runs over a file and the process's own streams, and keeps the bytes that were read.
 fn run_here<'a>(
     rt: &HostRuntime,
-    words: &[String],
+    named: Option<Encoding>,
     asked: Invocation<'a>,
     input: &mut Vec<u8>,
 ) -> End<'a> {
@@ -116,20 +142,24 @@ fn run_here<'a>(
         Ok(lock) => lock,
         Err(refusal) => return ended(Outcome::from(refusal), target.reported()),
     };
-    let is_there = match read_file(rt, target) {
-        Ok(Some(bytes)) => {
-            *input = bytes;
-            true
+    let (is_there, coding) = match read_file(rt, named, target) {
+        Ok(Some(read)) => {
+            *input = read.text;
+            (true, read.coding)
         }
-        Ok(None) => false,
+        Ok(None) => (false, Coding::of_bytes(b"", named)),
         Err(refusal) => return ended(Outcome::from(refusal), file),
     };
-    let outcome = run(rt.alloc(), words, input.as_slice());
+    let outcome = run(rt.alloc(), asked, input.as_slice());
     let Some(output) = handed_on(asked, &outcome, input.as_slice()) else {
         return ended(outcome, file);
     };
     let old = is_there.then_some(input.as_slice());
-    match write_output(rt, target, old, output) {
+    let coding = match asked.command {
+        Command::Ask(_) => Coding::told(),
+        _ => coding,
+    };
+    match write_output(rt, coding, target, old, output) {
         Ok(()) => ended(outcome, file),
         Err(refusal) => ended(Outcome::from(refusal), target.reported()),
     }
@@ -208,29 +238,64 @@ fn print_help(rt: &HostRuntime, sorted: &Sorted<'_>) -> u8 {
 
 // Runs over what words name that are in order.
 fn run_words(rt: &HostRuntime, sorted: &Sorted<'_>, words: &[String]) -> u8 {
-    if let Some(check) = check_of(words) {
-        return check_files(rt, &check);
-    }
-    if let Some(merging) = merge_of(words) {
-        return merge_files(rt, &merging);
-    }
-    if let Some(asked) = comparison_of(words) {
-        return compare_files(rt, &asked);
-    }
-    if let Some(asked) = three_way_of(words) {
-        return merge_three_files(rt, &asked);
-    }
-    if let Some(formatting) = format_of(words) {
-        return format_files(rt, formatting);
-    }
-    let Some(asked) = parse(words) else {
+    let Some(named) = sorted.encoding_asked() else {
         return refuse_words(rt, sorted);
     };
+    match CommandLine::of_words(words) {
+        Some(CommandLine::Check(check)) => check_files(rt, named, &check),
+        Some(CommandLine::Merge(merging)) => merge_files(rt, named, &merging),
+        Some(CommandLine::Layers(call)) => layer_files(rt, named, call),
+        Some(CommandLine::Diff(asked)) => compare_files(rt, named, &asked),
+        Some(CommandLine::Apply(asked)) => apply_to_file(rt, named, &asked),
+        Some(CommandLine::MergeThree(asked)) => merge_three_files(rt, named, &asked),
+        Some(CommandLine::Format(call)) => format_files(rt, named, call),
+        Some(CommandLine::Tell(asked)) => tell_manner(rt, named, asked),
+        Some(CommandLine::File(asked)) => run_over_file(rt, named, asked),
+        None => refuse_words(rt, sorted),
+    }
+}
+
+// Runs a command over one file, and tells how that ended.
+fn run_over_file(rt: &HostRuntime, named: Option<Encoding>, asked: Invocation<'_>) -> u8 {
     let mut input = Vec::new(rt.alloc());
-    let End { outcome, reported } = run_here(rt, words, asked, &mut input);
+    let End { outcome, reported } = run_here(rt, named, asked, &mut input);
     let input = input.as_slice();
-    let ended = refuse(rt, asked.options.reading, reported, input, &outcome);
+    let ended = refuse_asked(rt, asked, reported, input, &outcome);
     tell_more(rt, asked, &outcome, input);
+    ended
+}
+
+// Tells how a run ended; where a pair can't be made a comment in words of its own.
+fn refuse_asked(
+    rt: &HostRuntime,
+    asked: Invocation<'_>,
+    reported: &str,
+    input: &[u8],
+    outcome: &Outcome,
+) -> u8 {
+    match (asked.command, outcome) {
+        (Command::Further(FurtherEdit::CommentOut { .. }), Outcome::Refused(EditError::NoPlace)) =>
+            {
+                let mut err = rt.stderr();
+                let _ = writeln!(err, "ini_file: {}: {NO_COMMENT}", Shown(reported));
+                status(outcome)
+            }
+        _ => refuse(rt, asked.options.reading, reported, input, outcome),
+    }
+}
+
+// Why a pair can't be made a comment.
+const NO_COMMENT: &str =
+    "this pair can't be made a comment: it doesn't begin its line, or isn't the first of its key in the \
+    first section of the name";
+
+// Answers a question in a manner of its own.
+fn tell_manner(rt: &HostRuntime, named: Option<Encoding>, asked: Invocation<'_>) -> u8 {
+    let mut input = Vec::new(rt.alloc());
+    let (ended, is_missing) = answer_in_manner(rt, named, asked, &mut input);
+    if is_missing {
+        tell_more(rt, asked, &Outcome::NotFound, input.as_slice());
+    }
     ended
 }
 
@@ -250,7 +315,7 @@ fn is_missing(rt: &HostRuntime, asked: Invocation<'_>, outcome: &Outcome, text: 
 // what its text has that may have hidden it.
 fn tell_more(rt: &HostRuntime, asked: Invocation<'_>, outcome: &Outcome, input: &[u8]) {
     if let Outcome::Refused(refused) = outcome {
-        if let Some((reason, help)) = reason_of(asked.edit(), asked.options, refused) {
+        if let Some((reason, help)) = reason_of(edit_alike(asked), asked.options, refused) {
             note_reason(rt, reason, help);
         }
         return;
@@ -263,6 +328,30 @@ fn tell_more(rt: &HostRuntime, asked: Invocation<'_>, outcome: &Outcome, input: 
     }
     if let Ok(Some(warning)) = hint(rt.alloc(), text, asked.options.reading) {
         note_hint(rt, asked.file, warning);
+    }
+}
+
+// The edit that is asked for, or one of the list that is refused for the same words.
+fn edit_alike(asked: Invocation<'_>) -> Option<Edit<'_>> {
+    match asked.command {
+        Command::Further(
+            FurtherEdit::DeleteAll { name, key } | FurtherEdit::CommentOut { name, key },
+        ) => Some(Edit::Delete { name, key }),
+        Command::Further(FurtherEdit::SetAll { name, key, values }) => {
+            let (options, policy) = (asked.options.reading, asked.options.escape_policy);
+            let refused = values
+                .iter()
+                .find(|v| !is_writable_value(v.as_str(), policy, options));
+            let value = refused.map_or("", |value| value.as_str());
+            Some(Edit::Set { name, key, value })
+        }
+        Command::Further(FurtherEdit::AddSection { name }) => {
+            Some(Edit::RenameSection {
+                old: name,
+                new: name,
+            })
+        }
+        _ => asked.edit(),
     }
 }
 

@@ -10,6 +10,7 @@ use crate::edit::gets_byte_order_mark;
 use crate::settings::settings_of;
 use ini::{Error, Ini, ParseOption};
 use ini_edit::{RefusedEdit, make_edits};
+use ini_layers::{Layers, NoLayer};
 use ini_words::Options;
 use std::alloc::{AllocError, Global};
 
@@ -41,7 +42,7 @@ pub fn merge(alloc: Global, options: Options, input: &[u8], others: &[Vec<u8>]) 
         Err((index, refusal)) => return MergeEnd::Other(index, refusal),
     };
     match text_of(input) {
-        Ok((front, text)) => merge_text(alloc, options, documents.as_slice(), front, text),
+        Ok((front, text)) => merge_text(alloc, options, &documents, front, text),
         Err(refused) => MergeEnd::File(refused),
     }
 }
@@ -50,7 +51,7 @@ pub fn merge(alloc: Global, options: Options, input: &[u8], others: &[Vec<u8>]) 
 fn merge_text(
     alloc: Global,
     options: Options,
-    documents: &[Ini],
+    documents: &Layers,
     byte_order_mark: &[u8],
     text: &str,
 ) -> MergeEnd
@@ -78,17 +79,17 @@ fn merge_text(
     }
 }
 
-/// The documents of files; else the number of the file that has none, and why.
+/// The documents of files, in layers; else the number of the file that has none, and why.
 pub fn load_all(
     alloc: Global,
     read: ParseOption,
     files: &[Vec<u8>],
-) -> Result<Vec<Ini>, (usize, Error)>
-    ensures loaded { IfOk result (λ documents. AreLoaded read (bytes_of files.now) documents.items) }
+) -> Result<Layers, (usize, Error)>
+    ensures loaded { IfOk result (AreLoaded read (bytes_of files.now)) }
     ensures refused { IfErr result
         (λ refused. RefusesOther read (bytes_of files.now) refused.0 refused.1) }
 {
-    let mut documents = Vec::new(alloc);
+    let mut documents = Layers::new(alloc);
     for (index, file) in files.iter().enumerate() {
         if let Err(refusal) = load_one(alloc, read, file.as_slice(), &mut documents) {
             return Err((index, refusal));
@@ -102,15 +103,17 @@ fn load_one(
     alloc: Global,
     read: ParseOption,
     file: &[u8],
-    documents: &mut Vec<Ini>,
+    documents: &mut Layers,
 ) -> Result<(), Error>
     ensures loaded { OnOk result ((document : Document) × Loads read file.now document
-        × (documents.new.items ≡ documents.old.items ++ document ∷ [])) }
+        × (documents.new ≡ documents.old ++ document ∷ [])) }
     ensures refused { IfErr result (RefusesFile read file.now) }
 {
     let document = load(alloc, read, file)?;
-    documents.push(document).map_err(AllocError::from)?;
-    Ok(())
+    match documents.push(document) {
+        Ok(()) => Ok(()),
+        Err(NoLayer { doc: _ }) => Err(Error::Memory(AllocError)),
+    }
 }
 
 // The document of a file.

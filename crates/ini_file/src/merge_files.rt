@@ -1,6 +1,7 @@
 //! A merge of files that are there: they are read, what they make is handed on, and what is refused is
 //! reported. This file knows the process's streams, and no word of the program.
 
+use crate::coding::{Coding, FileError};
 use crate::files::{lock_place, read_file, read_input, write_output};
 use crate::merge::{MergeEnd, load_all, merge};
 use crate::merge_words::Merging;
@@ -11,7 +12,7 @@ use crate::run::Outcome;
 use crate::settings::settings_of;
 use crate::target::Target;
 use crate::unwritable::reason_of;
-use ini::Error;
+use ini_dialect::Encoding;
 use ini_edit::{Edit, EditError};
 use std::alloc::{AllocError, Global};
 
@@ -19,15 +20,15 @@ use std::alloc::{AllocError, Global};
 /// one is refused nothing is. A file that isn't there is made; another one must be there.
 ///
 /// No contract says what a disk gets; `tests/files.sh` tests it.
-pub fn merge_files(rt: &HostRuntime, merging: &Merging<'_>) -> u8 {
+pub fn merge_files(rt: &HostRuntime, named: Option<Encoding>, merging: &Merging<'_>) -> u8 {
     let read = merging.options.reading;
     let mut others = Vec::new(rt.alloc());
     for other in merging.others {
-        let refused = match read_input(rt, other.as_str()) {
-            Ok(bytes) => others
-                .push(bytes)
+        let refused = match read_input(rt, named, other.as_str()) {
+            Ok(input) => others
+                .push(input.text)
                 .is_err()
-                .then_some(Error::Memory(AllocError)),
+                .then_some(FileError::from(AllocError)),
             Err(refusal) => Some(refusal),
         };
         if let Some(refusal) = refused {
@@ -39,9 +40,13 @@ pub fn merge_files(rt: &HostRuntime, merging: &Merging<'_>) -> u8 {
         Ok(lock) => lock,
         Err(refusal) => return refuse(rt, read, target.reported(), &[], &Outcome::from(refusal)),
     };
-    match read_file(rt, target) {
-        Ok(Some(input)) => merge_read(rt, merging, Some(input.as_slice()), others.as_slice()),
-        Ok(None) => merge_read(rt, merging, None, others.as_slice()),
+    let others = others.as_slice();
+    match read_file(rt, named, target) {
+        Ok(Some(input)) => {
+            let (text, coding) = (input.text.as_slice(), input.coding);
+            merge_read(rt, coding, merging, Some(text), others)
+        }
+        Ok(None) => merge_read(rt, Coding::of_bytes(b"", named), merging, None, others),
         Err(refusal) => refuse(rt, read, merging.file, &[], &Outcome::from(refusal)),
     }
 }
@@ -49,6 +54,7 @@ pub fn merge_files(rt: &HostRuntime, merging: &Merging<'_>) -> u8 {
 // Merges files that were read; of the file nothing was read where it isn't there.
 fn merge_read(
     rt: &HostRuntime,
+    coding: Coding,
     merging: &Merging<'_>,
     old: Option<&[u8]>,
     others: &[Vec<u8>],
@@ -58,7 +64,7 @@ fn merge_read(
     match merge(rt.alloc(), merging.options, input, others) {
         MergeEnd::Done(bytes) => {
             let target = Target::of_merging(*merging);
-            match write_output(rt, target, old, bytes.as_slice()) {
+            match write_output(rt, coding, target, old, bytes.as_slice()) {
                 Ok(()) => 0,
                 Err(refusal) => refuse(rt, read, target.reported(), &[], &Outcome::from(refusal)),
             }
@@ -113,7 +119,7 @@ fn setting_at(
     let Ok(documents) = load_all(alloc, merging.options.reading, others) else {
         return Err(AllocError);
     };
-    let edits = settings_of(alloc, documents.as_slice())?;
+    let edits = settings_of(alloc, &documents)?;
     let file = merging.file;
     let edit = *edits.get(index).ok_or(AllocError)?;
     let reason = reason_of(Some(edit), merging.options, refusal);

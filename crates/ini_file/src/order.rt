@@ -6,12 +6,14 @@ ghost use Rattle.std.specs.Prelude.{is_some, length, map, string_bytes};
 ghost use Rattle.std.specs.Option.{option_map};
 ghost use Rattle.std.specs.Str.{bytes_eq};
 ghost use Rattle.ini_file.specs.Order.{before_section, in_order, no_words, sorted, sorted_of, takes_section};
-ghost use Rattle.ini_file.specs.Order.{asks_help, command_of_help, front_words, like_words, or_like};
+ghost use Rattle.ini_file.specs.Order.{asks_help, command_of_help, encoding_asked, front_words};
+ghost use Rattle.ini_file.specs.Order.{like_words, list_in_order, or_like, sets_all};
 ghost use Rattle.ini_file.specs.Order.{with_alone, with_other, with_others, with_text, words_of};
 ghost use Rattle.ini_file.specs.UsageErrors.{UnlessMemory};
 
 use crate::spelling::{Kind, is_like_option, kind_of, spelled};
 use crate::usage_error::UsageError;
+use ini_dialect::Encoding;
 use std::alloc::{AllocError, Global};
 
 /// Words that were sorted.
@@ -25,6 +27,8 @@ pub struct Sorted<'a> {
     pub section: Option<&'a str>,
     /// The dialect that is named.
     pub like: Option<&'a str>,
+    /// The encoding that is named.
+    pub encoding: Option<&'a str>,
     /// Whether help is asked for.
     pub help: bool,
     /// The other words, of which the command is the first.
@@ -65,6 +69,17 @@ impl<'a> Sorted<'a> {
         }
     }
 
+    /// The encoding that is named, if one is; `None` where no encoding has the name.
+    pub fn encoding_asked(&self) -> Option<Option<Encoding>>
+        ensures { result ≡ encoding_asked (sorted_of self.now) }
+    {
+        let Some(name) = self.encoding else {
+            return Some(None);
+        };
+        let encoding = Encoding::of_name(name)?;
+        Some(Some(encoding))
+    }
+
     /// Whether help is asked for, by an option or a command.
     pub fn asks_help(&self) -> bool
         ensures { result ≡ asks_help (sorted_of self.now) }
@@ -93,6 +108,7 @@ impl<'a> Sorted<'a> {
             choices: Vec::new(alloc),
             section: None,
             like: None,
+            encoding: None,
             help: false,
             others: Vec::new(alloc),
         }
@@ -165,6 +181,7 @@ impl<'a> Sorted<'a> {
             Kind::ChoiceText => self.choices.extend_from_slice(&[name, text])?,
             Kind::Section => self.section = Some(text),
             Kind::Like => self.like = Some(text),
+            Kind::Encoding => self.encoding = Some(text),
             _ => {}
         }
         Ok(())
@@ -191,6 +208,9 @@ pub fn in_order(alloc: Global, sorted: &Sorted<'_>) -> Result<Option<Vec<String>
     let Some((command, arguments)) = sorted.others.as_slice().split_first() else {
         return Ok(None);
     };
+    if sets_all(command, sorted.choices.as_slice()) {
+        return Ok(Some(in_order_of_list(alloc, sorted, command, arguments)?));
+    }
     if !takes_section(command, arguments.len(), sorted.section) {
         return Ok(None);
     }
@@ -204,6 +224,35 @@ pub fn in_order(alloc: Global, sorted: &Sorted<'_>) -> Result<Option<Vec<String>
         push_all(alloc, &mut words, &[name])?;
     }
     Ok(Some(words))
+}
+
+// The words in order of a command with a list of values last, whose section is one of its choices.
+fn in_order_of_list(
+    alloc: Global,
+    sorted: &Sorted<'_>,
+    command: &str,
+    arguments: &[&str],
+) -> Result<Vec<String>, AllocError>
+    ensures { IfOk result (λ words. map string_bytes words.items
+        ≡ list_in_order (sorted_of sorted.now) command.now (words_of arguments.now)) }
+{
+    let mut words = Vec::new(alloc);
+    push_front(alloc, &mut words, sorted)?;
+    push_all(alloc, &mut words, &[command])?;
+    push_all(alloc, &mut words, sorted.choices.as_slice())?;
+    if let Some(name) = sorted.section {
+        push_all(alloc, &mut words, &["--section", name])?;
+    }
+    push_all(alloc, &mut words, &["--"])?;
+    push_all(alloc, &mut words, arguments)?;
+    Ok(words)
+}
+
+// Whether the command sets a list of values.
+fn sets_all(command: &str, choices: &[&str]) -> bool
+    ensures { result ≡ sets_all command.now (words_of choices.now) }
+{
+    command == "set" && choices.iter().filter(|word| **word == "--all").count() > 0
 }
 
 // Puts the words last that stand before the command: those that name a dialect, and the options.
@@ -239,8 +288,8 @@ pub fn before_section(command: &str) -> Option<usize>
     ensures { result ≡ before_section command.now }
 {
     match command {
-        "keys" | "delete-section" => Some(1),
-        "get" | "delete" => Some(2),
+        "keys" | "delete-section" | "add-section" => Some(1),
+        "get" | "delete" | "unset-all" | "comment" => Some(2),
         "set" | "add" | "rename-key" => Some(3),
         _ => None,
     }

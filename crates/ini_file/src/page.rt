@@ -64,11 +64,17 @@ Commands; no SECTION is the general one, FILE - is standard input:
   set FILE KEY VALUE [SECTION]              the key's value, in its place or a new one
   add FILE KEY VALUE [SECTION]              a pair more
   delete FILE KEY [SECTION]                 takes the key's first pair out
+  unset-all FILE KEY [SECTION]              takes each pair of the key out
+  comment FILE KEY [SECTION]                makes the key's first pair a comment
+  add-section FILE SECTION                  an empty section, where there is none
   delete-section FILE SECTION               takes the section out
   rename-key FILE OLD NEW [SECTION]         the key's first pair gets another key
   rename-section FILE OLD NEW               the section gets another name
   merge FILE OTHER ..                       sets in FILE what the others set
+  layers FILE ..                            one document of files and folders of
+                                            *.conf: the last value of a key counts
   diff FILE OTHER                           each setting whose value differs in OTHER
+  apply FILE [EDITS]                        makes the edits that diff wrote in FILE
   merge3 BASE OURS THEIRS                   THEIRS with what OURS changed of BASE
   rewrite FILE                              writes the file anew, without comments
   format FILE ..                            lays each file out; its comments stay
@@ -89,30 +95,47 @@ Options, of reading and of writing:
   --brackets     brackets may stand in names of sections
   --crlf         written lines end with CR LF
   --policy NAME  which characters are written as escapes
+  --encoding NAME
+                 how files are encoded that have no byte order mark: utf-8 (where
+                 none is named) utf-16le utf-16be latin1 windows1252; each is
+                 written as it was
 
 Choices:
   --existing       of set: only where the key is there
-  --all            of get: each value of the key, not the first alone
+  --all            of get: each value of the key, not the first alone; of sections:
+                   each header's name, also where it comes again; of set: the key
+                   has all VALUEs that follow, and no others; SECTION by -s
+  --last           of get: the last value of the key
+  --origin         of list: the file and the line before each pair
   --default VALUE  of get: the value where the key isn't there
+  --type NAME      of get: the value as a bool, int, size, float, duration or path,
+                   in one form
   --null           of get, keys, sections and list: names, keys and values as they
                    stand, each with NUL after it; so the parts of check's warnings
   --ours           of merge3: ours stands where both changed a setting
   --theirs         of merge3: theirs does
-  --separator TEXT of set, add, rewrite and format: what stands between key and
-                   value of new lines, or of all; one = or : with spaces and tabs
-                   alone around it
+  --separator TEXT of set, add, rewrite, layers and format: what stands between
+                   key and value of new lines, or of all; one = or : with spaces and tabs
+                   alone around it. format takes the one that most pairs have;
+                   keep leaves each as it is
   --indent-pairs N of format: each pair that begins a line stands after N spaces
   --blank-lines N  of format: the most blank lines one after another (1)
+  --align          of format: separators of neighbouring pairs stand below each
+                   other
+  --sort WHAT      of format: keys, sections or both, each with the comments above
   --check          of format: tells which file isn't laid out so, and writes none
   --section NAME   the section, in place of the last word; -s NAME too
-  --dry-run        of what writes a file: shows the change, and writes none; -n too
+  --dry-run        of what writes a file: shows the change, and writes none; -n or
+                   --diff too
   --in-place       the file itself is written, not a new one in its place
   --force          a write-protected file is written too
   --wait SECONDS   how long a run waits for others that write the file (10)
   --verbose        a line tells whether the file is changed or unchanged
-  --format FORM    of check: warnings for programs, as json, sarif or github; of
-                   diff: changes, as json
+  --format FORM    of list and get: lines, json, sh (variables, for eval) or, of list,
+                   ini; of diff: lines, json, or edits for apply; of check: warnings
+                   for programs, as json, sarif or github
   --color WHEN     of diff: auto (on a terminal), always or never
+  --reverse        of apply: what undoes the edits
   --allow NAME     of check: warnings of this name, as runs-on or surprises or
                    all, aren't reported
   --deny NAME      of check: they are, after a wider --allow

@@ -1,9 +1,10 @@
 //! What is written of a warning, in each form. This file knows no text and no device.
-ghost use Rattle.std.specs.Prelude.{◌≡◌, ◌<◌, ◌++◌, IfOk, OnOk, flat_map, string_bytes};
-ghost use Rattle.ini_file.specs.Reports.{after_name, before_name, ends_property, hex_digit, is_uri_byte};
-ghost use Rattle.ini_file.specs.Reports.{json_byte, json_kinds, json_places, name_byte};
-ghost use Rattle.ini_file.specs.Reports.{percent_byte, reported, severity};
+ghost use Rattle.std.specs.Prelude.{◌≡◌, ◌++◌, IfOk, OnOk, flat_map, string_bytes};
+ghost use Rattle.ini_file.specs.Reports.{after_name, before_name, ends_property, is_uri_byte};
+ghost use Rattle.ini_file.specs.Reports.{json_kinds, json_places, name_byte, percent_byte, reported};
+ghost use Rattle.ini_file.specs.Reports.{severity};
 
+use crate::json_string::{hex_digit, push_json_byte};
 use crate::report_format::Format;
 use ini_check::{Level, Warning};
 use std::alloc::{AllocError, Global};
@@ -174,38 +175,11 @@ fn push_byte(reports: &mut Vec<u8>, format: Format, byte: u8) -> Result<(), Allo
     }
 }
 
-/// Puts a byte of a string in JSON last. Refused when out of memory alone.
-pub(crate) fn push_json_byte(reports: &mut Vec<u8>, byte: u8) -> Result<(), AllocError>
-    ensures { OnOk result (reports.new.items ≡ reports.old.items ++ json_byte byte) }
-{
-    if byte == b'"' || byte == b'\\' {
-        reports.extend_from_slice(&[b'\\', byte])
-    } else if byte < 0x20 {
-        let digits = [hex_digit(byte / 16), hex_digit(byte % 16)];
-        reports.extend_from_slice(&[b'\\', b'u', b'0', b'0', digits[0], digits[1]])
-    } else {
-        reports.push(byte)?;
-        Ok(())
-    }
-}
-
 // Puts a byte last as a percent sign and two digits.
 fn push_percent_byte(reports: &mut Vec<u8>, byte: u8) -> Result<(), AllocError>
     ensures { OnOk result (reports.new.items ≡ reports.old.items ++ percent_byte byte) }
 {
     reports.extend_from_slice(&[b'%', hex_digit(byte / 16), hex_digit(byte % 16)])
-}
-
-// The hexadecimal digit of a number.
-fn hex_digit(number: u8) -> u8
-    requires { number < 16 }
-    ensures { result ≡ hex_digit number }
-{
-    if number < 10 {
-        b'0' + number
-    } else {
-        b'A' - 10 + number
-    }
 }
 
 // Whether a byte stands for itself in a path of a URI.

@@ -1,8 +1,10 @@
 //! Which traps a check reports. This file knows the words that choose them, and no text.
-ghost use Rattle.std.specs.Prelude.{◌≡◌, if◌then◌else◌, map, string_bytes, true};
-ghost use Rattle.ini_file.specs.CheckWords.{covers, is_reported, names_several, names_traps};
+ghost use Rattle.std.specs.Prelude.{◌≡◌, if◌then◌else◌, map, string_bytes};
+ghost use Rattle.ini_file.specs.CheckWords.{covers, is_reported, is_right_by, names_several, names_traps};
+ghost use Rattle.ini_file.specs.CheckWords.{reporter_of, reports};
 
 use ini_check::{Level, Trap};
+use ini_dialect::{CaseRule, Lookup, SectionRule, ValueRule};
 
 /// Whether a name is one of traps: a trap's own, a level's, or `all`.
 pub fn names_traps(name: &str) -> bool
@@ -18,12 +20,47 @@ fn names_several(name: &str) -> bool
     matches!(name, "all" | "loses-data" | "surprises")
 }
 
-/// Whether the trap is reported: each is, but for what `--allow` names, where no later `--deny` names it.
-/// What stands from `--` on chooses nothing.
-pub fn is_reported(trap: Trap, choices: &[String]) -> bool
-    ensures { result ≡ is_reported trap true (map string_bytes choices.now) }
+/// What a check reports.
+#[derive(Clone, Copy)]
+pub struct Reporting<'a> {
+    /// The rule by which values count.
+    pub rule: Lookup,
+    /// The words after the command.
+    pub choices: &'a [String],
+}
+
+impl Reporting<'_> {
+    /// Whether the trap is reported: each is, but for what is right by the rule and for what `--allow` names,
+    /// where no later `--deny` names it. What stands from `--` on chooses nothing.
+    pub fn reports(self, trap: Trap) -> bool
+        ensures { result ≡ reports (reporter_of self.entry) trap }
+    {
+        let is_so = !is_right_by(self.rule, trap);
+        is_reported(trap, is_so, self.choices)
+    }
+}
+
+// Whether what the trap is about is right by the rule.
+fn is_right_by(rule: Lookup, trap: Trap) -> bool
+    ensures { result ≡ is_right_by rule trap }
 {
-    let mut is_so = true;
+    let is_joined = matches!(rule.sections, SectionRule::Joined);
+    let is_last = matches!(rule.values, ValueRule::Last);
+    let is_ignored = matches!(rule.case, CaseRule::Ignored);
+    match trap {
+        Trap::RepeatedSection => is_joined,
+        Trap::SectionCase => is_joined && is_ignored,
+        Trap::RepeatedKey => is_last,
+        Trap::KeyCase => is_last && is_ignored,
+        _ => false,
+    }
+}
+
+// Whether words report the trap that is, or isn't, reported before them.
+fn is_reported(trap: Trap, before: bool, choices: &[String]) -> bool
+    ensures { result ≡ is_reported trap before (map string_bytes choices.now) }
+{
+    let mut is_so = before;
     let mut rest = choices;
     'words: while let Some((word, after)) = rest.split_first() {
         let word = word.as_str();

@@ -1,20 +1,22 @@
-//! The program as a function of its words and of a file's bytes. This file knows how a run ends, and what is
+//! A command over one file as a function of the file's bytes. This file knows how a run ends, and what is
 //! reported of it; of files it knows their names alone.
-ghost use Rattle.std.specs.Prelude.{◌≡◌, ◌++◌, ◌↔◌, ◌⊎◌, IfErr, IfOk, None, OnOk};
+ghost use Rattle.std.specs.Prelude.{◌≡◌, ◌++◌, ◌⊎◌, IfErr, IfOk, OnOk};
 ghost use Rattle.std.specs.Prelude.{[], chars, is_some, unwrap_or};
 ghost use Rattle.ini_text.specs.Device.Watched.{AppendsFront};
 ghost use Rattle.ini.specs.WrittenTo.{IsWrittenTo};
 ghost use Rattle.ini_file.specs.Outputs.{output};
-ghost use Rattle.ini_file.specs.Requests.{Rewrite, asking_of};
-ghost use Rattle.ini_file.specs.Runs.{HasOutcome, IsAnsweredAs, IsDone, IsNotFound, IsUsage};
-ghost use Rattle.ini_file.specs.Runs.{RefusesQuestion, asked_by, status_of, usage_line};
+ghost use Rattle.ini_file.specs.Requests.{Rewrite, asking_of, asks_of};
+ghost use Rattle.ini_file.specs.Runs.{EndsOn, IsAnsweredAs, IsDone, IsNotFound, IsUsage};
+ghost use Rattle.ini_file.specs.Runs.{RefusesQuestion, status_of, usage_line};
 ghost use Rattle.ini_file.specs.Writing.{word_of};
 
 use crate::bytes::text_of;
+use crate::coding::{CodingError, FileError};
 use crate::command::answer;
 use crate::edit::change;
+use crate::further::change_further;
 use crate::shown::Shown;
-use crate::words::{Command, Question, USAGE, parse};
+use crate::words::{Command, Invocation, Question, USAGE};
 use crate::writing::{separates, writing};
 use ini::{Error, Ini, Watched, WriteOption, write_raw};
 use ini_edit::EditError;
@@ -34,6 +36,22 @@ pub enum Outcome {
     Usage,
     /// The text, its bytes, a device or the memory refused, or what is to be written wouldn't be read back.
     Refused(EditError),
+    /// A file isn't of its encoding, or what is to be written can't be in it.
+    Coding(CodingError),
+}
+
+/// What is refused of a file, and how the run ends.
+impl From<FileError> for Outcome {
+    ghost use Rattle.ini_file.specs.Runs.{outcome_of};
+
+    ghost from_gives = { λ refused o. o ≡ outcome_of refused };
+
+    fn from(refused: FileError) -> Outcome {
+        match refused {
+            FileError::Text(refused) => Outcome::from(refused),
+            FileError::Coding(refused) => Outcome::Coding(refused),
+        }
+    }
 }
 
 impl From<Error> for Outcome {
@@ -59,25 +77,22 @@ pub fn status(outcome: &Outcome) -> u8
         Outcome::Refused(EditError::Text(Error::Parse(_) | Error::NotUtf8)) => 3,
         Outcome::Refused(EditError::Text(Error::Io(_) | Error::Memory(_) | Error::NoProgress)) => 4,
         Outcome::Refused(EditError::NoPlace) => 3,
+        Outcome::Coding(CodingError::Malformed { .. }) => 3,
+        Outcome::Coding(CodingError::NoBytes { .. }) => 2,
         Outcome::Refused(
             EditError::Name | EditError::Key | EditError::Value | EditError::Separator,
         ) => 2,
     }
 }
 
-/// What the words' command makes of a file's bytes: what it asks of their document, or they themselves with
-/// its edit made in their text. A mark (EF BB BF) at their front is no part of the text; an edit keeps it.
+/// What a command makes of a file's bytes: what it asks of their document, or they themselves with its edit
+/// made in their text. A mark (EF BB BF) at their front is no part of the text; an edit keeps it.
 ///
-/// Words that are no command over one file are `Usage`, whatever the bytes are: a check and a merge, which
-/// are over several, have functions of their own. `NotUtf8` is reported before any fault of the words or of
-/// the text. Nothing but `Done` has anything to be written.
-pub fn run(alloc: Global, words: &[String], input: &[u8]) -> Outcome
-    ensures usage { IsUsage result ↔ (asked_by words.now ≡ None) }
-    ensures outcome { HasOutcome words.now input.now result }
+/// An answer in a manner of its own has a function of its own. `NotUtf8` is reported before any fault of the
+/// words or of the text. Nothing but `Done` has anything to be written.
+pub fn run(alloc: Global, asked: Invocation<'_>, input: &[u8]) -> Outcome
+    ensures { EndsOn input.now (asks_of asked.entry) result }
 {
-    let Some(asked) = parse(words) else {
-        return Outcome::Usage;
-    };
     let (byte_order_mark, text) = match text_of(input) {
         Ok(parts) => parts,
         Err(refused) => return Outcome::from(refused),
@@ -91,6 +106,10 @@ pub fn run(alloc: Global, words: &[String], input: &[u8]) -> Outcome
             let rule = asked.dialect.lookup;
             change(alloc, rule, options, separator, edit, byte_order_mark, text)
         }
+        Command::Further(edit) => {
+            let rule = asked.dialect.lookup;
+            change_further(alloc, rule, options, separator, edit, byte_order_mark, text)
+        }
     };
     match made {
         Ok(Some(bytes)) => Outcome::Done(bytes),
@@ -99,8 +118,8 @@ pub fn run(alloc: Global, words: &[String], input: &[u8]) -> Outcome
     }
 }
 
-// A text's document, written anew. A separator that wouldn't be read back is refused, whatever the text is.
-fn rewrite(
+/// A text's document, written anew. A separator that wouldn't be read back is refused, whatever the text is.
+pub(crate) fn rewrite(
     alloc: Global,
     options: Options,
     separator: Option<&str>,
@@ -176,6 +195,10 @@ pub fn tell<W: Write>(file: &str, outcome: &Outcome, err: &mut W)
         Outcome::Done(_) | Outcome::NotFound => {}
         Outcome::Usage => {
             let _ = write_raw(USAGE, &mut Watched::new(err));
+        }
+        Outcome::Coding(refusal) => {
+            let file = Shown(file);
+            let _ = writeln!(err, "{file}:{refusal}");
         }
         Outcome::Refused(refusal) if file == "" => {
             let _ = writeln!(err, "ini_file: {refusal}");

@@ -6,12 +6,13 @@ ghost use Rattle.ini_file.specs.Settings.{settings_in, settings_of};
 
 use ini::{Ini, Properties};
 use ini_edit::Edit;
+use ini_layers::Layers;
 use std::alloc::{AllocError, Global};
 
 /// For each document in order, and each name in it, in the order of first occurrence, the edits that set each
 /// key of the first section of the name to the first value that it has there. Refused when out of memory
 /// alone.
-pub fn settings_of(alloc: Global, documents: &[Ini]) -> Result<Vec<Edit<'_>>, AllocError>
+pub fn settings_of(alloc: Global, documents: &Layers) -> Result<Vec<Edit<'_>>, AllocError>
     ensures { IfOk result (λ edits. map editing_of edits.items ≡ flat_map settings_of documents.now) }
 {
     let mut edits = Vec::new(alloc);

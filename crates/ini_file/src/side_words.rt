@@ -1,16 +1,14 @@
-//! The words of `diff` and of `merge3`, which are over two files and over three. This file knows no document
-//! and no device.
-ghost use Rattle.std.specs.Prelude.{◌≡◌, map, string_bytes};
+//! The words of `diff`, `apply` and `merge3`, which are over two files and over three. This file knows no
+//! document and no device.
+ghost use Rattle.std.specs.Prelude.{◌≡◌};
 ghost use Rattle.std.specs.Option.{option_map};
-ghost use Rattle.ini_file.specs.Choices.{chosen_of};
-ghost use Rattle.ini_file.specs.SideWords.{compared_of, comparison_asked, comparison_between, files_after};
-ghost use Rattle.ini_file.specs.SideWords.{files_with, given_files, side_of, three_way_asked};
-ghost use Rattle.ini_file.specs.SideWords.{three_way_between, three_way_of};
+ghost use Rattle.ini_file.specs.Fronts.{call_of};
+ghost use Rattle.ini_file.specs.SideWords.{application_asked, applied_of, compared_of, comparison_asked};
+ghost use Rattle.ini_file.specs.SideWords.{side_of, three_way_asked, three_way_of};
 
 use crate::choices::Choices;
-use crate::like::options_of;
-use crate::merge_words::reads_input_twice;
-use ini_diff::Side;
+use crate::front::Call;
+use ini_layers::Side;
 use ini_words::Options;
 
 /// What the words of `diff` are.
@@ -24,6 +22,19 @@ pub struct Comparison<'a> {
     pub from: &'a str,
     /// That of the second.
     pub to: &'a str,
+}
+
+/// What the words of `apply` are.
+#[derive(Clone, Copy)]
+pub struct Application<'a> {
+    /// How the file is read and written.
+    pub options: Options,
+    /// The options after the command.
+    pub choices: Choices<'a>,
+    /// The name of the file; `-` is standard input.
+    pub file: &'a str,
+    /// That of the file with the edits.
+    pub edits: &'a str,
 }
 
 /// What the words of `merge3` are.
@@ -50,28 +61,14 @@ impl ThreeWay<'_> {
     }
 }
 
-/// What the words compare, if they are a comparison: a dialect or none, options, `diff`, its choices and two
-/// files, of which one at most is standard input. Takes no memory.
-pub fn comparison_of(words: &[String]) -> Option<Comparison<'_>>
-    ensures { option_map compared_of result ≡ comparison_asked (map string_bytes words.now) }
+/// What is compared, where there are two files. Takes no memory.
+pub fn comparison_of<'a>(call: Call<'a>) -> Option<Comparison<'a>>
+    ensures { option_map compared_of result ≡ comparison_asked (call_of call.entry) }
 {
-    let (options, choices, files) = files_after("diff", words)?;
-    comparison_between(options, choices, files)
-}
-
-// The comparison of the files, if there are two.
-fn comparison_between<'a>(
-    options: Options,
-    choices: Choices<'a>,
-    files: &'a [String],
-) -> Option<Comparison<'a>>
-    ensures { option_map compared_of result
-        ≡ comparison_between options (chosen_of choices.entry) (map string_bytes files.now) }
-{
-    match files {
+    match call.words {
         [from, to] => Some(Comparison {
-            options,
-            choices,
+            options: call.options,
+            choices: call.choices,
             from: from.as_str(),
             to: to.as_str(),
         }),
@@ -79,64 +76,36 @@ fn comparison_between<'a>(
     }
 }
 
-/// What the words merge, if they are a three-way merge: a dialect or none, options, `merge3`, its choices
-/// and three files, of which one at most is standard input. Takes no memory.
-pub fn three_way_of(words: &[String]) -> Option<ThreeWay<'_>>
-    ensures { option_map three_way_of result ≡ three_way_asked (map string_bytes words.now) }
+/// What is applied, where a file and the edits' file are named; that may be missing, and is standard input
+/// then, which the other file isn't. Takes no memory.
+pub fn application_of<'a>(call: Call<'a>) -> Option<Application<'a>>
+    ensures { option_map applied_of result ≡ application_asked (call_of call.entry) }
 {
-    let (options, choices, files) = files_after("merge3", words)?;
-    three_way_between(options, choices, files)
+    let (file, edits) = match call.words {
+        [file] if file.as_str() != "-" => (file.as_str(), "-"),
+        [file, edits] => (file.as_str(), edits.as_str()),
+        _ => return None,
+    };
+    Some(Application {
+        options: call.options,
+        choices: call.choices,
+        file,
+        edits,
+    })
 }
 
-// The merge of the files, if there are three.
-fn three_way_between<'a>(
-    options: Options,
-    choices: Choices<'a>,
-    files: &'a [String],
-) -> Option<ThreeWay<'a>>
-    ensures { option_map three_way_of result
-        ≡ three_way_between options (chosen_of choices.entry) (map string_bytes files.now) }
+/// What is merged, where there are three files. Takes no memory.
+pub fn three_way_of<'a>(call: Call<'a>) -> Option<ThreeWay<'a>>
+    ensures { option_map three_way_of result ≡ three_way_asked (call_of call.entry) }
 {
-    match files {
+    match call.words {
         [base, ours, theirs] => Some(ThreeWay {
-            options,
-            choices,
+            options: call.options,
+            choices: call.choices,
             base: base.as_str(),
             ours: ours.as_str(),
             theirs: theirs.as_str(),
         }),
         _ => None,
     }
-}
-
-// The options, the choices and the files of words, if the command of this name stands after the options.
-fn files_after<'a>(
-    command: &str,
-    words: &'a [String],
-) -> Option<(Options, Choices<'a>, &'a [String])>
-    ensures { option_map given_files result ≡ files_after command.now (map string_bytes words.now) }
-{
-    let (options, following) = options_of(words)?;
-    let (word, following) = following.split_first()?;
-    if word.as_str() != command {
-        return None;
-    }
-    let (choices, files) = Choices::of_words(following)?;
-    files_with(command, options, choices, files)
-}
-
-// The same of the files that words name.
-fn files_with<'a>(
-    command: &str,
-    options: Options,
-    choices: Choices<'a>,
-    files: &'a [String],
-) -> Option<(Options, Choices<'a>, &'a [String])>
-    ensures { option_map given_files result
-        ≡ files_with command.now options (chosen_of choices.entry) (map string_bytes files.now) }
-{
-    if !choices.apply_to(command) || reads_input_twice(files) {
-        return None;
-    }
-    Some((options, choices, files))
 }

@@ -18,6 +18,8 @@ pub enum Kind {
     Section,
     /// It names a dialect.
     Like,
+    /// It names an encoding.
+    Encoding,
     /// It asks for help.
     Help,
 }
@@ -29,7 +31,7 @@ impl Kind {
     {
         matches!(
             self,
-            Kind::ReadingText | Kind::ChoiceText | Kind::Section | Kind::Like
+            Kind::ReadingText | Kind::ChoiceText | Kind::Section | Kind::Like | Kind::Encoding
         )
     }
 }
@@ -45,6 +47,8 @@ pub fn kind_of(name: &str) -> Option<Kind>
         "--policy" => Some(Kind::ReadingText),
         "--existing"
         | "--all"
+        | "--last"
+        | "--origin"
         | "--null"
         | "--dry-run"
         | "--in-place"
@@ -54,7 +58,9 @@ pub fn kind_of(name: &str) -> Option<Kind>
         | "--suggest"
         | "--ours"
         | "--theirs"
-        | "--check" => { Some(Kind::Choice) }
+        | "--check"
+        | "--reverse"
+        | "--align" => { Some(Kind::Choice) }
         "--output"
         | "--default"
         | "--separator"
@@ -64,9 +70,12 @@ pub fn kind_of(name: &str) -> Option<Kind>
         | "--deny"
         | "--indent-pairs"
         | "--blank-lines"
-        | "--color" => { Some(Kind::ChoiceText) }
+        | "--color"
+        | "--type"
+        | "--sort" => { Some(Kind::ChoiceText) }
         "--section" => Some(Kind::Section),
         "--like" => Some(Kind::Like),
+        "--encoding" => Some(Kind::Encoding),
         "--help" => Some(Kind::Help),
         _ => None,
     }
@@ -79,7 +88,7 @@ pub fn spelled(word: &str) -> (&str, Option<&str>)
 {
     match word {
         "-h" => ("--help", None),
-        "-n" => ("--dry-run", None),
+        "-n" | "--diff" => ("--dry-run", None),
         "-s" => ("--section", None),
         _ if word.as_bytes().starts_with(b"--") => parted(word),
         _ => (word, None),

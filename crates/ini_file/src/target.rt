@@ -1,5 +1,5 @@
 //! Where the bytes go that a command makes of a file. This file knows no device.
-ghost use Rattle.std.specs.Prelude.{◌≡◌, false, true};
+ghost use Rattle.std.specs.Prelude.{◌≡◌, ◌||◌, codes, false, true};
 ghost use Rattle.std.specs.Option.{option_map};
 ghost use Rattle.ini_file.specs.Choices.{chosen_of};
 ghost use Rattle.ini_file.specs.Places.{handed_on, is_filter, is_of_file, makes_file};
@@ -8,9 +8,11 @@ ghost use Rattle.ini_file.specs.Requests.{asks_of, request_of};
 
 use crate::check_words::CheckChoices;
 use crate::choices::{Choices, Switches};
+use crate::front::Call;
+use crate::further::FurtherEdit;
 use crate::merge_words::Merging;
 use crate::run::Outcome;
-use crate::side_words::{Comparison, ThreeWay};
+use crate::side_words::{Application, Comparison, ThreeWay};
 use crate::words::{Command, Invocation};
 use ini_edit::Edit;
 
@@ -71,6 +73,45 @@ impl<'a> Target<'a> {
         }
     }
 
+    /// The target of layers; of the files that are read none is the one.
+    pub fn of_layers(call: Call<'a>) -> Target<'a>
+        ensures file { result.file.now ≡ codes "" }
+        ensures place { result.place.now ≡ place_of (chosen_of call.entry.choices) (codes "") false }
+        ensures shows_change { result.shows_change ≡ false }
+        ensures makes_file { result.makes_file ≡ false }
+        ensures switches { result.switches ≡ call.entry.choices.switches }
+        ensures wait { result.wait ≡ call.entry.choices.wait }
+    {
+        Target {
+            file: "",
+            place: place_of(call.choices, "", false),
+            shows_change: false,
+            makes_file: false,
+            switches: call.choices.switches,
+            wait: call.choices.wait,
+        }
+    }
+
+    /// The target of a format, of a file of those; a check writes none.
+    pub fn of_format(call: Call<'a>, file: &'a str) -> Target<'a>
+        ensures file { result.file.now ≡ file.now }
+        ensures place { result.place.now ≡ place_of (chosen_of call.entry.choices) file.now true }
+        ensures shows_change { result.shows_change
+            ≡ (call.entry.choices.switches.dry_run || call.entry.choices.switches.check) }
+        ensures makes_file { result.makes_file ≡ false }
+        ensures switches { result.switches ≡ call.entry.choices.switches }
+        ensures wait { result.wait ≡ call.entry.choices.wait }
+    {
+        Target {
+            file,
+            place: place_of(call.choices, file, true),
+            shows_change: call.choices.switches.dry_run || call.choices.switches.check,
+            makes_file: false,
+            switches: call.choices.switches,
+            wait: call.choices.wait,
+        }
+    }
+
     /// The target of a comparison.
     pub fn of_comparison(asked: Comparison<'a>) -> Target<'a>
         ensures file { result.file.now ≡ asked.entry.from.now }
@@ -86,6 +127,26 @@ impl<'a> Target<'a> {
             place: place_of(asked.choices, asked.from, false),
             shows_change: false,
             makes_file: false,
+            switches: asked.choices.switches,
+            wait: asked.choices.wait,
+        }
+    }
+
+    /// The target of an application, which makes its file.
+    pub fn of_application(asked: Application<'a>) -> Target<'a>
+        ensures file { result.file.now ≡ asked.entry.file.now }
+        ensures place { result.place.now
+            ≡ place_of (chosen_of asked.entry.choices) asked.entry.file.now true }
+        ensures shows_change { result.shows_change ≡ asked.entry.choices.switches.dry_run }
+        ensures makes_file { result.makes_file ≡ true }
+        ensures switches { result.switches ≡ asked.entry.choices.switches }
+        ensures wait { result.wait ≡ asked.entry.choices.wait }
+    {
+        Target {
+            file: asked.file,
+            place: place_of(asked.choices, asked.file, true),
+            shows_change: asked.choices.switches.dry_run,
+            makes_file: true,
             switches: asked.choices.switches,
             wait: asked.choices.wait,
         }
@@ -172,14 +233,18 @@ pub(crate) fn place_of<'a>(choices: Choices<'a>, file: &'a str, into_file: bool)
 fn is_filter(asked: Invocation<'_>) -> bool
     ensures { result ≡ is_filter (asks_of asked.entry) }
 {
-    matches!(asked.command, Command::Change(_)) && Target::of_asked(asked).place == "-"
+    matches!(asked.command, Command::Change(_) | Command::Further(_))
+        && Target::of_asked(asked).place == "-"
 }
 
 // Whether what the command makes belongs into the file itself.
 fn is_of_file(command: Command<'_>) -> bool
     ensures { result ≡ is_of_file (request_of command.entry) }
 {
-    matches!(command, Command::Rewrite | Command::Change(_))
+    matches!(
+        command,
+        Command::Rewrite | Command::Change(_) | Command::Further(_)
+    )
 }
 
 // Whether the command makes a file that isn't there.
@@ -189,5 +254,6 @@ fn makes_file(command: Command<'_>) -> bool
     matches!(
         command,
         Command::Change(Edit::Set { .. } | Edit::Add { .. })
+            | Command::Further(FurtherEdit::AddSection { .. } | FurtherEdit::SetAll { .. })
     )
 }

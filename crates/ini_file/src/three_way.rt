@@ -2,7 +2,7 @@
 //! word of the program and no device.
 ghost use Rattle.std.specs.Prelude.{◌≡◌, IfErr, IfOk, MatchOption, OnErr, chars, flat_map};
 ghost use Rattle.ini_edit.specs.Sources.{document_in};
-ghost use Rattle.ini_diff.specs.Merging.{conflicts_of};
+ghost use Rattle.ini_layers.specs.Merging.{conflicts_of};
 ghost use Rattle.ini_file.specs.ChangeLines.{conflict_line};
 ghost use Rattle.ini_file.specs.ThreeWays.{EndsOnSides, GetsMarkWith, HasThreeWay, IsTextAfter};
 ghost use Rattle.ini_file.specs.ThreeWays.{three_way_status};
@@ -12,8 +12,8 @@ use crate::change_lines::conflict_lines;
 use crate::edit::gets_byte_order_mark;
 use crate::merge::load;
 use ini::{Error, Ini};
-use ini_diff::{Side, conflicts, merge};
 use ini_edit::{RefusedEdit, Source};
+use ini_layers::{Side, conflicts, merge};
 use ini_words::Options;
 use std::alloc::{AllocError, Global};
 
@@ -118,8 +118,9 @@ fn lines_of_conflicts(
     conflict_lines(alloc, conflicts.as_slice())
 }
 
-// The bytes of a mark and of a text in pieces; `None` where there is no mark, and the text would get one.
-fn text_after(
+/// The bytes of a mark and of a text in pieces; `None` where there is no mark, and the text would get one.
+/// Refused when out of memory alone.
+pub(crate) fn text_after(
     alloc: Global,
     byte_order_mark: &[u8],
     source: &Source<'_>,

@@ -2,6 +2,8 @@
 //! and refusals are reported. This file knows the process's streams, and no word of the program.
 
 use crate::bytes::text_of;
+use crate::coding::{Coding, FileError};
+use crate::conflict_places::tell_places;
 use crate::files::{lock_place, read_file, read_input, write_output};
 use crate::merge::load;
 use crate::merge_files::setting_of_file;
@@ -14,30 +16,32 @@ use crate::target::Target;
 use crate::three_way::{ThreeWayEnd, merge_sides, three_way_status};
 use crate::unwritable::reason_of;
 use ini::Error;
-use ini_diff::taken;
+use ini_dialect::Encoding;
 use ini_edit::{Edit, EditError, RefusedEdit, Source};
+use ini_layers::taken;
 use std::alloc::{AllocError, Global};
 use std::io::Write;
 
-// The bytes of the three files.
+// The texts of the three files, and how the last is coded, in which the changes are made.
 #[derive(Drop)]
 struct Sides {
     base: Vec<u8>,
     ours: Vec<u8>,
     theirs: Vec<u8>,
+    coding: Coding,
 }
 
 /// Merges three files, and answers the exit status. All of them are read before anything is written, and
 /// where one is refused nothing is. With conflicts the merged text is written too.
 ///
 /// No contract says what a disk gets; `tests/program/sides.sh` tests it.
-pub fn merge_three_files(rt: &HostRuntime, asked: &ThreeWay<'_>) -> u8 {
+pub fn merge_three_files(rt: &HostRuntime, named: Option<Encoding>, asked: &ThreeWay<'_>) -> u8 {
     let target = Target::of_three_way(*asked);
     let _lock = match lock_place(rt, target) {
         Ok(lock) => lock,
         Err(refusal) => return refuse_file(rt, asked, target.reported(), &[], refusal),
     };
-    match read_sides(rt, asked, target) {
+    match read_sides(rt, named, asked, target) {
         Ok(sides) => merge_read(rt, asked, &sides),
         Err((file, refusal)) => refuse_file(rt, asked, file, &[], refusal),
     }
@@ -46,22 +50,30 @@ pub fn merge_three_files(rt: &HostRuntime, asked: &ThreeWay<'_>) -> u8 {
 // Reads the files; else the name of one that can't be read.
 fn read_sides<'a>(
     rt: &HostRuntime,
+    named: Option<Encoding>,
     asked: &ThreeWay<'a>,
     target: Target<'a>,
-) -> Result<Sides, (&'a str, Error)> {
-    let base = match read_input(rt, asked.base) {
-        Ok(base) => base,
+) -> Result<Sides, (&'a str, FileError)> {
+    let base = match read_input(rt, named, asked.base) {
+        Ok(base) => base.text,
         Err(refusal) => return Err((asked.base, refusal)),
     };
-    let ours = match read_input(rt, asked.ours) {
-        Ok(ours) => ours,
+    let ours = match read_input(rt, named, asked.ours) {
+        Ok(ours) => ours.text,
         Err(refusal) => return Err((asked.ours, refusal)),
     };
-    match read_file(rt, target) {
-        Ok(theirs) => Ok(Sides {
+    match read_file(rt, named, target) {
+        Ok(Some(theirs)) => Ok(Sides {
             base,
             ours,
-            theirs: theirs.unwrap_or(Vec::new(rt.alloc())),
+            theirs: theirs.text,
+            coding: theirs.coding,
+        }),
+        Ok(None) => Ok(Sides {
+            base,
+            ours,
+            theirs: Vec::new(rt.alloc()),
+            coding: Coding::of_bytes(b"", named),
         }),
         Err(refusal) => Err((asked.theirs, refusal)),
     }
@@ -74,17 +86,32 @@ fn merge_read(rt: &HostRuntime, asked: &ThreeWay<'_>, sides: &Sides) -> u8 {
     match merge_sides(rt.alloc(), asked.options, asked.side(), base, ours, theirs) {
         ThreeWayEnd::Done(done) => {
             let target = Target::of_three_way(*asked);
-            match write_output(rt, target, Some(theirs), done.bytes.as_slice()) {
+            match write_output(
+                rt,
+                sides.coding,
+                target,
+                Some(theirs),
+                done.bytes.as_slice(),
+            ) {
                 Ok(()) => {
                     let _ = rt.stderr().write_all(done.conflicts.as_slice());
+                    if !done.conflicts.is_empty() {
+                        tell_places(rt, asked, base, ours, theirs);
+                    }
                     three_way_status(&done)
                 }
                 Err(refusal) => refuse_file(rt, asked, target.reported(), &[], refusal),
             }
         }
-        ThreeWayEnd::Base(refusal) => refuse_file(rt, asked, asked.base, base, refusal),
-        ThreeWayEnd::Ours(refusal) => refuse_file(rt, asked, asked.ours, ours, refusal),
-        ThreeWayEnd::Theirs(refusal) => refuse_file(rt, asked, asked.theirs, theirs, refusal),
+        ThreeWayEnd::Base(refusal) => refuse_file(rt, asked, asked.base, base, refusal.into()),
+        ThreeWayEnd::Ours(refusal) => refuse_file(rt, asked, asked.ours, ours, refusal.into()),
+        ThreeWayEnd::Theirs(refusal) => refuse_file(
+            rt,
+            asked,
+            asked.theirs,
+            theirs,
+            refusal.into(),
+        ),
         ThreeWayEnd::Change(refused) => refuse_change(rt, asked, sides, refused),
         ThreeWayEnd::GetsMark => {
             let outcome = Outcome::Refused(EditError::Key);
@@ -101,15 +128,10 @@ fn refuse_file(
     asked: &ThreeWay<'_>,
     file: &str,
     input: &[u8],
-    refusal: Error,
+    refusal: FileError,
 ) -> u8 {
-    refuse(
-        rt,
-        asked.options.reading,
-        file,
-        input,
-        &Outcome::from(refusal),
-    )
+    let outcome = Outcome::from(refusal);
+    refuse(rt, asked.options.reading, file, input, &outcome)
 }
 
 // Tells that a change of ours can't be made in theirs, and why.

@@ -5,16 +5,15 @@
 //! contracts; no contract says what is printed of the others. `tests/words.sh` tests it.
 
 use crate::choices::{goes_out, is_short_number};
-use crate::commands::{COMMANDS, Shape, nearest, shape_of};
-use crate::form::{ChangeForm, Color};
+use crate::commands::{COMMANDS, FORMS, Shape, nearest, shape_of};
+use crate::manner::{Color, ValueKind};
 use crate::order::{Sorted, before_section};
-use crate::report_format::Format;
 use crate::reported::names_traps;
 use crate::shown::Shown;
-use crate::spacing::small_number;
+use crate::spacing::{small_number, sorting_of};
 use crate::spelling::kind_of;
 use ini_check::TRAPS;
-use ini_dialect::{Dialect, dialects};
+use ini_dialect::{Dialect, Encoding, dialects};
 use ini_words::policy_named;
 use std::alloc::AllocError;
 use std::io::{self, Write};
@@ -30,18 +29,24 @@ pub enum UsageError<'a> {
     TakesNoText(&'a str),
     /// No dialect has this name.
     Dialect(&'a str),
+    /// No encoding has this name.
+    Encoding(&'a str),
     /// No policy has this name.
     Policy(&'a str),
     /// This is no number of seconds.
     Seconds(&'a str),
     /// This is no number of spaces or lines.
     Number(&'a str),
-    /// No form has this name.
-    Format(&'a str),
-    /// No form of changes has this name.
-    ChangeForm(&'a str),
+    /// The command writes no form of this name.
+    Format(Shape, &'a str),
+    /// A form for programs with another one.
+    OneForm,
+    /// No kind of values has this name.
+    ValueKind(&'a str),
     /// This is no word on colours.
     Color(&'a str),
+    /// This names nothing that is sorted.
+    Sorting(&'a str),
     /// No trap and no level has this name.
     Trap(&'a str),
     /// No command is there.
@@ -58,6 +63,8 @@ pub enum UsageError<'a> {
     SuggestsAlone,
     /// A separator of new lines where none is written.
     NoNewLine,
+    /// The last value, where each is got.
+    LastOfAll,
     /// Standard input twice.
     InputTwice,
     /// Several files, and one that gets what is made.
@@ -94,6 +101,7 @@ pub fn usage_error_of<'a>(sorted: &Sorted<'a>) -> Option<UsageError<'a>> {
         return Some(UsageError::Command(*command));
     };
     dialect_error(sorted.like)
+        .or(encoding_error(sorted.encoding))
         .or(policy_error(sorted.options.as_slice()))
         .or(choice_error(shape, sorted.choices.as_slice()))
         .or(output_error(shape, sorted.choices.as_slice(), arguments))
@@ -105,6 +113,14 @@ fn dialect_error(like: Option<&str>) -> Option<UsageError<'_>> {
     match Dialect::of_name(like?) {
         Some(_) => None,
         None => Some(UsageError::Dialect(like?)),
+    }
+}
+
+// The name that is no encoding's.
+fn encoding_error(encoding: Option<&str>) -> Option<UsageError<'_>> {
+    match Encoding::of_name(encoding?) {
+        Some(_) => None,
+        None => Some(UsageError::Encoding(encoding?)),
     }
 }
 
@@ -146,6 +162,11 @@ fn choice_error<'a>(shape: Shape, choices: &[&'a str]) -> Option<UsageError<'a>>
         }
         before = word;
     }
+    pair_error(shape, choices)
+}
+
+// Choices that have no place beside each other.
+fn pair_error<'a>(shape: Shape, choices: &[&'a str]) -> Option<UsageError<'a>> {
     if choices.contains(&"--suggest")
         && (choices.contains(&"--fix")
             || choices.contains(&"--null")
@@ -153,10 +174,24 @@ fn choice_error<'a>(shape: Shape, choices: &[&'a str]) -> Option<UsageError<'a>>
     {
         return Some(UsageError::SuggestsAlone);
     }
+    if shape.command != "check" && has_two_forms(choices) {
+        return Some(UsageError::OneForm);
+    }
+    if choices.contains(&"--all") && choices.contains(&"--last") {
+        return Some(UsageError::LastOfAll);
+    }
     if choices.contains(&"--existing") && choices.contains(&"--separator") {
         return Some(UsageError::NoNewLine);
     }
     None
+}
+
+// Whether a form for programs is chosen with another one.
+fn has_two_forms(choices: &[&str]) -> bool {
+    choices.contains(&"--format")
+        && (choices.contains(&"--null")
+            || choices.contains(&"--origin")
+            || choices.contains(&"--type"))
 }
 
 // Several files where one gets what is made of one.
@@ -173,15 +208,13 @@ fn output_error<'a>(
 fn text_error<'a>(shape: Shape, choice: &str, text: &'a str) -> Option<UsageError<'a>> {
     match choice {
         "--color" if Color::of_name(text).is_none() => Some(UsageError::Color(text)),
-        "--format" if shape.command == "diff" => match ChangeForm::of_name(text) {
-            Some(_) => None,
-            None => Some(UsageError::ChangeForm(text)),
-        },
         "--wait" if !is_short_number(text) => Some(UsageError::Seconds(text)),
         "--indent-pairs" | "--blank-lines" if small_number(text).is_none() => {
             Some(UsageError::Number(text))
         }
-        "--format" if Format::of_name(text).is_none() => Some(UsageError::Format(text)),
+        "--type" if ValueKind::of_name(text).is_none() => Some(UsageError::ValueKind(text)),
+        "--format" if !shape.writes(text) => Some(UsageError::Format(shape, text)),
+        "--sort" if sorting_of(text).is_none() => Some(UsageError::Sorting(text)),
         "--allow" | "--deny" if !names_traps(text) => Some(UsageError::Trap(text)),
         _ => None,
     }
@@ -217,7 +250,13 @@ fn argument_error<'a>(
         (None, _) => (shape.least(), shape.most()),
     };
     let inputs = arguments.iter().filter(|word| **word == "-").count();
-    if matches!(shape.command, "merge" | "diff" | "merge3" | "format") && inputs > 1 {
+    let reads_input = shape.command == "apply" && arguments.len() == 1;
+    let inputs = if reads_input { inputs + 1 } else { inputs };
+    let reads_files = matches!(
+        shape.command,
+        "merge" | "layers" | "diff" | "apply" | "merge3" | "format"
+    );
+    if reads_files && inputs > 1 {
         return Some(UsageError::InputTwice);
     }
     if arguments.len() < least {
@@ -247,39 +286,13 @@ fn print_error<W: Write>(error: UsageError<'_>, err: &mut W) -> io::Result<()> {
         UsageError::NeedsText(name) => writeln!(err, "{name} takes {}", text_of(name)),
         UsageError::TakesNoText(name) => writeln!(err, "{name} takes no text"),
         UsageError::Dialect(name) => print_dialect(name, err),
-        UsageError::Policy(name) => {
-            let name = Shown(name);
-            writeln!(err, "{name} is no policy; --policy takes one of {POLICIES}")
-        }
-        UsageError::Seconds(text) => {
-            let text = Shown(text);
-            writeln!(
-                err,
-                "{text} is no number of seconds; --wait takes one, as 10"
-            )
-        }
-        UsageError::Number(text) => {
-            let text = Shown(text);
-            writeln!(err, "{text} is no number of one or two digits")
-        }
-        UsageError::Format(name) => {
-            let name = Shown(name);
-            writeln!(
-                err,
-                "{name} is no form; --format takes json, sarif or github"
-            )
-        }
-        UsageError::ChangeForm(name) => {
-            let name = Shown(name);
-            writeln!(err, "{name} is no form; --format takes json")
-        }
-        UsageError::Color(word) => {
-            let word = Shown(word);
-            writeln!(
-                err,
-                "{word} is no colour; --color takes auto, always or never"
-            )
-        }
+        UsageError::Encoding(name) => print_unknown(name, NO_ENCODING, err),
+        UsageError::Policy(name) => print_unknown(name, NO_POLICY, err),
+        UsageError::Seconds(text) => print_unknown(text, NO_SECONDS, err),
+        UsageError::Number(text) => print_unknown(text, "is no number of one or two digits", err),
+        UsageError::Sorting(name) => print_unknown(name, NO_SORTING, err),
+        UsageError::ValueKind(name) => print_unknown(name, NO_TYPE, err),
+        UsageError::Color(word) => print_unknown(word, NO_COLOR, err),
         UsageError::Trap(name) => print_trap(name, err),
         UsageError::NoCommand => writeln!(err, "a command is missing: one of {COMMANDS}"),
         UsageError::Command(word) => print_command(word, err),
@@ -289,6 +302,11 @@ fn print_error<W: Write>(error: UsageError<'_>, err: &mut W) -> io::Result<()> {
                 "--existing writes no new line, so --separator has no place"
             )
         }
+        UsageError::OneForm => writeln!(
+            err,
+            "--format writes one form, so --null, --origin and --type have no place"
+        ),
+        UsageError::LastOfAll => writeln!(err, "--all gets each value, so --last has no place"),
         UsageError::InputTwice => writeln!(err, "- is standard input, which can't be read twice"),
         UsageError::OneOutput => writeln!(err, "--output takes what is made of one file alone"),
         UsageError::NoFile(choice) => {
@@ -302,6 +320,10 @@ fn print_error<W: Write>(error: UsageError<'_>, err: &mut W) -> io::Result<()> {
 // The same of an error that is about a command.
 fn print_command_error<W: Write>(error: UsageError<'_>, err: &mut W) -> io::Result<()> {
     match error {
+        UsageError::Format(shape, name) => {
+            write!(err, "{} is no form; --format takes ", Shown(name))?;
+            print_forms(shape, err)
+        }
         UsageError::Choice(shape, choice) => {
             write!(err, "{} doesn't take {choice}", shape.command)?;
             print_choices(shape, err)
@@ -335,6 +357,26 @@ fn print_command_error<W: Write>(error: UsageError<'_>, err: &mut W) -> io::Resu
     }
 }
 
+// Prints the forms that a command writes, and ends the line.
+fn print_forms<W: Write>(shape: Shape, err: &mut W) -> io::Result<()> {
+    let count = FORMS.iter().filter(|form| shape.writes(form)).count();
+    let mut number: usize = 0;
+    for form in FORMS {
+        if shape.writes(form) {
+            number = number.saturating_add(1);
+            let before = if number == 1 {
+                ""
+            } else if number == count {
+                " or "
+            } else {
+                ", "
+            };
+            write!(err, "{before}{form}")?;
+        }
+    }
+    writeln!(err)
+}
+
 // Prints the choices that a command takes, if there are any, and ends the line.
 fn print_choices<W: Write>(shape: Shape, err: &mut W) -> io::Result<()> {
     if !CHOICES.iter().any(|choice| shape.takes(choice)) {
@@ -347,6 +389,12 @@ fn print_choices<W: Write>(shape: Shape, err: &mut W) -> io::Result<()> {
         }
     }
     writeln!(err)
+}
+
+// Prints the text of an option, and that it is none, and which are.
+fn print_unknown<W: Write>(text: &str, words: &str, err: &mut W) -> io::Result<()> {
+    let text = Shown(text);
+    writeln!(err, "{text} {words}")
 }
 
 // Prints that no trap and no level has this name, and which do.
@@ -381,9 +429,12 @@ fn print_command<W: Write>(word: &str, err: &mut W) -> io::Result<()> {
     }
 }
 
-const CHOICES: [&str; 23] = [
+const CHOICES: [&str; 29] = [
     "--all",
+    "--last",
+    "--origin",
     "--default",
+    "--type",
     "--null",
     "--format",
     "--color",
@@ -395,8 +446,11 @@ const CHOICES: [&str; 23] = [
     "--separator",
     "--ours",
     "--theirs",
+    "--reverse",
     "--indent-pairs",
     "--blank-lines",
+    "--align",
+    "--sort",
     "--check",
     "--section",
     "--dry-run",
@@ -407,9 +461,20 @@ const CHOICES: [&str; 23] = [
     "--verbose",
 ];
 
-const POLICIES: &str =
-    "Nothing Basics BasicsUnicode BasicsUnicodeExtended Reserved ReservedUnicode \
-    ReservedUnicodeExtended Everything";
+const NO_ENCODING: &str =
+    "is no encoding; --encoding takes one of utf-8 utf-16le utf-16be latin1 windows1252";
+
+const NO_POLICY: &str =
+    "is no policy; --policy takes one of Nothing Basics BasicsUnicode BasicsUnicodeExtended Reserved \
+    ReservedUnicode ReservedUnicodeExtended Everything";
+
+const NO_SECONDS: &str = "is no number of seconds; --wait takes one, as 10";
+
+const NO_SORTING: &str = "is nothing to sort; --sort takes keys, sections or both";
+
+const NO_TYPE: &str = "is no type; --type takes bool, int, size, float, duration or path";
+
+const NO_COLOR: &str = "is no colour; --color takes auto, always or never";
 
 // What an option's text is called.
 fn text_of(name: &str) -> &'static str {
@@ -421,6 +486,7 @@ fn text_of(name: &str) -> &'static str {
         "--format" => "FORM",
         "--color" => "WHEN",
         "--indent-pairs" | "--blank-lines" => "N",
+        "--sort" => "WHAT",
         _ => "NAME",
     }
 }

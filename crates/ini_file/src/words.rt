@@ -1,17 +1,20 @@
-//! The words of the program: options, a command, a file and the command's arguments. This file knows no
-//! document and no device.
+//! The words of a command over one file: the file, and the command's arguments. This file knows no document
+//! and no device.
 ghost use Rattle.std.specs.Prelude.{◌≡◌, chars, map, string_bytes};
 ghost use Rattle.std.specs.Option.{option_map};
 ghost use Rattle.ini.specs.Texts.{str_name};
 ghost use Rattle.ini_file.specs.Choices.{chosen_of};
 ghost use Rattle.ini_edit.specs.Editings.{editing_of};
+ghost use Rattle.ini_file.specs.Fronts.{call_of};
 ghost use Rattle.ini_file.specs.Requests.{asks_of, edit_asked, request_of, separator_asked};
-ghost use Rattle.ini_file.specs.Words.{asks_of_words, getting, request_for, request_alone, request_with_one};
-ghost use Rattle.ini_file.specs.Words.{request_with_three, request_with_two, setting};
+ghost use Rattle.ini_file.specs.Words.{asks_of_call, getting, request_for, request_alone, request_of_list};
+ghost use Rattle.ini_file.specs.Words.{request_with_one, request_with_three, request_with_two, rule_of};
+ghost use Rattle.ini_file.specs.Words.{setting};
 
 use crate::choices::Choices;
-use crate::like::{like_of, options_like};
-use ini_dialect::{Dialect, Lookup as Rule};
+use crate::front::Call;
+use crate::further::FurtherEdit;
+use ini_dialect::{Dialect, Lookup as Rule, ValueRule};
 use ini_edit::Edit;
 use ini_words::{Options, usage_line};
 
@@ -29,10 +32,11 @@ pub enum Question<'a> {
     List {
         null: bool,
     },
-    /// A line for each name of a section.
+    /// A line for each name of a section; with `all` for each section, also where its name comes again.
     Sections {
         rule: Rule,
         null: bool,
+        all: bool,
     },
     /// A line for each key of the section that is looked at.
     Keys {
@@ -70,6 +74,8 @@ pub enum Command<'a> {
     Ask(Question<'a>),
     /// A change in its text, which keeps every byte that it isn't about.
     Change(Edit<'a>),
+    /// So too, but none of `ini_edit`'s list.
+    Further(FurtherEdit<'a>),
 }
 
 /// What the words of the program are.
@@ -142,7 +148,11 @@ fn with_none<'a>(word: &str, rule: Rule, choices: Choices<'a>) -> Option<Command
     match word {
         "rewrite" => Some(Command::Rewrite),
         "list" => Some(Command::Ask(Question::List { null })),
-        "sections" => Some(Command::Ask(Question::Sections { rule, null })),
+        "sections" => Some(Command::Ask(Question::Sections {
+            rule,
+            null,
+            all: choices.switches.all,
+        })),
         "keys" => Some(Command::Ask(Question::Keys {
             rule,
             section: None,
@@ -163,7 +173,7 @@ fn get_of<'a>(
         ≡ getting rule (chosen_of choices.entry) (chars key.now) (str_name section.entry) }
 {
     Some(Command::Ask(Question::Get(Wanted {
-        rule,
+        rule: rule_of(rule, choices.switches.last),
         key,
         section,
         all: choices.switches.all,
@@ -187,7 +197,25 @@ fn with_one<'a>(word: &str, rule: Rule, choices: Choices<'a>, first: &'a str) ->
         })),
         "delete" => Some(Command::Change(Edit::Delete { name: None, key })),
         "delete-section" => Some(Command::Change(Edit::DeleteSection { name: first })),
+        "unset-all" => Some(Command::Further(FurtherEdit::DeleteAll { name: None, key })),
+        "add-section" => Some(Command::Further(FurtherEdit::AddSection { name: first })),
+        "comment" => Some(Command::Further(FurtherEdit::CommentOut { name: None, key })),
         _ => None,
+    }
+}
+
+// The rule, under which the last value counts where that is chosen.
+fn rule_of(rule: Rule, last: bool) -> Rule
+    ensures { result ≡ rule_of rule last }
+{
+    if last {
+        Rule {
+            sections: rule.sections,
+            values: ValueRule::Last,
+            case: rule.case,
+        }
+    } else {
+        rule
     }
 }
 
@@ -206,6 +234,8 @@ fn with_two<'a>(
     match word {
         "get" => get_of(rule, choices, key, section),
         "delete" => Some(Command::Change(Edit::Delete { name: section, key })),
+        "unset-all" => Some(Command::Further(FurtherEdit::DeleteAll { name: section, key })),
+        "comment" => Some(Command::Further(FurtherEdit::CommentOut { name: section, key })),
         "set" => set_of(choices, None, key, second),
         "add" => {
             Some(Command::Change(Edit::Add {
@@ -275,27 +305,39 @@ fn set_of<'a>(
     Some(Command::Change(edit))
 }
 
-/// What the words are, if they are the program's: `--like` and a dialect, or nothing; options of reading
-/// and writing in any order, each as often as one likes, of which the last `--policy` holds; then a
-/// command, and options of the program's own up to the first word that is none, or up to `--`; then the
-/// name of a file, and the command's arguments, whatever they begin with. Takes no memory.
-pub fn parse(words: &[String]) -> Option<Invocation<'_>>
-    ensures { option_map asks_of result ≡ asks_of_words (map string_bytes words.now) }
+// The command `set --all`, of a key and one value at least.
+fn set_all_of<'a>(choices: Choices<'a>, arguments: &'a [String]) -> Option<Command<'a>>
+    ensures { option_map request_of result
+        ≡ request_of_list (chosen_of choices.entry) (map string_bytes arguments.now) }
 {
-    let (dialect, following) = like_of(words)?;
-    let (options, following) = options_like(dialect).with_words(following)?;
-    let (word, following) = following.split_first()?;
-    let (choices, following) = Choices::of_words(following)?;
-    let (file, arguments) = following.split_first()?;
-    if !choices.apply_to(word.as_str()) {
+    let (key, values) = arguments.split_first()?;
+    if values.is_empty() {
         return None;
     }
-    let command = command_of(word.as_str(), dialect.lookup, choices, arguments)?;
+    Some(Command::Further(FurtherEdit::SetAll {
+        name: choices.section,
+        key: key.as_str(),
+        values,
+    }))
+}
+
+/// What a command asks of a file that is called so, if it is one of those: its words are the file's name, and
+/// then its arguments. Takes no memory.
+pub fn asked_of<'a>(command: &str, call: Call<'a>) -> Option<Invocation<'a>>
+    ensures { option_map asks_of result ≡ asks_of_call command.now (call_of call.entry) }
+{
+    let (file, arguments) = call.words.split_first()?;
+    let (dialect, choices) = (call.dialect, call.choices);
+    let asked = if choices.switches.all && command == "set" {
+        set_all_of(choices, arguments)?
+    } else {
+        command_of(command, dialect.lookup, choices, arguments)?
+    };
     Some(Invocation {
         dialect,
-        options,
+        options: call.options,
         choices,
         file: file.as_str(),
-        command,
+        command: asked,
     })
 }

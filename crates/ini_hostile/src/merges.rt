@@ -3,8 +3,8 @@
 use crate::scarce::{CALLS, Famine};
 use crate::show::loaded;
 use ini::{Ini, ParseOption, WriteOption};
-use ini_diff::{Side, apply, diff, merge};
 use ini_edit::{EditError, Source};
+use ini_layers::{Side, apply, diff, merge};
 use ini_text::Error;
 use std::alloc::Global;
 use std::panic::Expect;

@@ -1,213 +1,307 @@
--- What a document answers once the keys of a section, of a layer, of all layers were set in it.
-use Rattle.std.proofs.Common.{◌≡◌, ◌∙◌, inl, inr, ap, sym, refl, Bool, true, false, cond, ◌||◌}
-use Rattle.std.proofs.Common.{List, [], ◌∷◌, ◌++◌, fold, Option, None, Some, IsSome, unwrap_or, option_and_then}
-use Rattle.std.proofs.lemmas.Bool.{cases_Bool, cond_both, false≢true}
-use Rattle.std.proofs.lemmas.List.Folds.{list_any-append}
-use Rattle.std.specs.Cmp.Lexicographic.{bytes_decides, nat_list_eq_equiv, options_equiv}
-use Rattle.std.specs.List.{filter_map, last_or, list_any}
-use Rattle.std.specs.Option.{option_or}
-use Rattle.ini_multimap.specs.Pairs.{fresh}
-use Rattle.ini.specs.Texts.{Text, is_name, is_text}
-use Rattle.ini.specs.Properties.{Pairs, first_value}
-use Rattle.ini.specs.Documents.{Document, HasGeneral, first_section, names, value_in}
-use Rattle.ini.proofs.EditLawLemmas.{set-keys, set-names, set-there_still}
-use Rattle.ini.proofs.KeepingLemmas.{names_equal, set-there}
-use Rattle.ini_layers.specs.Layers.{HasLayeredValues}
-use Rattle.ini_layers.specs.Merging.{merged, with_key, with_keys, with_layer, with_name}
-use Rattle.ini_layers.proofs.LookupLemmas.{last_or-cons}
+-- What look-ups answer after a three-way merge, and which settings are in conflict.
+use Rattle.std.proofs.Common.{◌≡◌, ◌∙◌, ◌↔◌, ap, sym, refl, inl, inr, Bool, true, false, cond, not}
+use Rattle.std.proofs.Common.{◌&&◌, ◌||◌, List, [], ◌∷◌, ◌++◌, map, filter, Option, None, Some, is_some}
+use Rattle.std.proofs.Common.{ℕ, ◌<◌, ◌≤◌, ◌+◌, add-one, get_or, length, take, take-suc}
+use Rattle.std.proofs.lemmas.List.{map-append, take_all}
+use Rattle.std.proofs.lemmas.Bool.{cases_Bool}
+use Rattle.std.proofs.lemmas.List.Elements.{filter-append}
+use Rattle.std.proofs.lemmas.List.Folds.{find-append}
+use Rattle.std.specs.List.{find}
+use Rattle.std.specs.Option.{option_map, option_or}
+use Rattle.ini_text.specs.declared.write.option.WriteOption.{WriteOption}
+use Rattle.ini.specs.Documents.{Document, value_in}
+use Rattle.ini.specs.Texts.{Text, is_name}
+use Rattle.ini.proofs.KeepingLemmas.{name_refl, names_equal}
+use Rattle.ini_edit.specs.Sources.{Pieces}
+use Rattle.ini_layers.specs.Applying.{HasChanged}
+use Rattle.ini_layers.specs.Differences.{SettingChange, change_of, difference, differs, is_lost, is_of}
+use Rattle.ini_layers.specs.Differences.{setting_change}
+use Rattle.ini_layers.specs.Merging.{ChangePlaces, HasConflictsOf, HaveNoConflict, IsMerged, SettingConflict}
+use Rattle.ini_layers.specs.Merging.{chosen, conflicts_of, conflicts_with, is_conflict, is_taken}
+use Rattle.ini_layers.specs.Merging.{merged_value, setting_conflict, taken_changes, with_theirs}
+use Rattle.ini_layers.specs.Settings.{AnswerAlike, Setting, settings}
+use Rattle.ini_layers.specs.SourceChanges.{AreMade}
+use Rattle.ini_layers.specs.declared.change.Change.{Change}
+use Rattle.ini_layers.specs.declared.merging.Conflict.{Conflict}
+use Rattle.ini_layers.specs.declared.merging.Side.{Side}
+use Rattle.ini_layers.specs.declared.merging.Side.TheVariants.{Ours, Theirs}
+use Rattle.ini_layers.proofs.AfterLemmas.{after-difference, filter-both}
+use Rattle.ini_layers.proofs.DifferenceLemmas.{difference-has, find-listed, none-if-agree}
+use Rattle.ini_layers.proofs.SettingLemmas.{has-settings, same_setting}
 
--- what each step of a fold keeps, the fold keeps
-module _ {A B : Type 0} (P : B → Type 0) (f : B → A → B) (keeps : (b : B) (x : A) → P b → P (f b x)) where
-  fold-keeps : (b : B) (xs : List A) → P b → P (fold f b xs)
-  fold-keeps b [] here = here
-  fold-keeps b (x ∷ xs) here = fold-keeps (f b x) xs (keeps b x here)
-
--- the keys of a section in turn
-module _ (name : Option Text) (section : Pairs) where
-  -- what a pair's key is set to
-  abbrev first_of : Text × Text → Text
-  first_of p = unwrap_or (first_value p.0 section) p.1
-
-  -- a key that no pair has keeps its value
-  keys-absent : (key : Text) (d : Document) (ps : Pairs) → first_value key ps ≡ None
-      → value_in name key (fold (with_key name section) d ps) ≡ value_in name key d
-  keys-absent key d [] absent = refl
-  keys-absent key d (p ∷ ps) absent =
-      elim (cases_Bool (is_text key p.0)) [
-        | inl same ↦ let none : Some p.1 ≡ None = rw same at absent in absurd cc
-        | inr apart ↦
-            keys-absent key (with_key name section d p) ps (rw apart at absent)
-            ∙ set-keys name p.0 (first_of p) key d apart
-      ]
-
-  -- a key that the section has gets its first value there
-  module _ (key value : Text) (there : first_value key section ≡ Some value) where
-    abbrev IsSet : Document → Type 0
-    IsSet d = value_in name key d ≡ Some value
-
-    key_is_set : (d : Document) (p : Text × Text)
-        → is_text key p.0 ≡ true → IsSet (with_key name section d p)
-    key_is_set d p same =
-        let e : key ≡ p.0 = (bytes_decides key p.0).0 same in
-        ap (λ k. value_in name k (with_key name section d p)) e
-        ∙ set-there name p.0 (first_of p) d
-        ∙ ap (λ k. Some (unwrap_or (first_value k section) p.1)) (sym e)
-        ∙ ap (λ v. Some (unwrap_or v p.1)) there
-
-    stays_set : (d : Document) (p : Text × Text) → IsSet d → IsSet (with_key name section d p)
-    stays_set d p here =
-        elim (cases_Bool (is_text key p.0)) [
-          | inl same ↦ key_is_set d p same
-          | inr apart ↦ set-keys name p.0 (first_of p) key d apart ∙ here
-        ]
-
-    keys-there : (d : Document) (ps : Pairs)
-        → IsSome (first_value key ps) → IsSet (fold (with_key name section) d ps)
-    keys-there d [] some = absurd (false≢true some)
-    keys-there d (p ∷ ps) some =
-        elim (cases_Bool (is_text key p.0)) [
-          | inl same ↦
-              let set = key_is_set d p same in
-              fold-keeps IsSet (with_key name section) stays_set (with_key name section d p) ps set
-          | inr apart ↦ keys-there (with_key name section d p) ps (rw apart at some)
-        ]
-
-  -- the section's first value, or what was there
-  with_keys-here : (key : Text) (d : Document)
-      → value_in name key (with_keys name section d)
-      ≡ option_or (first_value key section) (value_in name key d)
-  with_keys-here key d = at (first_value key section) refl
-    where
-      at : (o : Option Text) → first_value key section ≡ o
-          → value_in name key (with_keys name section d) ≡ option_or o (value_in name key d)
-      at None absent = keys-absent key d section absent
-      at (Some value) there = keys-there key value there d section (rw there refl)
-
-  -- other names keep their sections
-  with_keys-elsewhere : (other : Option Text) → is_name other name ≡ false → (d : Document)
-      → first_section other (with_keys name section d) ≡ first_section other d
-  with_keys-elsewhere other apart d =
-      fold-keeps (λ e. first_section other e ≡ first_section other d) (with_key name section)
-      (λ e p same. set-names name p.0 (first_of p) other e apart ∙ same) d section refl
-
-  -- a section that is there stays there
-  with_keys-keeps : (other : Option Text) (d : Document)
-      → IsSome (first_section other d) → IsSome (first_section other (with_keys name section d))
-  with_keys-keeps other d =
-      fold-keeps (λ e. IsSome (first_section other e)) (with_key name section)
-      (λ e p. set-there_still name p.0 (first_of p) other e) d section
-
--- a value that is put over another one, twice or once
-over_twice : (v x : Option Text) → option_or v (option_or v x) ≡ option_or v x
-over_twice None x = refl
-over_twice (Some t) x = refl
-
--- one that may be put over another, once and then again
-over_again : (a b : Bool) (v x : Option Text)
-    → cond b (option_or v (cond a (option_or v x) x)) (cond a (option_or v x) x)
-    ≡ cond (a || b) (option_or v x) x
-over_again true true v x = over_twice v x
-over_again true false v x = refl
-over_again false true v x = refl
-over_again false false v x = refl
-
-first_value-in : (key : Text) (o : Option Pairs)
-    → first_value key (unwrap_or o []) ≡ option_and_then (first_value key) o
-first_value-in key None = refl
-first_value-in key (Some section) = refl
-
--- the names of a layer in turn
-module _ (name : Option Text) (key : Text) (layer : Document) where
-  -- the layer's value over that of a document
-  abbrev over : Document → Option Text
-  over d = option_or (value_in name key layer) (value_in name key d)
-
-  one_name-value : (d : Document) (n : Option Text)
-      → value_in name key (with_name layer d n) ≡ cond (is_name name n) (over d) (value_in name key d)
-  one_name-value d n =
-      elim (cases_Bool (is_name name n)) [
-        | inl same ↦ rw same (
-            ap (λ m. value_in name key (with_name layer d m)) (sym (names_equal name n same))
-            ∙ with_keys-here name (unwrap_or (first_section name layer) []) key d
-            ∙ ap (λ v. option_or v (value_in name key d)) (first_value-in key (first_section name layer)))
-        | inr apart ↦ rw apart (
-            let stays = with_keys-elsewhere n (unwrap_or (first_section n layer) []) name apart d in
-            ap (option_and_then (first_value key)) stays)
-      ]
-
-  names-value : (d : Document) (ns : List (Option Text))
-      → value_in name key (fold (with_name layer) d ns)
-      ≡ cond (list_any (is_name name) ns) (over d) (value_in name key d)
-  names-value d [] = refl
-  names-value d (n ∷ ns) =
-      names-value (with_name layer d n) ns
-      ∙ ap (λ x. cond (list_any (is_name name) ns) (option_or (value_in name key layer) x) x)
-      (one_name-value d n)
-      ∙ over_again (is_name name n) (list_any (is_name name) ns)
-      (value_in name key layer) (value_in name key d)
-
--- the name of a section that is there is listed, unless it was seen
-listed : (name : Option Text) (seen d : Document) → list_any (λ s. is_name s.0 name) seen ≡ false
-    → IsSome (first_section name d) → list_any (is_name name) (fresh is_name seen d) ≡ true
-listed name seen [] unseen there = absurd (false≢true there)
-listed name seen (s ∷ d) unseen there =
-    elim (cases_Bool (is_name name s.0)) [
-      | inl same ↦
-          let new : list_any (λ t. is_name t.0 s.0) seen ≡ false =
-          ap (λ n. list_any (λ t. is_name t.0 n) seen) (sym (names_equal name s.0 same)) ∙ unseen in
-          rw (new, same) refl
-      | inr apart ↦
-          let unlike : is_name s.0 name ≡ false = (options_equiv nat_list_eq_equiv).symm s.0 name ∙ apart in
-          let still : list_any (λ t. is_name t.0 name) (seen ++ s ∷ []) ≡ false =
-          list_any-append (λ t. is_name t.0 name) seen (s ∷ []) ∙ rw (unseen, unlike) refl in
-          let later = listed name (seen ++ s ∷ []) d still (rw apart at there) in
-          cond_both (list_any (λ t. is_name t.0 s.0) seen) _ _ (λ l. list_any (is_name name) l ≡ true)
-          (λ _. later) (λ _. rw (apart, later) refl)
-    ]
-
--- the layer's value, or what was there
-layer-value : (name : Option Text) (key : Text) (layer d : Document)
-    → value_in name key (with_layer d layer) ≡ option_or (value_in name key layer) (value_in name key d)
-layer-value name key layer d =
-    names-value name key layer d (names layer) ∙ at (first_section name layer) refl
+-- the taken change's value, or theirs, is the merged one
+taken-value : (side : Side) (base ours theirs : Option Text)
+    → cond (not (is_name base ours) && (not (is_name ours theirs)
+    && (is_name base theirs || chosen side true false))) ours theirs
+    ≡ merged_value side base ours theirs
+taken-value side base ours theirs =
+    at side (is_name base ours) (is_name base theirs) (is_name ours theirs) (names_equal ours theirs)
   where
-    at : (o : Option Pairs) → first_section name layer ≡ o
-        → cond (list_any (is_name name) (names layer)) (over name key layer d) (value_in name key d)
-        ≡ over name key layer d
-    at None none =
-        rw none (cond_both (list_any (is_name name) (names layer)) _ _
-        (λ x. x ≡ value_in name key d) (λ _. refl) (λ _. refl))
-    at (Some section) there =
-        let among : list_any (is_name name) (names layer) ≡ true =
-        listed name [] layer refl (rw there refl) in
-        rw among refl
+    at : (s : Side) (x z y : Bool) → (y ≡ true → ours ≡ theirs)
+        → cond (not x && (not y && (z || chosen s true false))) ours theirs
+        ≡ cond x theirs (cond z ours (cond y theirs (chosen s ours theirs)))
+    at s true z y same = refl
+    at s false true true same = sym (same refl)
+    at s false true false same = refl
+    at s false false true same = refl
+    at Ours false false false same = refl
+    at Theirs false false false same = refl
 
--- the last layer's value, or what was there
-layers-value : (name : Option Text) (key : Text) (d : Document) (layers : List Document)
-    → value_in name key (fold with_layer d layers)
-    ≡ last_or (value_in name key d) (filter_map (value_in name key) layers)
-layers-value name key d [] = refl
-layers-value name key d (layer ∷ layers) =
-    layers-value name key (with_layer d layer) layers
-    ∙ ap (λ o. last_or o (filter_map (value_in name key) layers)) (layer-value name key layer d)
-    ∙ sym (last_or-cons (value_in name key) (value_in name key d) layer layers)
+pub taken-merged : (side : Side) (base ours theirs new : Document)
+    → HasChanged (taken_changes side base ours theirs) theirs new → IsMerged side base ours theirs new
+taken-merged side base ours theirs new has name key =
+    has name key
+    ∙ after-difference base ours name key (is_taken side theirs) (value_in name key theirs)
+    ∙ taken-value side (value_in name key base) (value_in name key ours) (value_in name key theirs)
 
-new_has_none : (name : Option Text) (key : Text) → value_in name key ((None, []) ∷ []) ≡ None
-new_has_none None key = refl
-new_has_none (Some n) key = refl
+-- where theirs is the base the merged value is ours
+from_base : (side : Side) (base ours theirs : Option Text) → base ≡ theirs
+    → ours ≡ merged_value side base ours theirs
+from_base side base ours theirs is =
+    at (is_name base ours) (names_equal base ours) (is_name base theirs)
+    (ap (is_name base) (sym is) ∙ name_refl base)
+  where
+    at : (x : Bool) → (x ≡ true → base ≡ ours) → (z : Bool) → z ≡ true
+        → ours ≡ cond x theirs (cond z ours (cond (is_name ours theirs) theirs (chosen side ours theirs)))
+    at true same z here = sym (same refl) ∙ is
+    at false same true here = refl
+    at false same false here = absurd cc
 
-pub merged-values : (layers : List Document) → HasLayeredValues layers (merged layers)
-merged-values layers = record {
-  same = λ name key.
-      layers-value name key ((None, []) ∷ []) layers
-      ∙ ap (λ o. last_or o (filter_map (value_in name key) layers)) (new_has_none name key);
-}
+pub merged-from_base : (side : Side) (base ours theirs new : Document) → IsMerged side base ours theirs new
+    → AnswerAlike base theirs → AnswerAlike ours new
+merged-from_base side base ours theirs new merged agree name key =
+    from_base side (value_in name key base) (value_in name key ours) (value_in name key theirs)
+    (agree name key)
+    ∙ sym (merged name key)
 
--- the general section stays
-layer-general : (d layer : Document) → HasGeneral d → HasGeneral (with_layer d layer)
-layer-general d layer =
-    fold-keeps HasGeneral (with_name layer)
-    (λ e name. with_keys-keeps name (unwrap_or (first_section name layer) []) None e) d (names layer)
+-- without a conflict it is the same for both ways round
+either_way : (s t : Side) (base ours theirs : Option Text) → is_conflict base ours theirs ≡ false
+    → merged_value s base ours theirs ≡ merged_value t base theirs ours
+either_way s t base ours theirs none =
+    at (is_name base ours) (is_name base theirs) (is_name ours theirs) (is_name theirs ours)
+    (names_equal base ours) (names_equal base theirs) (names_equal ours theirs)
+    (λ is. ap (is_name theirs) is ∙ name_refl theirs) none
+  where
+    at : (x z y v : Bool) → (x ≡ true → base ≡ ours) → (z ≡ true → base ≡ theirs)
+        → (y ≡ true → ours ≡ theirs) → (ours ≡ theirs → v ≡ true) → (not x && (not z && not y)) ≡ false
+        → cond x theirs (cond z ours (cond y theirs (chosen s ours theirs)))
+        ≡ cond z ours (cond x theirs (cond v ours (chosen t theirs ours)))
+    at true true y v bo bt ot vt n = sym (bt refl) ∙ bo refl
+    at true false y v bo bt ot vt n = refl
+    at false true y v bo bt ot vt n = refl
+    at false false true true bo bt ot vt n = sym (ot refl)
+    at false false true false bo bt ot vt n = absurd (let no : false ≡ true = vt (ot refl) in cc)
+    at false false false v bo bt ot vt n = absurd (let no : true ≡ false = n in cc)
 
-pub merged-general : (layers : List Document) → HasGeneral (merged layers)
-merged-general layers = fold-keeps HasGeneral with_layer layer-general ((None, []) ∷ []) layers refl
+pub change-places : (base ours theirs : Document) → ChangePlaces base ours theirs
+change-places base ours theirs s t new other none merged also name key =
+    merged name key
+    ∙ either_way s t (value_in name key base) (value_in name key ours) (value_in name key theirs)
+    (none name key)
+    ∙ sym (also name key)
+
+-- where no change is made all stays
+pub made-nothing : (w : WriteOption) {old new : Pieces} {changes : List SettingChange}
+    → AreMade w old changes new → changes ≡ [] → new ≡ old
+made-nothing w AreMade.none is = refl
+made-nothing w (AreMade.then {changes} c made next) is = absurd (ends changes is)
+  where
+    ends : (cs : List SettingChange) → cs ++ c ∷ [] ≡ [] → ⊥
+    ends [] e = let no : c ∷ [] ≡ [] = e in cc
+    ends (d ∷ cs) e = let no : d ∷ (cs ++ c ∷ []) ≡ [] = e in cc
+
+none_left : {X : Type 0} (p : X → Bool) (xs : List X) → xs ≡ [] → filter p xs ≡ []
+none_left p xs is = ap (filter p) is
+
+pub taken-none : (side : Side) (base ours theirs : Document) → AnswerAlike base ours
+    → taken_changes side base ours theirs ≡ []
+taken-none side base ours theirs agree =
+    none_left (is_taken side theirs) (difference base ours)
+    ((none-if-agree base ours (difference base ours) (difference-has base ours)).1 agree)
+
+-- no change is taken whose new value theirs has
+module _ (side : Side) (base ours theirs : Document) (agree : AnswerAlike ours theirs) where
+  not_taken : (s : Setting) → is_taken side theirs (change_of base ours s) ≡ false
+  not_taken s =
+      let same : is_name (value_in s.0 s.1 ours) (value_in s.0 s.1 theirs) ≡ true =
+      ap (is_name (value_in s.0 s.1 ours)) (sym (agree s.0 s.1)) ∙ name_refl (value_in s.0 s.1 ours) in
+      rw same refl
+
+  none_among : (test : SettingChange → Bool) (ss : List Setting)
+      → filter (λ c. test c && is_taken side theirs c) (map (change_of base ours) ss) ≡ []
+  none_among test [] = refl
+  none_among test (s ∷ ss) =
+      at (test (change_of base ours s)) (is_taken side theirs (change_of base ours s)) (not_taken s)
+      (none_among test ss)
+    where
+      at : (b t : Bool) → t ≡ false → {l : List SettingChange} → l ≡ []
+          → cond (b && t) (change_of base ours s ∷ l) l ≡ []
+      at true true untaken none = absurd cc
+      at true false untaken none = none
+      at false t untaken none = none
+
+  pub taken-alike : taken_changes side base ours theirs ≡ []
+  taken-alike =
+      let changed = map (change_of base ours) (settings ours) in
+      let lost = map (change_of base ours) (settings base) in
+      filter-append (is_taken side theirs) (filter differs changed) (filter is_lost lost)
+      ∙ ap (λ l. l ++ filter (is_taken side theirs) (filter is_lost lost))
+      (filter-both differs (is_taken side theirs) changed ∙ none_among differs (settings ours))
+      ∙ (filter-both is_lost (is_taken side theirs) lost ∙ none_among is_lost (settings base))
+
+-- which conflicts are found
+find-map : {X Y : Type 0} (test : Y → Bool) (f : X → Y) (xs : List X)
+    → find test (map f xs) ≡ option_map f (find (λ x. test (f x)) xs)
+find-map test f [] = refl
+find-map test f (x ∷ xs) = at (test (f x)) (find-map test f xs)
+  where
+    at : (b : Bool) → find test (map f xs) ≡ option_map f (find (λ x. test (f x)) xs)
+        → cond b (Some (f x)) (find test (map f xs))
+        ≡ option_map f (cond b (Some x) (find (λ x. test (f x)) xs))
+    at true later = refl
+    at false later = later
+
+-- of two lists, changed settings and lost ones, of which each keeps only the changes that pass
+by_values : {C : Type 0} (c : C) (old new : Option Text) (passes : Bool)
+    → option_or (cond (is_some new && (not (is_name old new) && passes)) (Some c) None)
+    (cond (is_some old && (not (is_some new) && passes)) (Some c) None)
+    ≡ cond (not (is_name old new) && passes) (Some c) None
+by_values c None None passes = refl
+by_values c (Some x) None true = refl
+by_values c (Some x) None false = refl
+by_values c None (Some y) true = refl
+by_values c None (Some y) false = refl
+by_values {C} c (Some x) (Some y) passes = at (is_name (Some x) (Some y)) passes
+  where
+    at : (b p : Bool) → option_or (cond (true && (not b && p)) (Some c) None)
+        (cond (true && (not true && p)) (Some c) None) ≡ cond (not b && p) (Some c) None
+    at true true = refl
+    at true false = refl
+    at false true = refl
+    at false false = refl
+
+find-passing : (from to : Document) (name : Option Text) (key : Text) (passes : SettingChange → Bool)
+    → find (is_of name key) (filter passes (difference from to))
+    ≡ cond (not (is_name (value_in name key from) (value_in name key to))
+    && passes (change_of from to (name, key))) (Some (change_of from to (name, key))) None
+find-passing from to name key passes =
+    let c = change_of from to (name, key) in
+    let changed = map (change_of from to) (settings to) in
+    let lost = map (change_of from to) (settings from) in
+    let split : filter passes (difference from to)
+    ≡ filter (λ x. differs x && passes x) changed ++ filter (λ x. is_lost x && passes x) lost =
+    filter-append passes (filter differs changed) (filter is_lost lost)
+    ∙ ap (λ l. l ++ filter passes (filter is_lost lost)) (filter-both differs passes changed)
+    ∙ ap (λ l. filter (λ x. differs x && passes x) changed ++ l) (filter-both is_lost passes lost) in
+    ap (find (is_of name key)) split
+    ∙ find-append (is_of name key) (filter (λ x. differs x && passes x) changed)
+    (filter (λ x. is_lost x && passes x) lost)
+    ∙ ap (λ o. option_or o (find (is_of name key) (filter (λ x. is_lost x && passes x) lost)))
+    (find-listed from to name key (λ x. differs x && passes x) (settings to)
+    ∙ ap (λ b. cond (b && (differs c && passes c)) (Some c) None) (has-settings name key to))
+    ∙ ap (option_or (cond (is_some (value_in name key to) && (differs c && passes c)) (Some c) None))
+    (find-listed from to name key (λ x. is_lost x && passes x) (settings from)
+    ∙ ap (λ b. cond (b && (is_lost c && passes c)) (Some c) None) (has-settings name key from))
+    ∙ by_values c (value_in name key from) (value_in name key to) (passes c)
+
+-- a conflict differs anyhow
+differs_too : (x y z : Bool) → (not x && (not x && (not z && not y))) ≡ (not x && (not z && not y))
+differs_too true y z = refl
+differs_too false y z = refl
+
+pub conflicts-have : (base ours theirs : Document)
+    → HasConflictsOf base ours theirs (conflicts_of base ours theirs)
+conflicts-have base ours theirs name key =
+    let b = value_in name key base in
+    let o = value_in name key ours in
+    let t = value_in name key theirs in
+    let c = change_of base ours (name, key) in
+    find-map (λ (x : SettingConflict). is_of name key x.change) (with_theirs theirs)
+    (filter (conflicts_with theirs) (difference base ours))
+    ∙ ap (option_map (with_theirs theirs)) (find-passing base ours name key (conflicts_with theirs)
+    ∙ ap (λ q. cond q (Some c) None) (differs_too (is_name b o) (is_name o t) (is_name b t)))
+    ∙ mapped (is_conflict b o t) c
+  where
+    mapped : (q : Bool) (c : SettingChange) → option_map (with_theirs theirs) (cond q (Some c) None)
+        ≡ cond q (Some (with_theirs theirs c)) None
+    mapped true c = refl
+    mapped false c = refl
+
+-- none is listed where there is none
+module _ (base ours theirs : Document) where
+  none_of : (cs : List SettingConflict)
+      → ((name : Option Text) (key : Text) → find (λ c. is_of name key c.change) cs ≡ None) → cs ≡ []
+  none_of [] none = refl
+  none_of (c ∷ cs) none =
+      let no : Some c ≡ None =
+      rw (same_setting (c.change.name, c.change.key)) at (none c.change.name c.change.key) in absurd cc
+
+  none_shown : (cs : List Conflict) → map setting_conflict cs ≡ [] → cs ≡ []
+  none_shown [] is = refl
+  none_shown (c ∷ cs) is = absurd cc
+
+  free : (cs : List SettingConflict) → HasConflictsOf base ours theirs cs → cs ≡ []
+      → HaveNoConflict base ours theirs
+  free cs has is name key =
+      elim (cases_Bool (is_conflict (value_in name key base) (value_in name key ours)
+      (value_in name key theirs))) [
+        | inl there ↦
+            let none : find (λ c. is_of name key c.change) cs ≡ None =
+            ap (find (λ c. is_of name key c.change)) is in
+            let one : find (λ c. is_of name key c.change) cs
+            ≡ Some (with_theirs theirs (change_of base ours (name, key))) =
+            rw there at (has name key) in absurd cc
+        | inr apart ↦ apart
+      ]
+
+  pub conflicts-none : (cs : List Conflict) → HasConflictsOf base ours theirs (map setting_conflict cs)
+      → (cs ≡ []) ↔ HaveNoConflict base ours theirs
+  conflicts-none cs has = (
+    λ is. free (map setting_conflict cs) has (ap (map setting_conflict) is),
+    λ none.
+        none_shown cs
+        (none_of (map setting_conflict cs) (λ name key. has name key ∙ rw (none name key) refl)),
+  )
+
+-- what passes of the changes up to one more
+module _ (p : SettingChange → Bool) (changes : List Change) (i : ℕ) (d : Change)
+    (within : i < length changes) where
+  one_passes : filter p (map setting_change (take (i + 1) changes))
+      ≡ filter p (map setting_change (take i changes))
+      ++ filter p (setting_change (get_or changes i d) ∷ [])
+  one_passes =
+      rw (add-one, take-suc changes i d within)
+      (ap (filter p) (map-append setting_change (take i changes) (get_or changes i d ∷ []))
+      ∙ filter-append p (map setting_change (take i changes)) (setting_change (get_or changes i d) ∷ []))
+
+  pub taken-more : (old new : List Change)
+      → map setting_change old ≡ filter p (map setting_change (take i changes))
+      → map setting_change new
+      ≡ map setting_change old ++ filter p (setting_change (get_or changes i d) ∷ [])
+      → map setting_change new ≡ filter p (map setting_change (take (i + 1) changes))
+  taken-more old new before more =
+      more ∙ ap (λ l. l ++ filter p (setting_change (get_or changes i d) ∷ [])) before ∙ sym one_passes
+
+  pub conflicts-more : (f : SettingChange → SettingConflict) (old new : List Conflict)
+      → map setting_conflict old ≡ map f (filter p (map setting_change (take i changes)))
+      → map setting_conflict new
+      ≡ map setting_conflict old ++ map f (filter p (setting_change (get_or changes i d) ∷ []))
+      → map setting_conflict new ≡ map f (filter p (map setting_change (take (i + 1) changes)))
+  conflicts-more f old new before more =
+      more ∙ ap (λ l. l ++ map f (filter p (setting_change (get_or changes i d) ∷ []))) before
+      ∙ sym (ap (map f) one_passes
+      ∙ map-append f (filter p (map setting_change (take i changes)))
+      (filter p (setting_change (get_or changes i d) ∷ [])))
+
+-- once all of them were gone through
+module _ (p : SettingChange → Bool) (changes : List Change) (i : ℕ) (past : length changes ≤ i) where
+  pub taken-all : (taken : List Change)
+      → map setting_change taken ≡ filter p (map setting_change (take i changes))
+      → map setting_change taken ≡ filter p (map setting_change changes)
+  taken-all taken is = is ∙ ap (λ l. filter p (map setting_change l)) (take_all i changes past)
+
+  pub conflicts-all : (f : SettingChange → SettingConflict) (conflicts : List Conflict)
+      → map setting_conflict conflicts ≡ map f (filter p (map setting_change (take i changes)))
+      → map setting_conflict conflicts ≡ map f (filter p (map setting_change changes))
+  conflicts-all f conflicts is =
+      is ∙ ap (λ l. map f (filter p (map setting_change l))) (take_all i changes past)

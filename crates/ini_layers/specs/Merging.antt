@@ -1,26 +1,82 @@
--- The document that is made of documents in layers.
-use Rattle.std.specs.Prelude.{List, [], ◌∷◌, fold, Option, None, unwrap_or}
-use Rattle.ini.specs.Texts.{Text}
-use Rattle.ini.specs.Properties.{Pairs, first_value}
-use Rattle.ini.specs.Documents.{Document, first_section, names}
-use Rattle.ini.specs.Edits.{set_in}
+-- Three-way merges of settings: what both sides made of a base.
+use Rattle.std.specs.Prelude.{◌≡◌, Bool, true, false, not, ◌&&◌, ◌||◌, if◌then◌else◌, List, filter, map}
+use Rattle.std.specs.Prelude.{Option, None, Some}
+use Rattle.std.specs.List.{find}
+use Rattle.ini.specs.Documents.{Document, value_in}
+use Rattle.ini.specs.Texts.{Text, is_name, str_name}
+use Rattle.ini_layers.specs.Differences.{SettingChange, change_of, difference, is_of, setting_change}
+use Rattle.ini_layers.specs.Settings.{AnswerAlike}
+use Rattle.ini_layers.specs.declared.merging.Conflict.{Conflict}
+use Rattle.ini_layers.specs.declared.merging.Side.{Side}
+use Rattle.ini_layers.specs.declared.merging.Side.TheVariants.{Ours, Theirs}
 
--- the pair's key is set to its first value in the section
-abbrev pub with_key : Option Text → Pairs → Document → Text × Text → Document
-with_key name section d pair = set_in name pair.0 (unwrap_or (first_value pair.0 section) pair.1) d
+abbrev pub chosen : {A : Type 0} → Side → (ours theirs : A) → A
+chosen Ours ours theirs = ours
+chosen Theirs ours theirs = theirs
 
--- so is each key of the section, in order
-abbrev pub with_keys : Option Text → Pairs → Document → Document
-with_keys name section d = fold (with_key name section) d section
+-- What a setting has then: theirs, where ours is the base's; ours, where theirs is; what both have; else the
+-- chosen side's.
+abbrev pub merged_value : Side → (base ours theirs : Option Text) → Option Text
+merged_value side base ours theirs =
+    if is_name base ours then theirs
+    else (if is_name base theirs then ours
+    else (if is_name ours theirs then theirs else chosen side ours theirs))
 
--- so are the keys of the first section of the name
-abbrev pub with_name : Document → Document → Option Text → Document
-with_name layer d name = with_keys name (unwrap_or (first_section name layer) []) d
+-- both sides changed it, to different values
+abbrev pub is_conflict : (base ours theirs : Option Text) → Bool
+is_conflict base ours theirs =
+    not (is_name base ours) && (not (is_name base theirs) && not (is_name ours theirs))
 
--- so are those of each name, in the order of first occurrence
-abbrev pub with_layer : Document → Document → Document
-with_layer d layer = fold (with_name layer) d (names layer)
+-- every look-up answers the merged value
+abbrev pub IsMerged : Side → (base ours theirs new : Document) → Type 0
+IsMerged side base ours theirs new = (name : Option Text) (key : Text) → value_in name key new
+    ≡ merged_value side (value_in name key base) (value_in name key ours) (value_in name key theirs)
 
--- one layer after another goes over a general section without pairs
-abbrev pub merged : List Document → Document
-merged layers = fold with_layer ((None, []) ∷ []) layers
+-- no setting is in conflict
+abbrev pub HaveNoConflict : (base ours theirs : Document) → Type 0
+HaveNoConflict base ours theirs = (name : Option Text) (key : Text)
+    → is_conflict (value_in name key base) (value_in name key ours) (value_in name key theirs) ≡ false
+
+-- the two documents change places where there is no conflict
+abbrev pub ChangePlaces : (base ours theirs : Document) → Type 0
+ChangePlaces base ours theirs = (side other_side : Side) (new other : Document)
+    → HaveNoConflict base ours theirs → IsMerged side base ours theirs new
+    → IsMerged other_side base theirs ours other
+    → AnswerAlike new other
+
+-- a change of ours that is made in theirs: its setting has another value there, and theirs didn't touch it,
+-- or ours is chosen
+abbrev pub is_taken_at : Side → SettingChange → (theirs : Option Text) → Bool
+is_taken_at side c theirs = not (is_name c.new theirs) && (is_name c.old theirs || chosen side true false)
+
+abbrev pub is_taken : Side → Document → SettingChange → Bool
+is_taken side theirs c = is_taken_at side c (value_in c.name c.key theirs)
+
+abbrev pub taken_changes : Side → (base ours theirs : Document) → List SettingChange
+taken_changes side base ours theirs = filter (is_taken side theirs) (difference base ours)
+
+-- a change of ours, and what theirs made of its setting
+pub record SettingConflict : Type 0 where
+  pub change : SettingChange
+  pub theirs : Option Text
+
+abbrev pub setting_conflict : Conflict → SettingConflict
+setting_conflict c = record { change = setting_change c.change; theirs = str_name c.theirs }
+
+abbrev pub conflicts_with : Document → SettingChange → Bool
+conflicts_with theirs c = is_conflict c.old c.new (value_in c.name c.key theirs)
+
+abbrev pub with_theirs : Document → SettingChange → SettingConflict
+with_theirs theirs c = record { change = c; theirs = value_in c.name c.key theirs }
+
+-- the changes of ours that are in conflict with theirs, in their order
+abbrev pub conflicts_of : (base ours theirs : Document) → List SettingConflict
+conflicts_of base ours theirs =
+    map (with_theirs theirs) (filter (conflicts_with theirs) (difference base ours))
+
+-- for every name and key: the conflict of a setting that is in conflict, and none of another
+abbrev pub HasConflictsOf : (base ours theirs : Document) → List SettingConflict → Type 0
+HasConflictsOf base ours theirs conflicts = (name : Option Text) (key : Text)
+    → find (λ c. is_of name key c.change) conflicts
+    ≡ (if is_conflict (value_in name key base) (value_in name key ours) (value_in name key theirs)
+    then Some (with_theirs theirs (change_of base ours (name, key))) else None)

@@ -1,5 +1,5 @@
 //! The layers: documents in the order in which they were pushed. This file knows a document's look-up, and
-//! leaves merging to `merge`.
+//! leaves merging to `layering`.
 ghost use Rattle.std.specs.Prelude.{◌≡◌, ◌==◌, [], ◌∷◌, ◌++◌, length};
 ghost use Rattle.std.specs.Prelude.{IfErr, IfNone, IfOk, IfSome, IsOkUnless, IsSome, None, OnErr, OnOk};
 ghost use Rattle.std.specs.Prelude.{alloc_error};
@@ -8,10 +8,10 @@ ghost use Rattle.std.specs.Str.{chars};
 ghost use Rattle.ini.specs.Texts.{str_name, str_text};
 ghost use Rattle.ini.specs.Documents.{first_section};
 ghost use Rattle.ini_layers.specs.Layers.{HasLayeredValues, IsOrigin, layered_value};
-ghost use Rattle.ini_layers.specs.Merging.{merged};
+ghost use Rattle.ini_layers.specs.Layering.{merged};
 
 use crate::iter::DocumentIter;
-use crate::merge::merge_document;
+use crate::layering::merge_document;
 use ini::{Error, Ini};
 use std::alloc::Global;
 use std::marker::Model;

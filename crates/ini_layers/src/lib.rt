@@ -1,13 +1,24 @@
-//! Documents in layers, as a program's settings come: the distribution's, the machine's, the user's. Of
-//! those that have a key, the last one's value counts.
+//! Several documents: in layers, as a program's settings come (the distribution's, the machine's, the
+//! user's), of which the last one that has a key counts; and beside each other: what differs between two,
+//! setting by setting, and three-way merges.
 //!
-//! `Layers` is seen as the list of its documents. The crate knows the public calls of `ini` alone: names,
-//! keys and values are handed on, and no character of them is looked at.
+//! `Layers` is seen as the list of its documents. What is said of differences is of look-ups alone: comments,
+//! blanks, order and spelling are none. Documents know nothing of the crate, and texts in pieces are asked by
+//! their public calls.
 #![tactic(auto)]
 
+mod applying;
+mod change;
+mod difference;
 mod iter;
+pub mod laws;
+mod layering;
 mod layers;
-mod merge;
+mod merging;
 
+pub use applying::apply;
+pub use change::Change;
+pub use difference::diff;
 pub use iter::DocumentIter;
 pub use layers::{Layers, NoLayer};
+pub use merging::{Conflict, Side, conflicts, merge, taken};

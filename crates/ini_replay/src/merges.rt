@@ -12,8 +12,8 @@ use crate::options::{
     invalid, policy_of_name, reading_of_flags, separator_of_line_end, separator_of_text,
 };
 use ini::{Error, Ini};
-use ini_diff::{Conflict, Side, conflicts, merge};
 use ini_edit::{EditError, Source};
+use ini_layers::{Conflict, Side, conflicts, merge};
 use ini_text::{ParseOption, WriteOption};
 use std::alloc::Global;
 use std::io;

@@ -212,7 +212,7 @@ pub extern "C" fn bigrosk_ini_text_set_all(
 
 // The text of so many bytes at the front, and what follows it and one byte more; none where that is no text,
 // or there is no room for it.
-fn first_given(bytes: &[u8], count: usize) -> Option<(&str, &[u8])>
+pub(crate) fn first_given(bytes: &[u8], count: usize) -> Option<(&str, &[u8])>
     ensures given { IsSome result ↔ IsGiven bytes.now count }
     ensures text { IfSome result (λ t. t.0.now ≡ take count bytes.now) }
     ensures rest { IfSome result (λ t. t.1.now ≡ after_given bytes.now count) }

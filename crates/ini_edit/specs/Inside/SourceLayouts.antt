@@ -21,6 +21,7 @@ rules_of r = record {
   style = option_map style_of r.style;
   indentation = r.indentation;
   blank_lines = r.blank_lines;
+  aligned = r.aligned;
   line_end = line_end r.line_end;
 }
 

@@ -1,7 +1,6 @@
 //! A text laid out: the white space around separators, what indents pairs, blank lines and line ends. This
 //! file knows how texts are read in pieces, and by which rules these are laid out.
-ghost use Rattle.std.specs.Prelude.{◌≡◌, Err, IfErr, IfOk, IsOkUnless, Ok, alloc_error, chars, false, true};
-ghost use Rattle.ini.specs.Texts.{str_name};
+ghost use Rattle.std.specs.Prelude.{◌≡◌, IfErr, IfOk, IsOkUnless, MatchOption, alloc_error, chars};
 ghost use Rattle.ini_text.specs.Parsing.Items.{string_text};
 ghost use Rattle.ini_edit.specs.Inside.SourceLayouts.{KeepsBy, rules_of};
 ghost use Rattle.ini_edit.specs.LaidOut.{HasPlainSeparator, IsLaidOut, LosesBy, RefusesLayout, SaysTheSame};
@@ -11,38 +10,79 @@ ghost use Rattle.ini_edit.specs.WholeTexts.{LoadsEdited};
 use crate::error::EditError;
 use crate::source::Source;
 use crate::source::layout::entries::say_same_sections;
-use crate::source::layout::rules::{Rules, is_plain_or_none, push_end, style_for};
+use crate::source::layout::rules::{Rules, push_end};
 use ini_text::{Error, LineSeparator, ParseOption, is_same_text};
 use std::alloc::Global;
 
+mod columns;
 mod entries;
 pub(crate) mod lines;
 mod pair;
+mod prevailing;
 pub(crate) mod rules;
 mod section;
+pub(crate) mod sort;
+mod units;
+
+/// How the separators of a text are written, each with the blanks around it.
+#[derive(Clone, Copy, Debug)]
+pub enum Separators<'l> {
+    /// Each as it is.
+    Kept,
+    /// As most pairs have it, with one blank or none on each side; of those that as many have, the first in
+    /// the text. Pairs with a value in their line count. Where separators are aligned, the blanks after it
+    /// stand before it too.
+    Prevailing,
+    /// So, one `=` or `:` with the blanks around it.
+    Given(&'l str),
+}
 
 /// How a text is laid out.
 #[derive(Clone, Copy, Debug)]
 pub struct Layout<'l> {
-    /// The separator of each pair, one `=` or `:` with the blanks around it; none leaves each as it is.
-    pub separator: Option<&'l str>,
+    /// The separator of each pair.
+    pub separator: Separators<'l>,
     /// How many spaces indent a pair that begins a line; none leaves each as it is. With kept indentation all
     /// stay; with multiline values none is indented anew.
     pub pair_indentation: Option<u8>,
     /// The most blank lines one after another. Before a header that begins a line there is one, and none at
     /// the text's front and end.
     pub blank_lines: u8,
+    /// Whether the separators of neighbouring pairs stand below each other, counted in characters: pairs with
+    /// no comment, blank line or header between, each of which begins a line.
+    pub aligned: bool,
 }
 
 /// Each separator and indentation as it is, and at most one blank line.
 impl Default for Layout<'_> {
     fn default() -> Self {
         Layout {
-            separator: None,
+            separator: Separators::Kept,
             pair_indentation: None,
             blank_lines: 1,
+            aligned: false,
         }
     }
+}
+
+/// What a text would lose that is laid out.
+#[derive(Clone, Copy, Debug)]
+pub enum Loss {
+    /// All: what it would become can't be read.
+    Unreadable,
+    /// A header, a pair or a comment, or the place of one.
+    Different,
+    /// Nothing, but it would be laid out anew.
+    Unsteady,
+}
+
+/// What comes of a text that is laid out.
+#[derive(Debug, Drop)]
+pub struct LaidOut {
+    /// The new text; the one that was given, where that would lose something.
+    pub text: String,
+    /// What would be lost, where the text is left as it is.
+    pub loss: Option<Loss>,
 }
 
 /// A text laid out: it says the same, header by header, pair by pair and comment by comment, and laid out
@@ -50,7 +90,7 @@ impl Default for Layout<'_> {
 /// value goes on over end as the first one does.
 ///
 /// The text is read again before it is given. Where it would say something else, or would be laid out anew,
-/// it stays as it is.
+/// it stays as it is, and the loss is told.
 ///
 /// # Errors
 ///
@@ -61,46 +101,63 @@ pub fn lay_out(
     text: &str,
     read: ParseOption,
     layout: &Layout<'_>,
-) -> Result<String, EditError>
-    ensures laid { IfOk result (λ new. IsLaidOut read layout.now (chars text.now) (string_text new)) }
-    ensures same { IfOk result (λ new. SaysTheSame read (chars text.now) (string_text new)) }
-    ensures document { IfOk result (λ new. LoadsEdited read (chars text.now) (string_text new) (λ d. d)) }
-    ensures again { IfOk result (λ new. IsLaidOut read layout.now (string_text new) (string_text new)) }
+) -> Result<LaidOut, EditError>
+    ensures laid { IfOk result
+        (λ new. IsLaidOut read layout.now new.loss (chars text.now) (string_text new.text)) }
+    ensures same { IfOk result (λ new. SaysTheSame read (chars text.now) (string_text new.text)) }
+    ensures document { IfOk result
+        (λ new. LoadsEdited read (chars text.now) (string_text new.text) (λ d. d)) }
+    ensures again { IfOk result
+        (λ new. IsLaidOut read layout.now new.loss (string_text new.text) (string_text new.text)) }
     ensures refused { IfErr result (RefusesLayout read layout.now (chars text.now)) }
 {
-    if !is_plain_or_none(layout.separator) {
+    if !layout.separator.are_plain() {
         return Err(EditError::Separator);
     }
     let source = Source::read(alloc, text, read)?;
     let laid = source.laid(alloc, layout)?;
-    if source.is_kept_in(alloc, laid.as_str(), layout)? {
-        return Ok(laid);
+    let loss = source.loss_in(alloc, laid.as_str(), layout)?;
+    match loss {
+        Some(lost) => {
+            let text = source.to_text(alloc)?;
+            let loss = Some(lost);
+            Ok(LaidOut { text, loss })
+        }
+        None => Ok(LaidOut {
+            text: laid,
+            loss: None,
+        }),
     }
-    Ok(source.to_text(alloc)?)
 }
 
 impl<'a> Source<'a> {
     // What a layout makes of the text.
-    fn rules<'l>(&self, layout: &Layout<'l>) -> Rules<'l>
-        requires { HasPlainSeparator (str_name layout.now.separator) }
-        ensures { rules_of result ≡ rules_for self.now.option layout.now self.now.sections }
+    fn rules<'l>(&self, alloc: Global, layout: &Layout<'l>) -> Result<Rules<'l>, Error>
+        requires { HasPlainSeparator layout.now.separator }
+        ensures rules { IfOk result
+            (λ rules. rules_of rules ≡ rules_for self.now.option layout.now self.now.sections) }
+        ensures only { IsOkUnless result (Error.Memory alloc_error) }
     {
-        Rules {
+        let style = layout
+            .separator
+            .style(alloc, layout.aligned, self.sections())?;
+        Ok(Rules {
             read: self.option,
-            style: style_for(layout.separator),
+            style,
             indentation: layout.pair_indentation,
             blank_lines: layout.blank_lines,
+            aligned: layout.aligned,
             line_end: self.line_end(LineSeparator::SystemDefault),
-        }
+        })
     }
 
     // The text laid out.
     fn laid(&self, alloc: Global, layout: &Layout<'_>) -> Result<String, Error>
-        requires { HasPlainSeparator (str_name layout.now.separator) }
+        requires { HasPlainSeparator layout.now.separator }
         ensures text { IfOk result (λ text. string_text text ≡ laid_text layout.now self.now) }
         ensures only { IsOkUnless result (Error.Memory alloc_error) }
     {
-        let rules = self.rules(layout);
+        let rules = self.rules(alloc, layout)?;
         let mut out = String::new(alloc);
         let mut front = '\n';
         let sections = self.sections();
@@ -113,24 +170,30 @@ impl<'a> Source<'a> {
         Ok(out)
     }
 
-    // Whether the text laid out, which this is, says the same and stays when it is laid out again.
-    fn is_kept_in(&self, alloc: Global, laid: &str, layout: &Layout<'_>) -> Result<bool, Error>
-        requires plain { HasPlainSeparator (str_name layout.now.separator) }
+    // What is lost in the text laid out, which this is; none where it says the same, and stays when it is
+    // laid out again.
+    fn loss_in(&self, alloc: Global, laid: &str, layout: &Layout<'_>) -> Result<Option<Loss>, Error>
+        requires plain { HasPlainSeparator layout.now.separator }
         requires laid { chars laid.now ≡ laid_text layout.now self.now }
-        ensures kept { result ≡ Ok true → KeepsBy self.now.option layout.now self.now }
-        ensures lost { result ≡ Ok false → LosesBy self.now.option layout.now self.now }
+        ensures found { IfOk result (λ loss. MatchOption loss (KeepsBy self.now.option layout.now self.now)
+            (LosesBy self.now.option layout.now self.now)) }
         ensures only { IsOkUnless result (Error.Memory alloc_error) }
     {
         let new = match Source::read(alloc, laid, self.option) {
             Ok(new) => new,
             Err(Error::Memory(refusal)) => return Err(Error::Memory(refusal)),
-            Err(Error::Parse(_)) => return Ok(false),
-            Err(Error::Io(_) | Error::NotUtf8 | Error::NoProgress) => return Ok(false),
+            Err(Error::Parse(_)) => return Ok(Some(Loss::Unreadable)),
+            Err(Error::Io(_) | Error::NotUtf8 | Error::NoProgress) => {
+                return Ok(Some(Loss::Unreadable));
+            }
         };
         if !say_same_sections(alloc, new.sections(), self.sections())? {
-            return Ok(false);
+            return Ok(Some(Loss::Different));
         }
         let again = new.laid(alloc, layout)?;
-        Ok(is_same_text(again.as_str(), laid))
+        if is_same_text(again.as_str(), laid) {
+            return Ok(None);
+        }
+        Ok(Some(Loss::Unsteady))
     }
 }

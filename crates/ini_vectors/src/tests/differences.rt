@@ -1,7 +1,7 @@
 //! What differs between two documents, setting by setting.
 use ini::{Error, Ini, ParseOption, WriteOption};
-use ini_diff::{Change, Conflict, Side, apply, conflicts, diff, merge, taken};
 use ini_edit::{EditError, Source};
+use ini_layers::{Change, Conflict, Side, apply, conflicts, diff, merge, taken};
 use std::alloc::Global;
 use std::panic::Expect;
 use std::process::Abort;

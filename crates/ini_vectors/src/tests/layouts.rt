@@ -1,7 +1,7 @@
 //! Texts laid out, by the rules of a layout; worked out by hand. Each laid out text is laid out again, and
 //! stays.
-use ini_edit::{EditError, Layout, lay_out};
-use ini_text::ParseOption;
+use ini_edit::{EditError, Layout, Loss, Separators, Sorting, lay_out, sort_text};
+use ini_text::{Error, ParseOption};
 use std::process::Abort;
 use std::test::Fail;
 
@@ -15,9 +15,17 @@ fn expect_laid(
     for row in rows {
         let (text, wanted) = *row;
         let laid = lay_out(rt.alloc(), text, read, layout)?;
-        assert!(rt; laid.as_str() == wanted, "{text}: {laid}");
+        assert!(rt;
+            laid.text.as_str() == wanted && laid.loss.is_none(),
+            "{text}: {}",
+            laid.text
+        );
         let again = lay_out(rt.alloc(), wanted, read, layout)?;
-        assert!(rt; again.as_str() == wanted, "again {wanted}: {again}");
+        assert!(rt;
+            again.text.as_str() == wanted,
+            "again {wanted}: {}",
+            again.text
+        );
     }
     Ok(())
 }
@@ -55,9 +63,10 @@ fn blank_lines_and_line_ends(rt: HostRuntime) -> Result<(), Fail> {
 #[test]
 fn separators_and_indentation(rt: HostRuntime) -> Result<(), Fail> {
     let layout = Layout {
-        separator: Some(" = "),
+        separator: Separators::Given(" = "),
         pair_indentation: Some(2),
         blank_lines: 1,
+        aligned: false,
     };
     let rows = [
         ("k=v\n", "  k = v\n"),
@@ -76,9 +85,10 @@ fn separators_and_indentation(rt: HostRuntime) -> Result<(), Fail> {
 #[test]
 fn values_that_run_on_stay(rt: HostRuntime) -> Result<(), Fail> {
     let layout = Layout {
-        separator: Some("="),
+        separator: Separators::Given("="),
         pair_indentation: Some(0),
         blank_lines: 0,
+        aligned: false,
     };
     let mut read = ParseOption::default();
     read.enabled_indented_mutiline_value = true;
@@ -98,9 +108,10 @@ fn values_that_run_on_stay(rt: HostRuntime) -> Result<(), Fail> {
 #[test]
 fn kept_indentation_stays(rt: HostRuntime) -> Result<(), Fail> {
     let layout = Layout {
-        separator: Some(": "),
+        separator: Separators::Given(": "),
         pair_indentation: Some(0),
         blank_lines: 1,
+        aligned: false,
     };
     let mut read = ParseOption::default();
     read.enabled_preserve_key_leading_whitespace = true;
@@ -108,11 +119,183 @@ fn kept_indentation_stays(rt: HostRuntime) -> Result<(), Fail> {
 }
 
 #[test]
-fn a_layout_is_refused_for_its_separator(rt: HostRuntime) {
-    let layout = Layout {
-        separator: Some(" -> "),
+fn the_separator_that_prevails(rt: HostRuntime) -> Result<(), Fail> {
+    let mut layout = Layout::default();
+    layout.separator = Separators::Prevailing;
+    let rows = [
+        ("a=1\nb = 2\n[c]\nd = 3\n", "a = 1\nb = 2\n\n[c]\nd = 3\n"),
+        ("a: 1\nb=2\n", "a: 1\nb: 2\n"),
+        ("a=1\nb: 2\nc: 3\nd=4\n", "a=1\nb=2\nc=3\nd=4\n"),
+        ("a  =\t1\n", "a = 1\n"),
+        ("a =\nb =\nc=1\n", "a=\nb=\nc=1\n"),
+        ("a =\n", "a =\n"),
+        ("[a]\n", "[a]\n"),
+    ];
+    expect_laid(&rt, ParseOption::default(), &layout, &rows)
+}
+
+#[test]
+fn separators_below_each_other(rt: HostRuntime) -> Result<(), Fail> {
+    let mut layout = Layout {
+        separator: Separators::Given(" = "),
         pair_indentation: None,
         blank_lines: 1,
+        aligned: true,
+    };
+    let rows = [
+        ("a=1\nbbb=2\ncc=3\n", "a   = 1\nbbb = 2\ncc  = 3\n"),
+        ("a=1\n\nbbb=2\n", "a = 1\n\nbbb = 2\n"),
+        ("a=1\n# c\nbbb=2\nc=\n", "a = 1\n# c\nbbb = 2\nc   =\n"),
+        ("[s] a=1\nbb=2\nc=3\n", "[s] a = 1\nbb = 2\nc  = 3\n"),
+        ("a=1\n[bbb]\nccc=2\n", "a = 1\n\n[bbb]\nccc = 2\n"),
+        ("\u{e9}\u{e9}=1\n  b=2\n", "\u{e9}\u{e9}  = 1\n  b = 2\n"),
+        ("a=\"1\n\"\nbb=2\n", "a  = \"1\n\"\nbb = 2\n"),
+    ];
+    expect_laid(&rt, ParseOption::default(), &layout, &rows)?;
+    layout.pair_indentation = Some(2);
+    let rows = [("a=1\r\nbbb=2\r\n", "  a   = 1\r\n  bbb = 2\r\n")];
+    expect_laid(&rt, ParseOption::default(), &layout, &rows)
+}
+
+#[test]
+fn separators_that_are_kept_or_prevail_below_each_other(rt: HostRuntime) -> Result<(), Fail> {
+    let mut layout = Layout::default();
+    layout.aligned = true;
+    let rows = [
+        ("a =1\nbbb : 2\n", "a   =1\nbbb : 2\n"),
+        ("a=1\nbb=2\n", "a =1\nbb=2\n"),
+    ];
+    expect_laid(&rt, ParseOption::default(), &layout, &rows)?;
+    layout.separator = Separators::Prevailing;
+    let rows = [
+        ("a=1\nbbb=2\ncc=3\n", "a  =1\nbbb=2\ncc =3\n"),
+        ("a= 1\nbbb = 2\nc=3\n", "a   = 1\nbbb = 2\nc   = 3\n"),
+    ];
+    expect_laid(&rt, ParseOption::default(), &layout, &rows)?;
+    layout.blank_lines = 0;
+    let rows = [("a=1\n\nbbb=2\n", "a  =1\nbbb=2\n")];
+    expect_laid(&rt, ParseOption::default(), &layout, &rows)
+}
+
+// What is lost in a text that is laid out and stays as it is.
+fn loss_of(rt: &(impl Abort + AllocGlobal), text: &str) -> Result<Option<Loss>, Fail> {
+    let laid = lay_out(rt.alloc(), text, ParseOption::default(), &Layout::default())?;
+    assert!(rt; laid.text.as_str() == text, "{text}: {}", laid.text);
+    Ok(laid.loss)
+}
+
+// Laid out, the first one is `port 80`, a key without separator; in the second one CR LF ends the comment,
+// which its CR is part of; the third one loses one CR, and the other one when it is laid out again.
+#[test]
+fn a_text_is_left_as_it_is(rt: HostRuntime) -> Result<(), Fail> {
+    let unreadable = loss_of(&rt, "\n  port 80")?;
+    assert!(rt; matches!(unreadable, Some(Loss::Unreadable)));
+    let different = loss_of(&rt, "x=0\n# a\r\r\n")?;
+    assert!(rt; matches!(different, Some(Loss::Different)));
+    let unsteady = loss_of(&rt, "x=0\na=1\r\r\nb=2\n")?;
+    assert!(rt; matches!(unsteady, Some(Loss::Unsteady)));
+    Ok(())
+}
+
+// Asks that each text is sorted so, that nothing is lost, and that what it becomes stays.
+fn expect_sorted(
+    rt: &(impl Abort + AllocGlobal),
+    sorting: Sorting,
+    rows: &[(&str, &str)],
+) -> Result<(), Fail> {
+    for row in rows {
+        let (text, wanted) = *row;
+        let sorted = sort_text(rt.alloc(), text, ParseOption::default(), sorting)?;
+        assert!(rt;
+            sorted.text.as_str() == wanted && sorted.loss.is_none(),
+            "{text}: {}",
+            sorted.text
+        );
+        let again = sort_text(rt.alloc(), wanted, ParseOption::default(), sorting)?;
+        assert!(rt;
+            again.text.as_str() == wanted,
+            "again {wanted}: {}",
+            again.text
+        );
+    }
+    Ok(())
+}
+
+#[test]
+fn pairs_sorted_by_key(rt: HostRuntime) -> Result<(), Fail> {
+    let rows = [
+        ("", ""),
+        ("b=1\na=2\nb=0\na=1\n", "a=2\na=1\nb=1\nb=0\n"),
+        ("ab=1\nB=2\na=3\n\u{e9}=4\n", "B=2\na=3\nab=1\n\u{e9}=4\n"),
+        (
+            "# b\nb=1\n; a\n  # too\na=2\n",
+            "; a\n  # too\na=2\n# b\nb=1\n",
+        ),
+        (
+            "# licence\n\n# b\nb=1\n\na=2\n# of s\n[s]\nd=1\nc=2\n",
+            "# licence\n\na=2\n# b\nb=1\n\n# of s\n[s]\nc=2\nd=1\n",
+        ),
+        (
+            "b=1\n# after b\n \t\n\n# of a\na=2\n",
+            "# of a\na=2\nb=1\n# after b\n \t\n\n",
+        ),
+        ("b=\"1\n2\"\na=3\n", "a=3\nb=\"1\n2\"\n"),
+        ("[b]\nk=v\n[a]\nj=w\n", "[b]\nk=v\n[a]\nj=w\n"),
+    ];
+    expect_sorted(&rt, Sorting::Keys, &rows)
+}
+
+#[test]
+fn sections_sorted_by_name(rt: HostRuntime) -> Result<(), Fail> {
+    let rows = [
+        (
+            "z=1\n\n# of b\n[b]\nk=1\na=2\n\n[a]\n\n[b]\nk=3\n",
+            "z=1\n\n[a]\n\n# of b\n[b]\nk=1\na=2\n\n[b]\nk=3\n",
+        ),
+        (
+            "# licence\n\n# of b\n[b]\nk=1\n# of a\n[a]\nj=2\n",
+            "# licence\n\n# of a\n[a]\nj=2\n# of b\n[b]\nk=1\n",
+        ),
+        (
+            "[b]\n[a]\n[b]\nk=3\n[a]\nk=4\n",
+            "[a]\n[a]\nk=4\n[b]\n[b]\nk=3\n",
+        ),
+    ];
+    expect_sorted(&rt, Sorting::Sections, &rows)?;
+    let rows = [(
+        "y=1\nx=2\n[b]\nd=1\nc=2\n[a]\nk=\n",
+        "x=2\ny=1\n[a]\nk=\n[b]\nc=2\nd=1\n",
+    )];
+    expect_sorted(&rt, Sorting::Both, &rows)
+}
+
+// The last line has no line end, so the pair that would follow it is taken in; and a comment after the last
+// section would stand above another one.
+#[test]
+fn a_text_that_would_lose_something_is_not_sorted(rt: HostRuntime) -> Result<(), Fail> {
+    let rows = ["b=1\na=2", "[b]\nk=1\n[a]\nj=2\n# end\n"];
+    for text in rows {
+        let left = sort_text(rt.alloc(), text, ParseOption::default(), Sorting::Both)?;
+        assert!(rt;
+            left.text.as_str() == text && matches!(left.loss, Some(Loss::Different)),
+            "{text}"
+        );
+    }
+    let text = "x=2\na=1\\";
+    let left = sort_text(rt.alloc(), text, ParseOption::default(), Sorting::Both)?;
+    assert!(rt; left.text.as_str() == text && matches!(left.loss, Some(Loss::Unreadable)));
+    let stops = sort_text(rt.alloc(), "k", ParseOption::default(), Sorting::Both);
+    assert!(rt; matches!(stops, Err(Error::Parse(_))));
+    Ok(())
+}
+
+#[test]
+fn a_layout_is_refused_for_its_separator(rt: HostRuntime) {
+    let layout = Layout {
+        separator: Separators::Given(" -> "),
+        pair_indentation: None,
+        blank_lines: 1,
+        aligned: false,
     };
     let refused = lay_out(rt.alloc(), "k", ParseOption::default(), &layout);
     assert!(rt; matches!(refused, Err(EditError::Separator)));

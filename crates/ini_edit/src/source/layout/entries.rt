@@ -91,8 +91,8 @@ fn says_same_pair(
     have_same_comments(alloc, pair.after(), other.after())
 }
 
-// Whether two gaps have the same comments.
-fn have_same_comments(alloc: Global, gap: &str, other: &str) -> Result<bool, Error>
+/// Whether two gaps have the same comments.
+pub(crate) fn have_same_comments(alloc: Global, gap: &str, other: &str) -> Result<bool, Error>
     ensures same { IfOk result (λ same. same
         ≡ is_text (comments_in (chars gap.now)) (comments_in (chars other.now))) }
     ensures only { IsOkUnless result (Error.Memory alloc_error) }

@@ -6,12 +6,14 @@ ghost use Rattle.ini_text.specs.Inside.PlainTests.{begins};
 ghost use Rattle.ini_text.specs.Parsing.Fronts.{IsRest};
 ghost use Rattle.ini_text.specs.Parsing.Items.{string_text};
 ghost use Rattle.ini_edit.specs.Inside.SourceLayouts.{rules_of};
-ghost use Rattle.ini_edit.specs.SourceLayout.{indent_for, indents, laid_gap, laid_key, laid_pair, laid_space};
-ghost use Rattle.ini_edit.specs.SourceLayout.{lines_of, pad_for, separator_for};
+ghost use Rattle.ini_edit.specs.Prevailing.{leaves_line_empty};
+ghost use Rattle.ini_edit.specs.SourceLayout.{aligned_key, indent_for, indents, laid_gap, laid_key};
+ghost use Rattle.ini_edit.specs.SourceLayout.{laid_pair, laid_space, lines_of, pad_for, separator_for};
 ghost use Rattle.ini_edit.specs.SourceLines.{is_empty};
 ghost use Rattle.ini_edit.specs.declared.source.layout.lines.Follower.TheVariants as Followers;
 
 use crate::append::{push, push_text};
+use crate::source::layout::columns::width;
 use crate::source::layout::lines::{Follower, push_gap};
 use crate::source::layout::rules::Rules;
 use crate::source::lines::{blanks_at_end, is_empty, last_or, split_blanks};
@@ -20,18 +22,21 @@ use ini_text::{Error, front_before, is_comment_mark, is_line_end, split_first};
 use std::alloc::Global;
 
 impl<'a> SourcePair<'a> {
-    /// Appends the pair, laid out up to the end of its value; `starts` says that it begins a line.
+    /// Appends the pair, laid out up to the end of its value; `starts` says that it begins a line. Its
+    /// separator stands in this column at least.
     pub(crate) fn push_laid(
         &self,
+        alloc: Global,
         out: &mut String,
         rules: &Rules<'_>,
         starts: bool,
+        column: usize,
     ) -> Result<(), Error>
         ensures pushed { OnOk result (string_text out.new
-            ≡ string_text out.old ++ laid_pair (rules_of rules.now) starts self.now) }
+            ≡ string_text out.old ++ laid_pair (rules_of rules.now) starts column self.now) }
         ensures only { IsOkUnless result (Error.Memory alloc_error) }
     {
-        push_key(out, rules, starts, self.raw_key())?;
+        push_aligned_key(alloc, out, rules, starts, column, self.raw_key())?;
         push(out, separator_for(rules, self.separator()))?;
         push_text(out, space_for(rules, self.raw_value(), self.space_before()))?;
         push_text(out, self.raw_value())
@@ -82,8 +87,35 @@ impl<'a> SourcePair<'a> {
     }
 }
 
-// Appends a key's source, laid out.
-fn push_key(out: &mut String, rules: &Rules<'_>, starts: bool, key: &str) -> Result<(), Error>
+// Appends a key's source, laid out, with spaces up to this column.
+fn push_aligned_key(
+    alloc: Global,
+    out: &mut String,
+    rules: &Rules<'_>,
+    starts: bool,
+    column: usize,
+    key: &str,
+) -> Result<(), Error>
+    ensures pushed { OnOk result (string_text out.new ≡ string_text out.old
+        ++ aligned_key column (laid_key (rules_of rules.now) starts (chars key.now))) }
+    ensures only { IsOkUnless result (Error.Memory alloc_error) }
+{
+    if column == 0 {
+        return push_key(out, rules, starts, key);
+    }
+    let mut laid = String::new(alloc);
+    push_key(&mut laid, rules, starts, key)?;
+    push_text(out, laid.as_str())?;
+    push_spaces(out, column.saturating_sub(width(laid.as_str())))
+}
+
+/// Appends a key's source, laid out.
+pub(crate) fn push_key(
+    out: &mut String,
+    rules: &Rules<'_>,
+    starts: bool,
+    key: &str,
+) -> Result<(), Error>
     ensures pushed { OnOk result (string_text out.new
         ≡ string_text out.old ++ laid_key (rules_of rules.now) starts (chars key.now)) }
     ensures only { IsOkUnless result (Error.Memory alloc_error) }
@@ -112,7 +144,7 @@ fn push_indent(
     match rules.indentation {
         Some(count) => {
             if indents(rules, starts, count, own) {
-                push_spaces(out, count)
+                push_spaces(out, count as usize)
             } else {
                 push_text(out, indent)
             }
@@ -142,7 +174,7 @@ fn begins_otherwise(text: &str) -> bool
 }
 
 // Appends spaces.
-fn push_spaces(out: &mut String, count: u8) -> Result<(), Error>
+fn push_spaces(out: &mut String, count: usize) -> Result<(), Error>
     ensures pushed { OnOk result (string_text out.new ≡ string_text out.old ++ replicate count space) }
     ensures only { IsOkUnless result (Error.Memory alloc_error) }
 {
@@ -195,9 +227,9 @@ fn space_for<'t>(rules: &Rules<'t>, raw_value: &str, before: &'t str) -> &'t str
     }
 }
 
-// Whether a value gives its first line nothing.
-fn leaves_line_empty(raw_value: &str) -> bool
-    ensures { result ≡ (is_empty (chars raw_value.now) || begins is_line_end (chars raw_value.now)) }
+/// Whether a value gives its first line nothing.
+pub(crate) fn leaves_line_empty(raw_value: &str) -> bool
+    ensures { result ≡ leaves_line_empty (chars raw_value.now) }
 {
     is_empty(raw_value) || begins_with_line_end(raw_value)
 }

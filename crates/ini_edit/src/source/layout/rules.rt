@@ -1,48 +1,61 @@
 //! The rules of a layout for one text. This file knows how separators are written, and no piece.
-ghost use Rattle.std.specs.Prelude.{◌≡◌, ◌↔◌, ◌++◌, IsOkUnless, OnOk, alloc_error, chars, true};
+ghost use Rattle.std.specs.Prelude.{◌≡◌, ◌↔◌, ◌++◌, IfOk, IsOkUnless, OnOk, alloc_error, chars, true};
 ghost use Rattle.std.specs.Option.{option_map};
-ghost use Rattle.ini.specs.Texts.{str_name};
 ghost use Rattle.ini_text.specs.Parsing.Items.{string_text};
 ghost use Rattle.ini_edit.specs.Inside.SourceEnds.{style_of};
 ghost use Rattle.ini_edit.specs.Inside.SourceLayouts.{rules_of};
 ghost use Rattle.ini_edit.specs.LaidOut.{HasPlainSeparator};
-ghost use Rattle.ini_edit.specs.SourceLayout.{end_after, takes_no_end};
-ghost use Rattle.ini_edit.specs.SourceWritten.{option_style};
+ghost use Rattle.ini_edit.specs.SourceLayout.{end_after, style_for, takes_no_end};
 
 use crate::append::push_text;
+use crate::source::layout::Separators;
+use crate::source::layout::prevailing::prevailing_style;
 use crate::source::lines::{is_empty, last_or};
+use crate::source::section::SourceSection;
 use crate::source::written::{PairStyle, separator_style};
 use ini_text::{Error, LineSeparator, ParseOption, is_plain_separator};
+use std::alloc::Global;
 
 /// What a layout makes of one text: how separators are written and how many spaces indent pairs, each none
-/// where it stays; the most blank lines; and the line end.
+/// where it stays; the most blank lines; whether separators are aligned; and the line end.
 #[derive(Clone, Copy)]
 pub(crate) struct Rules<'l> {
     pub(crate) read: ParseOption,
     pub(crate) style: Option<PairStyle<'l>>,
     pub(crate) indentation: Option<u8>,
     pub(crate) blank_lines: u8,
+    pub(crate) aligned: bool,
     pub(crate) line_end: LineSeparator,
 }
 
-/// Whether a layout's separator is plain, or each stays.
-pub(crate) fn is_plain_or_none(separator: Option<&str>) -> bool
-    ensures { (result ≡ true) ↔ HasPlainSeparator (str_name separator.entry) }
-{
-    match separator {
-        Some(separator) => is_plain_separator(separator),
-        None => true,
+impl<'l> Separators<'l> {
+    /// Whether the separator that is given is plain, if one is.
+    pub(crate) fn are_plain(self) -> bool
+        ensures { (result ≡ true) ↔ HasPlainSeparator self.entry }
+    {
+        match self {
+            Separators::Given(separator) => is_plain_separator(separator),
+            Separators::Kept | Separators::Prevailing => true,
+        }
     }
-}
 
-/// How a layout writes separators.
-pub(crate) fn style_for<'l>(separator: Option<&'l str>) -> Option<PairStyle<'l>>
-    requires { HasPlainSeparator (str_name separator) }
-    ensures { option_map style_of result ≡ option_map option_style (str_name separator.entry) }
-{
-    match separator {
-        Some(separator) => Some(separator_style(separator)),
-        None => None,
+    /// How separators are written in a text of these sections, aligned or not; `None` where each stays.
+    pub(crate) fn style(
+        self,
+        alloc: Global,
+        aligned: bool,
+        sections: &[SourceSection<'_>],
+    ) -> Result<Option<PairStyle<'l>>, Error>
+        requires { HasPlainSeparator self }
+        ensures style { IfOk result
+            (λ style. option_map style_of style ≡ style_for aligned sections.now self.entry) }
+        ensures only { IsOkUnless result (Error.Memory alloc_error) }
+    {
+        match self {
+            Separators::Given(separator) => Ok(Some(separator_style(separator))),
+            Separators::Prevailing => prevailing_style(alloc, aligned, sections),
+            Separators::Kept => Ok(None),
+        }
     }
 }
 

@@ -9,6 +9,7 @@ ghost use Rattle.ini_edit.specs.SourcePlaces.{is_nil, last_gap};
 ghost use Rattle.ini_edit.specs.declared.source.layout.lines.Follower.TheVariants as Followers;
 
 use crate::append::push_text;
+use crate::source::layout::columns::column_at;
 use crate::source::layout::lines::{Follower, push_gap};
 use crate::source::layout::rules::Rules;
 use crate::source::lines::{last_or, split_blank_lines};
@@ -77,7 +78,7 @@ impl<'a> SourceSection<'a> {
     }
 
     // Whether there is no pair.
-    fn is_bare(&self) -> bool
+    pub(crate) fn is_bare(&self) -> bool
         ensures { result ≡ is_nil self.now.pairs }
     {
         self.pairs().is_empty()
@@ -117,14 +118,18 @@ fn push_pairs(
 ) -> Result<(), Error>
     requires { EndsInRest (chars rest.now) pairs.now }
     ensures pushed { OnOk result (string_text out.new ≡ string_text out.old
-        ++ laid_pairs (rules_of rules.now) follower (chars rest.now) last pairs.now) }
+        ++ laid_pairs (rules_of rules.now) follower (chars rest.now) last 0 pairs.now) }
     ensures only { IsOkUnless result (Error.Memory alloc_error) }
 {
     let mut last = last;
+    let mut column = 0;
     for (i, pair) in pairs.iter().enumerate() {
-        pair.push_laid(out, rules, last == '\n')?;
+        let starts = last == '\n';
+        let here = column_at(alloc, rules, starts, column, &pairs[i..])?;
+        pair.push_laid(alloc, out, rules, starts, here)?;
         let is_last = i + 1 == pairs.len();
         pair.push_laid_lines(alloc, out, rules, follower, rest, is_last)?;
+        column = pair.column_after(alloc, rules, here)?;
         last = pair.last_char();
     }
     Ok(())

@@ -1,5 +1,5 @@
 use Rattle.std.proofs.Common.{◌≡◌, flat_map, map, take}
-use Rattle.ini_diff.specs.Differences.{setting_change}
+use Rattle.ini_layers.specs.Differences.{setting_change}
 use Rattle.ini_file.specs.ChangeLines.{change_line}
 use Rattle.ini_file.proofs.change_lines.change_lines.Given as goal
 

@@ -1,5 +1,5 @@
 use Rattle.std.proofs.Common.{◌≡◌, flat_map, map, take}
-use Rattle.ini_diff.specs.Merging.{setting_conflict}
+use Rattle.ini_layers.specs.Merging.{setting_conflict}
 use Rattle.ini_file.specs.ChangeLines.{conflict_line}
 use Rattle.ini_file.proofs.change_lines.conflict_lines.Given as goal
 

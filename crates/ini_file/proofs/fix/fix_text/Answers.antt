@@ -1,8 +1,8 @@
-use Rattle.std.proofs.Common.{◌∙◌, ◌++◌, ap, chars, filter, map, string_bytes, subst, true}
+use Rattle.std.proofs.Common.{◌∙◌, ◌++◌, ap, chars, filter, string_bytes, subst}
 use Rattle.std.proofs.lemmas.Str.{IsUtf8-string_bytes}
 use Rattle.ini_text.specs.Parsing.Items.{string_text}
 use Rattle.ini_check.specs.Mends.Texts.{IsMended}
-use Rattle.ini_file.specs.CheckWords.{is_reported}
+use Rattle.ini_file.specs.CheckWords.{reporter_of, reports}
 use Rattle.ini_file.proofs.fix.fix_text.Goals as goal
 
 pub returns-clause-mended : goal.returns-clause-mended
@@ -14,7 +14,7 @@ returns-clause-mended c =
       is_mended =
           subst (λ ts. IsMended c.args.asked.now.reading ts (chars c.args.text.now) (string_text made))
           (c.as_slice.ensures.value ∙ c.in_ok-traps.ensures
-          ∙ ap (filter (λ trap. is_reported trap true (map string_bytes c.args.asked.now.choices.now)))
-          c.mended_traps.ensures) c.in_ok-made.ensures.mended;
+          ∙ ap (filter (reports (reporter_of c.args.asked.now.reporting))) c.mended_traps.ensures)
+          c.in_ok-made.ensures.mended;
       bytes_are = c.in_ok-fixed.ensures.bytes ∙ ap (λ t. c.args.mark.now ++ t) c.as_str.ensures.value;
     }

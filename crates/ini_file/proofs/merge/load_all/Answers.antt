@@ -4,7 +4,7 @@ use Rattle.ini_file.proofs.MergeLemmas.{one_more_loaded, one_refused}
 use Rattle.ini_file.proofs.merge.load_all.Goals as goal
 
 pub loop-index-init : goal.loop-index-init
-loop-index-init c = rw c.new-documents.ensures.items AreLoaded.none
+loop-index-init c = rw c.new-documents.ensures AreLoaded.none
 
 pub loop-index-preserved : goal.loop-index-preserved
 loop-index-preserved c =

@@ -9,13 +9,13 @@ use Rattle.ini_edit.proofs.source.Source.laid.Goals as goal
 
 pub loop-i-init : goal.loop-i-init
 loop-i-init c =
-    ap (λ t. t ++ laid_sections (rules_of c.rules-rules.result) line_feed c.sections-sections.result.now)
+    ap (λ t. t ++ laid_sections (rules_of c.in_ok-rules.rules) line_feed c.sections-sections.result.now)
     (ap chars c.new-out.ensures.bytes ∙ chars-nil)
 
 pub loop-i-preserved : goal.loop-i-preserved
 loop-i-preserved c =
     let items = c.sections-sections.result.now in
-    sections_step (rules_of c.rules-rules.result) c.loop-i.front (string_text c.loop-i.out) items c.loop-i.i
+    sections_step (rules_of c.in_ok-rules.rules) c.loop-i.front (string_text c.loop-i.out) items c.loop-i.i
     c.index-sections-i.result c.loop-i-test.true c.index-sections-i.is c.loop-i.invariant
     (is_last items c.loop-i.i c.index-sections-i.result c.loop-i-test.true)
     c.in_ok-push_laid.ensures.pushed c.last_char-front.ensures
@@ -23,12 +23,12 @@ loop-i-preserved c =
 pub returns-clause-text : goal.returns-clause-text
 returns-clause-text c =
     let items = c.sections-sections.result.now in
-    let r = rules_of c.rules-rules.result in
+    let r = rules_of c.in_ok-rules.rules in
     c.in_ok-push_end.ensures.pushed
     ∙ ap (λ t. t ++ end_after r t)
     (sections_end r c.loop-i.front items c.loop-i.i c.loop-i-test.false c.loop-i.invariant)
     ∙ ap (λ r. laid_sections r line_feed items ++ end_after r (laid_sections r line_feed items))
-    c.rules-rules.ensures
+    c.in_ok-rules.ensures.rules
     ∙ ap (λ ss. laid_sections (rules_for c.args.self.now.option c.args.layout.now c.args.self.now.sections)
     line_feed ss ++ end_after (rules_for c.args.self.now.option c.args.layout.now c.args.self.now.sections)
     (laid_sections (rules_for c.args.self.now.option c.args.layout.now c.args.self.now.sections) line_feed

@@ -11,8 +11,9 @@ invariant-words l =
       default = option_map (λ value. value.now) l.default;
       separator = option_map (λ text. text.now) l.separator;
       wait = option_map (λ seconds. seconds.now) l.wait;
+      section = option_map (λ name. name.now) l.section;
       spacing = l.spacing;
-      form = l.form;
+      manner = l.manner;
     })
     (map string_bytes l.rest) ≡ chosen no_choice (map string_bytes l.words)
 

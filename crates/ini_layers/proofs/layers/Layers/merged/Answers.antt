@@ -1,8 +1,8 @@
 use Rattle.std.proofs.Common.{◌∙◌, None, IsSome, ap, fold, subst, sym}
 use Rattle.ini.specs.Documents.{first_section}
 use Rattle.ini_layers.specs.Layers.{HasLayeredValues}
-use Rattle.ini_layers.specs.Merging.{with_layer}
-use Rattle.ini_layers.proofs.MergeLemmas.{merged-general, merged-values}
+use Rattle.ini_layers.specs.Layering.{with_layer}
+use Rattle.ini_layers.proofs.LayeringLemmas.{merged-general, merged-values}
 use Rattle.ini_layers.proofs.layers.Layers.merged.Goals as goal
 
 pub returns-clause-values : goal.returns-clause-values

@@ -1,5 +1,5 @@
 use Rattle.std.proofs.Common.{◌≡◌, fold}
-use Rattle.ini_layers.specs.Merging.{merged, with_layer}
+use Rattle.ini_layers.specs.Layering.{merged, with_layer}
 use Rattle.ini_layers.proofs.layers.Layers.merged.Given as goal
 
 -- with what is left it is the whole

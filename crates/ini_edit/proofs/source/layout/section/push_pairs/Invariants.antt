@@ -6,7 +6,7 @@ use Rattle.ini_edit.proofs.source.layout.section.push_pairs.Given as goal
 
 abbrev pub invariant-loop-i : goal.invariant-loop-i
 invariant-loop-i l =
-    string_text l.out ++ laid_pairs (rules_of l.fn.rules) l.fn.follower (chars l.fn.rest) l.last
+    string_text l.out ++ laid_pairs (rules_of l.fn.rules) l.fn.follower (chars l.fn.rest) l.last l.column
     (drop l.i l.pairs)
     ≡ string_text l.initial.out ++ laid_pairs (rules_of l.fn.rules) l.fn.follower (chars l.fn.rest) l.fn.last
-    l.pairs
+    0 l.pairs

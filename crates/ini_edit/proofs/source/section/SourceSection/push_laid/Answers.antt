@@ -27,5 +27,5 @@ returns-clause-pushed c =
     c.in_ok-push_first_lines.ensures.pushed
     (c.in_ok-push_pairs.ensures.pushed
     ∙ ap (λ ps. string_text c.push_first_lines.new.out
-    ++ laid_pairs r c.follower_of-follower.result rest c.last_or-last.result ps) c.pairs.ensures)
+    ++ laid_pairs r c.follower_of-follower.result rest c.last_or-last.result 0 ps) c.pairs.ensures)
     c.in_ok-push_gap.ensures.pushed

@@ -1,0 +1,78 @@
+-- Changes of settings and conflicts, as C gets them and gives them, and what is made of them.
+use Rattle.std.specs.Prelude.{ℕ, Bool, true, false, List, [], ◌∷◌, fold, Option, Some, None, ⊤}
+use Rattle.ini.specs.Documents.{Document}
+use Rattle.ini.specs.Texts.{Text}
+use Rattle.ini_edit.specs.Sources.{Pieces, document_in}
+use Rattle.ini_edit.specs.declared.error.EditError.{EditError}
+use Rattle.ini_layers.specs.Differences.{SettingChange, difference}
+use Rattle.ini_layers.specs.Merging.{SettingConflict, conflicts_of, taken_changes}
+use Rattle.ini_layers.specs.SourceChanges.{RefusesOne}
+use Rattle.ini_layers.specs.declared.merging.Side.{Side}
+use Rattle.ini_layers.specs.declared.merging.Side.TheVariants.{Ours, Theirs}
+use Rattle.ini_c.specs.Given.{AreTextsGiven, texts_given}
+use Rattle.ini_c.specs.Listings.{Listed, nothing, with_name, with_text}
+use Rattle.ini_c.specs.Texts.{Asks}
+use Rattle.ini_c.specs.declared.options.WriteChoice.{WriteChoice}
+
+-- a change goes last in a listing: the name of its section, its key, its value before and after
+abbrev pub with_change : Listed → SettingChange → Listed
+with_change l c = with_name (with_name (with_text (with_name l c.name) c.key) c.old) c.new
+
+abbrev pub changes_listed : List SettingChange → Listed
+changes_listed changes = fold with_change nothing changes
+
+-- a conflict goes last: the change of ours, and the value of theirs
+abbrev pub with_conflict : Listed → SettingConflict → Listed
+with_conflict l c = with_name (with_change l c.change) c.theirs
+
+abbrev pub conflicts_listed : List SettingConflict → Listed
+conflicts_listed conflicts = fold with_conflict nothing conflicts
+
+-- texts are changes: four each, of which the key isn't missing
+abbrev pub AreChanges : List (Option Text) → Type 0
+AreChanges [] = ⊤
+AreChanges (name ∷ Some key ∷ old ∷ new ∷ texts) = AreChanges texts
+AreChanges _ = ⊥
+
+abbrev pub changes_of : List (Option Text) → List SettingChange
+changes_of (name ∷ Some key ∷ old ∷ new ∷ texts) =
+    record { name = name; key = key; old = old; new = new } ∷ changes_of texts
+changes_of _ = []
+
+-- so C gives them, as they are listed
+abbrev pub AreChangesGiven : List ℕ → List ℕ → Type 0
+AreChangesGiven bytes counts = AreTextsGiven bytes counts × AreChanges (texts_given bytes counts)
+
+abbrev pub changes_given : List ℕ → List ℕ → List SettingChange
+changes_given bytes counts = changes_of (texts_given bytes counts)
+
+-- the difference of two documents, and the conflicts of two with their base, where all are there
+abbrev pub difference_in : Option Document → Option Document → Option (List SettingChange)
+difference_in (Some from) (Some to) = Some (difference from to)
+difference_in _ _ = None
+
+abbrev pub conflicts_in : (base ours theirs : Option Document) → Option (List SettingConflict)
+conflicts_in (Some base) (Some ours) (Some theirs) = Some (conflicts_of base ours theirs)
+conflicts_in _ _ _ = None
+
+abbrev pub side_if : Bool → Side
+side_if true = Ours
+side_if false = Theirs
+
+-- two documents are there, and the pieces change, and so P holds of the four
+abbrev pub Merges : (Document → Document → Pieces → Pieces → Type 0)
+    → (base ours : Option Document) → (old new : Option Pieces) → Type 0
+Merges P (Some base) (Some ours) (Some old) (Some new) = P base ours old new
+Merges P _ _ _ _ = ⊥
+
+-- making the changes in the pieces, by an option that the choice asks for, is refused at this index so
+abbrev pub RefusesAt : WriteChoice → Pieces → List SettingChange → ℕ → EditError → Type 0
+RefusesAt choice p changes index e =
+    Asks choice (λ w. RefusesOne w p changes (record { index = index; refusal = e }))
+
+-- so it is of the changes that a merge makes, where all are there
+abbrev pub RefusesToMerge : WriteChoice → Side → (base ours : Option Document) → Option Pieces → ℕ → EditError
+    → Type 0
+RefusesToMerge choice side (Some base) (Some ours) (Some theirs) index e =
+    RefusesAt choice theirs (taken_changes side base ours (document_in theirs)) index e
+RefusesToMerge choice side _ _ _ index e = ⊥

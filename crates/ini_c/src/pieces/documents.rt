@@ -1,0 +1,41 @@
+//! The document that a text in pieces means. This file copies names, keys and values without a look at them.
+ghost use Rattle.std.specs.Prelude.{◌≡◌, ◌∷◌, [], ◌++◌, IfOk, OnOk};
+ghost use Rattle.ini_edit.specs.Sources.{document_in, given_section};
+
+use ini::{Error, Ini, Properties};
+use ini_edit::{Source, SourceSection};
+use std::alloc::{AllocError, Global};
+
+// A copy of the sections and pairs.
+pub(crate) fn to_document(alloc: Global, source: &Source<'static>) -> Result<Ini, Error>
+    ensures { IfOk result (λ document. document ≡ document_in source.now) }
+{
+    let mut document = Ini::new(alloc)?;
+    document.clear();
+    for section in source.sections() {
+        push_section(alloc, section, &mut document)?;
+    }
+    Ok(document)
+}
+
+// Puts a copy of a section last.
+fn push_section(
+    alloc: Global,
+    section: &SourceSection<'static>,
+    document: &mut Ini,
+) -> Result<(), Error>
+    ensures { OnOk result (document.new ≡ document.old ++ given_section section.now ∷ []) }
+{
+    let mut pairs = Properties::new(alloc);
+    for pair in section.pairs() {
+        pairs.append(pair.key(), pair.value())?;
+    }
+    let name = match section.name() {
+        Some(name) => Some(String::from_str(alloc, name)?),
+        None => None,
+    };
+    match document.append_section(name, pairs) {
+        Ok(()) => Ok(()),
+        Err(_) => Err(Error::Memory(AllocError)),
+    }
+}

@@ -1,0 +1,192 @@
+//! Two texts in pieces that changed one base: what both made of it, and where they are in conflict.
+ghost use Rattle.std.specs.Prelude.{◌≡◌, ◌∷◌, [], ◌↔◌, IfOk, IsSomeAnd, IsTrue, None, OnOk, Some, false, map};
+ghost use Rattle.std.specs.Option.{option_map};
+ghost use Rattle.ini_edit.specs.Sources.{document_in};
+ghost use Rattle.ini_edit.specs.declared.error.EditError.TheVariants.{Key, Name, NoPlace, Value};
+ghost use Rattle.ini_layers.specs.Merging.{IsMerged, conflicts_of, setting_conflict, taken_changes};
+ghost use Rattle.ini_layers.specs.Settings.{AnswerAlike};
+ghost use Rattle.ini_layers.specs.SourceChanges.{AreMade};
+ghost use Rattle.ini_c.specs.Changes.{Merges, RefusesToMerge, conflicts_in, conflicts_listed, side_if};
+ghost use Rattle.ini_c.specs.Changes.{with_conflict};
+ghost use Rattle.ini_c.specs.Held.{document_of, pieces_of};
+ghost use Rattle.ini_c.specs.Inside.Gathered.{contents};
+ghost use Rattle.ini_c.specs.Listings.{AreSizesOf, copied_listing, fits};
+ghost use Rattle.ini_c.specs.Statuses.{is_among, no_document, no_memory, no_place, no_room, ok};
+ghost use Rattle.ini_c.specs.Statuses.{unplain_key, unplain_name, unplain_value};
+ghost use Rattle.ini_c.specs.Texts.{Asks};
+
+use crate::copies::{Sizes, give_listing};
+use crate::document::Text;
+use crate::listing::Listing;
+use crate::options::WriteChoice;
+use crate::pieces::differences::push_change;
+use crate::pieces::documents::to_document;
+use crate::refusal::status_of;
+use crate::{NO_DOCUMENT, NO_MEMORY, OK};
+use ini::Error;
+use ini_edit::Source;
+use ini_layers::{Conflict, Side, conflicts, merge};
+use std::alloc::{AllocError, Global};
+
+// Puts a conflict last.
+fn push_conflict(listing: &mut Listing, conflict: Conflict<'_>) -> Result<(), AllocError>
+    ensures { OnOk result
+        (contents listing.new ≡ with_conflict (contents listing.old) (setting_conflict conflict.entry)) }
+{
+    push_change(listing, conflict.change)?;
+    listing.name(conflict.theirs)
+}
+
+// Conflicts in order.
+fn list_conflicts(alloc: Global, conflicts: &[Conflict<'_>]) -> Result<Listing, AllocError>
+    ensures { IfOk result
+        (λ listing. contents listing ≡ conflicts_listed (map setting_conflict conflicts.now)) }
+{
+    let mut listing = Listing::new(alloc);
+    for conflict in conflicts {
+        push_conflict(&mut listing, *conflict)?;
+    }
+    Ok(listing)
+}
+
+// The conflicts of two texts with their base.
+fn list_all(
+    alloc: Global,
+    base: &Source<'static>,
+    ours: &Source<'static>,
+    theirs: &Source<'static>,
+) -> Result<Listing, Error>
+    ensures { IfOk result (λ listing. contents listing ≡ conflicts_listed
+        (conflicts_of (document_in base.now) (document_in ours.now) (document_in theirs.now))) }
+{
+    let base = to_document(alloc, base)?;
+    let ours = to_document(alloc, ours)?;
+    let found = conflicts(alloc, &base, &ours, theirs)?;
+    Ok(list_conflicts(alloc, found.as_slice())?)
+}
+
+/// Lists the settings that `ours` and `theirs` both changed in `base`, to different values, in the order of
+/// ours, as `bigrosk_ini_text_diff` lists changes: of each the change of ours, and then the value of theirs.
+#[unsafe(no_mangle)]
+pub extern "C" fn bigrosk_ini_text_conflicts(
+    alloc: Global,
+    base: &mut Text,
+    ours: &mut Text,
+    theirs: &mut Text,
+    bytes: &mut [u8],
+    counts: &mut [usize],
+    sizes: &mut Sizes,
+) -> u32
+    ensures base_stays { pieces_of base.new ≡ pieces_of base.old }
+    ensures ours_stay { pieces_of ours.new ≡ pieces_of ours.old }
+    ensures theirs_stay { pieces_of theirs.new ≡ pieces_of theirs.old }
+    ensures no_document { result ≡ no_document
+        ↔ (conflicts_in (document_of base.old) (document_of ours.old) (document_of theirs.old) ≡ None) }
+    ensures listed { result ≡ ok → option_map conflicts_listed
+        (conflicts_in (document_of base.old) (document_of ours.old) (document_of theirs.old))
+        ≡ Some (copied_listing sizes.new bytes.new counts.new) }
+    ensures sizes { result ≡ no_room → IsSomeAnd (option_map conflicts_listed
+        (conflicts_in (document_of base.old) (document_of ours.old) (document_of theirs.old)))
+        (AreSizesOf sizes.new) }
+    ensures no_room { result ≡ no_room → fits sizes.new bytes.old counts.old ≡ false }
+    ensures bytes_stay { ¬ (result ≡ ok) → bytes.new ≡ bytes.old }
+    ensures counts_stay { ¬ (result ≡ ok) → counts.new ≡ counts.old }
+    ensures statuses { IsTrue (is_among result (ok ∷ no_room ∷ no_memory ∷ no_document ∷ [])) }
+{
+    let Some(base) = base.opened() else {
+        return NO_DOCUMENT;
+    };
+    let Some(ours) = ours.opened() else {
+        return NO_DOCUMENT;
+    };
+    let Some(theirs) = theirs.opened() else {
+        return NO_DOCUMENT;
+    };
+    let Ok(listing) = list_all(alloc, base, ours, theirs) else {
+        return NO_MEMORY;
+    };
+    give_listing(&listing, bytes, counts, sizes)
+}
+
+// The side whose value stands.
+fn side_of(take_ours: bool) -> Side
+    ensures { result ≡ side_if take_ours }
+{
+    if take_ours { Side::Ours } else { Side::Theirs }
+}
+
+/// Makes what `ours` changed in `base` in `theirs`: each setting that only one side changed has that side's
+/// value, one that both changed alike has that, and of one in conflict (`bigrosk_ini_text_conflicts`) ours
+/// stands with `take_ours`, and else theirs. Every byte stays that the edits of the changes don't name.
+///
+/// What `bigrosk_ini_text_apply` answers of the changes that are made, all or none; `refused` is an index
+/// among these.
+#[unsafe(no_mangle)]
+pub extern "C" fn bigrosk_ini_text_merge3(
+    alloc: Global,
+    base: &mut Text,
+    ours: &mut Text,
+    theirs: &mut Text,
+    write: &WriteChoice,
+    take_ours: bool,
+    refused: &mut usize,
+) -> u32
+    ensures base_stays { pieces_of base.new ≡ pieces_of base.old }
+    ensures ours_stay { pieces_of ours.new ≡ pieces_of ours.old }
+    ensures no_document { result ≡ no_document
+        ↔ (conflicts_in (document_of base.old) (document_of ours.old) (document_of theirs.old) ≡ None) }
+    ensures merged { result ≡ ok → Merges (λ base ours old new.
+        IsMerged (side_if take_ours) base ours (document_in old) (document_in new))
+        (document_of base.old) (document_of ours.old) (pieces_of theirs.old) (pieces_of theirs.new) }
+    ensures made { result ≡ ok → Merges (λ base ours old new. Asks write.now
+        (λ w. AreMade w old (taken_changes (side_if take_ours) base ours (document_in old)) new))
+        (document_of base.old) (document_of ours.old) (pieces_of theirs.old) (pieces_of theirs.new) }
+    ensures ours_is_base { result ≡ ok → Merges (λ base ours old new. AnswerAlike base ours → new ≡ old)
+        (document_of base.old) (document_of ours.old) (pieces_of theirs.old) (pieces_of theirs.new) }
+    ensures theirs_is_base { result ≡ ok → Merges
+        (λ base ours old new. AnswerAlike base (document_in old) → AnswerAlike ours (document_in new))
+        (document_of base.old) (document_of ours.old) (pieces_of theirs.old) (pieces_of theirs.new) }
+    ensures both_alike { result ≡ ok → Merges
+        (λ base ours old new. AnswerAlike ours (document_in old) → new ≡ old)
+        (document_of base.old) (document_of ours.old) (pieces_of theirs.old) (pieces_of theirs.new) }
+    ensures unplain_value { result ≡ unplain_value → RefusesToMerge write.now (side_if take_ours)
+        (document_of base.old) (document_of ours.old) (pieces_of theirs.old) refused.new Value }
+    ensures unplain_key { result ≡ unplain_key → RefusesToMerge write.now (side_if take_ours)
+        (document_of base.old) (document_of ours.old) (pieces_of theirs.old) refused.new Key }
+    ensures unplain_name { result ≡ unplain_name → RefusesToMerge write.now (side_if take_ours)
+        (document_of base.old) (document_of ours.old) (pieces_of theirs.old) refused.new Name }
+    ensures no_place { result ≡ no_place → RefusesToMerge write.now (side_if take_ours)
+        (document_of base.old) (document_of ours.old) (pieces_of theirs.old) refused.new NoPlace }
+    ensures unchanged { ¬ (result ≡ ok) → pieces_of theirs.new ≡ pieces_of theirs.old }
+    ensures refused_stays { IsTrue (is_among result (ok ∷ no_document ∷ [])) → refused.new ≡ refused.old }
+    ensures statuses { IsTrue (is_among result (ok ∷ no_memory ∷ no_document
+        ∷ unplain_value ∷ unplain_key
+        ∷ no_place ∷ unplain_name ∷ [])) }
+{
+    let Some(base) = base.opened() else {
+        return NO_DOCUMENT;
+    };
+    let Some(ours) = ours.opened() else {
+        return NO_DOCUMENT;
+    };
+    let Some(theirs) = theirs.opened_mut() else {
+        return NO_DOCUMENT;
+    };
+    let Ok(base) = to_document(alloc, base) else {
+        return NO_MEMORY;
+    };
+    let Ok(ours) = to_document(alloc, ours) else {
+        return NO_MEMORY;
+    };
+    let option = write.to_option();
+    match merge(alloc, &option, &base, &ours, theirs, side_of(take_ours)) {
+        Ok(new) => {
+            theirs.replace_with(new);
+            OK
+        }
+        Err(refusal) => {
+            *refused = refusal.index;
+            status_of(refusal.refusal)
+        }
+    }
+}

@@ -1,6 +1,0 @@
-pub mod SettingLemmas
-pub mod DifferenceLemmas
-pub mod ListingLemmas
-pub mod AfterLemmas
-pub mod MadeLemmas
-pub mod MergeLemmas

@@ -1,7 +1,0 @@
-use Rattle.std.proofs.Common.{map, take}
-use Rattle.ini_diff.specs.Differences.{setting_change}
-use Rattle.ini_diff.specs.SourceChanges.{AreMade}
-use Rattle.ini_diff.proofs.applying.put_each.Given as goal
-
-abbrev pub invariant-loop-index : goal.invariant-loop-index
-invariant-loop-index l = AreMade l.write l.fn.source (map setting_change (take l.index l.changes)) l.source

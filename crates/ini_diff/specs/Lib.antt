@@ -1,6 +1,0 @@
-pub mod Settings
-pub mod Differences
-pub mod Applying
-pub mod SourceChanges
-pub mod Merging
-pub mod Inside

@@ -1,9 +1,0 @@
-//! A law of merges, the contract of a function that does nothing. It speaks of the definitions alone.
-ghost use Rattle.ini.specs.Documents.{Document};
-ghost use Rattle.ini_diff.specs.Merging.{ChangePlaces};
-
-/// Where no setting is in conflict both ways round give the same look-ups: theirs with the changes of ours,
-/// and ours with the changes of theirs.
-pub fn sides_change_places()
-    ensures { (base ours theirs : Document) → ChangePlaces base ours theirs }
-{}

@@ -1,0 +1,172 @@
+-- Edits of a text that are none of the list of `ini_edit`: what each makes of a text, and what it is refused
+-- with.
+use Rattle.std.specs.Prelude.{◌≡◌, ◌==◌, ◌&&◌, ◌⊎◌, Bool, true, false, ℕ, List, [], ◌++◌, Option, None, Some}
+use Rattle.std.specs.Prelude.{⊤}
+use Rattle.std.specs.Prelude.{chars}
+use Rattle.std.specs.List.{list_any}
+use Rattle.std.specs.Str.{IsUtf8}
+use Rattle.ini_text.specs.Laws.Plain.{IsPlainName}
+use Rattle.ini_text.specs.Parsing.ByteOrderMarks.{has_byte_order_mark}
+use Rattle.ini_text.specs.declared.error.Error.TheVariants.{Memory}
+use Rattle.ini_text.specs.declared.option.ParseOption.{ParseOption}
+use Rattle.ini_text.specs.declared.write.option.WriteOption.{WriteOption}
+use Rattle.ini.specs.Texts.{Text, str_name, str_text}
+use Rattle.ini_edit.specs.Editings.{Delete}
+use Rattle.ini_edit.specs.SourceEditsAdded.{AddsSection}
+use Rattle.ini_edit.specs.SourceEditsComments.{IsCommentedOut, RefusesToCommentOut}
+use Rattle.ini_edit.specs.SourceEditsSet.{IsMemoryRefusal}
+use Rattle.ini_edit.specs.SourcePlaces.{pair_place}
+use Rattle.ini_edit.specs.Sources.{Pieces, SectionPiece, document_in}
+use Rattle.ini_edit.specs.WholeTexts.{IsReadInPieces}
+use Rattle.ini_edit.specs.declared.error.EditError.{EditError}
+use Rattle.ini_edit.specs.declared.error.EditError.TheVariants.{Key, Name, NoPlace, Text as TextError}
+use Rattle.ini_dialect.specs.Lookups.{name_fits, value_under}
+use Rattle.ini_dialect.specs.RuledTexts.{HasNothingUnder, IsMadeUnder, RefusesInText, RefusesMadeUnder}
+use Rattle.ini_dialect.specs.Rules.{default_lookup}
+use Rattle.ini_dialect.specs.SourceLookups.{IsCountingPair}
+use Rattle.ini_dialect.specs.declared.rule.CaseRule.{CaseRule}
+use Rattle.ini_dialect.specs.declared.rule.Lookup.{Lookup}
+use Rattle.ini_dialect.specs.declared.source.PairNumber.{PairNumber}
+use Rattle.ini_words.specs.Words.{Word}
+use Rattle.ini_words.specs.declared.options.Options.{Options}
+use Rattle.ini_file.specs.Remade.{IsRemadeText}
+use Rattle.ini_file.specs.ValueLists.{HasValuesText, RefusesValues, texts_in}
+use Rattle.ini_file.specs.Writing.{IsWriting}
+use Rattle.ini_file.specs.declared.further.FurtherEdit.{FurtherEdit}
+use Rattle.ini_file.specs.declared.further.FurtherEdit.TheVariants as edit
+
+pub data FurtherEditing : Type 0 where
+  DeleteAll : (name : Option Text) (key : Text) → FurtherEditing
+  SetAll : (name : Option Text) (key : Text) (values : List Text) → FurtherEditing
+  AddSection : (name : Text) → FurtherEditing
+  CommentOut : (name : Option Text) (key : Text) → FurtherEditing
+
+abbrev pub further_of : FurtherEdit → FurtherEditing
+further_of (edit.DeleteAll name key) = DeleteAll (str_name name) (str_text key)
+further_of (edit.SetAll name key values) = SetAll (str_name name) (str_text key) (texts_in values.now)
+further_of (edit.AddSection name) = AddSection (str_text name)
+further_of (edit.CommentOut name key) = CommentOut (str_name name) (str_text key)
+
+-- one of the sections has the name
+abbrev pub has_section : CaseRule → Text → List SectionPiece → Bool
+has_section case name ss = list_any (λ s. name_fits case (Some name) s.name) ss
+
+-- where one has it all stays; else a section is added
+abbrev pub AddsNamed : Bool → WriteOption → Text → Pieces → Pieces → Type 0
+AddsNamed true w name p q = q ≡ p
+AddsNamed false w name p q = (added : Bool) × AddsSection p.option w p q name added
+
+abbrev pub HasSectionText : CaseRule → ParseOption → WriteOption → (name T U : Text) → Type 0
+HasSectionText case o w name T U =
+    IsRemadeText o T U (λ p q. AddsNamed (has_section case name p.sections) w name p q)
+
+-- adding it is refused for its name, whatever the text is; or memory is
+abbrev pub RefusesSection : WriteOption → Text → Pieces → EditError → Type 0
+RefusesSection w name p Name = ¬ IsPlainName p.option w.escape_policy name
+RefusesSection w name p e = IsMemoryRefusal e
+
+module _ (rule : Lookup) (name : Option Text) (key : Text) where
+  -- The pair that counts is the first of the key in the first section of the name, and a comment afterwards.
+  pub record IsCommentedUnder (p q : Pieces) : Type 0 where
+    pub at : PairNumber
+    pub counts : IsCountingPair rule name key (document_in p) at
+    pub is_first : IsCountingPair default_lookup name key (document_in p) at
+    pub commented : IsCommentedOut p.option p q name key
+
+  -- so it is; or there is no such pair, and all stays
+  abbrev pub CommentsOutUnder : Pieces → Pieces → Bool → Type 0
+  CommentsOutUnder p q true = IsCommentedUnder p q
+  CommentsOutUnder p q false =
+      (q ≡ p) × ((value_under rule name key (document_in p) ≡ None)
+      ⊎ (pair_place name key 0 p.sections ≡ None))
+
+-- both stand at the same place
+abbrev pub is_same : PairNumber → PairNumber → Bool
+is_same one other = one.section == other.section && one.pair == other.pair
+
+-- it is refused where no comment may stand, and where the pair that counts isn't that one
+pub data RefusesToComment (rule : Lookup) (name : Option Text) (key : Text) (p : Pieces)
+    : EditError → Type 0 where
+  no_place : {e : EditError} → RefusesToCommentOut p.option p.sections name key e
+      → RefusesToComment rule name key p e
+  another : {at first : PairNumber} → IsCountingPair rule name key (document_in p) at
+      → IsCountingPair default_lookup name key (document_in p) first → is_same first at ≡ false
+      → RefusesToComment rule name key p NoPlace
+  elsewhere : {at : PairNumber} → IsCountingPair rule name key (document_in p) at
+      → value_under default_lookup name key (document_in p) ≡ None → RefusesToComment rule name key p NoPlace
+
+-- the text has no pair that could be made a comment
+pub record LacksCounting (rule : Lookup) (o : ParseOption) (T : Text) (name : Option Text) (key : Text)
+    : Type 0 where
+  pub pieces : Pieces
+  pub is_read : IsReadInPieces o T pieces
+  pub lacks : CommentsOutUnder rule name key pieces pieces false
+
+abbrev pub IsCommentedText : Lookup → ParseOption → Option Text → (key T U : Text) → Type 0
+IsCommentedText rule o name key T U =
+    IsRemadeText o T U (λ p q. IsCommentedUnder rule name key p q)
+
+-- the text U is T with the edit made in it
+abbrev pub IsFurtherText : Lookup → ParseOption → WriteOption → FurtherEditing → (T U : Text) → Type 0
+IsFurtherText rule o w (DeleteAll name key) T U = IsMadeUnder rule o T w (Delete name key) U
+IsFurtherText rule o w (SetAll name key values) T U = HasValuesText rule o w name key values T U
+IsFurtherText rule o w (AddSection name) T U = HasSectionText rule.case o w name T U
+IsFurtherText rule o w (CommentOut name key) T U = IsCommentedText rule o name key T U
+
+-- what the edit is about isn't in the text
+abbrev pub HasNothingFurther : Lookup → ParseOption → FurtherEditing → Text → Type 0
+HasNothingFurther rule o (DeleteAll name key) T = HasNothingUnder rule o T (Delete name key)
+HasNothingFurther rule o (SetAll name key values) T = ⊥
+HasNothingFurther rule o (AddSection name) T = ⊥
+HasNothingFurther rule o (CommentOut name key) T = LacksCounting rule o T name key
+
+-- what it is refused with
+abbrev pub RefusesFurtherText : Lookup → ParseOption → WriteOption → FurtherEditing → Text → EditError
+    → Type 0
+RefusesFurtherText rule o w (DeleteAll name key) T e = RefusesMadeUnder rule o T w (Delete name key) e
+RefusesFurtherText rule o w (SetAll name key values) T e =
+    RefusesInText o T (RefusesValues rule w name key values) e
+RefusesFurtherText rule o w (AddSection name) T e = RefusesInText o T (RefusesSection w name) e
+RefusesFurtherText rule o w (CommentOut name key) T e =
+    RefusesInText o T (RefusesToComment rule name key) e
+
+-- the bytes are the mark, and after it, in UTF-8, the text T with the edit made in it, written as the options
+-- say
+pub record IsFurtherChanged (rule : Lookup) (o : Options) (separator : Option Word) (e : FurtherEditing)
+    (byte_order_mark : List ℕ) (T : Text) (bytes : List ℕ) : Type 0 where
+  pub option : WriteOption
+  pub is_option : IsWriting o separator option
+  pub new : List ℕ
+  pub whole : bytes ≡ byte_order_mark ++ new
+  pub is_utf8 : IsUtf8 new
+  pub is_made : IsFurtherText rule o.reading option e T (chars new)
+  -- a file that has no mark gets none, which reading would drop
+  pub gets_none : byte_order_mark ≡ [] → has_byte_order_mark new ≡ false
+
+-- the file has no mark, and with the edit made in its text T it would get one
+pub record GetsMarkFurther (rule : Lookup) (o : Options) (separator : Option Word) (e : FurtherEditing)
+    (byte_order_mark : List ℕ) (T : Text) : Type 0 where
+  pub option : WriteOption
+  pub is_option : IsWriting o separator option
+  pub new : List ℕ
+  pub is_utf8 : IsUtf8 new
+  pub is_made : IsFurtherText rule o.reading option e T (chars new)
+  pub has_none : byte_order_mark ≡ []
+  pub gets : has_byte_order_mark new ≡ true
+
+-- the edit of the text T is refused where it is written as the options say
+pub record IsFurtherRefused (rule : Lookup) (o : Options) (separator : Option Word) (e : FurtherEditing)
+    (T : Text) (refused : EditError) : Type 0 where
+  pub option : WriteOption
+  pub is_option : IsWriting o separator option
+  pub is_refused : RefusesFurtherText rule o.reading option e T refused
+
+-- what it is refused with after this mark: memory may be refused to each; and as a key that isn't read back
+-- that the file would get a mark
+abbrev pub RefusesFurther : Lookup → Options → Option Word → FurtherEditing → List ℕ → Text → EditError
+    → Type 0
+RefusesFurther rule o separator e byte_order_mark T (TextError (Memory _)) = ⊤
+RefusesFurther rule o separator e byte_order_mark T Key =
+    IsFurtherRefused rule o separator e T Key ⊎ GetsMarkFurther rule o separator e byte_order_mark T
+RefusesFurther rule o separator e byte_order_mark T refused =
+    IsFurtherRefused rule o separator e T refused

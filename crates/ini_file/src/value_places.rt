@@ -1,0 +1,97 @@
+//! Where values stand in a text. This file knows elements and rules of looking up, and no device.
+//!
+//! No contract says which place it is; `tests/words.sh` tests it.
+
+use crate::words::Wanted;
+use ini::{Error, ParseOption, Parser};
+use ini_dialect::{Lookup, SectionRule, ValueRule};
+use ini_text::{Content, PlacedElement};
+use std::alloc::Global;
+
+/// The number of bytes before the value of this number, from 0, of those that are looked up. `None` where
+/// there is no such value; or memory was refused.
+pub fn value_place(
+    alloc: Global,
+    text: &str,
+    read: ParseOption,
+    wanted: Wanted<'_>,
+    index: usize,
+) -> Option<usize> {
+    let places = value_places(alloc, text, read, wanted).ok()?;
+    let places = places.as_slice();
+    let place = if wanted.all {
+        places.get(index)
+    } else {
+        match wanted.rule.values {
+            ValueRule::First => places.first(),
+            ValueRule::Last => places.last(),
+        }
+    };
+    place.copied()
+}
+
+// The places of all values of the key that are looked at, in order.
+fn value_places(
+    alloc: Global,
+    text: &str,
+    read: ParseOption,
+    wanted: Wanted<'_>,
+) -> Result<Vec<usize>, Error> {
+    let mut parser = Parser::new(alloc, text, read);
+    let mut places = Vec::new(alloc);
+    let mut looks = Looks::of(wanted);
+    for _ in 0..=text.len() {
+        let place = text.len().saturating_sub(parser.rest().len());
+        let Some(element) = parser.next_element()? else {
+            return Ok(places);
+        };
+        if let Some(before) = looks.before_value(&element, wanted) {
+            places.push(place.saturating_add(before))?;
+        }
+    }
+    Ok(places)
+}
+
+// Whether a walk is in a section that is looked at, and whether one of the name was there.
+#[derive(Drop)]
+struct Looks {
+    is_in: bool,
+    was_in: bool,
+}
+
+impl Looks {
+    // At the front of a text the general section is.
+    fn of(wanted: Wanted<'_>) -> Looks {
+        let is_general = wanted.section.is_none();
+        Looks {
+            is_in: is_general,
+            was_in: is_general,
+        }
+    }
+
+    // Goes over an element; where it is a pair of the key in such a section, how many of its bytes stand
+    // before its value.
+    fn before_value(&mut self, element: &PlacedElement<'_>, wanted: Wanted<'_>) -> Option<usize> {
+        match &element.content {
+            Content::Header(name) => {
+                self.enter(wanted.rule, wanted.section, name.as_str());
+                None
+            }
+            Content::Pair(pair)
+                if self.is_in && wanted.rule.case.fits(wanted.key, pair.key.as_str()) => {
+                let places = pair.places;
+                let before = places.key.len().saturating_add(1);
+                Some(before.saturating_add(places.space_before.len()))
+            }
+            _ => None,
+        }
+    }
+
+    // Goes into a section.
+    fn enter(&mut self, rule: Lookup, wanted: Option<&str>, name: &str) {
+        let fits = rule.case.names_fit(wanted, Some(name));
+        let is_first_alone = matches!(rule.sections, SectionRule::First);
+        self.is_in = fits && !(is_first_alone && self.was_in);
+        self.was_in = self.was_in || fits;
+    }
+}
