@@ -61,8 +61,13 @@ looked_at() {
     is "$what: pages" '' "$(cd "$top" && for it in README.md CHANGELOG.md docs/*.md examples/*.ini examples/*/*.ini; do
         cmp "$it" "$prefix/share/doc/bigrosk/$it" 2>&1
     done)"
-    # PROVED names each file with its sum, and the kit
-    is "$what: files of PROVED" 5 "$(grep -c '^        sha256 ' "$prefix/share/doc/bigrosk/PROVED")"
+    # PROVED names each program and each library with its sum, and the kit
+    is "$what: files of PROVED" "$({
+        for it in $programs; do echo "bin/$it"; done
+        printf '%s\n' lib/libbigrosk_ini.a "lib/libbigrosk_ini.so.$version"
+    } | sort)" "$(sed -n 's/^    \([bl]i[nb]\/.*\)$/\1/p' "$prefix/share/doc/bigrosk/PROVED" | sort)"
+    is "$what: sums of PROVED" "$(set -- $programs; echo $(($# + 2)))" \
+        "$(grep -c '^        sha256 ' "$prefix/share/doc/bigrosk/PROVED")"
     is "$what: their sums" '' "$(cd "$prefix" && awk '/^    [bl]i[nb]\// { it = $1 } /^ *sha256 / { print $2 "  " it }' \
         share/doc/bigrosk/PROVED | sha256sum -c --quiet 2>&1)"
     is "$what: its kit" 1 "$(grep -c "with $(rt version):\$" "$prefix/share/doc/bigrosk/PROVED")"
