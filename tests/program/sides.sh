@@ -51,16 +51,20 @@ done <<'ROWS'
 |k=1\nj=1\n|j=1\n|k=1\nj=1\ni=1\n|0|j=1\ni=1\n|
 |k=1\nj=1\n|k=1\nj=1\n|j=1\n|0|j=1\n|
 ||[a]\nk=1\n|[b]\nk=1\n|0|[b]\nk=1\n\n[a]\nk=1\n|
-|[a]\nk=1\n|[a]\nk=2\n|[a]\n; c\nk = 3\n|1|[a]\n; c\nk = 2\n|conflict: [a] k: base = 1, ours = 2, theirs = 3\nnote: [a] k: base.ini:2:1, ours.ini:2:1, theirs.ini:3:1\n
+|[a]\nk=1\n|[a]\nk=2\n|[a]\n; c\nk = 3\n|1|[a]\n; c\n; ours: 2\n; theirs: 3\nk = 2\n|conflict: [a] k: base = 1, ours = 2, theirs = 3\nnote: [a] k: base.ini:2:1, ours.ini:2:1, theirs.ini:3:1\n
+|k=1\n||k=3\nj=1\n|1|; ours has none\n; theirs: 3\nk=3\nj=1\n|conflict: k: base = 1, ours has none, theirs = 3\nnote: k: base.ini:1:1, theirs.ini:1:1\n
+|[a]\nk=1\n|[a]\nk=2\n|[a]\r\n# c\r\nk=3\r\n|1|[a]\r\n# c\r\n; ours: 2\r\n; theirs: 3\r\nk=2\r\n|conflict: [a] k: base = 1, ours = 2, theirs = 3\nnote: [a] k: base.ini:2:1, ours.ini:2:1, theirs.ini:3:1\n
+|k=1\nj=1\ni=1\n|k=2\nj=2\ni=2\n|i=1\nj=3\nk=4\n|1|i=2\n; ours: 2\n; theirs: 3\nj=2\n; ours: 2\n; theirs: 4\nk=2\n|conflict: k: base = 1, ours = 2, theirs = 4\nconflict: j: base = 1, ours = 2, theirs = 3\nnote: k: base.ini:1:1, ours.ini:1:1, theirs.ini:3:1\nnote: j: base.ini:2:1, ours.ini:2:1, theirs.ini:2:1\n
 --ours|[a]\nk=1\n|[a]\nk=2\n|[a]\nk = 3\n|1|[a]\nk = 2\n|conflict: [a] k: base = 1, ours = 2, theirs = 3\nnote: [a] k: base.ini:2:1, ours.ini:2:1, theirs.ini:2:1\n
 --theirs|[a]\nk=1\n|[a]\nk=2\n|[a]\nk = 3\n|1|[a]\nk = 3\n|conflict: [a] k: base = 1, ours = 2, theirs = 3\nnote: [a] k: base.ini:2:1, ours.ini:2:1, theirs.ini:2:1\n
 --ours --theirs|k=1\n||k=3\nj=1\n|1|k=3\nj=1\n|conflict: k: base = 1, ours has none, theirs = 3\nnote: k: base.ini:1:1, theirs.ini:1:1\n
 --theirs --ours|k=1\n||k=3\nj=1\n|1|j=1\n|conflict: k: base = 1, ours has none, theirs = 3\nnote: k: base.ini:1:1, theirs.ini:1:1\n
-|k=1\nj=1\n|k=a\\tb\nj=2\n|j=3\n|1|j=2\nk=a\\tb\n|conflict: k: base = 1, ours = a\\tb, theirs has none\nconflict: j: base = 1, ours = 2, theirs = 3\nnote: k: base.ini:1:1, ours.ini:1:1\nnote: j: base.ini:2:1, ours.ini:2:1, theirs.ini:1:1\n
-||k=2\n|k=3\n|1|k=2\n|conflict: k: base has none, ours = 2, theirs = 3\nnote: k: ours.ini:1:1, theirs.ini:1:1\n
+|k=1\nj=1\n|k=a\\tb\nj=2\n|j=3\n|1|; ours: 2\n; theirs: 3\nj=2\n; ours: a\\tb\n; theirs has none\nk=a\\tb\n|conflict: k: base = 1, ours = a\\tb, theirs has none\nconflict: j: base = 1, ours = 2, theirs = 3\nnote: k: base.ini:1:1, ours.ini:1:1\nnote: j: base.ini:2:1, ours.ini:2:1, theirs.ini:1:1\n
+||k=2\n|k=3\n|1|; ours: 2\n; theirs: 3\nk=2\n|conflict: k: base has none, ours = 2, theirs = 3\nnote: k: ours.ini:1:1, theirs.ini:1:1\n
 |k=1|k=2|\0357\0273\0277k=1\r\n|0|\0357\0273\0277k=2\r\n|
 --dry-run|k=1\n|k=2\n|k=1\nj=1\n|0|--- theirs.ini\n+++ theirs.ini\n@@ -1,1 +1,1 @@\n-k=1\n+k=2\n|
 --policy=Nothing|k=1\n|k="a\\\\b"\n|k=1\n|2||ini_file: theirs.ini: k: this value can't be written so that it is read back\nnote: it has a backslash: use --policy Basics\n
+--policy=Nothing|j=1\nk=1\n|j=2\nk="a\\\\b"\n|j=1\nk=3\n|2||ini_file: theirs.ini: k: this value can't be written so that it is read back\nnote: it has a backslash: use --policy Basics\n
 |k="1|k=2\n|k=1\n|3||base.ini:1:3: this quote isn't closed\nk="1\n  ^\nnote: the text ends at 1:5\n
 |k=1\n|[a|k=1\n|3||ours.ini:1:1: this bracket isn't closed\n[a\n^\nnote: the text ends at 1:3\n
 |k=1\n|k=1\n|k\n|3||theirs.ini:1:1: this key has no = or : after it\nk\n^\nnote: the text ends at 2:1\n
@@ -70,7 +74,7 @@ ROWS
 side base.ini 'k=1\nj=1\n'
 side ours.ini 'k=2\nj=2\n'
 side theirs.ini '; c\nk = 1\nj = 3\n'
-side "$room/merged" '; c\nk = 2\nj = 2\n'
+side "$room/merged" '; c\nk = 2\n; ours: 2\n; theirs: 3\nj = 2\n'
 line='conflict: j: base = 1, ours = 2, theirs = 3
 note: j: base.ini:2:1, ours.ini:2:1, theirs.ini:3:1'
 for place in ours.ini theirs.ini new.ini; do
@@ -159,6 +163,8 @@ port = 8080" "$(merged ours theirs)"
 conflict: [server] host: base = a, ours = c, theirs = b
 [log]
 [server]
+; ours: c
+; theirs: b
 host = c
 ; the port
 port = 8080" "$(merged other theirs)"

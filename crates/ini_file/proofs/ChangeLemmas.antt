@@ -21,7 +21,7 @@ pub chars-close : chars (codes "] ") ≡ codes "] "
 unfolding chars
 chars-close = refl
 
-chars-colon : chars (codes ": ") ≡ codes ": "
+pub chars-colon : chars (codes ": ") ≡ codes ": "
 unfolding chars
 chars-colon = refl
 

@@ -5,6 +5,7 @@ pub mod EditLemmas
 pub mod EditLineLemmas
 pub mod FormatLemmas
 pub mod FurtherLemmas
+pub mod LeftLemmas
 pub mod LineLemmas
 pub mod ListedLemmas
 pub mod MergeLemmas

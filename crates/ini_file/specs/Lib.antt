@@ -23,6 +23,7 @@ pub mod JsonLines
 pub mod JsonStrings
 pub mod Jsons
 pub mod Layered
+pub mod LeftConflicts
 pub mod Looks
 pub mod MergeWords
 pub mod Manners

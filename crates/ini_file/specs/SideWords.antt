@@ -1,13 +1,10 @@
 -- Which words compare two files, apply edits to one, and merge three.
-use Rattle.std.specs.Prelude.{if◌then◌else◌, List, [], ◌∷◌, codes, Option, None, Some, unwrap_or}
+use Rattle.std.specs.Prelude.{if◌then◌else◌, List, [], ◌∷◌, codes, Option, None, Some}
 use Rattle.std.specs.Str.{bytes_eq}
-use Rattle.ini_layers.specs.declared.merging.Side.{Side}
-use Rattle.ini_layers.specs.declared.merging.Side.TheVariants.{Ours}
 use Rattle.ini_words.specs.Words.{Word}
 use Rattle.ini_words.specs.declared.options.Options.{Options}
 use Rattle.ini_file.specs.Choices.{Chosen, chosen_of}
 use Rattle.ini_file.specs.Fronts.{Called}
-use Rattle.ini_file.specs.declared.choices.Switches.{Switches}
 use Rattle.ini_file.specs.declared.side_words.Application.{Application}
 use Rattle.ini_file.specs.declared.side_words.Comparison.{Comparison}
 use Rattle.ini_file.specs.declared.side_words.ThreeWay.{ThreeWay}
@@ -33,10 +30,6 @@ pub record ThreeFiles : Type 0 where
   pub base : Word
   pub ours : Word
   pub theirs : Word
-
--- whose value stands where both sides changed a setting
-abbrev pub side_of : Switches → Side
-side_of s = unwrap_or s.side Ours
 
 -- what is compared where there are two files, and what is merged where there are three
 abbrev pub comparison_between : Options → Chosen → List Word → Option Compared

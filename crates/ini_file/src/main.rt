@@ -41,6 +41,7 @@ mod json_lines;
 mod json_string;
 mod layer_files;
 mod layers;
+mod left_conflicts;
 mod lines;
 mod listed;
 mod lock;

@@ -4,11 +4,10 @@ ghost use Rattle.std.specs.Prelude.{◌≡◌};
 ghost use Rattle.std.specs.Option.{option_map};
 ghost use Rattle.ini_file.specs.Fronts.{call_of};
 ghost use Rattle.ini_file.specs.SideWords.{application_asked, applied_of, compared_of, comparison_asked};
-ghost use Rattle.ini_file.specs.SideWords.{side_of, three_way_asked, three_way_of};
+ghost use Rattle.ini_file.specs.SideWords.{three_way_asked, three_way_of};
 
 use crate::choices::Choices;
 use crate::front::Call;
-use ini_layers::Side;
 use ini_words::Options;
 
 /// What the words of `diff` are.
@@ -50,15 +49,6 @@ pub struct ThreeWay<'a> {
     pub ours: &'a str,
     /// That of the file in which they are made.
     pub theirs: &'a str,
-}
-
-impl ThreeWay<'_> {
-    /// Whose value stands where both sides changed a setting: that of ours, where no word says it.
-    pub fn side(self) -> Side
-        ensures { result ≡ side_of self.entry.choices.switches }
-    {
-        self.choices.switches.side.unwrap_or(Side::Ours)
-    }
 }
 
 /// What is compared, where there are two files. Takes no memory.

@@ -1,19 +1,22 @@
 //! Two files that come from one, merged setting by setting, as a function of their bytes. This file knows no
 //! word of the program and no device.
-ghost use Rattle.std.specs.Prelude.{◌≡◌, IfErr, IfOk, MatchOption, OnErr, chars, flat_map};
+ghost use Rattle.std.specs.Prelude.{◌≡◌, IfErr, IfOk, MatchOption, chars, flat_map};
 ghost use Rattle.ini_edit.specs.Sources.{document_in};
-ghost use Rattle.ini_layers.specs.Merging.{conflicts_of};
+ghost use Rattle.ini_layers.specs.Merging.{IsMerged, conflicts_of, taken_changes};
+ghost use Rattle.ini_layers.specs.SourceChanges.{AreMade, RefusesOne};
 ghost use Rattle.ini_file.specs.ChangeLines.{conflict_line};
 ghost use Rattle.ini_file.specs.ThreeWays.{EndsOnSides, GetsMarkWith, HasThreeWay, IsTextAfter};
-ghost use Rattle.ini_file.specs.ThreeWays.{three_way_status};
+ghost use Rattle.ini_file.specs.ThreeWays.{side_below, three_way_status};
 
 use crate::bytes::{concat, text_of};
 use crate::change_lines::conflict_lines;
 use crate::edit::gets_byte_order_mark;
+use crate::left_conflicts::leave_conflicts;
 use crate::merge::load;
 use ini::{Error, Ini};
 use ini_edit::{RefusedEdit, Source};
 use ini_layers::{Side, conflicts, merge};
+use ini_text::WriteOption;
 use ini_words::Options;
 use std::alloc::{AllocError, Global};
 
@@ -39,18 +42,20 @@ pub enum ThreeWayEnd {
     Theirs(Error),
     /// A change of ours can't be made in theirs: the one with this index among those that are taken.
     Change(RefusedEdit),
+    /// A conflict can't be left there: the one with this index among the conflicts.
+    Conflict(RefusedEdit),
     /// Theirs has no mark, and with the changes of ours it would get one: a key that begins with U+FEFF would
     /// come to its front.
     GetsMark,
 }
 
 /// The bytes of theirs with the changes of ours to the base, and a line for each conflict, of which the side
-/// says whose value stands. A mark (EF BB BF) at the front of any file is no part of its text; that of theirs
-/// stays.
+/// says whose value stands; without a side both are left. A mark (EF BB BF) at the front of any file is no
+/// part of its text; that of theirs stays.
 pub fn merge_sides(
     alloc: Global,
     options: Options,
-    side: Side,
+    side: Option<Side>,
     base: &[u8],
     ours: &[u8],
     theirs: &[u8],
@@ -75,7 +80,7 @@ pub fn merge_sides(
 fn merge_into(
     alloc: Global,
     options: Options,
-    side: Side,
+    side: Option<Side>,
     sides: (&Ini, &Ini),
     byte_order_mark: &[u8],
     text: &str,
@@ -88,10 +93,14 @@ fn merge_into(
         Ok(theirs) => theirs,
         Err(refused) => return ThreeWayEnd::Theirs(refused),
     };
-    let new = match merge(alloc, &options.write_option(), base, ours, &theirs, side) {
+    let write = options.write_option();
+    let mut new = match merge_below(alloc, &write, side, base, ours, &theirs) {
         Ok(new) => new,
         Err(refused) => return ThreeWayEnd::Change(refused),
     };
+    if let Err(refused) = leave_conflicts(alloc, &write, side, base, ours, &theirs, &mut new) {
+        return ThreeWayEnd::Conflict(refused);
+    }
     let Ok(conflicts) = lines_of_conflicts(alloc, base, ours, &theirs) else {
         return ThreeWayEnd::Theirs(Error::Memory(AllocError));
     };
@@ -100,6 +109,25 @@ fn merge_into(
         Ok(None) => ThreeWayEnd::GetsMark,
         Err(AllocError) => ThreeWayEnd::Theirs(Error::Memory(AllocError)),
     }
+}
+
+// Theirs with the changes of ours, in which conflicts may be left.
+fn merge_below<'a>(
+    alloc: Global,
+    write: &WriteOption,
+    side: Option<Side>,
+    base: &Ini,
+    ours: &Ini,
+    theirs: &Source<'a>,
+) -> Result<Source<'a>, RefusedEdit>
+    ensures merged { IfOk result (λ new. IsMerged (side_below side) base.now ours.now
+        (document_in theirs.now) (document_in new)) }
+    ensures made { IfOk result (AreMade write.now theirs.now
+        (taken_changes (side_below side) base.now ours.now (document_in theirs.now))) }
+    ensures refused { IfErr result (RefusesOne write.now theirs.now
+        (taken_changes (side_below side) base.now ours.now (document_in theirs.now))) }
+{
+    merge(alloc, write, base, ours, theirs, side_below(side))
 }
 
 // A line for each conflict.
@@ -116,6 +144,14 @@ fn lines_of_conflicts(
         return Err(AllocError);
     };
     conflict_lines(alloc, conflicts.as_slice())
+}
+
+/// Whose value of a conflict a merge begins with: that of theirs, in which both are left, where no side is
+/// chosen.
+pub fn side_below(side: Option<Side>) -> Side
+    ensures { result ≡ side_below side }
+{
+    side.unwrap_or(Side::Theirs)
 }
 
 /// The bytes of a mark and of a text in pieces; `None` where there is no mark, and the text would get one.

@@ -13,12 +13,12 @@ use crate::refusals::refuse;
 use crate::run::Outcome;
 use crate::side_words::ThreeWay;
 use crate::target::Target;
-use crate::three_way::{ThreeWayEnd, merge_sides, three_way_status};
+use crate::three_way::{ThreeWayEnd, merge_sides, side_below, three_way_status};
 use crate::unwritable::reason_of;
-use ini::Error;
+use ini::{Error, Ini};
 use ini_dialect::Encoding;
 use ini_edit::{Edit, EditError, RefusedEdit, Source};
-use ini_layers::taken;
+use ini_layers::{Change, conflicts, taken};
 use std::alloc::{AllocError, Global};
 use std::io::Write;
 
@@ -83,7 +83,8 @@ fn read_sides<'a>(
 fn merge_read(rt: &HostRuntime, asked: &ThreeWay<'_>, sides: &Sides) -> u8 {
     let (base, ours) = (sides.base.as_slice(), sides.ours.as_slice());
     let theirs = sides.theirs.as_slice();
-    match merge_sides(rt.alloc(), asked.options, asked.side(), base, ours, theirs) {
+    let side = asked.choices.switches.side;
+    match merge_sides(rt.alloc(), asked.options, side, base, ours, theirs) {
         ThreeWayEnd::Done(done) => {
             let target = Target::of_three_way(*asked);
             match write_output(
@@ -105,14 +106,9 @@ fn merge_read(rt: &HostRuntime, asked: &ThreeWay<'_>, sides: &Sides) -> u8 {
         }
         ThreeWayEnd::Base(refusal) => refuse_file(rt, asked, asked.base, base, refusal.into()),
         ThreeWayEnd::Ours(refusal) => refuse_file(rt, asked, asked.ours, ours, refusal.into()),
-        ThreeWayEnd::Theirs(refusal) => refuse_file(
-            rt,
-            asked,
-            asked.theirs,
-            theirs,
-            refusal.into(),
-        ),
-        ThreeWayEnd::Change(refused) => refuse_change(rt, asked, sides, refused),
+        ThreeWayEnd::Theirs(fault) => refuse_file(rt, asked, asked.theirs, theirs, fault.into()),
+        ThreeWayEnd::Change(refused) => refuse_change(rt, asked, sides, false, refused),
+        ThreeWayEnd::Conflict(refused) => refuse_change(rt, asked, sides, true, refused),
         ThreeWayEnd::GetsMark => {
             let outcome = Outcome::Refused(EditError::Key);
             let refused = refuse(rt, asked.options.reading, asked.theirs, theirs, &outcome);
@@ -134,16 +130,17 @@ fn refuse_file(
     refuse(rt, asked.options.reading, file, input, &outcome)
 }
 
-// Tells that a change of ours can't be made in theirs, and why.
+// Tells that a change of ours can't be made in theirs, and why; it may be one of those in conflict.
 fn refuse_change(
     rt: &HostRuntime,
     asked: &ThreeWay<'_>,
     sides: &Sides,
+    is_conflict: bool,
     refused: RefusedEdit,
 ) -> u8 {
     let (read, theirs) = (asked.options.reading, asked.theirs);
     let RefusedEdit { index, refusal } = refused;
-    let found = change_at(rt.alloc(), asked, sides, index, &refusal);
+    let found = change_at(rt.alloc(), asked, sides, is_conflict, index, &refusal);
     let outcome = Outcome::Refused(refusal);
     let Ok((name, reason)) = found else {
         return refuse(rt, read, theirs, &[], &outcome);
@@ -160,6 +157,7 @@ fn change_at(
     alloc: Global,
     asked: &ThreeWay<'_>,
     sides: &Sides,
+    is_conflict: bool,
     index: usize,
     refusal: &EditError,
 ) -> Result<(String, Option<(Reason, Option<Help>)>), Error> {
@@ -168,8 +166,7 @@ fn change_at(
     let ours = load(alloc, read, sides.ours.as_slice())?;
     let (_, text) = text_of(sides.theirs.as_slice())?;
     let theirs = Source::read(alloc, text, read)?;
-    let changes = taken(alloc, &base, &ours, &theirs, asked.side())?;
-    let change = *changes.get(index).ok_or(AllocError)?;
+    let change = refused_change(alloc, asked, &base, &ours, &theirs, is_conflict, index)?;
     let (name, key) = (change.name, change.key);
     let edit = Edit::Set {
         name,
@@ -178,4 +175,24 @@ fn change_at(
     };
     let reason = reason_of(Some(edit), asked.options, refusal);
     Ok((setting_of_file(alloc, asked.theirs, name, key)?, reason))
+}
+
+// The change with this index, among those in conflict or among those that are taken.
+fn refused_change<'b>(
+    alloc: Global,
+    asked: &ThreeWay<'_>,
+    base: &'b Ini,
+    ours: &'b Ini,
+    theirs: &'b Source<'_>,
+    is_conflict: bool,
+    index: usize,
+) -> Result<Change<'b>, Error> {
+    if is_conflict {
+        let conflicts = conflicts(alloc, base, ours, theirs)?;
+        let conflict = *conflicts.get(index).ok_or(AllocError)?;
+        return Ok(conflict.change);
+    }
+    let side = side_below(asked.choices.switches.side);
+    let changes = taken(alloc, base, ours, theirs, side)?;
+    Ok(*changes.get(index).ok_or(AllocError)?)
 }

@@ -1,0 +1,233 @@
+-- Conflicts left one after another, and comments put above a pair.
+use Rattle.std.proofs.Common.{◌≡◌, ◌<◌, ◌+◌, ◌∙◌, ap, refl, subst, sym, ℕ, Bool, true, false, List, []}
+use Rattle.std.proofs.Common.{◌∷◌, ◌++◌}
+use Rattle.std.proofs.Common.{Ok, Option, None, Err, Result, Some, add-one, alloc_error, append-nil}
+use Rattle.std.proofs.Common.{append_assoc, arith}
+use Rattle.std.proofs.Common.{drop, drop-cons, get_or, length, length-take, map, take, take-append-drop}
+use Rattle.std.proofs.Common.{take-suc}
+use Rattle.std.proofs.lemmas.List.{length-map, map-append}
+use Rattle.std.proofs.lemmas.Str.{chars-nil, scalars-chars}
+use Rattle.std.specs.Option.{option_map}
+use Rattle.std.specs.Prelude.{IfErr, IfOk, MatchOption, OnOk, codes, encode_utf8_all}
+use Rattle.std.specs.Str.{IsUtf8, all_scalars, chars}
+use Rattle.ini_text.specs.declared.error.Error.TheVariants.{Memory}
+use Rattle.ini_text.specs.declared.write.option.WriteOption.{WriteOption}
+use Rattle.ini_text.specs.declared.write.policy.EscapePolicy.TheVariants.{Basics}
+use Rattle.ini_text.proofs.LawLemmas.ExportedLemmas.{escaped-scalars, scalars-append}
+use Rattle.ini.specs.Edits.{set_in}
+use Rattle.ini.specs.Texts.{Text}
+use Rattle.ini_edit.specs.SourceEditsAdded.{IsSetIn}
+use Rattle.ini_edit.specs.SourceEditsComments.{IsCommented, RefusesComment, SetsComment, comments_above}
+use Rattle.ini_edit.specs.SourcePlaces.{PairPlace, pair_place}
+use Rattle.ini_edit.specs.Sources.{Pieces, document_in}
+use Rattle.ini_edit.specs.declared.error.EditError.{EditError}
+use Rattle.ini_edit.specs.declared.error.EditError.TheVariants.{Text as TextError}
+use Rattle.ini_edit.specs.declared.source.set.LaterPairs.TheVariants.{TakenOut}
+use Rattle.ini_layers.specs.Differences.{SettingChange}
+use Rattle.ini_layers.specs.Merging.{SettingConflict, setting_conflict}
+use Rattle.ini_layers.specs.SourceChanges.{IsMade}
+use Rattle.ini_layers.specs.declared.merging.Conflict.{Conflict}
+use Rattle.ini_layers.proofs.MadeLemmas.{memory_refused, set-made}
+use Rattle.ini_file.specs.ChangeLines.{escaped_part}
+use Rattle.ini_file.specs.LeftConflicts.{AreLeft, IsLeft, IsPutAbove, MakesOurs, RefusesAbove}
+use Rattle.ini_file.specs.LeftConflicts.{RefusesFirstToLeave, RefusesOneToLeave, RefusesToLeave, side_comment}
+
+chars-mark-ours : chars (codes "; ours") ≡ codes "; ours"
+unfolding chars
+chars-mark-ours = refl
+
+chars-mark-theirs : chars (codes "; theirs") ≡ codes "; theirs"
+unfolding chars
+chars-mark-theirs = refl
+
+-- a place, and the comments there
+record IsFound (place : Option PairPlace) (above : Text) : Type 0 where
+  at : PairPlace
+  is : place ≡ Some at
+  stands : comments_above at ≡ above
+
+found : (place : Option PairPlace) (above : Text) → Some above ≡ option_map comments_above place
+    → IsFound place above
+found None above e = absurd cc
+found (Some at) above e = record { at = at; is = refl; stands = cc }
+
+not_found : {P : Type 0} (Q : PairPlace → Type 0) (place : Option PairPlace)
+    → None ≡ option_map comments_above place → P → MatchOption place P Q
+not_found Q None e p = p
+not_found Q (Some at) e p = absurd cc
+
+module _ (w : WriteOption) where
+  -- without a pair all stays
+  pub put_nowhere : (name : Option Text) (key comment : Text) (p : Pieces)
+      → None ≡ option_map comments_above (pair_place name key 0 p.sections)
+      → IsPutAbove w name key comment p p
+  put_nowhere name key comment p none =
+      not_found (λ at. IsCommented p.option w p p name key (comments_above at ++ comment))
+      (pair_place name key 0 p.sections) none refl
+
+  put_there : (old new : Pieces) (name : Option Text) (key above comment whole : Text) (is_found : Bool)
+      → Some above ≡ option_map comments_above (pair_place name key 0 old.sections)
+      → whole ≡ above ++ comment → SetsComment old.option w old new name key whole is_found
+      → IsPutAbove w name key comment old new
+  put_there old new name key above comment whole true e is set =
+      let f = found (pair_place name key 0 old.sections) above e in
+      subst (λ place. MatchOption place (new ≡ old)
+      (λ at. IsCommented old.option w old new name key (comments_above at ++ comment))) (sym f.is)
+      (subst (λ text. IsCommented old.option w old new name key text)
+      (is ∙ ap (λ a. a ++ comment) (sym f.stands)) set)
+  put_there old new name key above comment whole false e is set =
+      let f = found (pair_place name key 0 old.sections) above e in
+      let none : pair_place name key 0 old.sections ≡ None = set.1 in
+      let some : pair_place name key 0 old.sections ≡ Some f.at = f.is in
+      absurd cc
+
+  put_refused : {p : Pieces} {e : EditError} (name : Option Text) (key above comment whole : Text)
+      → Some above ≡ option_map comments_above (pair_place name key 0 p.sections)
+      → whole ≡ above ++ comment → RefusesComment p.option w p.sections name key whole e
+      → RefusesAbove w name key comment p e
+  put_refused {p} {e} name key above comment whole there is refused =
+      let f = found (pair_place name key 0 p.sections) above there in
+      RefusesAbove.at_pair f.is (subst (λ text. RefusesComment p.option w p.sections name key text e)
+      (is ∙ ap (λ a. a ++ comment) (sym f.stands)) refused)
+
+  -- what is put above a pair that is there, as the call that puts it answers
+  pub put_if : (old new : Pieces) (name : Option Text) (key above comment whole : Text)
+      (r : Result Bool EditError)
+      → Some above ≡ option_map comments_above (pair_place name key 0 old.sections)
+      → whole ≡ above ++ comment
+      → IfOk r (λ is_found. SetsComment old.option w old new name key whole is_found)
+      → OnOk r (IsPutAbove w name key comment old new)
+  put_if old new name key above comment whole (Ok is_found) e is set =
+      put_there old new name key above comment whole is_found e is set
+  put_if old new name key above comment whole (Err refusal) e is set = tt
+
+  pub refused_if : (p : Pieces) (name : Option Text) (key above comment whole : Text)
+      (r : Result Bool EditError)
+      → Some above ≡ option_map comments_above (pair_place name key 0 p.sections)
+      → whole ≡ above ++ comment → IfErr r (λ e. RefusesComment p.option w p.sections name key whole e)
+      → IfErr r (λ e. RefusesAbove w name key comment p e)
+  refused_if p name key above comment whole (Ok is_found) e is refused = tt
+  refused_if p name key above comment whole (Err refusal) e is refused =
+      put_refused name key above comment whole e is refused
+
+  -- ours is set, as the call that sets it answers
+  pub ours_made : {A : Type 0} (old new : Pieces) (c : SettingChange) (value : Text)
+      (r : Result A EditError) → c.new ≡ Some value
+      → OnOk r (IsSetIn old.option w TakenOut old new c.name c.key value)
+      → OnOk r (document_in new ≡ set_in c.name c.key value (document_in old))
+      → OnOk r (MakesOurs w c old new)
+  ours_made old new c value (Ok done) is set document =
+      subst (λ v. MatchOption v (new ≡ old) (λ x. IsMade w c old new)) (sym is)
+      (set-made w c value is set document)
+  ours_made old new c value (Err refusal) is set document = tt
+
+  -- a conflict is left
+  module _ (c : SettingConflict) where
+    ours_put : (old new : Pieces) → IsPutAbove w c.change.name c.change.key
+        (side_comment (chars (codes "; ours")) c.change.new) old new
+        → IsPutAbove w c.change.name c.change.key (side_comment (codes "; ours") c.change.new) old new
+    ours_put old new = subst (λ side. IsPutAbove w c.change.name c.change.key
+        (side_comment side c.change.new) old new) chars-mark-ours
+
+    pub all_left : (old made half new : Pieces) → MakesOurs w c.change old made
+        → IsPutAbove w c.change.name c.change.key
+        (side_comment (chars (codes "; ours")) c.change.new) made half
+        → IsPutAbove w c.change.name c.change.key (side_comment (chars (codes "; theirs")) c.theirs) half new
+        → IsLeft w c old new
+    all_left old made half new is_made ours theirs = record {
+      made = made;
+      half = half;
+      is_made = is_made;
+      ours = ours_put made half ours;
+      theirs = subst (λ side. IsPutAbove w c.change.name c.change.key
+          (side_comment side c.theirs) half new) chars-mark-theirs theirs;
+    }
+
+    pub ours_refused : (old made : Pieces) {e : EditError} → MakesOurs w c.change old made
+        → RefusesAbove w c.change.name c.change.key
+        (side_comment (chars (codes "; ours")) c.change.new) made e
+        → RefusesToLeave w c old e
+    ours_refused old made {e} is_made refused =
+        RefusesToLeave.ours made is_made (subst (λ side. RefusesAbove w c.change.name c.change.key
+        (side_comment side c.change.new) made e) chars-mark-ours refused)
+
+    pub theirs_refused : (old made half : Pieces) {e : EditError} → MakesOurs w c.change old made
+        → IsPutAbove w c.change.name c.change.key
+        (side_comment (chars (codes "; ours")) c.change.new) made half
+        → RefusesAbove w c.change.name c.change.key
+        (side_comment (chars (codes "; theirs")) c.theirs) half e
+        → RefusesToLeave w c old e
+    theirs_refused old made half {e} is_made ours refused =
+        RefusesToLeave.theirs made half is_made (ours_put made half ours)
+        (subst (λ side. RefusesAbove w c.change.name c.change.key (side_comment side c.theirs) half e)
+        chars-mark-theirs refused)
+
+  -- one conflict more is left
+  pub one_left : {old mid new : Pieces} (conflicts : List Conflict) (i : ℕ) (d : Conflict)
+      → i < length conflicts → AreLeft w old (map setting_conflict (take i conflicts)) mid
+      → IsLeft w (setting_conflict (get_or conflicts i d)) mid new
+      → AreLeft w old (map setting_conflict (take (i + 1) conflicts)) new
+  one_left {old} {mid} {new} conflicts i d within left is =
+      let c = setting_conflict (get_or conflicts i d) in
+      let taken : map setting_conflict (take (i + 1) conflicts)
+      ≡ map setting_conflict (take i conflicts) ++ c ∷ [] =
+      rw (add-one, take-suc conflicts i d within)
+      (map-append setting_conflict (take i conflicts) (get_or conflicts i d ∷ [])) in
+      subst (λ cs. AreLeft w old cs new) (sym taken) (AreLeft.then c left is)
+
+  -- of the conflicts the one at the index is refused
+  pub one_not_left : {old mid : Pieces} (conflicts : List Conflict) (i : ℕ) (d : Conflict)
+      (refusal : EditError) → i < length conflicts
+      → AreLeft w old (map setting_conflict (take i conflicts)) mid
+      → RefusesToLeave w (setting_conflict (get_or conflicts i d)) mid refusal
+      → RefusesOneToLeave w old (map setting_conflict conflicts) (record { index = i; refusal = refusal })
+  one_not_left {old} {mid} conflicts i d refusal within left refused = record {
+    before = map setting_conflict (take i conflicts);
+    following = map setting_conflict (drop i conflicts);
+    mid = mid;
+    whole = ap (map setting_conflict) (sym (take-append-drop i conflicts))
+        ∙ map-append setting_conflict (take i conflicts) (drop i conflicts);
+    index = simp (length-map, length-take) (omega arith);
+    are_left = left;
+    is_refused = rw (drop-cons conflicts i d within) refused;
+  }
+
+  -- memory is refused before any is left
+  pub none_left : (conflicts : List SettingConflict) (p : Pieces)
+      → RefusesOneToLeave w p conflicts (record { index = 0; refusal = TextError (Memory alloc_error) })
+  none_left conflicts p = record {
+    before = [];
+    following = conflicts;
+    mid = p;
+    whole = refl;
+    index = refl;
+    are_left = AreLeft.none;
+    is_refused = of conflicts;
+  }
+    where
+      of : (cs : List SettingConflict) → RefusesFirstToLeave w cs p (TextError (Memory alloc_error))
+      of [] = refl
+      of (c ∷ cs) =
+          RefusesToLeave.value (memory_refused w c.change.name c.change.key c.change.new p)
+
+-- the parts of a comment
+module _ (above side has value : List ℕ) where
+  abbrev parts : Text
+  parts = (escaped_part [] ++ chars above) ++ ((escaped_part [] ++ chars side)
+      ++ ((escaped_part [] ++ chars has) ++ ((escaped_part value ++ chars []) ++ [])))
+
+  of-comment : parts ≡ chars above ++ (chars side ++ (chars has ++ escaped_part value))
+  of-comment = rw chars-nil (simp (append_assoc, append-nil) refl)
+
+  pub comment-bytes : (old new : List ℕ) → old ≡ [] → new ≡ old ++ encode_utf8_all parts
+      → new ≡ encode_utf8_all (chars above ++ (chars side ++ (chars has ++ escaped_part value)))
+  comment-bytes old new empty is =
+      is ∙ ap (λ x. x ++ encode_utf8_all parts) empty ∙ ap encode_utf8_all of-comment
+
+  pub comment-scalars : IsUtf8 above → IsUtf8 side → IsUtf8 has → IsUtf8 value
+      → all_scalars (chars above ++ (chars side ++ (chars has ++ escaped_part value))) ≡ true
+  comment-scalars a s h v =
+      scalars-append (chars above) _ (scalars-chars above a)
+      (scalars-append (chars side) _ (scalars-chars side s)
+      (scalars-append (chars has) _ (scalars-chars has h)
+      (escaped-scalars Basics (chars value) (scalars-chars value v))))
