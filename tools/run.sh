@@ -15,7 +15,7 @@ builder=
 shower=
 # what the first build of a program takes, where no library of it is proved
 cost='about 23 minutes of processor time (some 8 minutes on four cores), up to 4 GB of memory and 2.5 GB of disk'
-cost_of_ini_file='about 90 minutes of processor time (some 50 minutes on four cores), up to 6 GB of memory and 2.5 GB of disk'
+cost_of_ini_file='about 90 minutes of processor time (some 50 minutes on four cores), up to 8 GB of memory and 2.5 GB of disk'
 
 say() {
     printf '%s\n' "$1" >&2 || true
