@@ -82,6 +82,10 @@ def made(edit, crate):
             if texts[path].count(old) != 1:
                 raise Bad(f"an old text stands in {path} {texts[path].count(old)} times")
             texts[path] = texts[path].replace(old, line[len("new:") :].removeprefix(" "))
+        elif line.strip():
+            raise Bad(f"a line that is none of an edit: {line.strip()[:60]}")
+    if all(text == (crate / path).read_text(encoding="utf-8") for path, text in texts.items()):
+        raise Bad("it changes nothing")
     return texts
 
 
