@@ -130,6 +130,18 @@ struct bigrosk_ini_read_option {
 };
 #define BIGROSK_INI_READ_DEFAULT { true, true, false, false, false }
 
+/* The same with the option that came later. It begins as BIGROSK_INI_READING_DEFAULT; the calls whose names end in _by take it. */
+struct bigrosk_ini_reading {
+    uint8_t size;          /* of this struct, as the macro sets it: an option that it doesn't reach is off */
+    bool quotes;
+    bool escapes;
+    bool multiline;
+    bool keep_indentation;
+    bool brackets;
+    bool raw_backslash;    /* where escapes are off, a backslash is a character like any other, before a line feed too */
+};
+#define BIGROSK_INI_READING_DEFAULT { sizeof(struct bigrosk_ini_reading), true, true, false, false, false, false }
+
 /* Which characters of names, keys and values are escaped. */
 enum bigrosk_ini_policy {
     BIGROSK_INI_NOTHING = 0,
@@ -184,6 +196,11 @@ uint32_t bigrosk_ini_version(void);
 uint32_t bigrosk_ini_load(const uint8_t *text, size_t text_count, bool drop_mark,
                           const struct bigrosk_ini_read_option *option, struct bigrosk_ini_document *document,
                           struct bigrosk_ini_fault *fault);
+
+/* The same by a struct bigrosk_ini_reading. */
+uint32_t bigrosk_ini_load_by(const uint8_t *text, size_t text_count, bool drop_mark,
+                             const struct bigrosk_ini_reading *reading, struct bigrosk_ini_document *document,
+                             struct bigrosk_ini_fault *fault);
 
 /* Frees the document, which leaves none. */
 void bigrosk_ini_free(struct bigrosk_ini_document *document);
@@ -260,14 +277,19 @@ uint32_t bigrosk_ini_write(struct bigrosk_ini_document *document, const struct b
  * it is not so. */
 bool bigrosk_ini_is_plain(struct bigrosk_ini_document *document, const struct bigrosk_ini_write_option *write,
                           const struct bigrosk_ini_read_option *read);
+bool bigrosk_ini_is_plain_by(struct bigrosk_ini_document *document, const struct bigrosk_ini_write_option *write,
+                             const struct bigrosk_ini_reading *reading);
 
 /* Fills the options in by the name of a dialect: how its programs read their files, and how a line is written that they read
  * back. The names: crate (the default options), aws, desktop, editorconfig, fail2ban, freetds, git, hg, kde, mysql, npm, odbc,
  * openssl, openttd, php, pulseaudio, python, qt, samba, sssd, supervisor, systemd, uwsgi, windows, xrdp. The calls look up as
  * ever: the first section and the first pair count, and case tells names apart, whatever the dialect's programs do.
- * OK; ABSENT where no dialect has the name; NOT_UTF8. With anything but OK the options are as they were. */
+ * OK; ABSENT where no dialect has the name; NOT_UTF8. With anything but OK the options are as they were. The first call knows of
+ * no raw backslashes; the second one leaves the size as it is. */
 uint32_t bigrosk_ini_dialect(const uint8_t *name, size_t name_count, struct bigrosk_ini_read_option *read,
                              struct bigrosk_ini_write_option *write);
+uint32_t bigrosk_ini_dialect_by(const uint8_t *name, size_t name_count, struct bigrosk_ini_reading *reading,
+                                struct bigrosk_ini_write_option *write);
 
 /* The next six edit a text itself, and keep every byte that the edit is not about: comments, blank lines, alignment, line ends.
  * No document is used: the text comes in as bytes, and the new one is copied into `out`, and a 0 after it; count says how many
@@ -348,6 +370,10 @@ uint32_t bigrosk_ini_edit_rename_section(const uint8_t *text, size_t text_count,
  * OK; NOT_UTF8; BROKEN, and only then is the fault written; NO_MEMORY. Where it isn't OK, the text that was open stays. */
 uint32_t bigrosk_ini_text_open(const uint8_t *bytes, size_t bytes_count, const struct bigrosk_ini_read_option *option,
                                struct bigrosk_ini_text *text, struct bigrosk_ini_fault *fault);
+
+/* The same by a struct bigrosk_ini_reading. */
+uint32_t bigrosk_ini_text_open_by(const uint8_t *bytes, size_t bytes_count, const struct bigrosk_ini_reading *reading,
+                                  struct bigrosk_ini_text *text, struct bigrosk_ini_fault *fault);
 
 /* Closes the text, which leaves none. */
 void bigrosk_ini_text_close(struct bigrosk_ini_text *text);
@@ -504,6 +530,12 @@ static inline uint32_t bigrosk_ini_dialect_str(const char *name, struct bigrosk_
                                                struct bigrosk_ini_write_option *write)
 {
     return bigrosk_ini_dialect(bigrosk_ini_bytes(name), bigrosk_ini_count(name), read, write);
+}
+
+static inline uint32_t bigrosk_ini_dialect_by_str(const char *name, struct bigrosk_ini_reading *reading,
+                                                  struct bigrosk_ini_write_option *write)
+{
+    return bigrosk_ini_dialect_by(bigrosk_ini_bytes(name), bigrosk_ini_count(name), reading, write);
 }
 
 static inline uint32_t bigrosk_ini_get_str(struct bigrosk_ini_document *document, const char *section, const char *key,
@@ -880,9 +912,9 @@ static inline uint32_t bigrosk_ini_file_keep(struct bigrosk_ini_file *file, uint
 
 static inline void bigrosk_ini_file_close(struct bigrosk_ini_file *file) { bigrosk_ini_text_close(&file->text); }
 
-/* Reads the file and opens its text by the option: OK; NO_FILE, and errno says why; BROKEN; NOT_UTF8; NO_MEMORY. */
-static inline uint32_t bigrosk_ini_file_read(struct bigrosk_ini_file *file, const char *path,
-                                             const struct bigrosk_ini_read_option *option)
+/* Reads the file and opens its text so: OK; NO_FILE, and errno says why; BROKEN; NOT_UTF8; NO_MEMORY. */
+static inline uint32_t bigrosk_ini_file_read_by(struct bigrosk_ini_file *file, const char *path,
+                                                const struct bigrosk_ini_reading *reading)
 {
     struct bigrosk_ini_fault fault = { 0, 0, 0, "" };
     struct bigrosk_ini_buffer buffer = BIGROSK_INI_BUFFER_EMPTY;
@@ -900,7 +932,8 @@ static inline uint32_t bigrosk_ini_file_read(struct bigrosk_ini_file *file, cons
     fclose(it);
     if (status == BIGROSK_INI_OK) {
         file->mark = bigrosk_ini_mark(buffer.bytes, buffer.count);
-        status = bigrosk_ini_text_open(buffer.bytes + file->mark, buffer.count - file->mark, option, &file->text, &fault);
+        status =
+            bigrosk_ini_text_open_by(buffer.bytes + file->mark, buffer.count - file->mark, reading, &file->text, &fault);
         place.line = fault.line;
         place.column = fault.column;
         if (file->status == BIGROSK_INI_OK) memcpy(file->message, fault.message, sizeof fault.message);
@@ -909,22 +942,35 @@ static inline uint32_t bigrosk_ini_file_read(struct bigrosk_ini_file *file, cons
     return bigrosk_ini_file_keep(file, status, NULL, NULL, place);
 }
 
-/* The same by the default option. */
+/* The same by the first five options. */
+static inline uint32_t bigrosk_ini_file_read(struct bigrosk_ini_file *file, const char *path,
+                                             const struct bigrosk_ini_read_option *option)
+{
+    struct bigrosk_ini_reading reading = BIGROSK_INI_READING_DEFAULT;
+    reading.quotes = option->quotes;
+    reading.escapes = option->escapes;
+    reading.multiline = option->multiline;
+    reading.keep_indentation = option->keep_indentation;
+    reading.brackets = option->brackets;
+    return bigrosk_ini_file_read_by(file, path, &reading);
+}
+
+/* The same by the default options. */
 static inline uint32_t bigrosk_ini_file_open(struct bigrosk_ini_file *file, const char *path)
 {
-    struct bigrosk_ini_read_option option = BIGROSK_INI_READ_DEFAULT;
-    return bigrosk_ini_file_read(file, path, &option);
+    struct bigrosk_ini_reading reading = BIGROSK_INI_READING_DEFAULT;
+    return bigrosk_ini_file_read_by(file, path, &reading);
 }
 
 /* The same by the options of a dialect, which what is set is written by too: also NO_DIALECT. */
 static inline uint32_t bigrosk_ini_file_open_as(struct bigrosk_ini_file *file, const char *path, const char *dialect)
 {
-    struct bigrosk_ini_read_option option = BIGROSK_INI_READ_DEFAULT;
+    struct bigrosk_ini_reading reading = BIGROSK_INI_READING_DEFAULT;
     struct bigrosk_ini_place place = BIGROSK_INI_NO_PLACE_YET;
     file->path = path;
-    if (bigrosk_ini_dialect_str(dialect, &option, &file->write) != BIGROSK_INI_OK)
+    if (bigrosk_ini_dialect_by_str(dialect, &reading, &file->write) != BIGROSK_INI_OK)
         return bigrosk_ini_file_keep(file, BIGROSK_INI_NO_DIALECT, NULL, NULL, place);
-    return bigrosk_ini_file_read(file, path, &option);
+    return bigrosk_ini_file_read_by(file, path, &reading);
 }
 
 /* Saves the text beside the file (PATH.new), and renames: OK; NO_FILE, and errno says why; NO_MEMORY; NO_DOCUMENT. After a refusal

@@ -395,9 +395,9 @@ paths() {
         "path = C:\\\\new \nother='D:\\\\new'\npath=E:\\\\\\\\\n" $raw add settings.ini path 'E:\\'
     case_of 'the paths are read back' 0 'C:\\new\nE:\\\\\n' '' --noescape get --all settings.ini path
     refused 'set of a path that ends in one backslash' 2 "$unread
-note: a backslash at its end would take what follows" $raw set settings.ini path 'C:\new\'
+note: a backslash at its end would take what follows: use --raw-backslash" $raw set settings.ini path 'C:\new\'
     refused 'add of a path that ends in three' 2 "$unread
-note: a backslash at its end would take what follows" $raw add settings.ini path 'C:\\\'
+note: a backslash at its end would take what follows: use --raw-backslash" $raw add settings.ini path 'C:\\\'
     refused 'set of two lines' 2 "$unread
 note: it has a line end" $raw set settings.ini path 'C:\
 new'

@@ -34,7 +34,7 @@ offered() {
 mkdir "$room/files"
 : >"$room/files/one.ini"
 : >"$room/files/one two"
-options='--brackets --crlf --indent --multiline --noescape --noquote --policy '
+options='--brackets --crlf --indent --multiline --noescape --noquote --policy --raw-backslash '
 if has bash completions; then
     offered 'del fmt get list set ' ini_tool ''
     offered 'get ' ini_tool g

@@ -12,7 +12,7 @@ file=$(program_of ini_file "${2:-}") || exit 1
 mkdir "$room/bin"
 ln -s "$program" "$room/bin/ini_tool"
 ln -s "$file" "$room/bin/ini_file"
-options='[--noescape] [--noquote] [--multiline] [--indent] [--brackets] [--crlf] [--policy NAME]'
+options='[--noescape] [--noquote] [--multiline] [--indent] [--brackets] [--raw-backslash] [--crlf] [--policy NAME]'
 usage="usage: ini_tool $options fmt|list|get KEY [SECTION]|set KEY VALUE [SECTION]|del KEY [SECTION]"
 
 # told NAME STATUS WANTED ERROR: the last run's status, and what it wrote on standard error
@@ -87,6 +87,9 @@ fmt|k="a"|0|k=a\n|
 --multiline fmt|k=v\n  w|0|k=v\\nw\n|
 --indent fmt|  k=v|0|  k=v\n|
 --brackets list|[[*]]\na = b\n|0|[[*]]\ta\tb\n|
+--noescape --raw-backslash list|p=C:\\x\\\nk=v|0|\tp\tC:\\\\x\\\\\n\tk\tv\n|
+--raw-backslash --noescape list|[a\\]\nb\\=c|0|[a\\\\]\tb\\\\\tc\n|
+--raw-backslash list|p=a\\tb\\\nc|0|\tp\ta\\tbc\n|
 --crlf fmt|k=1\n[a]\nx=y|0|k=1\r\n\r\n[a]\r\nx=y\r\n|
 --policy Reserved fmt|k=a:b|0|k=a\\:b\n|
 --policy Reserved --policy Nothing fmt|k=a:b|0|k=a:b\n|
@@ -216,6 +219,7 @@ del k s x|k=v\n|2||USAGE
 --policy --crlf fmt|k=v\n|2||USAGE
 --crlf --policy Nothing|k=v\n|2||USAGE
 --brackets-in fmt|k=v\n|2||USAGE
+--raw-backslashes fmt|k=v\n|2||USAGE
 -- fmt|k=v\n|2||USAGE
 --CRLF fmt|k=v\n|2||USAGE
 --policy Basics frob|k=v\n|2||USAGE

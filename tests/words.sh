@@ -197,6 +197,7 @@ set none.ini k v --output=- --like windows|k=v\r\n
 set none.ini k a\b --output=- --like samba|k = a\\b\n
 set none.ini k a\b --output=- --policy Basics --like kde|k=a\\\\b\n
 set none.ini k a\b --output=- --like kde --noescape --policy Nothing|k=a\\b\n
+set none.ini k a\ --output=- --like samba --raw-backslash|k = a\\\n
 END
 }
 
@@ -512,7 +513,8 @@ refused() {
 ~k = "v\n\nw\n~1:5: this quote isn't closed~k = "v~    ^~note: the text ends at 4:1
 ~a = 1\n  k='v~2:5: this quote isn't closed~  k='v~    ^~note: the text ends at 2:7
 ~a\\=b = "c\\"~1:8: this quote isn't closed~a\=b = "c\"~       ^~note: the text ends at 1:12
---noescape~a\\="c~1:4: this quote isn't closed~a\="c~   ^~note: the text ends at 1:6
+--noescape~a\\="c~1:1: this key has no = or : after it~a\="c~^~note: the text ends at 1:6
+--noescape --raw-backslash~a\\="c~1:4: this quote isn't closed~a\="c~   ^~note: the text ends at 1:6
 ~a = 1\n[b\nc = 2\n~2:1: this bracket isn't closed~[b~^~note: the text ends at 4:1
 ~a = 1\n\n  [b\n~3:3: this bracket isn't closed~  [b~  ^~note: the text ends at 4:1
 --brackets~a = 1\n[b~2:1: this bracket isn't closed~[b~^~note: the text ends at 2:3
@@ -615,7 +617,7 @@ reasons() {
 --noescape|a\nb|it has a line end
 --policy Nothing|a\\b|it has a backslash: use --policy Basics
 --noescape|a\\b|it has a backslash: use --policy Nothing
---noescape --policy Nothing|a\\|a backslash at its end would take what follows
+--noescape --policy Nothing|a\\|a backslash at its end would take what follows: use --raw-backslash
 --noescape|a\001b|it has a character that is written as an escape, and --noescape reads none: use --policy Nothing
 --noescape --policy Reserved|a=b|it has a character that is written as an escape, and --noescape reads none: use --policy Basics
 |a\013b|it has U+000B or U+000C, whose escapes aren't read: use --policy Nothing
@@ -635,6 +637,7 @@ END
 |a:b|= or : stands in it: use --policy Reserved
 --policy Nothing|a\nb|it has a line end: use --policy Basics
 --noescape|a\\b|it has a backslash
+--noescape --policy Nothing|a\\b|it has a backslash: use --raw-backslash
 END
     unwritten name <<'END'
 | s|white space begins or ends it
@@ -658,6 +661,8 @@ END
 --noquote|value|"v'
 --noquote --policy Basics|value|a\nb
 --noescape --policy Nothing|value|a\\b
+--noescape --policy Nothing --raw-backslash|value|a\\
+--noescape --policy Nothing --raw-backslash|key|a\\b
 --policy Nothing|value|a\013b
 --indent|key| k
 --policy Reserved|key|;k

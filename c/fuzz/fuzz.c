@@ -4,8 +4,9 @@
  *
  * An input is two bytes of options, the name of a section, a key and a value, each with a | after it, and
  * the text. Bits of the first byte: 1 quotes, 2 escapes, 4 multiline, 8 kept indentation, 16 brackets, 32 a
- * mark is dropped, 64 the general section in place of the one of the name. Of the second: 1 to 8 the policy,
- * 16 and 32 the separator, 128 CR LF. So `#A` has the default options. */
+ * mark is dropped, 64 the general section in place of the one of the name, 128 raw backslashes, where all of
+ * the options are read by. Of the second: 1 to 8 the policy, 16 and 32 the separator, 128 CR LF. So `#A` has
+ * the default options. */
 #include "promises.h"
 
 int LLVMFuzzerTestOneInput(const uint8_t *data, size_t size);
@@ -93,9 +94,16 @@ static struct input input_of(const uint8_t *data, size_t size)
     struct bytes rest = { data + 2, size - 2 };
     struct input input = {
         { first & 1, (first & 2) != 0, (first & 4) != 0, (first & 8) != 0, (first & 16) != 0 },
+        BIGROSK_INI_READING_DEFAULT,
         { second & 15u, second >> 7, (second >> 4) & 3u },
         (first & 32) != 0, (first & 64) == 0, { NULL, 0 }, { NULL, 0 }, { NULL, 0 }, { NULL, 0 }
     };
+    input.reading.quotes = input.read.quotes;
+    input.reading.escapes = input.read.escapes;
+    input.reading.multiline = input.read.multiline;
+    input.reading.keep_indentation = input.read.keep_indentation;
+    input.reading.brackets = input.read.brackets;
+    input.reading.raw_backslash = first >> 7;
     input.section = next_part(&rest);
     input.key = next_part(&rest);
     input.value = next_part(&rest);
@@ -147,6 +155,71 @@ static void write_and_load(document *it, const struct listing *listing, const st
     free(text);
 }
 
+/* No value has a line end in it. */
+static void are_of_one_line(const struct listing *listing)
+{
+    struct bigrosk_ini_walk walk = bigrosk_ini_walk_over(listing->bytes, listing->counts, listing->sizes);
+    while (!bigrosk_ini_is_over(&walk)) {
+        bigrosk_ini_text(&walk, NULL);
+        for (size_t left = bigrosk_ini_number(&walk); left > 0; left--) {
+            size_t count = 0;
+            bigrosk_ini_text(&walk, NULL);
+            const char *value = bigrosk_ini_text(&walk, &count);
+            PROMISE(!memchr(value, '\n', count) && !memchr(value, '\r', count));
+        }
+    }
+}
+
+/* A plain document, written, loads as it is by all options too. */
+static void write_and_load_by(document *it, const struct listing *listing, const struct input *input)
+{
+    size_t count = 0;
+    uint8_t *none = filled(0);
+    if (!bigrosk_ini_is_plain_by(it, &input->write, &input->reading)) {
+        free(none);
+        return;
+    }
+    PROMISE(bigrosk_ini_write(it, &input->write, none, 0, &count) == BIGROSK_INI_NO_ROOM);
+    free(none);
+    document other = BIGROSK_INI_EMPTY;
+    fault f = { 0, 0, 0, "" };
+    uint8_t *text = filled(count + 1);
+    PROMISE(bigrosk_ini_write(it, &input->write, text, count + 1, &count) == BIGROSK_INI_OK);
+    PROMISE(bigrosk_ini_load_by(text, count, false, &input->reading, &other, &f) == BIGROSK_INI_OK);
+    struct listing loaded = listing_of(&other);
+    PROMISE(is_same_listing(listing, &loaded));
+    free_listing(&loaded);
+    bigrosk_ini_free(&other);
+    free(text);
+}
+
+/* The text by all options: as by the first five, but for backslashes where these are raw, which then keep no
+ * line end. A text in pieces is read as a document is. */
+static void read_by(const struct input *input, uint32_t status, const struct listing *listing)
+{
+    const struct bigrosk_ini_reading *reading = &input->reading;
+    struct bytes text = input->text;
+    document it = BIGROSK_INI_EMPTY;
+    struct bigrosk_ini_text pieces = BIGROSK_INI_TEXT_EMPTY;
+    fault f = { 0, 0, 0, "" };
+    bool is_raw = reading->raw_backslash && !reading->escapes;
+    bool differs = is_raw && text.count && memchr(text.at, '\\', text.count);
+    uint32_t told = bigrosk_ini_load_by(text.at, text.count, input->drop_mark, reading, &it, &f);
+    PROMISE(told == status || (differs && (told == BIGROSK_INI_OK || told == BIGROSK_INI_BROKEN)));
+    if (told == BIGROSK_INI_OK) {
+        struct listing had = listing_of(&it);
+        PROMISE(differs || is_same_listing(&had, listing));
+        if (is_raw && !reading->quotes && !reading->multiline) are_of_one_line(&had);
+        write_and_load_by(&it, &had, input);
+        free_listing(&had);
+    }
+    told = bigrosk_ini_load_by(text.at, text.count, false, reading, &it, &f);
+    PROMISE(bigrosk_ini_text_open_by(text.at, text.count, reading, &pieces, &f) == told);
+    note(30, told);
+    bigrosk_ini_text_close(&pieces);
+    bigrosk_ini_free(&it);
+}
+
 int LLVMFuzzerTestOneInput(const uint8_t *data, size_t size)
 {
     document it = BIGROSK_INI_EMPTY;
@@ -163,10 +236,12 @@ int LLVMFuzzerTestOneInput(const uint8_t *data, size_t size)
         look_up(&it, &listing, &input);
         write_and_load(&it, &listing, &input);
         edit_document(&listing, &input);
+        read_by(&input, status, &listing);
         free_listing(&listing);
     } else {
         PROMISE(status == BIGROSK_INI_BROKEN || status == BIGROSK_INI_NOT_UTF8);
         is_refused(&input, text, status, &f, &it);
+        read_by(&input, status, NULL);
     }
     bigrosk_ini_free(&it);
     PROMISE(!it.is_open);

@@ -49,9 +49,9 @@ from __future__ import annotations
 import ctypes
 from collections.abc import MutableMapping
 
-from ._calls import BROKEN, KINDS, NO_ROOM, NOT_UTF8, Broken, Fault, Handle, Listing, ReadOption, RLock
-from ._calls import Unwritable, WriteOption, bytes_of, copied_out, dialect, help_for, is_done, library
-from ._calls import options_of, shown, text_words, words_of
+from ._calls import BROKEN, KINDS, NO_ROOM, NOT_UTF8, Broken, Fault, FirstFive, Handle, Listing
+from ._calls import ReadOption, RLock, Unwritable, WriteOption, bytes_of, copied_out, dialect, help_for
+from ._calls import is_done, library, options_of, shown, text_words, words_of
 from ._differences import Change, Conflict, Conflicting, apply, diff, merge3
 from ._refusals import Error, Mistyped, NoOption, NoSection, SectionThere
 from ._settings import Settings, SettingsSection, load
@@ -91,8 +91,9 @@ class Document:
     ) -> None:
         self._it, self._lock, fault = Handle(), RLock(), Fault()
         self._read, self._write = options_of(None, None, dialect)
-        read, file = bytes_of(text)
-        status = library.bigrosk_ini_load(read, len(read), drop_mark, option or self._read, self._it, fault)
+        whole, file = bytes_of(text)
+        read = option or self._read
+        status = library.bigrosk_ini_load_by(whole, len(whole), drop_mark, read, self._it, fault)
         if status == BROKEN:
             raise Broken(fault, file, help_for(text))
         if status == NOT_UTF8 and file is not None:
@@ -170,7 +171,7 @@ class Document:
 
     def is_plain(self, write: Optional[WriteOption] = None, read: Optional[ReadOption] = None) -> bool:
         """Whether the document, written by one option, loads by the other as it is."""
-        return bool(self._call(library.bigrosk_ini_is_plain, write or self._write, read or self._read))
+        return bool(self._call(library.bigrosk_ini_is_plain_by, write or self._write, read or self._read))
 
 
 class Section(MutableMapping[str, str]):
@@ -225,13 +226,33 @@ class Section(MutableMapping[str, str]):
 
 
 def _edited(
-    call: Callable[..., int], text: AnyStr, options: Tuple[Any, ...], words: List[Any], what: Optional[str]
+    name: str, text: AnyStr, options: Tuple[Any, ...], words: List[Any], what: Optional[str]
 ) -> AnyStr:
-    """The text as the call edits it, as str or bytes as it came; a mark at its front stays. KeyError of
-    `what` where that isn't there."""
+    """The text as the call of the name edits it, as str or bytes as it came; a mark at its front stays.
+    KeyError of `what` where that isn't there."""
     if not isinstance(text, (str, bytes)):
         raise TypeError(f"the text of an edit is a str or bytes: this is {shown(text)}")
     whole = text.encode() if isinstance(text, str) else text
+    edited = (_opened_edited if options[0].raw_backslash else _bytes_edited)(name, whole, options, words, what)
+    return edited.decode() if isinstance(text, str) else edited
+
+
+def _opened_edited(
+    name: str, whole: bytes, options: Tuple[Any, ...], words: List[Any], what: Optional[str]
+) -> bytes:
+    """The same of bytes, by a text in pieces: by each option that there is."""
+    settings = Settings(whole, options[0])
+    if not is_done(settings._call(getattr(library, f"bigrosk_ini_text_{name}"), *options[1:], *words)):
+        raise KeyError(what)
+    return settings._mark + str(settings).encode()
+
+
+def _bytes_edited(
+    name: str, whole: bytes, options: Tuple[Any, ...], words: List[Any], what: Optional[str]
+) -> bytes:
+    """The same by a call that edits bytes, which knows of the first five options."""
+    call = getattr(library, f"bigrosk_ini_edit_{name}")
+    options = (FirstFive(options[0]), *options[1:])
     mark = whole[:3] if whole.startswith(b"\xef\xbb\xbf") else b""
     old, room, count, fault = whole[len(mark) :], len(whole) + 256, ctypes.c_size_t(), Fault()
     while True:
@@ -244,8 +265,7 @@ def _edited(
         raise Broken(fault)
     if not is_done(status):
         raise KeyError(what)
-    new = mark + out.raw[: count.value]
-    return new.decode() if isinstance(text, str) else new
+    return mark + out.raw[: count.value]
 
 
 def edit_set(
@@ -260,7 +280,7 @@ def edit_set(
     """The text with the key's value set: in the place of that of its first pair, and the later ones there
     go; or in a new line of the section, or in a new section."""
     options = options_of(read, write, dialect)
-    return _edited(library.bigrosk_ini_edit_set, text, options, words_of(section, key=key, value=value), key)
+    return _edited("set", text, options, words_of(section, key=key, value=value), key)
 
 
 def edit_add(
@@ -275,7 +295,7 @@ def edit_add(
     """The text with a further pair, whatever pairs of the key are there: in a new line of the section, or in
     a new section."""
     options = options_of(read, write, dialect)
-    return _edited(library.bigrosk_ini_edit_add, text, options, words_of(section, key=key, value=value), key)
+    return _edited("add", text, options, words_of(section, key=key, value=value), key)
 
 
 def edit_delete(
@@ -287,7 +307,7 @@ def edit_delete(
 ) -> AnyStr:
     """The text without the key's first pair. KeyError where it isn't there."""
     options = options_of(read, None, dialect)[:1]
-    return _edited(library.bigrosk_ini_edit_delete, text, options, words_of(section, key=key), key)
+    return _edited("delete", text, options, words_of(section, key=key), key)
 
 
 def edit_rename_key(
@@ -302,7 +322,7 @@ def edit_rename_key(
     """The text with another key in the key's first pair. KeyError where it isn't there."""
     options = options_of(read, write, dialect)
     words = words_of(section, key=key, new_key=new)
-    return _edited(library.bigrosk_ini_edit_rename_key, text, options, words, key)
+    return _edited("rename_key", text, options, words, key)
 
 
 def edit_delete_section(
@@ -313,7 +333,7 @@ def edit_delete_section(
     if section is None:
         raise KeyError(section)
     options = options_of(read, None, dialect)[:1]
-    return _edited(library.bigrosk_ini_edit_delete_section, text, options, text_words(name=section), section)
+    return _edited("delete_section", text, options, text_words(name=section), section)
 
 
 def edit_rename_section(
@@ -330,7 +350,7 @@ def edit_rename_section(
         raise KeyError(section)
     options = options_of(read, write, dialect)
     words = text_words(name=section, new_name=new)
-    return _edited(library.bigrosk_ini_edit_rename_section, text, options, words, section)
+    return _edited("rename_section", text, options, words, section)
 
 
 def version() -> int:

@@ -72,14 +72,17 @@ class Sizes(ctypes.Structure):
 
 
 class ReadOption(ctypes.Structure):
-    """How a text is read."""
+    """How a text is read. With raw_backslash, where escapes are off, a backslash is a character like any
+    other, before a line feed too."""
 
     _fields_ = [
+        ("size", ctypes.c_uint8),
         ("quotes", ctypes.c_bool),
         ("escapes", ctypes.c_bool),
         ("multiline", ctypes.c_bool),
         ("keep_indentation", ctypes.c_bool),
         ("brackets", ctypes.c_bool),
+        ("raw_backslash", ctypes.c_bool),
     ]
 
     def __init__(
@@ -89,8 +92,26 @@ class ReadOption(ctypes.Structure):
         multiline: bool = False,
         keep_indentation: bool = False,
         brackets: bool = False,
+        raw_backslash: bool = False,
     ) -> None:
-        super().__init__(quotes, escapes, multiline, keep_indentation, brackets)
+        size = ctypes.sizeof(ReadOption)
+        super().__init__(size, quotes, escapes, multiline, keep_indentation, brackets, raw_backslash)
+
+
+class FirstFive(ctypes.Structure):
+    """The options that the calls which edit bytes know."""
+
+    _fields_ = [
+        ("quotes", ctypes.c_bool),
+        ("escapes", ctypes.c_bool),
+        ("multiline", ctypes.c_bool),
+        ("keep_indentation", ctypes.c_bool),
+        ("brackets", ctypes.c_bool),
+    ]
+
+    def __init__(self, read: Optional[ReadOption] = None) -> None:
+        it = read or ReadOption()
+        super().__init__(it.quotes, it.escapes, it.multiline, it.keep_indentation, it.brackets)
 
 
 class WriteOption(ctypes.Structure):
@@ -110,8 +131,9 @@ _out: List[Any] = [*_text, ctypes.POINTER(ctypes.c_size_t)]
 _list: List[Any] = [*_out, ctypes.c_size_t, ctypes.POINTER(Sizes)]
 _counts: List[Any] = [ctypes.POINTER(ctypes.c_size_t), ctypes.c_size_t]
 _read, _write, _fault = ctypes.POINTER(ReadOption), ctypes.POINTER(WriteOption), ctypes.POINTER(Fault)
+_first = ctypes.POINTER(FirstFive)
 for _call, _arguments, _result in [
-    ("load", _text + [ctypes.c_bool, _read, _handle, _fault], ctypes.c_uint32),
+    ("load_by", _text + [ctypes.c_bool, _read, _handle, _fault], ctypes.c_uint32),
     ("free", [_handle], None),
     ("get", [_handle] + _name + _text + _out, ctypes.c_uint32),
     ("get_all", [_handle] + _name + _text + _list, ctypes.c_uint32),
@@ -124,15 +146,15 @@ for _call, _arguments, _result in [
     ("delete", [_handle] + _name + _text, ctypes.c_uint32),
     ("delete_section", [_handle] + _name, ctypes.c_uint32),
     ("write", [_handle, _write] + _out, ctypes.c_uint32),
-    ("is_plain", [_handle, _write, _read], ctypes.c_bool),
-    ("dialect", _text + [_read, _write], ctypes.c_uint32),
-    ("edit_set", _text + [_read, _write] + _name + _text + _text + _out + [_fault], ctypes.c_uint32),
-    ("edit_add", _text + [_read, _write] + _name + _text + _text + _out + [_fault], ctypes.c_uint32),
-    ("edit_delete", _text + [_read] + _name + _text + _out + [_fault], ctypes.c_uint32),
-    ("edit_rename_key", _text + [_read, _write] + _name + _text + _text + _out + [_fault], ctypes.c_uint32),
-    ("edit_delete_section", _text + [_read] + _text + _out + [_fault], ctypes.c_uint32),
-    ("edit_rename_section", _text + [_read, _write] + _text + _text + _out + [_fault], ctypes.c_uint32),
-    ("text_open", _text + [_read, _handle, _fault], ctypes.c_uint32),
+    ("is_plain_by", [_handle, _write, _read], ctypes.c_bool),
+    ("dialect_by", _text + [_read, _write], ctypes.c_uint32),
+    ("edit_set", _text + [_first, _write] + _name + _text + _text + _out + [_fault], ctypes.c_uint32),
+    ("edit_add", _text + [_first, _write] + _name + _text + _text + _out + [_fault], ctypes.c_uint32),
+    ("edit_delete", _text + [_first] + _name + _text + _out + [_fault], ctypes.c_uint32),
+    ("edit_rename_key", _text + [_first, _write] + _name + _text + _text + _out + [_fault], ctypes.c_uint32),
+    ("edit_delete_section", _text + [_first] + _text + _out + [_fault], ctypes.c_uint32),
+    ("edit_rename_section", _text + [_first, _write] + _text + _text + _out + [_fault], ctypes.c_uint32),
+    ("text_open_by", _text + [_read, _handle, _fault], ctypes.c_uint32),
     ("text_close", [_handle], None),
     ("text_write", [_handle] + _out, ctypes.c_uint32),
     ("text_get", [_handle] + _name + _text + _out, ctypes.c_uint32),
@@ -227,7 +249,7 @@ def dialect(name: str) -> Tuple[ReadOption, WriteOption]:
     """How the programs of a dialect ("systemd", "git", ..) read their files, and how a line is written that
     they read back. The first pair of a key counts all the same. ValueError where no dialect has the name."""
     read, write = ReadOption(), WriteOption()
-    if not is_done(library.bigrosk_ini_dialect(*text_words(name_of_a_dialect=name), read, write)):
+    if not is_done(library.bigrosk_ini_dialect_by(*text_words(name_of_a_dialect=name), read, write)):
         raise ValueError(f"no dialect has the name {name!r}")
     return read, write
 

@@ -61,7 +61,7 @@ class Settings(MutableMapping["Optional[str]", "SettingsSection"]):
         mark = MARK if given.startswith(MARK) else b""
         own, fault = given[len(mark) :], Fault()
         status = self._call(
-            lambda it, *words: library.bigrosk_ini_text_open(*words, it, fault), own, len(own), self._read
+            lambda it, *words: library.bigrosk_ini_text_open_by(*words, it, fault), own, len(own), self._read
         )
         if status == BROKEN:
             raise Broken(fault, file, help)

@@ -35,7 +35,7 @@ function __bigrosk_policies
 end
 
 function __bigrosk_options
-    printf '%s\n' --noescape --noquote --multiline --indent --brackets --crlf --policy
+    printf '%s\n' --noescape --noquote --multiline --indent --brackets --raw-backslash --crlf --policy
 end
 
 # The sections of the file that is named.

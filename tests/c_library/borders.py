@@ -23,9 +23,9 @@ TOP = Path(__file__).resolve().parents[2]
 HEADER = Path(sys.argv[1])
 SOURCES = "".join(it.read_text() for it in sorted((TOP / "crates/ini_c/src").rglob("*.rt")))
 # the structs of both sides, and the fields that have two names
-STRUCTS = {"ReadChoice": "read_option", "WriteChoice": "write_option", "Fault": "fault", "Sizes": "sizes", "Document": "document", "Text": "text", "Place": "place"}
+STRUCTS = {"ReadChoice": "read_option", "Reading": "reading", "WriteChoice": "write_option", "Fault": "fault", "Sizes": "sizes", "Document": "document", "Text": "text", "Place": "place"}
 RENAMED = {"handle": "inner"}
-DEFAULTS = {"read_option": "BIGROSK_INI_READ_DEFAULT", "write_option": "BIGROSK_INI_WRITE_DEFAULT"}
+DEFAULTS = {"read_option": "BIGROSK_INI_READ_DEFAULT", "reading": "BIGROSK_INI_READING_DEFAULT", "write_option": "BIGROSK_INI_WRITE_DEFAULT"}
 compared, different = 0, []
 
 
@@ -107,7 +107,7 @@ def source_fields(name):
 
 
 def size_and_alignment(of):
-    plain = {"bool": 1, "u32": 4, "usize": 8, "*mut u8": 8}
+    plain = {"bool": 1, "u8": 1, "u32": 4, "usize": 8, "*mut u8": 8}
     if of in plain:
         return plain[of], plain[of]
     if of == "Global":

@@ -68,6 +68,74 @@ static void read_options(void)
     bigrosk_ini_free(&d);
 }
 
+/* two lines whose backslashes, without escapes, stand alone by the option, and else join what follows them */
+static const char path[] = "p=C:\\x\\\nk=v\n";
+
+/* whether a document and an open text, read so, have the value for p, and k where it is a pair of its own */
+static bool are_read(const struct bigrosk_ini_reading *reading, const char *p, bool k)
+{
+    document d = BIGROSK_INI_EMPTY;
+    struct bigrosk_ini_text t = BIGROSK_INI_TEXT_EMPTY;
+    fault f;
+    const uint8_t *text = bigrosk_ini_bytes(path);
+    char value[16];
+    uint32_t want = k ? BIGROSK_INI_OK : BIGROSK_INI_ABSENT;
+    bool good = bigrosk_ini_load_by(text, strlen(path), true, reading, &d, &f) == BIGROSK_INI_OK;
+    good = good && is_value(&d, NULL, "p", p) && bigrosk_ini_has_str(&d, NULL, "k") == want;
+    good = good && bigrosk_ini_text_open_by(text, strlen(path), reading, &t, &f) == BIGROSK_INI_OK;
+    good = good && bigrosk_ini_text_get_str(&t, NULL, "p", value, sizeof value, NULL) == BIGROSK_INI_OK;
+    good = good && !strcmp(value, p) && bigrosk_ini_text_has_str(&t, NULL, "k") == want;
+    bigrosk_ini_free(&d);
+    bigrosk_ini_text_close(&t);
+    return good;
+}
+
+/* The struct with raw backslashes: each of its options alone, and the size that doesn't reach the last one. */
+static void readings(void)
+{
+    struct bigrosk_ini_reading r = BIGROSK_INI_READING_DEFAULT;
+    document d = BIGROSK_INI_EMPTY;
+    fault f;
+    CHECK(r.size == sizeof r && r.size == 7);
+    CHECK(!are_read(&r, "C:xk=v", false)); /* \x begins an escape, and is broken */
+    r.raw_backslash = true;
+    CHECK(bigrosk_ini_load_by((const uint8_t *)"k=a\\tb\n", 7, true, &r, &d, &f) == BIGROSK_INI_OK);
+    CHECK(is_value(&d, NULL, "k", "a\tb")); /* with escapes it changes nothing */
+    CHECK(bigrosk_ini_set_str(&d, NULL, "k", "a\\") == BIGROSK_INI_OK);
+    static const struct bigrosk_ini_write_option bare = { BIGROSK_INI_NOTHING, false, 0 };
+    CHECK(!bigrosk_ini_is_plain_by(&d, &bare, &r));
+    r.escapes = false;
+    CHECK(are_read(&r, "C:\\x\\", true) && bigrosk_ini_is_plain_by(&d, &bare, &r));
+    r.size = 6;
+    CHECK(are_read(&r, "C:\\xk=v", false) && !bigrosk_ini_is_plain_by(&d, &bare, &r));
+    r.size = sizeof r;
+    r.raw_backslash = false;
+    CHECK(are_read(&r, "C:\\xk=v", false) && !bigrosk_ini_is_plain_by(&d, &bare, &r));
+    bigrosk_ini_free(&d);
+    /* the first five, as in the struct that has no more */
+    static const struct { const char *text; bool others[5]; } rows[] = {
+        { "k='\n", { false, true, false, false, false } },  { "k=\\x\n", { true, false, false, false, false } },
+        { "k=v\n =w\n", { true, true, true, false, false } }, { " k=v\n", { true, true, false, true, false } },
+        { "[k]]\nk=v\n", { true, true, false, false, true } },
+    };
+    for (size_t i = 0; i < sizeof rows / sizeof *rows; i++)
+        for (int raw = 0; raw < 2; raw++) {
+            const bool *o = rows[i].others;
+            struct bigrosk_ini_read_option five = { o[0], o[1], o[2], o[3], o[4] };
+            struct bigrosk_ini_reading all = { sizeof all, o[0], o[1], o[2], o[3], o[4], raw };
+            document one = BIGROSK_INI_EMPTY, other = BIGROSK_INI_EMPTY;
+            const uint8_t *text = bigrosk_ini_bytes(rows[i].text);
+            size_t n = strlen(rows[i].text), count = 0;
+            char out[32];
+            CHECK(bigrosk_ini_load(text, n, true, &five, &one, &f) == BIGROSK_INI_OK);
+            CHECK(bigrosk_ini_load_by(text, n, true, &all, &other, &f) == BIGROSK_INI_OK);
+            CHECK(bigrosk_ini_write(&one, &plain, (uint8_t *)out, sizeof out, &count) == BIGROSK_INI_OK);
+            CHECK(is_written(&other, &plain, out));
+            bigrosk_ini_free(&one);
+            bigrosk_ini_free(&other);
+        }
+}
+
 /* whether the value, set in a document and in a text, is written so by the option; where it is no plain one, not in a text */
 static bool is_spelled(const struct bigrosk_ini_write_option *o, const char *value, const char *want, bool is_plain)
 {
@@ -262,6 +330,13 @@ static void marks(void)
     CHECK(mark_of("\xef\xbb\xbe", 3) == 0 && mark_of("a=1", 3) == 0);
 }
 
+/* whether the name is one of these words */
+static bool is_word_of(const char *const *words, const char *name)
+{
+    while (*words && strcmp(*words, name)) words++;
+    return *words != NULL;
+}
+
 /* Options by a dialect's name, as its programs read and write; refused, they stay. */
 static void dialects(void)
 {
@@ -296,6 +371,7 @@ static void dialects(void)
         { "xrdp", { true, true, false, false, false }, { BIGROSK_INI_NOTHING, false, 0 } },
         { "openttd", { false, true, false, false, false }, { BIGROSK_INI_NOTHING, false, 1 } },
     };
+    static const char *const raw[] = { "python", "fail2ban", "aws", "hg", "mysql", NULL };
     for (size_t i = 0; i < sizeof rows / sizeof *rows; i++) {
         struct bigrosk_ini_read_option r = { true, true, true, true, true }, wanted = rows[i].read;
         struct bigrosk_ini_write_option w = { 5, true, 9 };
@@ -303,6 +379,16 @@ static void dialects(void)
         CHECK(r.quotes == wanted.quotes && r.escapes == wanted.escapes && r.multiline == wanted.multiline);
         CHECK(r.keep_indentation == wanted.keep_indentation && r.brackets == wanted.brackets);
         CHECK(w.policy == rows[i].write.policy && w.crlf == rows[i].write.crlf && w.separator == rows[i].write.separator);
+        /* the struct with raw backslashes is told the same, and whether these are on */
+        for (int before = 0; before < 2; before++) {
+            struct bigrosk_ini_reading all = { sizeof all, before, before, before, before, before, before };
+            struct bigrosk_ini_write_option v = { 5, true, 9 };
+            CHECK(bigrosk_ini_dialect_by_str(rows[i].name, &all, &v) == BIGROSK_INI_OK && all.size == sizeof all);
+            CHECK(all.quotes == wanted.quotes && all.escapes == wanted.escapes && all.multiline == wanted.multiline);
+            CHECK(all.keep_indentation == wanted.keep_indentation && all.brackets == wanted.brackets);
+            CHECK(all.raw_backslash == is_word_of(raw, rows[i].name));
+            CHECK(v.policy == w.policy && v.crlf == w.crlf && v.separator == w.separator);
+        }
     }
     static const char *const others[] = { "", "systemD", "system", "systemd ", "\xff" };
     for (size_t i = 0; i < sizeof others / sizeof *others; i++) {
@@ -311,12 +397,17 @@ static void dialects(void)
         CHECK(bigrosk_ini_dialect_str(others[i], &r, &w) == (i == 4 ? BIGROSK_INI_NOT_UTF8 : BIGROSK_INI_ABSENT));
         CHECK(r.quotes && !r.escapes && r.multiline && !r.keep_indentation && r.brackets);
         CHECK(w.policy == 5 && w.crlf && w.separator == 9);
+        struct bigrosk_ini_reading all = { sizeof all, true, false, true, false, true, true };
+        CHECK(bigrosk_ini_dialect_by_str(others[i], &all, &w) == (i == 4 ? BIGROSK_INI_NOT_UTF8 : BIGROSK_INI_ABSENT));
+        CHECK(all.size == sizeof all && all.quotes && !all.escapes && all.multiline && !all.keep_indentation);
+        CHECK(all.brackets && all.raw_backslash && w.policy == 5 && w.crlf && w.separator == 9);
     }
 }
 
 int main(void)
 {
     read_options();
+    readings();
     dialects();
     policies();
     line_ends_and_separators();

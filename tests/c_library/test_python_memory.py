@@ -4,13 +4,14 @@ import threading
 import time
 from ctypes import c_int, c_long
 from bigrosk_ini._calls import library
-from bigrosk_ini import Change, Document, Settings, apply, diff, edit_add, edit_delete, edit_delete_section
-from bigrosk_ini import edit_rename_key, edit_rename_section, edit_set, merge3
+from bigrosk_ini import Change, Document, ReadOption, Settings, apply, diff, edit_add, edit_delete
+from bigrosk_ini import edit_delete_section, edit_rename_key, edit_rename_section, edit_set, merge3
 
 requests = c_long.in_dll(library, "heap_requests")
 refused = c_long.in_dll(library, "heap_refused")
 blocks = c_long.in_dll(library, "heap_blocks")
 shut = c_int.in_dll(library, "heap_shut")
+RAW = ReadOption(escapes=False, raw_backslash=True)
 TEXT = "k=1\n[s]\nk=2\nj=" + "long" * 200 + "\nk=3\n[t]\n"
 CALLS = {
     "load": lambda _: Document(TEXT).is_plain(),
@@ -28,6 +29,7 @@ CALLS = {
     "edit_rename_key": lambda _: edit_rename_key(TEXT, "s", "k", "l"),
     "edit_delete_section": lambda _: edit_delete_section(TEXT, "s"),
     "edit_rename_section": lambda _: edit_rename_section(TEXT, "s", "u"),
+    "edit_set by raw backslashes": lambda _: edit_set(TEXT, "s", "k", "v", RAW),
 }
 SETTINGS_CALLS = {
     "load": lambda _: str(Settings(TEXT)),

@@ -5,7 +5,7 @@ import copy
 import pickle
 import threading
 import time
-from bigrosk_ini import Broken, Document, KINDS, ReadOption, Unwritable, WriteOption, dialect
+from bigrosk_ini import Broken, Document, KINDS, ReadOption, Settings, Unwritable, WriteOption, dialect
 from bigrosk_ini import edit_add, edit_delete, edit_delete_section
 from bigrosk_ini import edit_rename_key, edit_rename_section, edit_set
 
@@ -83,9 +83,54 @@ def reading():
         same(Document(text).walk(), without)
         same(Document(text, default).walk(), without)
     # by their places
-    for values in ([False, True, False, True, False], [True, False, True, False, True]):
+    names.append("raw_backslash")
+    for values in ([False, True, False, True, False, True], [True, False, True, False, True, False]):
         option = ReadOption(*values)
         same([getattr(option, name) for name in names], values)
+    same(ReadOption(True, False, True, False, True).raw_backslash, False)
+
+
+RAW = ReadOption(escapes=False, raw_backslash=True)
+PATHS = "p=C:\\x\\\nk=v\n[a\\]\nj\\=1\n"
+
+
+def raw_backslashes():
+    """By raw_backslash, where escapes are off, a backslash takes nothing along."""
+    general, other = [("p", "C:\\x\\"), ("k", "v")], ("a\\", [("j\\", "1")])
+    for read in (Document(PATHS, RAW), Settings(PATHS, RAW)):
+        same(list(read.walk()), [(None, general), other])
+    off = ReadOption(escapes=False)
+    same(Document("p=C:\\x\\\nk=v\n", off).walk(), [(None, [("p", "C:\\xk=v")])])
+    for read in (None, ReadOption(raw_backslash=True)):
+        same(Document("p=a\\\\b\\\nk=v\n", read).walk(), [(None, [("p", "a\\bk=v")])])
+    bare = WriteOption(0)
+    same([Document(PATHS, RAW).is_plain(bare, read) for read in (RAW, off, None)], [True, False, False])
+    # each edit, as str and as bytes after a mark
+    for call, words, wanted in (
+        (edit_set, (None, "p", "D:\\"), PATHS.replace("C:\\x", "D:")),
+        (edit_set, ("a\\", "n\\", "2\\"), PATHS + "n\\=2\\\n"),
+        (edit_add, (None, "k", "w\\"), PATHS.replace("k=v\n", "k=v\nk=w\\\n")),
+        (edit_delete, (None, "p"), PATHS.replace("p=C:\\x\\\n", "")),
+        (edit_rename_key, ("a\\", "j\\", "\\"), PATHS.replace("j", "")),
+        (edit_delete_section, ("a\\",), PATHS[: PATHS.index("[")]),
+        (edit_rename_section, ("a\\", "b\\"), PATHS.replace("[a", "[b")),
+    ):
+        options = {"read": RAW} if call in (edit_delete, edit_delete_section) else {"read": RAW, "write": bare}
+        same(call(PATHS, *words, **options), wanted)
+        same(call((MARK + PATHS).encode(), *words, **options), (MARK + wanted).encode())
+    for call, words, wanted in (
+        (edit_set, (PATHS, None, "p", " \"'"), Unwritable),
+        (edit_delete, (PATHS, None, "z"), KeyError),
+        (edit_delete_section, (PATHS, "z"), KeyError),
+        (edit_delete, ("k=v\n=\n", None, "k"), Broken),
+        (edit_delete, (b"\xff", None, "k"), UnicodeError),
+    ):
+        error = raised(call, *words, read=RAW)
+        assert isinstance(error, wanted), error
+    # a dialect's
+    same([dialect(name)[0].raw_backslash for name in ("python", "systemd", "crate")], [True, False, False])
+    same(Settings("p=C:\\\nk=v\n", dialect="python").get(None, "k"), "v")
+    same(edit_set("p=C:\\\nk=v\n", None, "k", "\\", dialect="python"), "p=C:\\\nk=\\\n")
 
 
 def marks():
@@ -411,7 +456,7 @@ def threads():
     same(wrong, [])
 
 
-for part in (reading, dialects, marks, writing, plain, edits, faults, unwritable, absent, no_texts, copies):
+for part in (reading, raw_backslashes, dialects, marks, writing, plain, edits, faults, unwritable, absent, no_texts, copies):
     part()
 nothing_loaded()
 threads()

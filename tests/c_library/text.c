@@ -361,7 +361,8 @@ static void files(const char *path)
 static void dialects(const char *path)
 {
     struct bigrosk_ini_file unit = BIGROSK_INI_FILE_EMPTY, git = BIGROSK_INI_FILE_EMPTY, none = BIGROSK_INI_FILE_EMPTY;
-    struct bigrosk_ini_file nowhere = BIGROSK_INI_FILE_EMPTY;
+    struct bigrosk_ini_file nowhere = BIGROSK_INI_FILE_EMPTY, hg = BIGROSK_INI_FILE_EMPTY, before = BIGROSK_INI_FILE_EMPTY;
+    struct bigrosk_ini_read_option five = BIGROSK_INI_READ_DEFAULT;
     char value[64] = "";
     put(path, "[Service]\nExecStart=\"/bin/a\" \\t\n");
     CHECK(bigrosk_ini_file_open_as(&unit, path, "systemd") == BIGROSK_INI_OK);
@@ -376,6 +377,19 @@ static void dialects(const char *path)
     CHECK(bigrosk_ini_file_set(&git, "user", "name", "a\\b") == BIGROSK_INI_OK);
     CHECK(bigrosk_ini_file_save(&git) == BIGROSK_INI_OK && is_file(path, "[user]\nname = a\\\\b\n"));
     bigrosk_ini_file_close(&git);
+    /* a path that ends in a backslash: alone it is read as it stands, and by the five options of before with the next line */
+    put(path, "p=C:\\x\\\nk=v\n");
+    CHECK(bigrosk_ini_file_open_as(&hg, path, "hg") == BIGROSK_INI_OK);
+    CHECK(!strcmp(bigrosk_ini_file_string(&hg, NULL, "p", value, sizeof value, ""), "C:\\x\\"));
+    CHECK(bigrosk_ini_file_set(&hg, NULL, "k", "\\") == BIGROSK_INI_OK && bigrosk_ini_file_save(&hg) == BIGROSK_INI_OK);
+    CHECK(is_file(path, "p=C:\\x\\\nk=\\\n"));
+    bigrosk_ini_file_close(&hg);
+    CHECK(bigrosk_ini_dialect_str("hg", &five, &hg.write) == BIGROSK_INI_OK);
+    put(path, "p=C:\\x\\\nk=v\n");
+    CHECK(bigrosk_ini_file_read(&before, path, &five) == BIGROSK_INI_OK);
+    CHECK(!strcmp(bigrosk_ini_file_string(&before, NULL, "p", value, sizeof value, ""), "C:\\xk=v"));
+    bigrosk_ini_file_close(&before);
+    put(path, "[user]\nname = a\\\\b\n");
     CHECK(bigrosk_ini_file_open_as(&none, path, "Git") == BIGROSK_INI_NO_DIALECT && none.place.line == 0);
     CHECK(bigrosk_ini_file_save(&none) == BIGROSK_INI_NO_DIALECT && is_file(path, "[user]\nname = a\\\\b\n"));
     bigrosk_ini_file_close(&none);

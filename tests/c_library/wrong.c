@@ -43,6 +43,31 @@ uint32_t __wrap_bigrosk_ini_load(TEXT, bool drop_mark, READ, DOCUMENT, FAULT)
     return status;
 }
 
+#define READING const struct bigrosk_ini_reading *reading
+
+uint32_t __real_bigrosk_ini_load_by(TEXT, bool drop_mark, READING, DOCUMENT, FAULT);
+uint32_t __wrap_bigrosk_ini_load_by(TEXT, bool drop_mark, READING, DOCUMENT, FAULT)
+{
+    struct bigrosk_ini_reading other = *reading;
+    if (is_wrong("load_by_overlooks_raw_backslashes")) other.raw_backslash = false;
+    if (is_wrong("load_by_overlooks_quotes")) other.quotes = true;
+    return __real_bigrosk_ini_load_by(TEXTS, drop_mark, &other, document, fault);
+}
+
+bool __real_bigrosk_ini_is_plain_by(DOCUMENT, WRITE, READING);
+bool __wrap_bigrosk_ini_is_plain_by(DOCUMENT, WRITE, READING)
+{
+    return is_wrong("is_plain_by_is_always_so") || __real_bigrosk_ini_is_plain_by(document, write, reading);
+}
+
+uint32_t __real_bigrosk_ini_text_open_by(const uint8_t *bytes, size_t bytes_count, READING, struct bigrosk_ini_text *text, FAULT);
+uint32_t __wrap_bigrosk_ini_text_open_by(const uint8_t *bytes, size_t bytes_count, READING, struct bigrosk_ini_text *text, FAULT)
+{
+    struct bigrosk_ini_reading other = *reading;
+    if (is_wrong("text_open_by_overlooks_raw_backslashes")) other.raw_backslash = false;
+    return __real_bigrosk_ini_text_open_by(bytes, bytes_count, &other, text, fault);
+}
+
 uint32_t __real_bigrosk_ini_get(DOCUMENT, NAME, KEY, OUT);
 uint32_t __wrap_bigrosk_ini_get(DOCUMENT, NAME, KEY, OUT)
 {

@@ -65,6 +65,7 @@ in|k = a\\tb\n|k=a\\tb\n
 --multiline in|k=v\n  w|k=v\\nw\n
 --indent in|  k=v|  k=v\n
 --brackets in|[[*]]\nk=v|[[*]]\nk=v\n
+--noescape --raw-backslash --policy Nothing in|p=C:\\x\\\nk=v|p=C:\\x\\\nk=v\n
 --crlf in|k=1\n[a]\nx=y|k=1\r\n\r\n[a]\r\nx=y\r\n
 --policy Reserved in|k=a:b|k=a\\:b\n
 --policy Everything in|k=\0303\0251|k=\\x00e9\n

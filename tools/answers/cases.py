@@ -161,10 +161,20 @@ BY_HAND = (
     ("Reserved CRLF 11000 6b3d230a5b735d", "written 6b3d5c230d0a5b735d0d0a"),
     ("Nothing LF 11000 6b20233d", "written 6b20233d0a"),
     ("Nothing CRLF 11000 3d", "err 1:2 missing key"),
+    ("01000 703d433a5c785c0a6b3d760a", loaded(("p", "C:\\xk=v"))),
+    ("010001 703d433a5c785c0a6b3d760a", loaded(("p", "C:\\x\\"), ("k", "v"))),
+    ("01000 615c3d623d630a", loaded(("a\\=b", "c"))),
+    ("010001 615c3d623d630a", loaded(("a\\", "b=c"))),
+    ("01000 6b3d22615c2262220a", loaded(("k", 'a\\"b'))),
+    ("010001 6b3d22615c2262220a", loaded(("k", 'a\\b"'))),
+    ("010001 5b615c5d625d0a", f"err 2:1 {NO_ENDPOINT}"),
+    ("01000 6b3d615c0d6a3d620a", loaded(("k", "a\\\rj=b"))),
+    ("010001 6b3d615c0d6a3d620a", loaded(("k", "a\\"), ("j", "b"))),
+    ("110001 6b3d615c0a", loaded(("k", "a"))),
     *(
         (line, "no question")
         for line in (
-            "", "11000", "1100 6b", "110000 6b", "11002 6b", "11000 6", "11000 6g", "11000 c3", "11000  6b", "Basics 11000 6b",
+            "", "11000", "1100 6b", "1100000 6b", "11002 6b", "110002 6b", "11000 6", "11000 6g", "11000 c3", "11000  6b", "Basics 11000 6b",
             "Basics LF 11000", "basics LF 11000 6b", "Basics CR 11000 6b", "Basics LF 1100 6b", "Basics LF 11000 6",
             "Basics LF 11000 6b ", "LF Basics 11000 6b",
         )

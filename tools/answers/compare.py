@@ -2,6 +2,7 @@
 """Compares `ini_replay answers` with the Rust crate that this library is a port of, rust-ini 0.21.3.
 
     compare.py texts ANSWERS CRATE BRACKETS [--written] [--less N] [--random N] [--damaged N] [--seed N]
+    compare.py raw ANSWERS [--less N] [--random N] [--damaged N] [--seed N]
     compare.py departures ANSWERS CRATE
     compare.py stored CRATE BRACKETS FOLDER
 
@@ -21,6 +22,10 @@ With `--written` both programs also write what they load. Each document that som
 all eight escape policies, with LF and with CR LF; every difference is printed, and the status is then 1. A document that
 several texts of one batch give is written once for that batch. What the two load differently, where a departure shows,
 isn't written. With `--less 1` the whole then takes some five minutes.
+
+`raw` loads such texts by the options with raw backslashes, which the crate lacks, and compares with the line grammar, by the
+reader in grammar.py. It prints the smallest texts that are answered otherwise; the status is 1 if there is one. The short
+texts are two characters shorter by default.
 
 `departures` shows the smallest text of each declared departure, with what both programs answer, and fails where that is
 not what cases.py says.
@@ -45,6 +50,7 @@ import writing
 from grammar import DEPARTURES, Option, Reader
 
 OPTIONS = sorted((Option(*flags) for flags in itertools.product((True, False), repeat=5)), key=Option.changes)
+RAW_OPTIONS = [option._replace(raw=True) for option in OPTIONS]
 
 
 class Crate(NamedTuple):
@@ -199,6 +205,32 @@ def compare_texts(arguments):
     return 1 if tally.undeclared or tally.miswritten else 0
 
 
+def compare_raw(arguments):
+    sorts = {
+        "short texts": texts.short_texts(arguments.less),
+        "random texts": texts.made(texts.random_text, arguments.random, arguments.seed),
+        "settings files": map(texts.hexadecimal, texts.SETTINGS),
+        "damaged settings files": texts.made(texts.damaged_settings, arguments.damaged, arguments.seed),
+    }
+    differences = []
+    for sort, some in sorts.items():
+        count = 0
+        for batch in texts.batches(some):
+            batch = [digits for digits in batch if "5c" in digits]
+            asked = [(option, bytes.fromhex(digits).decode()) for option in RAW_OPTIONS for digits in batch]
+            found = answers(arguments.answers, questions_of(batch, RAW_OPTIONS))
+            for (option, text), line in zip(asked, found.decode().splitlines()):
+                wanted = Reader(text, option).answer()
+                if line != wanted:
+                    differences.append((len(text), option.flags(), text, line, wanted))
+            count += len(asked)
+        print(f"{sort}: {count} answers", flush=True)
+    for _, flags, text, line, wanted in sorted(differences)[:20]:
+        print(f"{flags} {text!r}\n    here     {line}\n    grammar  {wanted}")
+    print(f"{len(differences)} differences")
+    return 1 if differences else 0
+
+
 def question_of(option, text):
     return f"{option.flags()} {texts.hexadecimal(text)}\n"
 
@@ -290,6 +322,11 @@ def main():
     command.add_argument("brackets")
     command.add_argument("--written", action="store_true")
     for name, size in (("--less", 0), ("--random", 100_000), ("--damaged", 20_000), ("--seed", 1)):
+        command.add_argument(name, type=int, default=size)
+    command = commands.add_parser("raw")
+    command.set_defaults(run=compare_raw)
+    command.add_argument("answers")
+    for name, size in (("--less", 2), ("--random", 20_000), ("--damaged", 5_000), ("--seed", 1)):
         command.add_argument(name, type=int, default=size)
     command = commands.add_parser("departures")
     command.set_defaults(run=show_departures)

@@ -54,9 +54,12 @@ class Option(NamedTuple):
     multiline: bool
     indent: bool
     brackets: bool
+    raw: bool = False
 
     def flags(self):
-        return "".join(str(int(flag)) for flag in self)
+        """A digit for each; the last one, which the crate lacks, only where it is 1."""
+        digits = "".join(str(int(flag)) for flag in self)
+        return digits if self.raw else digits[:-1]
 
     def changes(self):
         """How many of the options are not as they are by default."""
@@ -280,7 +283,8 @@ class Reader:
                 raise self.end_of_text(ends)
             c = self.text[self.at]
             self.at += 1
-            pieces.append(self.read_escape(ends) if c == "\\" else c)
+            is_special = c == "\\" and (self.option.escape or not self.option.raw)
+            pieces.append(self.read_escape(ends) if is_special else c)
         return "".join(pieces)
 
     def end_of_text(self, ends):

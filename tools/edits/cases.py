@@ -8,6 +8,7 @@ from model import POLICIES, Option, Question, Writing
 DEFAULT = Option(escape=True, quote=True, multiline=False, indent=False, brackets=False)
 MULTILINE = DEFAULT._replace(multiline=True)
 ESCAPES_OFF = DEFAULT._replace(escape=False)
+RAW_BACKSLASHES = ESCAPES_OFF._replace(raw=True)
 INDENT = DEFAULT._replace(indent=True)
 BASICS = Writing("Basics", "\n", "=")
 CRLF = Writing("Reserved", "\r\n", " = ")
@@ -137,6 +138,8 @@ NEW_SECTIONS = (
 )
 # Values with backslashes where escapes are off: the text, and the values.
 RAW_TEXTS = ("path = C:\\temp \n", "path='C:\\temp'\n", "[a]\nj=w", "j=w\\", "path=1\npath=2\\\\\r\n")
+# Lines that end in backslashes.
+RAW_LINES = ("k=v\\\nj=w", "k\\=v\\", "[a\\]\nk=v\\\r\n[b]", "k=v\\\rj\\=w\n[a\\]", "k='v\\' w \n")
 RAW_VALUES = ["C:\\new", "C:\\new\\", "C:\\new\\\\", "\\\\\\", "'\\'", "it's\\n", "a\\\nb", "a\\\rb", "a\\ ", "\\", "\\\\"]
 VALUES = ["", " v", '"v', "'", "a\tb", "a\nb", "a\\b", "\v", "é", "\U0001f431", "#", "a=b"]
 KEYS = ["", " k", "k ", "[k", ";k", "a=b", "a:b", "\tk", "é", "k\n", "  \tk", "\xa0k"]
@@ -182,6 +185,12 @@ def plain_and_unplain():
     for text, value in itertools.product(RAW_TEXTS, RAW_VALUES):
         for call in ("set_existing", "set", "add"):
             yield Question(call, ESCAPES_OFF, raw, None, "path", value, text)
+        yield Question("set", RAW_BACKSLASHES, raw, None, "path", value, text)
+    for text in RAW_LINES:
+        for key, call in itertools.product(("k", "j\\"), ("delete", "rename_key", "set", "add")):
+            yield Question(call, RAW_BACKSLASHES, raw, None, key, "n\\", text)
+        yield Question("rename_section", RAW_BACKSLASHES, raw, "a\\", "", "n\\", text)
+        yield Question("delete_section", RAW_BACKSLASHES, raw, "a\\", "", "", text)
     for value in RAW_VALUES:
         yield Question("set", ESCAPES_OFF._replace(multiline=True, quote=False), raw, None, "path", value, "path=1 \n  2\n\n")
         yield Question("set", DEFAULT, raw, None, "path", value, "path=1\n")

@@ -48,10 +48,9 @@ def line_of(question):
         return text.encode().hex()
 
     option, writing = question.option, question.writing
-    flags = "".join(str(int(flag)) for flag in option)
     line_end = "LF" if writing.line_end == "\n" else "CRLF"
     name = "G" if question.name is None else "S" + digits(question.name)
-    words = [question.call, flags, writing.policy, line_end, digits(writing.separator), name]
+    words = [question.call, option.flags(), writing.policy, line_end, digits(writing.separator), name]
     return " ".join(words + [digits(text) for text in (question.key, question.value, question.text)])
 
 
@@ -78,7 +77,7 @@ def random_question(chance):
     text = "".join(chance.choices(PIECES, k=chance.randrange(14)))
     if chance.random() < 0.3:
         text = quoted_pair(chance) + text
-    option = Option(*(chance.random() < 0.5 for _ in range(5)))
+    option = Option(*(chance.random() < p for p in (0.5, 0.5, 0.5, 0.5, 0.5, 0.3)))
     separator = chance.choice(SEPARATORS if chance.random() < 0.95 else UNPLAIN_SEPARATORS)
     writing = Writing(chance.choice(POLICIES), chance.choice(["\n", "\r\n"]), separator)
     name = chance.choice([None, None, "a", "a", "b", "c", "", chance.choice(NAMES)])
@@ -121,7 +120,7 @@ def smaller(question):
     text = question.text
     for place in range(len(text)):
         yield question._replace(text=text[:place] + text[place + 1 :])
-    for field, default in zip(Option._fields, (True, True, False, False, False)):
+    for field, default in zip(Option._fields, cases.DEFAULT):
         if getattr(question.option, field) != default:
             yield question._replace(option=question.option._replace(**{field: default}))
     if question.writing != cases.BASICS:

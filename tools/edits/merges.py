@@ -68,9 +68,8 @@ def answer(option, writing, side, texts):
 
 
 def line_of(option, writing, side, texts):
-    flags = "".join(str(int(flag)) for flag in option)
     end = "LF" if writing.line_end == "\n" else "CRLF"
-    return " ".join([flags, writing.policy, end, digits(writing.separator), side] + [digits(text) for text in texts])
+    return " ".join([option.flags(), writing.policy, end, digits(writing.separator), side] + [digits(text) for text in texts])
 
 
 def changed(chance, lines):
@@ -101,7 +100,7 @@ def is_read(text, option):
 def random_question(chance):
     """Three texts that the options read."""
     while True:
-        option = Option(*(chance.random() < p for p in (0.8, 0.8, 0.3, 0.1, 0.1)))
+        option = Option(*(chance.random() < p for p in (0.8, 0.8, 0.3, 0.1, 0.1, 0.4)))
         base = [chance.choice(MORE if chance.random() < 0.7 else LINES) for _ in range(chance.randrange(9))]
         texts = ["".join(base), "".join(changed(chance, base)), "".join(changed(chance, base))]
         if not all(is_read(text, option) for text in texts):

@@ -22,6 +22,16 @@ class Option(NamedTuple):
     multiline: bool
     indent: bool
     brackets: bool
+    raw: bool = False
+
+    def flags(self):
+        """A digit for each, as questions have them; the last one only where it is 1."""
+        digits = "".join(str(int(flag)) for flag in self)
+        return digits if self.raw else digits[:-1]
+
+    def has_special_backslash(self):
+        """Whether a backslash takes the character behind it along."""
+        return self.escape or not self.raw
 
 
 class Writing(NamedTuple):
@@ -124,7 +134,7 @@ class Reader:
     def piece(self):
         """What one piece of a string gives."""
         c = self.take()
-        if c != "\\":
+        if c != "\\" or not self.option.has_special_backslash():
             return c
         if self.at == len(self.text):
             self.ends_in_backslash = True
@@ -161,7 +171,7 @@ class Reader:
     def line(self, is_first):
         """A value's line, to its end: what it gives, and where white space at its end begins.
 
-        White space that a backslash stands before is the value's own.
+        White space that a backslash stands before is the value's own, but where backslashes are raw.
         """
         self.skip(INLINE_WHITE)
         quoted, behind, self.parts = "", self.at, []
@@ -173,7 +183,8 @@ class Reader:
         plain, solid = self.string(LINE_ENDS, may_end=True)
         plain = plain.strip(WHITE) if is_first and not self.parts else plain.rstrip(WHITE)
         own = self.text[behind : self.at].rstrip(INLINE_WHITE)
-        return quoted + plain, self.at if own.endswith("\\") else max(solid, behind)
+        keeps = own.endswith("\\") and self.option.has_special_backslash()
+        return quoted + plain, self.at if keeps else max(solid, behind)
 
     def value(self, pair):
         """Reads a value."""
@@ -294,7 +305,8 @@ def escaped(policy, text):
 def is_read_back(text, policy, option):
     escapes = [c for c in text if is_escaped(policy, c)]
     by_escapes = option.escape and policy != "Nothing" and not any(c in "\v\f" or ord(c) > 0xFFFF for c in escapes)
-    return by_escapes or not (escapes or any(c in "\\\n\r" for c in text))
+    alone = "\\\n\r" if option.has_special_backslash() else "\n\r"
+    return by_escapes or not (escapes or any(c in alone for c in text))
 
 
 def is_plain_unspaced_key(key, policy, option):

@@ -43,9 +43,8 @@ def word_of(edit):
 
 
 def line_of(option, writing, text, edits):
-    flags = "".join(str(int(flag)) for flag in option)
     end = "LF" if writing.line_end == "\n" else "CRLF"
-    words = [flags, writing.policy, end, digits(writing.separator), digits(text)]
+    words = [option.flags(), writing.policy, end, digits(writing.separator), digits(text)]
     return " ".join(words + [word_of(edit) for edit in edits])
 
 
@@ -82,7 +81,7 @@ def random_edit(chance, page, in_row):
 def random_question(chance):
     """A text that the options read, and one edit, several, or a hundred in a row."""
     while True:
-        option = Option(*(chance.random() < p for p in (0.8, 0.8, 0.5, 0.2, 0.1)))
+        option = Option(*(chance.random() < p for p in (0.8, 0.8, 0.5, 0.2, 0.1, 0.4)))
         text = random_text(chance)
         try:
             page = Page(text, option)

@@ -116,9 +116,10 @@ def statuses():
 READ = {
     "STANDARD": "",
     "RAW": "`--noescape`",
+    "LITERAL": "`--noescape --raw-backslash`",
     "UNQUOTED": "`--noquote`",
     "VERBATIM": "`--noescape --noquote`",
-    "INDENTED": "`--noescape --noquote --multiline`",
+    "INDENTED": "`--noescape --noquote --multiline --raw-backslash`",
     "PATTERNS": "`--noescape --noquote --brackets`",
     "BRACKETED": "`--brackets`",
 }

@@ -1,6 +1,6 @@
 -- How a text is read and a document written, as C says it.
 use Rattle.std.specs.Prelude.{◌≡◌, ◌==◌, if◌then◌else◌, ℕ, Bool, true, false, List, length}
-use Rattle.std.specs.Prelude.{Option, Some, None, codes, encode_utf8_all, IsTrue, ◌↔◌}
+use Rattle.std.specs.Prelude.{Option, Some, None, codes, encode_utf8_all, IsTrue, ◌↔◌, ◌&&◌, nat_le}
 use Rattle.ini_text.specs.declared.option.ParseOption.{ParseOption}
 use Rattle.ini.specs.Plain.{IsPlain}
 use Rattle.ini.specs.Documents.{Document}
@@ -14,9 +14,10 @@ use Rattle.ini_text.specs.declared.write.option.LineSeparator.{LineSeparator}
 use Rattle.ini_text.specs.declared.write.option.LineSeparator.TheVariants.{SystemDefault, CRLF}
 use Rattle.ini_text.specs.declared.write.option.WriteOption.{WriteOption}
 use Rattle.ini_c.specs.declared.options.ReadChoice.{ReadChoice}
+use Rattle.ini_c.specs.declared.options.Reading.{Reading}
 use Rattle.ini_c.specs.declared.options.WriteChoice.{WriteChoice}
 
--- the options by which a text is read
+-- the options by which a text is read, of a program that knows of five
 abbrev pub parse_option : ReadChoice → ParseOption
 parse_option o = record {
   enabled_quote = o.quotes;
@@ -24,6 +25,24 @@ parse_option o = record {
   enabled_indented_mutiline_value = o.multiline;
   enabled_preserve_key_leading_whitespace = o.keep_indentation;
   enabled_brackets_in_section_names = o.brackets;
+  enabled_raw_backslash = false;
+}
+
+-- the options that stand there
+abbrev pub options_there : Reading → ParseOption
+options_there r = record {
+  enabled_quote = r.quotes;
+  enabled_escape = r.escapes;
+  enabled_indented_mutiline_value = r.multiline;
+  enabled_preserve_key_leading_whitespace = r.keep_indentation;
+  enabled_brackets_in_section_names = r.brackets;
+  enabled_raw_backslash = r.raw_backslash;
+}
+
+-- the options by which a text is read: one that the size doesn't reach is off
+abbrev pub reading_option : Reading → ParseOption
+reading_option r = record (options_there r) {
+  enabled_raw_backslash = nat_le 7 r.size && r.raw_backslash
 }
 
 -- the policy of a number

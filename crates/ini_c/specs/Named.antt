@@ -1,10 +1,12 @@
 -- Options that a dialect's name stands for, as C gets them.
-use Rattle.std.specs.Prelude.{◌≡◌, ◌||◌, ℕ, Bool, IsTrue, List}
+use Rattle.std.specs.Prelude.{◌≡◌, ◌||◌, ℕ, Bool, false, IsTrue, List}
 use Rattle.std.specs.Str.{bytes_eq}
 use Rattle.ini_text.specs.Options.WriteOptions.{line_end}
 use Rattle.ini_dialect.specs.Dialects.{Preset}
-use Rattle.ini_c.specs.Choices.{line_end_if, parse_option, policy_of, separator_of}
+use Rattle.ini_text.specs.declared.option.ParseOption.{ParseOption}
+use Rattle.ini_c.specs.Choices.{line_end_if, options_there, parse_option, policy_of, separator_of}
 use Rattle.ini_c.specs.declared.options.ReadChoice.{ReadChoice}
+use Rattle.ini_c.specs.declared.options.Reading.{Reading}
 use Rattle.ini_c.specs.declared.options.WriteChoice.{WriteChoice}
 
 -- C has a number for what stands between a key and its value
@@ -16,9 +18,22 @@ has_number separator =
 abbrev pub HasNumber : Preset → Type 0
 HasNumber p = IsTrue (has_number p.kv_separator)
 
--- so C is told
-pub record TellsPreset (read : ReadChoice) (write : WriteChoice) (p : Preset) : Type 0 where
-  pub read_as : parse_option read ≡ p.read
+-- the options without those that came after the first five
+abbrev pub first_five : ParseOption → ParseOption
+first_five o = record o { enabled_raw_backslash = false }
+
+-- so C is told how lines are written
+pub record TellsWriting (write : WriteChoice) (p : Preset) : Type 0 where
   pub policy : policy_of write.policy ≡ p.escape_policy
   pub ends : line_end (line_end_if write.crlf) ≡ line_end p.line_separator
   pub separator : separator_of write.separator ≡ p.kv_separator
+
+-- so a program is told that knows of five options
+pub record TellsPreset (read : ReadChoice) (write : WriteChoice) (p : Preset) : Type 0 where
+  pub read_as : parse_option read ≡ first_five p.read
+  pub written_as : TellsWriting write p
+
+-- and so one that knows of all
+pub record TellsReading (reading : Reading) (write : WriteChoice) (p : Preset) : Type 0 where
+  pub read_as : options_there reading ≡ p.read
+  pub written_as : TellsWriting write p

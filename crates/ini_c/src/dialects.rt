@@ -4,10 +4,10 @@ ghost use Rattle.std.specs.Str.{IsUtf8};
 ghost use Rattle.ini_text.specs.Options.WriteOptions.{line_end};
 ghost use Rattle.ini_dialect.specs.Dialects.{dialect_of};
 ghost use Rattle.ini_c.specs.Choices.{line_end_if, policy_of, separator_of};
-ghost use Rattle.ini_c.specs.Named.{HasNumber, TellsPreset, has_number};
+ghost use Rattle.ini_c.specs.Named.{HasNumber, TellsPreset, TellsReading, has_number};
 ghost use Rattle.ini_c.specs.Statuses.{absent, is_among, not_utf8, ok};
 
-use crate::options::{ReadChoice, WriteChoice};
+use crate::options::{ReadChoice, Reading, WriteChoice};
 use crate::{ABSENT, NOT_UTF8, OK};
 use ini_dialect::Dialect;
 use ini_text::{EscapePolicy, LineSeparator};
@@ -56,8 +56,45 @@ fn separator_number(separator: &str) -> Option<u32>
     }
 }
 
-/// Tells how the files of a dialect are read, and how lines are written into them: `ABSENT` where no dialect has
-/// the name. Refused, the two options stay.
+/// Tells how the files of a dialect are read, by all options that there are, and how lines are written into
+/// them: `ABSENT` where no dialect has the name. Refused, the two options stay, and the size always does.
+#[unsafe(no_mangle)]
+pub extern "C" fn bigrosk_ini_dialect_by(
+    name: &[u8],
+    reading: &mut Reading,
+    write: &mut WriteChoice,
+) -> u32
+    ensures told { result ≡ ok → IsSomeAnd (dialect_of name.now) (TellsReading reading.new write.new) }
+    ensures not_utf8 { result ≡ not_utf8 ↔ ¬ (IsUtf8 name.now) }
+    ensures absent { result ≡ absent → ¬ (IsSomeAnd (dialect_of name.now) HasNumber) }
+    ensures reading_stays { ¬ (result ≡ ok) → reading.new ≡ reading.old }
+    ensures write_stays { ¬ (result ≡ ok) → write.new ≡ write.old }
+    ensures size { reading.new.size ≡ reading.old.size }
+    ensures statuses { IsTrue (is_among result (ok ∷ absent ∷ not_utf8 ∷ [])) }
+{
+    let Ok(name) = str::from_utf8(name) else {
+        return NOT_UTF8;
+    };
+    let Some(dialect) = Dialect::of_name(name) else {
+        return ABSENT;
+    };
+    let Some(separator) = separator_number(dialect.write.kv_separator) else {
+        return ABSENT;
+    };
+    let options = dialect.read;
+    reading.quotes = options.enabled_quote;
+    reading.escapes = options.enabled_escape;
+    reading.multiline = options.enabled_indented_mutiline_value;
+    reading.keep_indentation = options.enabled_preserve_key_leading_whitespace;
+    reading.brackets = options.enabled_brackets_in_section_names;
+    reading.raw_backslash = options.enabled_raw_backslash;
+    write.policy = policy_number(dialect.write.escape_policy);
+    write.crlf = is_crlf(dialect.write.line_separator);
+    write.separator = separator;
+    OK
+}
+
+/// Tells the same by the five options of version 0.3.0.
 #[unsafe(no_mangle)]
 pub extern "C" fn bigrosk_ini_dialect(
     name: &[u8],
@@ -71,23 +108,20 @@ pub extern "C" fn bigrosk_ini_dialect(
     ensures write_stays { ¬ (result ≡ ok) → write.new ≡ write.old }
     ensures statuses { IsTrue (is_among result (ok ∷ absent ∷ not_utf8 ∷ [])) }
 {
-    let Ok(name) = str::from_utf8(name) else {
-        return NOT_UTF8;
+    let mut reading = Reading {
+        size: 7,
+        quotes: read.quotes,
+        escapes: read.escapes,
+        multiline: read.multiline,
+        keep_indentation: read.keep_indentation,
+        brackets: read.brackets,
+        raw_backslash: false,
     };
-    let Some(dialect) = Dialect::of_name(name) else {
-        return ABSENT;
-    };
-    let Some(separator) = separator_number(dialect.write.kv_separator) else {
-        return ABSENT;
-    };
-    let options = dialect.read;
-    read.quotes = options.enabled_quote;
-    read.escapes = options.enabled_escape;
-    read.multiline = options.enabled_indented_mutiline_value;
-    read.keep_indentation = options.enabled_preserve_key_leading_whitespace;
-    read.brackets = options.enabled_brackets_in_section_names;
-    write.policy = policy_number(dialect.write.escape_policy);
-    write.crlf = is_crlf(dialect.write.line_separator);
-    write.separator = separator;
-    OK
+    let status = bigrosk_ini_dialect_by(name, &mut reading, write);
+    read.quotes = reading.quotes;
+    read.escapes = reading.escapes;
+    read.multiline = reading.multiline;
+    read.keep_indentation = reading.keep_indentation;
+    read.brackets = reading.brackets;
+    status
 }

@@ -22,6 +22,7 @@ ghost use Rattle.ini_c.specs.Statuses.{absent, broken, is_among, no_document};
 ghost use Rattle.ini_c.specs.Statuses.{no_memory, no_room, not_utf8, ok};
 
 mod borrowing;
+mod by_reading;
 mod copies;
 mod dialects;
 mod document;
@@ -44,11 +45,14 @@ mod walks;
 mod writing;
 
 pub use crate::borrowing::bigrosk_ini_borrow;
+pub use crate::by_reading::{
+    bigrosk_ini_is_plain_by, bigrosk_ini_load_by, bigrosk_ini_text_open_by,
+};
 pub use crate::copies::Sizes;
-pub use crate::dialects::bigrosk_ini_dialect;
+pub use crate::dialects::{bigrosk_ini_dialect, bigrosk_ini_dialect_by};
 pub use crate::document::{Document, Kept, Text};
 pub use crate::fault::Fault;
-pub use crate::options::{ReadChoice, WriteChoice};
+pub use crate::options::{ReadChoice, Reading, WriteChoice};
 pub use crate::pieces::comments::{
     bigrosk_ini_text_comment, bigrosk_ini_text_comment_out, bigrosk_ini_text_set_comment,
 };

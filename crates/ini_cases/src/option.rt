@@ -72,6 +72,10 @@ fn reading_with(read: ParseOption, word: &str) -> Option<ParseOption> {
             enabled_brackets_in_section_names: true,
             ..read
         }),
+        "rawbackslash" => Some(ParseOption {
+            enabled_raw_backslash: true,
+            ..read
+        }),
         _ => None,
     }
 }

@@ -7,7 +7,7 @@ use ini::{
 };
 use std::alloc::{AllocError, Global};
 
-// The set of reading options that four bits choose; brackets in names are off.
+// The set of reading options that five bits choose; brackets in names are off.
 fn reading(bits: u8) -> ParseOption {
     ParseOption {
         enabled_quote: bits & 1 != 0,
@@ -15,6 +15,7 @@ fn reading(bits: u8) -> ParseOption {
         enabled_indented_mutiline_value: bits & 4 != 0,
         enabled_preserve_key_leading_whitespace: bits & 8 != 0,
         enabled_brackets_in_section_names: false,
+        enabled_raw_backslash: bits & 16 != 0,
     }
 }
 
@@ -46,12 +47,12 @@ fn are_equal(left: &Ini, right: &Ini) -> bool {
     others.next().is_none()
 }
 
-/// By how many of sixteen sets of reading options the document is plain. By each of them its text is to
+/// By how many of thirty-two sets of reading options the document is plain. By each of them its text is to
 /// load back as it.
 pub fn count_plain(alloc: Global, document: &Ini, write: &WriteOption) -> Result<usize, Error> {
     let text = written(alloc, document, write.clone()?)?;
     let mut plain: usize = 0;
-    for bits in 0..16 {
+    for bits in 0..32 {
         let read = reading(bits);
         if document.is_plain(write, read) {
             let back = Ini::load_from_str_opt(alloc, text.as_str(), read)?;

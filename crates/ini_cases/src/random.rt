@@ -85,6 +85,7 @@ impl Random {
             "multiline",
             "indented",
             "brackets",
+            "rawbackslash",
             "CRLF",
         ] {
             if self.is_even() {

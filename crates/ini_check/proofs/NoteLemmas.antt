@@ -3,6 +3,7 @@ use Rattle.std.proofs.Common.{◌≡◌, ◌∙◌, ℕ, Bool, true, false, List
 use Rattle.std.proofs.Common.{Option, append_assoc, append-nil, arith, drop, length}
 use Rattle.std.proofs.Math.Seq.{drop-append_seam}
 use Rattle.std.proofs.lemmas.Bool.{cond-false, cond-true}
+use Rattle.ini_text.specs.declared.option.ParseOption.{ParseOption}
 use Rattle.ini.specs.Texts.{Text}
 use Rattle.ini_check.specs.Inside.Positions.{IsAt}
 use Rattle.ini_check.specs.Traps.LexicalStates.{next_state}
@@ -31,16 +32,16 @@ warning_at b s m n trap begins ends =
     cc
 
 -- the warnings of a raw value are those of its first place and those of the rest
-pub inner_splits : (quotes list : Bool) (state next : LexicalState) (text cs : Text) (c : ℕ)
-    (trap : Option Trap) → text ≡ c ∷ cs → trap ≡ trap_at quotes list state text
-    → next ≡ next_state quotes state c → (b : Text)
-    → inner_warnings quotes list state b text
-    ≡ warned_of b (c ∷ []) trap ++ inner_warnings quotes list next (b ++ c ∷ []) cs
-inner_splits quotes list state next text cs c trap is at after b =
-    let rest = inner_warnings quotes list (next_state quotes state c) (b ++ c ∷ []) cs in
-    ap (inner_warnings quotes list state b) is
-    ∙ ap (λ t. warned_of b (c ∷ []) t ++ rest) (ap (trap_at quotes list state) (sym is) ∙ sym at)
-    ∙ ap (λ n. warned_of b (c ∷ []) trap ++ inner_warnings quotes list n (b ++ c ∷ []) cs) (sym after)
+pub inner_splits : (o : ParseOption) (list : Bool) (state next : LexicalState) (text cs : Text) (c : ℕ)
+    (trap : Option Trap) → text ≡ c ∷ cs → trap ≡ trap_at o list state text
+    → next ≡ next_state o state c → (b : Text)
+    → inner_warnings o list state b text
+    ≡ warned_of b (c ∷ []) trap ++ inner_warnings o list next (b ++ c ∷ []) cs
+inner_splits o list state next text cs c trap is at after b =
+    let rest = inner_warnings o list (next_state o state c) (b ++ c ∷ []) cs in
+    ap (inner_warnings o list state b) is
+    ∙ ap (λ t. warned_of b (c ∷ []) t ++ rest) (ap (trap_at o list state) (sym is) ∙ sym at)
+    ∙ ap (λ n. warned_of b (c ∷ []) trap ++ inner_warnings o list n (b ++ c ∷ []) cs) (sym after)
 
 -- a comment's warnings are those from the next character on, or the first CR's that is a trap
 pub comment_passes : {text cs : Text} {c : ℕ} → text ≡ c ∷ cs → swallows_line text ≡ false → (b : Text)

@@ -22,6 +22,7 @@ use Rattle.ini_text.specs.Inside.StringReader.{string}
 use Rattle.ini_text.specs.Parsing.Items.{cow_text}
 use Rattle.ini_text.specs.Parsing.Places.{HasPlaces, StandsBetween, gives, stretches_of}
 use Rattle.ini_text.specs.Laws.Plain.{IsPlainPair}
+use Rattle.ini_text.specs.Options.ReadOptions.{backslash_of}
 use Rattle.ini_text.specs.declared.option.ParseOption.{ParseOption}
 use Rattle.ini_text.specs.declared.parser.placed.Content.{Content}
 use Rattle.ini_text.specs.declared.parser.placed.Content.TheVariants as contents
@@ -57,23 +58,23 @@ indented_begins (c ∷ t) begins =
     (or_parts (is_blank c) (is_line_end c) x.0).0
 
 key_read : {o : ParseOption} {b k x key : List ℕ} {m : ℕ} → KeyFront o b k (m ∷ x) key
-    → (u : List ℕ) × (string o.enabled_escape key_ends (skipped is_blank (k ++ m ∷ x)) ≡ found u (m ∷ x))
+    → (u : List ℕ) × (string (backslash_of o) key_ends (skipped is_blank (k ++ m ∷ x)) ≡ found u (m ∷ x))
 key_read {o} {x = x} {m = m} (KeyFront.unindented {s} {v = v} begins str) = (
   v,
-  ap (string o.enabled_escape key_ends) (key_begins (s ++ m ∷ x) begins)
-      ∙ (string-reads o.enabled_escape key_ends refl).finds str,
+  ap (string (backslash_of o) key_ends) (key_begins (s ++ m ∷ x) begins)
+      ∙ (string-reads (backslash_of o) key_ends refl).finds str,
 )
 key_read {o} {x = x} {m = m} (KeyFront.indented {w} {s} {v = v} ind begins str) =
     let following : skipped is_blank ((w ++ s) ++ m ∷ x) ≡ s ++ m ∷ x =
     ap (skipped is_blank) (append_assoc w s (m ∷ x))
     ∙ (run-finds is_blank w (s ++ m ∷ x) ind.blank (indented_begins (s ++ m ∷ x) begins)).1 in (
       v,
-      ap (string o.enabled_escape key_ends) following
-          ∙ (string-reads o.enabled_escape key_ends refl).finds str,
+      ap (string (backslash_of o) key_ends) following
+          ∙ (string-reads (backslash_of o) key_ends refl).finds str,
     )
 
 abbrev reads_key : ParseOption → List ℕ → Answer ℕ
-reads_key o t = string o.enabled_escape key_ends (skipped is_blank t)
+reads_key o t = string (backslash_of o) key_ends (skipped is_blank t)
 
 -- two pairs of one source have one key, separator and source after it
 record IsOnePair (p q : Stretches) : Type 0 where

@@ -1,6 +1,8 @@
 -- Each trap in a small text, and the nearest text without it.
 use Rattle.std.proofs.Common.{◌≡◌, refl, true, false, [], ◌∷◌}
 use Rattle.std.specs.Prelude.{codes}
+use Rattle.ini_text.specs.Options.ReadOptions.{default_parse_option, without_escapes}
+use Rattle.ini_text.specs.declared.option.ParseOption.{ParseOption}
 use Rattle.ini_check.specs.Traps.Keys.{comment_runs_on, has_escape, has_key_escape, has_line_end, is_empty}
 use Rattle.ini_check.specs.Traps.Keys.{lower, mark_begins_key, has_equals, runs_on}
 use Rattle.ini_check.specs.Traps.LostLines.{drops_line}
@@ -10,27 +12,40 @@ use Rattle.ini_check.specs.declared.lexical.LexicalState.TheVariants.{Front}
 use Rattle.ini_check.specs.declared.warning.Trap.TheVariants.{HalfQuote, HeaderInValue, JoinedLine, LoneCr}
 use Rattle.ini_check.specs.declared.warning.Trap.TheVariants.{PairInValue, TextAfterQuote, UnclosedQuote}
 
+abbrev without_quotes : ParseOption
+without_quotes = record default_parse_option { enabled_quote = false }
+
+abbrev with_raw_backslashes : ParseOption
+with_raw_backslashes = record without_escapes { enabled_raw_backslash = true }
+
 bracket : has_line_end (codes "[server\nport=80\n[client]") ≡ true
 bracket = refl
 
 bracket-closed : has_line_end (codes "[server]") ≡ false
 bracket-closed = refl
 
-quote : inner_warnings true false Front [] (codes "'tis\nb = dogs'")
+quote : inner_warnings default_parse_option false Front [] (codes "'tis\nb = dogs'")
     ≡ warning [] (codes "'") UnclosedQuote ∷ []
 quote = refl
 
-quote-closed : inner_warnings true false Front [] (codes "'tis'") ≡ []
+quote-closed : inner_warnings default_parse_option false Front [] (codes "'tis'") ≡ []
 quote-closed = refl
 
-quotes-off : inner_warnings false false Front [] (codes "'tis") ≡ []
+quotes-off : inner_warnings without_quotes false Front [] (codes "'tis") ≡ []
 quotes-off = refl
 
-joined : inner_warnings true false Front [] (codes "C:\\\nq=1")
+joined : inner_warnings default_parse_option false Front [] (codes "C:\\\nq=1")
     ≡ warning (codes "C:") (codes "\\") JoinedLine ∷ []
 joined = refl
 
-joined-not : inner_warnings true false Front [] (codes "C:\\\\") ≡ []
+joined-escapes_off : inner_warnings without_escapes false Front [] (codes "C:\\\nq=1")
+    ≡ warning (codes "C:") (codes "\\") JoinedLine ∷ []
+joined-escapes_off = refl
+
+joined-raw : inner_warnings with_raw_backslashes false Front [] (codes "C:\\\n  q 1") ≡ []
+joined-raw = refl
+
+joined-not : inner_warnings default_parse_option false Front [] (codes "C:\\\\") ≡ []
 joined-not = refl
 
 key-runs : runs_on (codes "one\ntwo ") ≡ true
@@ -64,21 +79,21 @@ carriage_return-alone = refl
 carriage_return-and-lf : comment_warnings [] (codes "; c\r\n") ≡ []
 carriage_return-and-lf = refl
 
-pair_goes_on : inner_warnings true false Front [] (codes "v\n  port = 80")
+pair_goes_on : inner_warnings default_parse_option false Front [] (codes "v\n  port = 80")
     ≡ warning (codes "v\n  ") (codes "p") PairInValue ∷ []
 pair_goes_on = refl
 
-text_goes_on : inner_warnings true false Front [] (codes "v\n  port 80") ≡ []
+text_goes_on : inner_warnings default_parse_option false Front [] (codes "v\n  port 80") ≡ []
 text_goes_on = refl
 
-list_goes_on : inner_warnings true true Front [] (codes "\n  port = 80") ≡ []
+list_goes_on : inner_warnings default_parse_option true Front [] (codes "\n  port = 80") ≡ []
 list_goes_on = refl
 
-header_goes_on : inner_warnings true false Front [] (codes "v\n  [b]")
+header_goes_on : inner_warnings default_parse_option false Front [] (codes "v\n  [b]")
     ≡ warning (codes "v\n  ") (codes "[") HeaderInValue ∷ []
 header_goes_on = refl
 
-brackets_go_on : inner_warnings true false Front [] (codes "v\n  [b], c") ≡ []
+brackets_go_on : inner_warnings default_parse_option false Front [] (codes "v\n  [b], c") ≡ []
 brackets_go_on = refl
 
 cased : lower (codes "Port") ≡ codes "port"
@@ -111,29 +126,46 @@ key_escape = refl
 key_escape-in-comment : has_key_escape true (codes "  ; C:\\temp") ≡ false
 key_escape-in-comment = refl
 
-mark : has_comment_mark true (codes "v ; note") ≡ true
+mark : has_comment_mark default_parse_option (codes "v ; note") ≡ true
 mark = refl
 
-mark-first : has_comment_mark true (codes "# note") ≡ true
+mark-first : has_comment_mark default_parse_option (codes "# note") ≡ true
 mark-first = refl
 
-mark-in-quotes : has_comment_mark true (codes "\"a ; b\"") ≡ false
+mark-in-quotes : has_comment_mark default_parse_option (codes "\"a ; b\"") ≡ false
 mark-in-quotes = refl
 
-mark-in-word : has_comment_mark true (codes "#fff;a") ≡ false
+mark-in-word : has_comment_mark default_parse_option (codes "#fff;a") ≡ false
 mark-in-word = refl
 
-text_after : inner_warnings true false Front [] (codes "\"a\"b")
+text_after : inner_warnings default_parse_option false Front [] (codes "\"a\"b")
     ≡ warning (codes "\"a\"") (codes "b") TextAfterQuote ∷ []
 text_after = refl
 
-note_after : inner_warnings true false Front [] (codes "\"a\" ; b") ≡ []
+text_after-kept : inner_warnings without_escapes false Front [] (codes "\"a\\\"b\"") ≡ []
+text_after-kept = refl
+
+text_after-raw : inner_warnings with_raw_backslashes false Front [] (codes "\"a\\\"b\"")
+    ≡ warning (codes "\"a\\\"") (codes "b") TextAfterQuote ∷ []
+text_after-raw = refl
+
+quote-raw : inner_warnings with_raw_backslashes false Front [] (codes "'C:\\'") ≡ []
+quote-raw = refl
+
+note_after : inner_warnings default_parse_option false Front [] (codes "\"a\" ; b") ≡ []
 note_after = refl
 
-half : inner_warnings true false Front [] (codes "a\"") ≡ warning [] (codes "a") HalfQuote ∷ []
+half : inner_warnings default_parse_option false Front [] (codes "a\"") ≡ warning [] (codes "a") HalfQuote ∷ []
 half = refl
 
-apostrophe : inner_warnings true false Front [] (codes "don't") ≡ []
+half-kept : inner_warnings without_escapes false Front [] (codes "a\\\"") ≡ []
+half-kept = refl
+
+half-raw : inner_warnings with_raw_backslashes false Front [] (codes "a\\\"")
+    ≡ warning [] (codes "a") HalfQuote ∷ []
+half-raw = refl
+
+apostrophe : inner_warnings default_parse_option false Front [] (codes "don't") ≡ []
 apostrophe = refl
 
 odd : has_odd_space (0xA0 ∷ codes "v") ≡ true

@@ -71,7 +71,7 @@ separator_trap quotes key separator source =
 abbrev pub value_traps : ParseOption → Text → List (Bool × Trap)
 value_traps o source =
     (has_escape o.enabled_escape false (value_of source), traps.Escape)
-    ∷ (has_comment_mark o.enabled_quote (value_of source), traps.MarkInValue)
+    ∷ (has_comment_mark o (value_of source), traps.MarkInValue)
     ∷ (has_odd_space source, traps.OddSpace)
     ∷ []
 
@@ -88,12 +88,12 @@ header_traps escapes known source name plain =
     ∷ []
 
 -- the trap at a place of a raw value: the first that is there; `list` says whether the value is a list
-abbrev pub trap_at : Bool → Bool → LexicalState → Text → Option Trap
-trap_at quotes list state text =
-    if opens_unclosed quotes state text then Some traps.UnclosedQuote
-    else if joins_lines state text then Some traps.JoinedLine
+abbrev pub trap_at : ParseOption → Bool → LexicalState → Text → Option Trap
+trap_at o list state text =
+    if opens_unclosed o state text then Some traps.UnclosedQuote
+    else if joins_lines o state text then Some traps.JoinedLine
     else if is_text_after_quote state text then Some traps.TextAfterQuote
-    else if is_half_quoted quotes state text then Some traps.HalfQuote
+    else if is_half_quoted o state text then Some traps.HalfQuote
     else if goes_on_with_header state text then Some traps.HeaderInValue
     else if goes_on_with_pair list state text then Some traps.PairInValue
     else None
@@ -103,11 +103,11 @@ warned_of b s None = []
 warned_of b s (Some trap) = warning b s trap ∷ []
 
 -- of the places of a raw value, from one on that stands after the front b
-abbrev pub inner_warnings : Bool → Bool → LexicalState → Text → Text → List Warning
-inner_warnings quotes list state b [] = []
-inner_warnings quotes list state b (c ∷ cs) =
-    warned_of b (c ∷ []) (trap_at quotes list state (c ∷ cs))
-    ++ inner_warnings quotes list (next_state quotes state c) (b ++ c ∷ []) cs
+abbrev pub inner_warnings : ParseOption → Bool → LexicalState → Text → Text → List Warning
+inner_warnings o list state b [] = []
+inner_warnings o list state b (c ∷ cs) =
+    warned_of b (c ∷ []) (trap_at o list state (c ∷ cs))
+    ++ inner_warnings o list (next_state o state c) (b ++ c ∷ []) cs
 
 -- of a comment, from a character on that stands after the front b: of the first CR that is a trap
 abbrev pub comment_warnings : Text → Text → List Warning
@@ -133,7 +133,7 @@ pub record HeaderWarns (o : ParseOption) (b : Text) (known : Known) (source name
 abbrev pub value_warnings : ParseOption → Text → Text → Text → List Warning
 value_warnings o b key source =
     warned_all b (first_line (value_of source)) (value_traps o source)
-    ++ inner_warnings o.enabled_quote (is_list key (value_of source)) Front b (value_of source)
+    ++ inner_warnings o (is_list key (value_of source)) Front b (value_of source)
 
 -- of a pair of this key, separator and source after it, after the front b
 abbrev pub pair_warnings : ParseOption → Text → Known → Text → ℕ → Text → Bool → List Warning

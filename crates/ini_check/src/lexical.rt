@@ -1,10 +1,13 @@
-//! Where a character of a raw value stands: in quotes, after them, after a backslash, or in the plain part.
+//! Where a character of a raw value stands: in quotes, after them, in the plain part, or after a backslash that
+//! takes it along.
 ghost use Rattle.std.specs.Prelude.{◌≡◌};
+ghost use Rattle.ini_text.specs.Options.Backslashes.{begins_escape};
+ghost use Rattle.ini_text.specs.Options.ReadOptions.{backslash_of};
 ghost use Rattle.ini_check.specs.Traps.LexicalStates.{after_outside, after_quoted, after_white, is_outside};
 ghost use Rattle.ini_check.specs.Traps.LexicalStates.{may_open, next_state};
 
 use crate::trap::quotes::is_quote_mark;
-use ini_text::is_line_end;
+use ini_text::{ParseOption, is_line_end};
 
 /// Where a character of a raw value stands.
 #[derive(Clone, Copy)]
@@ -15,7 +18,7 @@ pub(crate) enum LexicalState {
     LineFront,
     /// Between quotes of this mark.
     Quoted(char),
-    /// The same, after a backslash.
+    /// The same, after a backslash that takes the next character along.
     QuotedEscape(char),
     /// Right after a quoted part.
     AfterQuote,
@@ -23,7 +26,7 @@ pub(crate) enum LexicalState {
     Trailing,
     /// In the plain part.
     Plain,
-    /// The same, after a backslash.
+    /// The same, after such a backslash.
     PlainEscape,
 }
 
@@ -38,7 +41,7 @@ impl LexicalState {
         )
     }
 
-    /// Whether it is neither in quotes nor after a backslash.
+    /// Whether it is neither in quotes nor after such a backslash.
     pub(crate) fn is_outside(self) -> bool
         ensures { result ≡ is_outside self }
     {
@@ -49,18 +52,18 @@ impl LexicalState {
     }
 
     /// The state after a character.
-    pub(crate) fn next(self, quotes: bool, c: char) -> LexicalState
-        ensures { result ≡ next_state quotes self c }
+    pub(crate) fn next(self, read: ParseOption, c: char) -> LexicalState
+        ensures { result ≡ next_state read self c }
     {
         match self {
-            LexicalState::Quoted(mark) => after_quoted(mark, c),
+            LexicalState::Quoted(mark) => after_quoted(read, mark, c),
             LexicalState::QuotedEscape(mark) => LexicalState::Quoted(mark),
             LexicalState::PlainEscape => LexicalState::Plain,
-            LexicalState::Front => after_outside(quotes, LexicalState::Front, c),
-            LexicalState::LineFront => after_outside(quotes, LexicalState::LineFront, c),
-            LexicalState::AfterQuote => after_outside(quotes, LexicalState::AfterQuote, c),
-            LexicalState::Trailing => after_outside(quotes, LexicalState::Trailing, c),
-            LexicalState::Plain => after_outside(quotes, LexicalState::Plain, c),
+            LexicalState::Front => after_outside(read, LexicalState::Front, c),
+            LexicalState::LineFront => after_outside(read, LexicalState::LineFront, c),
+            LexicalState::AfterQuote => after_outside(read, LexicalState::AfterQuote, c),
+            LexicalState::Trailing => after_outside(read, LexicalState::Trailing, c),
+            LexicalState::Plain => after_outside(read, LexicalState::Plain, c),
         }
     }
 
@@ -77,14 +80,14 @@ impl LexicalState {
 }
 
 // The state after a character outside quotes.
-fn after_outside(quotes: bool, state: LexicalState, c: char) -> LexicalState
-    ensures { result ≡ after_outside quotes state c }
+fn after_outside(read: ParseOption, state: LexicalState, c: char) -> LexicalState
+    ensures { result ≡ after_outside read state c }
 {
     if is_line_end(c) {
         LexicalState::LineFront
-    } else if c == '\\' {
+    } else if takes_next(read, c) {
         LexicalState::PlainEscape
-    } else if quotes && state.may_open() && is_quote_mark(c) {
+    } else if read.enabled_quote && state.may_open() && is_quote_mark(c) {
         LexicalState::Quoted(c)
     } else if c.is_whitespace() {
         state.after_white()
@@ -94,14 +97,21 @@ fn after_outside(quotes: bool, state: LexicalState, c: char) -> LexicalState
 }
 
 // The state after a character between quotes of this mark.
-fn after_quoted(mark: char, c: char) -> LexicalState
-    ensures { result ≡ after_quoted mark c }
+fn after_quoted(read: ParseOption, mark: char, c: char) -> LexicalState
+    ensures { result ≡ after_quoted read mark c }
 {
-    if c == '\\' {
+    if takes_next(read, c) {
         LexicalState::QuotedEscape(mark)
     } else if c == mark {
         LexicalState::AfterQuote
     } else {
         LexicalState::Quoted(mark)
     }
+}
+
+/// Whether the character is a backslash that takes the next one along.
+pub(crate) fn takes_next(read: ParseOption, c: char) -> bool
+    ensures { result ≡ begins_escape (backslash_of read) c }
+{
+    c == '\\' && read.has_special_backslash()
 }

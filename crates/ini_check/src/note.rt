@@ -12,7 +12,7 @@ use crate::trap::lines::{goes_on_with_header, goes_on_with_pair, joins_lines};
 use crate::trap::lost_lines::swallows_line;
 use crate::trap::quotes::{is_half_quoted, is_text_after_quote, opens_unclosed};
 use crate::warning::{Trap, Warning};
-use ini_text::{Error, split_first};
+use ini_text::{Error, ParseOption, split_first};
 
 /// Puts last a warning of a stretch between two places, for each of the traps that is there.
 pub(crate) fn warn_all(
@@ -99,20 +99,20 @@ pub(crate) fn warn_within(
     position: Position,
     value: &str,
     is_list: bool,
-    quotes: bool,
+    read: ParseOption,
 ) -> Result<(), Error>
     requires room { HasRoom (length (chars value.now)) position }
     ensures warned { OnOk result ((b : Text) → IsAt b position → warnings.new.items
-        ≡ warnings.old.items ++ inner_warnings quotes is_list Front b (chars value.now)) }
+        ≡ warnings.old.items ++ inner_warnings read is_list Front b (chars value.now)) }
     ensures only { IsOkUnless result (Error.Memory alloc_error) }
 {
     let mut state = LexicalState::Front;
     let mut position = position;
     let mut rest = value;
     'characters: while let Some((c, after)) = split_first(rest) {
-        let trap = trap_at(quotes, is_list, state, rest);
+        let trap = trap_at(read, is_list, state, rest);
         warn_character(warnings, position, c, trap)?;
-        state = state.next(quotes, c);
+        state = state.next(read, c);
         position = position.after(c);
         rest = after;
     }
@@ -120,16 +120,16 @@ pub(crate) fn warn_within(
 }
 
 // The trap at a place of a value: the first that is there.
-fn trap_at(quotes: bool, is_list: bool, state: LexicalState, text: &str) -> Option<Trap>
-    ensures { result ≡ trap_at quotes is_list state (chars text.now) }
+fn trap_at(read: ParseOption, is_list: bool, state: LexicalState, text: &str) -> Option<Trap>
+    ensures { result ≡ trap_at read is_list state (chars text.now) }
 {
-    if opens_unclosed(quotes, state, text) {
+    if opens_unclosed(read, state, text) {
         Some(Trap::UnclosedQuote)
-    } else if joins_lines(state, text) {
+    } else if joins_lines(read, state, text) {
         Some(Trap::JoinedLine)
     } else if is_text_after_quote(state, text) {
         Some(Trap::TextAfterQuote)
-    } else if is_half_quoted(quotes, state, text) {
+    } else if is_half_quoted(read, state, text) {
         Some(Trap::HalfQuote)
     } else if goes_on_with_header(state, text) {
         Some(Trap::HeaderInValue)

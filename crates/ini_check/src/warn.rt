@@ -222,7 +222,7 @@ fn warn_value(
     let traps = value_traps(source, read);
     warn_all(warnings, begins, begins.over_line(value), &traps)?;
     let is_list = is_list(key, value);
-    warn_within(warnings, begins, value, is_list, read.enabled_quote)?;
+    warn_within(warnings, begins, value, is_list, read)?;
     Ok(())
 }
 
@@ -233,10 +233,7 @@ fn value_traps(source: &str, read: ParseOption) -> [(bool, Trap); 3]
     let value = value_of(source);
     [
         (has_escape(read.enabled_escape, false, value), Trap::Escape),
-        (
-            has_comment_mark(read.enabled_quote, value),
-            Trap::MarkInValue,
-        ),
+        (has_comment_mark(read, value), Trap::MarkInValue),
         (has_odd_space(source), Trap::OddSpace),
     ]
 }

@@ -50,26 +50,35 @@ preset read policy separator rule = record {
 abbrev pub with_crlf : Preset → Preset
 with_crlf p = record p { line_separator = CRLF }
 
--- ways to read: the default one; a backslash is a character like others; so are quotes; both; with values of
--- several lines too, or with brackets in names; and brackets in names alone
+-- ways to read: the default one
 abbrev pub standard : ParseOption
 standard = default_parse_option
 
+-- no escapes; before a line's end a backslash joins lines all the same
 abbrev pub raw : ParseOption
 raw = without_escapes
 
+-- a backslash is a character like any other, before a line's end too
+abbrev pub literal : ParseOption
+literal = record raw { enabled_raw_backslash = true }
+
+-- no quotes
 abbrev pub unquoted : ParseOption
 unquoted = record standard { enabled_quote = false }
 
+-- no quotes and no escapes
 abbrev pub verbatim : ParseOption
 verbatim = record raw { enabled_quote = false }
 
-abbrev pub indented : ParseOption
-indented = record verbatim { enabled_indented_mutiline_value = true }
-
+-- the same with brackets in names
 abbrev pub patterns : ParseOption
 patterns = record verbatim { enabled_brackets_in_section_names = true }
 
+-- no quotes, a backslash as any other character, and values of several lines
+abbrev pub indented : ParseOption
+indented = record literal { enabled_quote = false; enabled_indented_mutiline_value = true }
+
+-- brackets in names
 abbrev pub bracketed : ParseOption
 bracketed = record standard { enabled_brackets_in_section_names = true }
 
@@ -100,7 +109,7 @@ presets =
     ∷ (codes "desktop", preset unquoted Basics (codes "=") last)
     ∷ (codes "python", preset indented Nothing (codes " = ") last_any_case)
     ∷ (codes "php", preset standard Nothing (codes " = ") last)
-    ∷ (codes "mysql", preset raw Basics (codes "=") last)
+    ∷ (codes "mysql", preset literal Basics (codes "=") last)
     ∷ (codes "samba", preset raw Nothing (codes " = ") last_any_case)
     ∷ (codes "windows", with_crlf (preset raw Nothing (codes "=") first_any_case))
     ∷ (codes "kde", preset bracketed Basics (codes "=") last)
@@ -110,7 +119,7 @@ presets =
     ∷ (codes "editorconfig", preset patterns Nothing (codes " = ") last_any_case)
     ∷ (codes "npm", preset raw Basics (codes "=") last)
     ∷ (codes "qt", preset standard Basics (codes "=") last)
-    ∷ (codes "hg", preset raw Nothing (codes " = ") last)
+    ∷ (codes "hg", preset literal Nothing (codes " = ") last)
     ∷ (codes "pulseaudio", preset standard Nothing (codes " = ") last)
     ∷ (codes "odbc", preset standard Nothing (codes " = ") first_any_case)
     ∷ (codes "freetds", preset standard Nothing (codes " = ") last_any_case)

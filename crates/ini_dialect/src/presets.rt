@@ -51,41 +51,54 @@ pub fn dialects() -> &'static [NamedDialect]
     &DIALECTS
 }
 
-// Ways to read: the default one; one in which a backslash is a character like others; in which quotes are; in
-// which both are; so with values of several lines, or with brackets in names; and brackets in names alone.
+// Ways to read: the default one.
 const STANDARD: ParseOption = ParseOption {
     enabled_quote: true,
     enabled_escape: true,
     enabled_indented_mutiline_value: false,
     enabled_preserve_key_leading_whitespace: false,
     enabled_brackets_in_section_names: false,
+    enabled_raw_backslash: false,
 };
 
+// No escapes; before a line's end a backslash joins lines all the same.
 const RAW: ParseOption = ParseOption {
     enabled_escape: false,
     ..STANDARD
 };
 
+// A backslash is a character like any other, before a line's end too.
+const LITERAL: ParseOption = ParseOption {
+    enabled_raw_backslash: true,
+    ..RAW
+};
+
+// No quotes.
 const UNQUOTED: ParseOption = ParseOption {
     enabled_quote: false,
     ..STANDARD
 };
 
+// No quotes and no escapes.
 const VERBATIM: ParseOption = ParseOption {
     enabled_quote: false,
     ..RAW
 };
 
-const INDENTED: ParseOption = ParseOption {
-    enabled_indented_mutiline_value: true,
-    ..VERBATIM
-};
-
+// The same with brackets in names.
 const PATTERNS: ParseOption = ParseOption {
     enabled_brackets_in_section_names: true,
     ..VERBATIM
 };
 
+// No quotes, a backslash as any other character, and values of several lines.
+const INDENTED: ParseOption = ParseOption {
+    enabled_quote: false,
+    enabled_indented_mutiline_value: true,
+    ..LITERAL
+};
+
+// Brackets in names.
 const BRACKETED: ParseOption = ParseOption {
     enabled_brackets_in_section_names: true,
     ..STANDARD
@@ -187,7 +200,7 @@ static DIALECTS: [NamedDialect; 25] = [
         "setup.cfg, tox.ini, what configparser reads"
     ),
     preset!("php", STANDARD, Nothing, " = ", LAST, "php.ini"),
-    preset!("mysql", RAW, Basics, "=", LAST, "my.cnf"),
+    preset!("mysql", LITERAL, Basics, "=", LAST, "my.cnf"),
     preset!("samba", RAW, Nothing, " = ", LAST_ANY_CASE, "smb.conf"),
     preset!(
         "windows",
@@ -233,7 +246,7 @@ static DIALECTS: [NamedDialect; 25] = [
     ),
     preset!("npm", RAW, Basics, "=", LAST, ".npmrc"),
     preset!("qt", STANDARD, Basics, "=", LAST, "what QSettings writes"),
-    preset!("hg", RAW, Nothing, " = ", LAST, ".hgrc"),
+    preset!("hg", LITERAL, Nothing, " = ", LAST, ".hgrc"),
     preset!(
         "pulseaudio",
         STANDARD,

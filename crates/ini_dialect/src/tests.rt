@@ -265,6 +265,12 @@ fn a_dialect_reads_as_its_program_does(rt: HostRuntime) {
             Some("\"a\""),
         ),
         ("python", "[a]\nK = 1\n  2\n", "a", "k", Some("1\n2")),
+        ("python", "[a]\nk = C:\\\nl = 2\n", "a", "l", Some("2")),
+        ("python", "[a]\nk = C:\\\n  2\n", "a", "k", Some("C:\\\n2")),
+        ("fail2ban", "[a]\nk = \\\nl = 2\n", "a", "k", Some("\\")),
+        ("hg", "[a]\nk = C:\\\nl = 2\n", "a", "k", Some("C:\\")),
+        ("mysql", "[a]\nk=C:\\x\\\nl=2\n", "a", "k", Some("C:\\x\\")),
+        ("systemd", "[a]\nk=1 \\\n2\n", "a", "k", Some("1 2")),
         (
             "windows",
             "[A]\nk=C:\\new\n[a]\nK=2\n",

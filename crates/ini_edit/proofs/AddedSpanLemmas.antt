@@ -10,6 +10,7 @@ use Rattle.ini_text.specs.Grammar.Places.{Stretches, pair_source, value_source}
 use Rattle.ini_text.specs.Grammar.Positions.{last_or}
 use Rattle.ini_text.specs.Grammar.Strings.{Closes, Str, bracketed_name_ends}
 use Rattle.ini_text.specs.Laws.PieceLaws.{BeginAlike}
+use Rattle.ini_text.specs.Options.ReadOptions.{backslash_of}
 use Rattle.ini_text.specs.Options.WriteOptions.{line_end}
 use Rattle.ini_text.specs.declared.option.ParseOption.{ParseOption}
 use Rattle.ini_text.specs.declared.write.option.LineSeparator.{LineSeparator}
@@ -109,10 +110,10 @@ module _ {o : ParseOption} where
   opening_ended {l = l} x feed is (Element.bracketed_header on str i) =
       Element.bracketed_header on (closed str) i
     where
-      closed : {s r v : Text} → Str o.enabled_escape bracketed_name_ends s r v
-          → Str o.enabled_escape bracketed_name_ends s (l ++ x) v
+      closed : {s r v : Text} → Str (backslash_of o) bracketed_name_ends s r v
+          → Str (backslash_of o) bracketed_name_ends s (l ++ x) v
       closed (Str.closed row h) = Str.closed row (feed_closes x feed)
-      closed (Str.lone row h) = absurd (false≢true h)
+      closed (Str.lone special row h) = absurd (false≢true h)
   opening_ended x feed is (Element.pair front some sep given) = absurd (cc (is))
   opening_ended {name = name} x feed is (Element.dropped_blanks i) =
       absurd (let no : [] ≡ Header name ∷ [] = is in cc)

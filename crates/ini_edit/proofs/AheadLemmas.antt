@@ -7,6 +7,7 @@ use Rattle.std.specs.List.{list_all}
 use Rattle.std.proofs.lemmas.Bool.{both_ways, false≢true, and_parts, or_parts, not-true, false_from_ne_true}
 use Rattle.std.proofs.lemmas.List.{append_cancel_left}
 use Rattle.std.specs.Char.{is_whitespace}
+use Rattle.ini_text.specs.Options.Backslashes.{Backslash}
 use Rattle.ini_text.specs.declared.option.ParseOption.{ParseOption}
 use Rattle.ini_text.specs.Grammar.CharacterKinds.{open_bracket, is_blank, is_comment_mark, is_line_feed}
 use Rattle.ini_text.specs.Grammar.CharacterKinds.{is_line_end, BeginsWith, BeginsWithNo}
@@ -106,7 +107,7 @@ module _ {o : ParseOption} {x : List ℕ} (follows : Follows o x) where
       TrailingLines.lines on (LineEnd-before t x _ (follows.no_line_end on) end)
       (MoreLines-before on (y_some f) more) all
 
-  pub no_bracketed : {X : Type 0} {c : List ℕ} {e : Bool} {s y v : List ℕ} → FollowsFront c y
+  pub no_bracketed : {X : Type 0} {c : List ℕ} {e : Backslash} {s y v : List ℕ} → FollowsFront c y
       → Str e bracketed_name_ends s y v → X
   no_bracketed {y = y} f (Str.closed row h) = at y f.some h
     where
@@ -114,7 +115,7 @@ module _ {o : ParseOption} {x : List ℕ} (follows : Follows o x) where
           → Closes bracketed_name_ends y → X
       at [] begins h = absurd (false≢true h)
       at (c ∷ y) begins h = closes_no_line (c ∷ y) begins h
-  no_bracketed f (Str.lone row h) = absurd (false≢true h)
+  no_bracketed f (Str.lone special row h) = absurd (false≢true h)
 
   Gap-before : {b s y : List ℕ} → FollowsFront (b ++ s) y → Gap b s y → Gap b s x
   Gap-before f (Gap.blank_line c i h) = Gap.blank_line c i h

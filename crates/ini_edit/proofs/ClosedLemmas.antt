@@ -2,11 +2,13 @@
 -- follows.
 use Rattle.std.proofs.Common.{◌≡◌, ◌≢◌, ◌∙◌, ℕ, Bool, true, false, eqb, [], ◌∷◌, ◌++◌, ap}
 use Rattle.std.proofs.Common.{append-nil, if◌then◌else◌, not, refl, sym}
-use Rattle.std.proofs.lemmas.Bool.{both_ways, or_right}
+use Rattle.std.proofs.lemmas.Bool.{and_parts, both_ways, or_right}
 use Rattle.ini_text.specs.Grammar.CharacterKinds.{backslash, is_inline_white, line_feed}
 use Rattle.ini_text.specs.Grammar.Places.{LastLine, OwnLines, SpaceAfter, ends_bare}
 use Rattle.ini_text.specs.Grammar.Positions.{last_or}
 use Rattle.ini_text.specs.Grammar.Values.{LineEnd}
+use Rattle.ini_text.specs.Options.Backslashes.{begins_escape}
+use Rattle.ini_text.specs.Options.ReadOptions.{backslash_of}
 use Rattle.ini_text.specs.declared.option.ParseOption.{ParseOption}
 use Rattle.ini.specs.Texts.{Text}
 use Rattle.ini_edit.specs.Endings.{Ending, ending, ending_from, next_ending}
@@ -20,18 +22,18 @@ data IsOpen : Ending → Type 0 where
   line : IsOpen Ending.line
 
 -- after a line end
-after_end : {e y : Text} (t : Text) → LineEnd e y
-    → ((f : Ending) → IsOpen f → ending_from f t ≡ Ending.inside)
-    → ending_from Ending.inside (e ++ t) ≡ Ending.inside
-after_end t LineEnd.lf rest = rest Ending.line IsOpen.line
-after_end t LineEnd.cr_lf rest = rest Ending.line IsOpen.line
-after_end t (LineEnd.cr n) rest = rest Ending.inside IsOpen.inside
+after_end : (o : ParseOption) {e y : Text} (t : Text) → LineEnd e y
+    → ((f : Ending) → IsOpen f → ending_from o f t ≡ Ending.inside)
+    → ending_from o Ending.inside (e ++ t) ≡ Ending.inside
+after_end o t LineEnd.lf rest = rest Ending.line IsOpen.line
+after_end o t LineEnd.cr_lf rest = rest Ending.line IsOpen.line
+after_end o t (LineEnd.cr n) rest = rest Ending.inside IsOpen.inside
 
 module _ {o : ParseOption} where
   last_ends : {t r : Text} → r ≢ [] → LastLine o t r → (e : Ending) → IsOpen e
-      → ending_from e t ≡ Ending.inside
+      → ending_from o e t ≡ Ending.inside
   last_ends some (LastLine.last {w} {l} b lead ln _) e is =
-      ap (λ z. ending_from e (w ++ z)) (sym (append-nil l)) ∙ ending-lead e w (l ++ []) b lead.white
+      ap (λ z. ending_from o e (w ++ z)) (sym (append-nil l)) ∙ ending-lead o e w (l ++ []) b lead.white
       ∙ ending-line [] some ln
   last_ends some (LastLine.empty_lf m) Ending.inside is = last_ends some m Ending.line IsOpen.line
   last_ends some (LastLine.empty_lf m) Ending.line is = last_ends some m Ending.line IsOpen.line
@@ -40,22 +42,23 @@ module _ {o : ParseOption} where
   last_ends some (LastLine.empty_cr_lf m) Ending.line is = last_ends some m Ending.line IsOpen.line
   last_ends some (LastLine.empty_cr_lf m) Ending.escape is = elim is [ ]
   last_ends some (LastLine.continued {w} {l} {e = x} {t} {r} b lead ln le m) e is =
-      ending-lead e w (l ++ (x ++ t)) b lead.white
+      ending-lead o e w (l ++ (x ++ t)) b lead.white
       ∙ ending-line (x ++ t) (line_end-some-after (t ++ r) (t ++ r) le) ln
-      ∙ after_end t le (last_ends some m)
+      ∙ after_end o t le (last_ends some m)
 
   -- a value's own lines that something follows
-  pub own_ends : {l r : Text} → r ≢ [] → OwnLines o l r → ending_from Ending.inside l ≡ Ending.inside
+  pub own_ends : {l r : Text} → r ≢ [] → OwnLines o l r → ending_from o Ending.inside l ≡ Ending.inside
   own_ends {l} some (OwnLines.first ln) =
-      ap (ending_from Ending.inside) (sym (append-nil l)) ∙ ending-line [] some ln
+      ap (ending_from o Ending.inside) (sym (append-nil l)) ∙ ending-line [] some ln
   own_ends some (OwnLines.more {l} {e} {t} {r} ln le m) =
       ending-line (e ++ t) (line_end-some-after (t ++ r) (t ++ r) le) ln
-      ∙ after_end t le (last_ends some m)
+      ∙ after_end o t le (last_ends some m)
 
 -- a text ends so where a line starts before it too
-pub escape_inside : (t : Text) → ending t ≡ Ending.escape → ending_from Ending.inside t ≡ Ending.escape
-escape_inside [] h = absurd (let no : Ending.line ≡ Ending.escape = h in cc)
-escape_inside (c ∷ t) h = h
+pub escape_inside : (o : ParseOption) (t : Text) → ending o t ≡ Ending.escape
+    → ending_from o Ending.inside t ≡ Ending.escape
+escape_inside o [] h = absurd (let no : Ending.line ≡ Ending.escape = h in cc)
+escape_inside o (c ∷ t) h = h
 
 -- its last character is a backslash
 next_escape : (x y : Bool) → (if x then Ending.escape else (if y then Ending.line else Ending.inside))
@@ -64,37 +67,41 @@ next_escape true y h = refl
 next_escape false true h = absurd (let no : Ending.line ≡ Ending.escape = h in cc)
 next_escape false false h = absurd (let no : Ending.inside ≡ Ending.escape = h in cc)
 
-escape_next : (e : Ending) (c : ℕ) → next_ending e c ≡ Ending.escape → eqb c backslash ≡ true
-escape_next Ending.escape c h = absurd (let no : Ending.inside ≡ Ending.escape = h in cc)
-escape_next Ending.inside c h = next_escape (eqb c backslash) (eqb c line_feed) h
-escape_next Ending.line c h = next_escape (eqb c backslash) (eqb c line_feed) h
+escape_next : (o : ParseOption) (e : Ending) (c : ℕ) → next_ending o e c ≡ Ending.escape
+    → eqb c backslash ≡ true
+escape_next o Ending.escape c h = absurd (let no : Ending.inside ≡ Ending.escape = h in cc)
+escape_next o Ending.inside c h =
+    (and_parts (eqb c backslash) _ (next_escape (begins_escape (backslash_of o) c) (eqb c line_feed) h)).0
+escape_next o Ending.line c h =
+    (and_parts (eqb c backslash) _ (next_escape (begins_escape (backslash_of o) c) (eqb c line_feed) h)).0
 
-escape_last : (e : Ending) (d : ℕ) (t : Text) → (e ≡ Ending.escape → eqb d backslash ≡ true)
-    → ending_from e t ≡ Ending.escape → eqb (last_or d t) backslash ≡ true
-escape_last e d [] was h = was h
-escape_last e d (c ∷ t) was h = escape_last (next_ending e c) c t (escape_next e c) h
+escape_last : (o : ParseOption) (e : Ending) (d : ℕ) (t : Text)
+    → (e ≡ Ending.escape → eqb d backslash ≡ true)
+    → ending_from o e t ≡ Ending.escape → eqb (last_or d t) backslash ≡ true
+escape_last o e d [] was h = was h
+escape_last o e d (c ∷ t) was h = escape_last o (next_ending o e c) c t (escape_next o e c) h
 
 -- no white space stands after a raw value that ends so
-pub closed_space : {raw_value space_after : Text} → SpaceAfter raw_value space_after
-    → ending raw_value ≡ Ending.escape → space_after ≡ []
-closed_space (SpaceAfter.bare {raw_value} bare white) h =
+pub closed_space : (o : ParseOption) {raw_value space_after : Text} → SpaceAfter raw_value space_after
+    → ending o raw_value ≡ Ending.escape → space_after ≡ []
+closed_space o (SpaceAfter.bare {raw_value} bare white) h =
     let slash : eqb (last_or line_feed raw_value) backslash ≡ true =
-    escape_last Ending.line line_feed raw_value (λ e. absurd (let no : Ending.line ≡ Ending.escape = e
+    escape_last o Ending.line line_feed raw_value (λ e. absurd (let no : Ending.line ≡ Ending.escape = e
     in cc)) h
     in
     absurd (both_ways (ends_bare raw_value)
     (ap not (or_right (is_inline_white (last_or line_feed raw_value)) _ slash)) bare)
-closed_space (SpaceAfter.escaped front white all) h = refl
+closed_space o (SpaceAfter.escaped front white all) h = refl
 
 -- no value's line that is read before a line end ends so
 pub source_closed : {o : ParseOption} {source value : Text} → IsSourceOf o source value
-    → ending source ≢ Ending.escape
+    → ending o source ≢ Ending.escape
 source_closed {o} {source} is h =
     let x = is.line [] [] (line_feed ∷ []) refl refl refl in
     let whole : source ≡ x.lead ++ x.line = sym (append-nil source) ∙ x.whole in
-    let ends : ending_from Ending.inside source ≡ Ending.inside =
-    ap (ending_from Ending.inside) whole ∙ ending-white x.lead x.line x.is_lead.white
-    ∙ ap (ending_from Ending.inside) (sym (append-nil x.line))
+    let ends : ending_from o Ending.inside source ≡ Ending.inside =
+    ap (ending_from o Ending.inside) whole ∙ ending-white o x.lead x.line x.is_lead.white
+    ∙ ap (ending_from o Ending.inside) (sym (append-nil x.line))
     ∙ ending-line [] (λ e. absurd (let no : line_feed ∷ [] ≡ [] = e in cc)) x.is_line in
-    let no : Ending.inside ≡ Ending.escape = sym ends ∙ escape_inside source h in
+    let no : Ending.inside ≡ Ending.escape = sym ends ∙ escape_inside o source h in
     cc

@@ -30,33 +30,33 @@ use Rattle.ini_edit.proofs.GluedLemmas.{lines_glued}
 use Rattle.ini_edit.proofs.InsertedLemmas.{line_end-closes}
 use Rattle.ini_edit.proofs.OwnBeforeLemmas.{last_length}
 
-pub ending_from-append : (e : Ending) (x y : Text)
-    → ending_from e (x ++ y) ≡ ending_from (ending_from e x) y
-ending_from-append e [] y = refl
-ending_from-append e (c ∷ x) y = ending_from-append (next_ending e c) x y
+pub ending_from-append : (o : ParseOption) (e : Ending) (x y : Text)
+    → ending_from o e (x ++ y) ≡ ending_from o (ending_from o e x) y
+ending_from-append o e [] y = refl
+ending_from-append o e (c ∷ x) y = ending_from-append o (next_ending o e c) x y
 
 -- after a line end
 closing_line : {o : ParseOption} {e y c : Text} (t : Text) → LineEnd e y
-    → Closing o (ending_from Ending.inside (e ++ t)) c → Closing o (ending_from Ending.line t) c
+    → Closing o (ending_from o Ending.inside (e ++ t)) c → Closing o (ending_from o Ending.line t) c
 closing_line t LineEnd.lf k = k
 closing_line t LineEnd.cr_lf k = k
 closing_line t (LineEnd.cr n) k = closing_after t k
 
 -- own lines with what closes them, before what closes a line
 module _ {o : ParseOption} {c : Text} (y : Text) (closes : Closes plain_ends y) where
-  last_glued : {t r : Text} → LastLine o t r → Closing o (ending_from Ending.line t) c
+  last_glued : {t r : Text} → LastLine o t r → Closing o (ending_from o Ending.line t) c
       → LastLine o (t ++ c) y
   last_glued (LastLine.last {w} {l} {r} b lead ln some) k =
-      let following : Closing o (ending_from Ending.inside l) c =
-      subst (λ z. Closing o z c) (ending-lead Ending.line w l b lead.white) k in
+      let following : Closing o (ending_from o Ending.inside l) c =
+      subst (λ z. Closing o z c) (ending-lead o Ending.line w l b lead.white) k in
       subst (λ s. LastLine o s y) (sym (append_assoc w l c))
       (LastLine.last b (lead_glued y closes l r lead following) (line_glued y closes ln following) some)
   last_glued (LastLine.empty_lf m) k = LastLine.empty_lf (last_glued m k)
   last_glued (LastLine.empty_cr_lf m) k = LastLine.empty_cr_lf (last_glued m k)
   last_glued (LastLine.continued {w} {l} {e} {t} {r} b lead ln end m) k =
-      let following : Closing o (ending_from Ending.inside (e ++ t)) c =
+      let following : Closing o (ending_from o Ending.inside (e ++ t)) c =
       subst (λ z. Closing o z c)
-      (ending-lead Ending.line w (l ++ (e ++ t)) b lead.white
+      (ending-lead o Ending.line w (l ++ (e ++ t)) b lead.white
       ∙ ending-line (e ++ t) (line_end-some-after (t ++ r) (t ++ r) end) ln) k in
       let alike : Alike (t ++ r) ((t ++ c) ++ y) =
       subst (Alike (t ++ r)) (sym (append_assoc t c y)) (Alike-some t r (c ++ y) (last_length m)) in
@@ -65,11 +65,11 @@ module _ {o : ParseOption} {c : Text} (y : Text) (closes : Closes plain_ends y) 
       subst (λ s. LastLine o s y) seam
       (LastLine.continued b n.lead n.line n.end (last_glued m (closing_line t end following)))
 
-  pub own_glued : {s r : Text} → OwnLines o s r → Closing o (ending_from Ending.inside s) c
+  pub own_glued : {s r : Text} → OwnLines o s r → Closing o (ending_from o Ending.inside s) c
       → OwnLines o (s ++ c) y
   own_glued (OwnLines.first ln) k = OwnLines.first (line_glued y closes ln k)
   own_glued (OwnLines.more {l} {e} {t} {r} ln end m) k =
-      let following : Closing o (ending_from Ending.inside (e ++ t)) c =
+      let following : Closing o (ending_from o Ending.inside (e ++ t)) c =
       subst (λ z. Closing o z c) (ending-line (e ++ t) (line_end-some-after (t ++ r) (t ++ r) end) ln) k in
       let alike : Alike (t ++ r) ((t ++ c) ++ y) =
       subst (Alike (t ++ r)) (sym (append_assoc t c y)) (Alike-some t r (c ++ y) (last_length m)) in
@@ -94,63 +94,63 @@ is_closing o Ending.escape = at o.enabled_escape refl
     at true on = Closing.by_backslash on
     at false off = Closing.by_space off
 
-closes_itself : (o : ParseOption) (raw : Text) (e : Ending) → ending raw ≡ e
-    → ending (raw ++ closing_of o e) ≢ Ending.escape
+closes_itself : (o : ParseOption) (raw : Text) (e : Ending) → ending o raw ≡ e
+    → ending o (raw ++ closing_of o e) ≢ Ending.escape
 closes_itself o raw Ending.inside is h =
-    absurd (let no : Ending.inside ≡ Ending.escape = sym is ∙ ap ending (sym (append-nil raw)) ∙ h in cc)
+    absurd (let no : Ending.inside ≡ Ending.escape = sym is ∙ ap (ending o) (sym (append-nil raw)) ∙ h in cc)
 closes_itself o raw Ending.line is h =
-    absurd (let no : Ending.line ≡ Ending.escape = sym is ∙ ap ending (sym (append-nil raw)) ∙ h in cc)
+    absurd (let no : Ending.line ≡ Ending.escape = sym is ∙ ap (ending o) (sym (append-nil raw)) ∙ h in cc)
 closes_itself o raw Ending.escape is h =
-    let same : ending (raw ++ closing_of o Ending.escape) ≡ Ending.inside =
-    ending_from-append Ending.line raw (closing_of o Ending.escape)
-    ∙ ap (λ e. ending_from e (closing_of o Ending.escape)) is in
+    let same : ending o (raw ++ closing_of o Ending.escape) ≡ Ending.inside =
+    ending_from-append o Ending.line raw (closing_of o Ending.escape)
+    ∙ ap (λ e. ending_from o e (closing_of o Ending.escape)) is in
     absurd (let no : Ending.inside ≡ Ending.escape = sym same ∙ h in cc)
 
 -- a value's source, with white space around it, ends as that: where a backslash would take what follows no
 -- white space is after it
 source_ends : {o : ParseOption} (w raw pad : Text) → list_all is_inline_white w ≡ true
-    → list_all is_inline_white pad ≡ true → (ending raw ≡ Ending.escape → pad ≡ [])
-    → Closing o (ending_from Ending.inside (w ++ (raw ++ pad))) (closing_of o (ending raw))
+    → list_all is_inline_white pad ≡ true → (ending o raw ≡ Ending.escape → pad ≡ [])
+    → Closing o (ending_from o Ending.inside (w ++ (raw ++ pad))) (closing_of o (ending o raw))
 source_ends {o} w raw pad white white_pad closed =
-    subst (λ e. Closing o e (closing_of o (ending raw))) (sym (ending-white w (raw ++ pad) white)) (at
+    subst (λ e. Closing o e (closing_of o (ending o raw))) (sym (ending-white o w (raw ++ pad) white)) (at
     pad white_pad closed)
   where
-    raw_ends : (raw : Text) → Closing o (ending_from Ending.inside raw) (closing_of o (ending raw))
+    raw_ends : (raw : Text) → Closing o (ending_from o Ending.inside raw) (closing_of o (ending o raw))
     raw_ends [] = Closing.within
-    raw_ends (c ∷ cs) = is_closing o (ending (c ∷ cs))
+    raw_ends (c ∷ cs) = is_closing o (ending o (c ∷ cs))
 
     none : (e : Ending) → (e ≡ Ending.escape → ⊥) → closing_of o e ≡ []
     none Ending.inside apart = refl
     none Ending.line apart = refl
     none Ending.escape apart = absurd (apart refl)
 
-    at : (pad : Text) → list_all is_inline_white pad ≡ true → (ending raw ≡ Ending.escape → pad ≡ [])
-        → Closing o (ending_from Ending.inside (raw ++ pad)) (closing_of o (ending raw))
+    at : (pad : Text) → list_all is_inline_white pad ≡ true → (ending o raw ≡ Ending.escape → pad ≡ [])
+        → Closing o (ending_from o Ending.inside (raw ++ pad)) (closing_of o (ending o raw))
     at [] white closed =
-        subst (λ z. Closing o (ending_from Ending.inside z) (closing_of o (ending raw))) (sym
+        subst (λ z. Closing o (ending_from o Ending.inside z) (closing_of o (ending o raw))) (sym
         (append-nil raw))
         (raw_ends raw)
     at (c ∷ pad) white closed =
         let parts = and_parts (is_inline_white c) (list_all is_inline_white pad) white in
-        let ends : ending_from Ending.inside (raw ++ c ∷ pad) ≡ Ending.inside =
-        ending-after Ending.inside raw c pad (inline_inner c parts.0)
-        ∙ ap (ending_from Ending.inside) (sym (append-nil pad)) ∙ ending-white pad [] parts.1 in
-        let nothing : closing_of o (ending raw) ≡ [] =
-        none (ending raw) (λ e. let no : c ∷ pad ≡ [] = closed e in cc) in
-        subst (λ k. Closing o (ending_from Ending.inside (raw ++ c ∷ pad)) k) (sym nothing)
+        let ends : ending_from o Ending.inside (raw ++ c ∷ pad) ≡ Ending.inside =
+        ending-after o Ending.inside raw c pad (inline_inner o c parts.0)
+        ∙ ap (ending_from o Ending.inside) (sym (append-nil pad)) ∙ ending-white o pad [] parts.1 in
+        let nothing : closing_of o (ending o raw) ≡ [] =
+        none (ending o raw) (λ e. let no : c ∷ pad ≡ [] = closed e in cc) in
+        subst (λ k. Closing o (ending_from o Ending.inside (raw ++ c ∷ pad)) k) (sym nothing)
         (subst (λ e. Closing o e []) (sym ends) Closing.within)
 
 -- the stretches of a pair with its value closed
 abbrev pub closed_stretches : ParseOption → Stretches → Stretches
-closed_stretches o p = record p { raw_value = p.raw_value ++ closing_of o (ending p.raw_value) }
+closed_stretches o p = record p { raw_value = p.raw_value ++ closing_of o (ending o p.raw_value) }
 
 pub closed_is : (o : ParseOption) (p : PairPiece) → p.stretches.trailing_lines ≡ [] → p.after ≡ []
-    → closed_value o p ≡ p.stretches.raw_value ++ closing_of o (ending p.stretches.raw_value)
+    → closed_value o p ≡ p.stretches.raw_value ++ closing_of o (ending o p.stretches.raw_value)
 closed_is o p none nothing =
     let raw = p.stretches.raw_value in
     let slash = raw ++ (if o.enabled_escape then backslash else space) ∷ [] in
-    ap (λ t. if is_empty t && (is_empty p.after && is_escape (ending raw)) then slash else raw) none
-    ∙ ap (λ t. if is_empty t && is_escape (ending raw) then slash else raw) nothing ∙ at (ending raw)
+    ap (λ t. if is_empty t && (is_empty p.after && is_escape (ending o raw)) then slash else raw) none
+    ∙ ap (λ t. if is_empty t && is_escape (ending o raw) then slash else raw) nothing ∙ at (ending o raw)
   where
     at : (e : Ending)
         → (if is_escape e then p.stretches.raw_value ++ (if o.enabled_escape then backslash else space) ∷ []
@@ -165,8 +165,8 @@ pub stays_open : (o : ParseOption) (p : PairPiece)
     → closed_value o p ≡ p.stretches.raw_value
 stays_open o p some =
     let raw = p.stretches.raw_value in
-    cond-false (is_empty p.stretches.trailing_lines && (is_empty p.after && is_escape (ending raw))) _ _
-    (at (is_empty p.stretches.trailing_lines) (is_empty p.after) (is_escape (ending raw)) some)
+    cond-false (is_empty p.stretches.trailing_lines && (is_empty p.after && is_escape (ending o raw))) _ _
+    (at (is_empty p.stretches.trailing_lines) (is_empty p.after) (is_escape (ending o raw)) some)
   where
     at : (x y z : Bool) → (x && y) ≡ false → (x && (y && z)) ≡ false
     at true true z h = absurd (let no : true ≡ false = h in cc)
@@ -187,14 +187,14 @@ closing_moved o Ending.escape pad closed =
 module _ {o : ParseOption} {c : ℕ} {p : Stretches} {key value r : Text} (is : IsPair o c p key value r)
     (none : p.trailing_lines ≡ []) where
   abbrev k : Text
-  k = closing_of o (ending p.raw_value)
+  k = closing_of o (ending o p.raw_value)
 
   -- the value up to where it is closed
   shut : (w : Text) → w ++ ((p.raw_value ++ p.space_after) ++ k) ≡ w ++ ((p.raw_value ++ k) ++
       p.space_after)
   shut w = ap (λ z. w ++ z)
       (append_assoc p.raw_value p.space_after k
-      ∙ ap (λ z. p.raw_value ++ z) (closing_moved o (ending p.raw_value) p.space_after is.closed)
+      ∙ ap (λ z. p.raw_value ++ z) (closing_moved o (ending o p.raw_value) p.space_after is.closed)
       ∙ sym (append_assoc p.raw_value k p.space_after))
 
   given : Value o (p.space_before ++ (p.raw_value ++ p.space_after)) r value
@@ -202,7 +202,7 @@ module _ {o : ParseOption} {c : ℕ} {p : Stretches} {key value r : Text} (is : 
       (ap (λ t. p.space_before ++ (p.raw_value ++ (p.space_after ++ t))) none
       ∙ ap (λ t. p.space_before ++ (p.raw_value ++ t)) (append-nil p.space_after)) is.gives
 
-  ends : Closing o (ending_from Ending.inside (p.space_before ++ (p.raw_value ++ p.space_after))) k
+  ends : Closing o (ending_from o Ending.inside (p.space_before ++ (p.raw_value ++ p.space_after))) k
   ends = source_ends p.space_before p.raw_value p.space_after is.white_before is.white_after is.closed
 
   shut_lines : (y : Text) → Closes plain_ends y → OwnLines o ((p.raw_value ++ k) ++ p.space_after) y
@@ -211,8 +211,8 @@ module _ {o : ParseOption} {c : ℕ} {p : Stretches} {key value r : Text} (is : 
       (own_glued y closes is.own_lines
       (source_ends [] p.raw_value p.space_after refl is.white_after is.closed))
 
-  never : ending (p.raw_value ++ k) ≡ Ending.escape → p.space_after ≡ []
-  never e = absurd (closes_itself o p.raw_value (ending p.raw_value) refl e)
+  never : ending o (p.raw_value ++ k) ≡ Ending.escape → p.space_after ≡ []
+  never e = absurd (closes_itself o p.raw_value (ending o p.raw_value) refl e)
 
   -- a multiline value that ends the text is closed by a line end, and what may follow it follows
   pub pair_ended : (sep : LineSeparator) (x : Text) → o.enabled_indented_mutiline_value ≡ true → Follows o x

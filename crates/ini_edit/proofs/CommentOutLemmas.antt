@@ -1,10 +1,10 @@
 -- A pair of a text in pieces made comments: each of its lines after a mark, up to its line end.
-use Rattle.std.proofs.Common.{◌≡◌, ◌≢◌, ◌∙◌, ◌==◌, ◌&&◌, ◌||◌, ◌-◌, ℕ, Bool, true, false, not, List, [], ◌∷◌}
+use Rattle.std.proofs.Common.{◌≡◌, ◌≢◌, ◌∙◌, ◌==◌, ◌&&◌, ◌||◌, ℕ, Bool, true, false, not, [], ◌∷◌}
 use Rattle.std.proofs.Common.{◌++◌, ap, append_assoc, append-nil, eqb-true, if◌then◌else◌, inl, inr, refl}
-use Rattle.std.proofs.Common.{subst, sym, arith, length, length-append, take}
-use Rattle.std.proofs.lemmas.Bool.{and_parts, both_ways, cond-false, cond-true, false≢true, or_cases}
+use Rattle.std.proofs.Common.{subst, sym, arith, length, length-append}
+use Rattle.std.proofs.lemmas.Bool.{and_parts, both_ways, false≢true, or_cases}
 use Rattle.std.specs.List.{list_all}
-use Rattle.ini_text.specs.Grammar.CharacterKinds.{BeginsWithNo, backslash, carriage_return, is_line_end}
+use Rattle.ini_text.specs.Grammar.CharacterKinds.{BeginsWithNo, carriage_return, is_line_end}
 use Rattle.ini_text.specs.Grammar.CharacterKinds.{is_line_feed, line_feed, semicolon, space}
 use Rattle.ini_text.specs.Grammar.Places.{Stretches, TrailingLines, pair_source}
 use Rattle.ini_text.specs.Grammar.Positions.{last_or}
@@ -12,6 +12,8 @@ use Rattle.ini_text.specs.Grammar.Strings.{Closes, plain_ends}
 use Rattle.ini_text.specs.Grammar.Values.{LineEnd}
 use Rattle.ini_text.specs.Inside.PlainTests.{begins}
 use Rattle.ini_text.specs.Laws.PieceLaws.{Agree}
+use Rattle.ini_text.specs.Options.Backslashes.{begins_escape}
+use Rattle.ini_text.specs.Options.ReadOptions.{backslash_of}
 use Rattle.ini_text.specs.Parsing.Fronts.{front_of}
 use Rattle.ini_text.specs.declared.option.ParseOption.{ParseOption}
 use Rattle.ini_text.proofs.LawLemmas.PieceLemmas.{last_or-append}
@@ -20,8 +22,8 @@ use Rattle.ini.specs.Texts.{Text, is_text}
 use Rattle.ini_edit.specs.Endings.{Ending}
 use Rattle.ini_edit.specs.Inside.Spans.{IsGap, IsPair}
 use Rattle.ini_edit.specs.SourceEditsComments.{marked, pair_line, pair_lines}
-use Rattle.ini_edit.specs.SourceEditsDelete.{gap_after, line_end_after, lines_after, own_lines}
-use Rattle.ini_edit.specs.SourceLines.{after_line_end, after_line_feed, blank_lines_at_end, blank_lines_from}
+use Rattle.ini_edit.specs.SourceEditsDelete.{gap_after, line_end_after, lines_after}
+use Rattle.ini_edit.specs.SourceLines.{after_line_end, blank_lines_at_end, blank_lines_from}
 use Rattle.ini_edit.specs.SourceLines.{ends_in_line, is_line, is_line_from, line_end_at_end, next_line_end}
 use Rattle.ini_edit.specs.SourceLines.{is_blank_or_line_end}
 use Rattle.ini_edit.specs.Sources.{PairPiece}
@@ -132,28 +134,29 @@ gap_ends (c ∷ b) r closes none apart =
     ]
 
 -- where blank lines begin a line starts
-own_ends : (e : Ending) (t own : Text) → blank_lines_from e t ≢ [] → own ++ blank_lines_from e t ≡ t
-    → is_line_from e own ≡ true
-own_ends e [] own some whole = absurd (some refl)
-own_ends e (c ∷ cs) own some whole =
+own_ends : (o : ParseOption) (e : Ending) (t own : Text) → blank_lines_from o e t ≢ []
+    → own ++ blank_lines_from o e t ≡ t
+    → is_line_from o e own ≡ true
+own_ends o e [] own some whole = absurd (some refl)
+own_ends o e (c ∷ cs) own some whole =
     by (is_line e && list_all is_blank_or_line_end (c ∷ cs)) refl some whole
-    (own_ends (next_line_end e c cs) cs)
+    (own_ends o (next_line_end o e c cs) cs)
   where
     later : Text
-    later = blank_lines_from (next_line_end e c cs) cs
+    later = blank_lines_from o (next_line_end o e c cs) cs
 
     none : (own : Text) → own ++ c ∷ cs ≡ c ∷ cs → own ≡ []
     none [] h = refl
     none (x ∷ own) h = absurd (omega (arith, ap length h, length-append own (c ∷ cs)))
 
     -- the walk over a front sees what follows its last character alone
-    same : (own : Text) → own ++ later ≡ cs → is_line_from (next_line_end e c cs) own ≡ true
-        → is_line_from (next_line_end e c own) own ≡ true
+    same : (own : Text) → own ++ later ≡ cs → is_line_from o (next_line_end o e c cs) own ≡ true
+        → is_line_from o (next_line_end o e c own) own ≡ true
     same (x ∷ own) whole ends =
-        at e (subst (λ t. is_line_from (next_line_end e c t) (x ∷ own) ≡ true) (sym whole) ends)
+        at e (subst (λ t. is_line_from o (next_line_end o e c t) (x ∷ own) ≡ true) (sym whole) ends)
       where
-        at : (e : Ending) → is_line_from (next_line_end e c (x ∷ (own ++ later))) (x ∷ own) ≡ true
-            → is_line_from (next_line_end e c (x ∷ own)) (x ∷ own) ≡ true
+        at : (e : Ending) → is_line_from o (next_line_end o e c (x ∷ (own ++ later))) (x ∷ own) ≡ true
+            → is_line_from o (next_line_end o e c (x ∷ own)) (x ∷ own) ≡ true
         at Ending.escape h = h
         at Ending.inside h = h
         at Ending.line h = h
@@ -168,109 +171,112 @@ own_ends e (c ∷ cs) own some whole =
         more false true z w h = refl
         more false false z w h = h
 
-        at : (e : Ending) → is_line (next_line_end e c cs) ≡ true → is_line (next_line_end e c []) ≡ true
+        at : (e : Ending) → is_line (next_line_end o e c cs) ≡ true → is_line (next_line_end o e c []) ≡ true
         at Ending.escape h = h
         at Ending.inside h =
-            more (is_line_feed c) (c == carriage_return) (begins is_line_feed cs) (c == backslash) h
+            more (is_line_feed c) (c == carriage_return) (begins is_line_feed cs)
+            (begins_escape (backslash_of o) c) h
         at Ending.line h =
-            more (is_line_feed c) (c == carriage_return) (begins is_line_feed cs) (c == backslash) h
+            more (is_line_feed c) (c == carriage_return) (begins is_line_feed cs)
+            (begins_escape (backslash_of o) c) h
 
     by : (b : Bool) → (is_line e && list_all is_blank_or_line_end (c ∷ cs)) ≡ b
         → (if b then c ∷ cs else later) ≢ [] → own ++ (if b then c ∷ cs else later) ≡ c ∷ cs
-        → ((own : Text) → later ≢ [] → own ++ later ≡ cs → is_line_from (next_line_end e c cs) own ≡ true)
-        → is_line_from e own ≡ true
+        → ((own : Text) → later ≢ [] → own ++ later ≡ cs
+        → is_line_from o (next_line_end o e c cs) own ≡ true)
+        → is_line_from o e own ≡ true
     by true is some whole further =
-        subst (λ t. is_line_from e t ≡ true) (sym (none own whole))
+        subst (λ t. is_line_from o e t ≡ true) (sym (none own whole))
         (and_parts (is_line e) (list_all is_blank_or_line_end (c ∷ cs)) is).0
     by false is some whole further = at own whole
       where
-        at : (own : Text) → own ++ later ≡ c ∷ cs → is_line_from e own ≡ true
+        at : (own : Text) → own ++ later ≡ c ∷ cs → is_line_from o e own ≡ true
         at [] whole =
             absurd (omega (
               arith,
               ap length whole,
               rest_le cs later
-                  (blank_lines_from-rest (next_line_end e c cs) cs),
+                  (blank_lines_from-rest o (next_line_end o e c cs) cs),
             ))
         at (x ∷ own) whole =
             let first : x ≡ c = cc in
             let rest : own ++ later ≡ cs = cc in
-            subst (λ x. is_line_from (next_line_end e x own) own ≡ true) (sym first)
+            subst (λ x. is_line_from o (next_line_end o e x own) own ≡ true) (sym first)
             (same own rest (further own some rest))
 
 -- the line end of lines after a value: the text ends without one
-abbrev end_of_lines : Text → Text
-end_of_lines own = if not (ends_in_line own) then [] else line_end_at_end own
+abbrev end_of_lines : (o : ParseOption) → Text → Text
+end_of_lines o own = if not (ends_in_line o own) then [] else line_end_at_end own
 
 -- the line end at the end of lines that one ends
-data LinesEnd (t r : Text) : Text → Type 0 where
-  nothing : blank_lines_at_end t ≡ [] → r ≡ [] → LinesEnd t r []
-  line_end : {e : Text} → front_of (own_of t) e ++ e ≡ own_of t → IsNewLine e → LinesEnd t r e
+data LinesEnd (o : ParseOption) (t r : Text) : Text → Type 0 where
+  nothing : blank_lines_at_end o t ≡ [] → r ≡ [] → LinesEnd o t r []
+  line_end : {e : Text} → front_of (own_of o t) e ++ e ≡ own_of o t → IsNewLine e → LinesEnd o t r e
 
 module _ {o : ParseOption} (on : o.enabled_indented_mutiline_value ≡ true) {t r : Text}
     (trailing : TrailingLines o t r) where
-  own_whole : own_of t ++ blank_lines_at_end t ≡ t
-  own_whole = blank_lines_at_end-rest t
+  own_whole : own_of o t ++ blank_lines_at_end o t ≡ t
+  own_whole = blank_lines_at_end-rest o t
 
   -- nothing follows lines that no line end ends
-  unended : ends_in_line (own_of t) ≡ false → (blank_lines_at_end t ≡ []) × (r ≡ [])
-  unended off = at (blank_lines_at_end t) refl
+  unended : ends_in_line o (own_of o t) ≡ false → (blank_lines_at_end o t ≡ []) × (r ≡ [])
+  unended off = at (blank_lines_at_end o t) refl
     where
-      nothing_after : (r : Text) → TrailingLines o t r → blank_lines_at_end t ≡ [] → r ≡ []
+      nothing_after : (r : Text) → TrailingLines o t r → blank_lines_at_end o t ≡ [] → r ≡ []
       nothing_after [] trailing none = refl
       nothing_after (c ∷ r) trailing none =
-          let all : own_of t ≡ t = sym (append-nil (own_of t)) ∙ ap (λ x. own_of t ++ x) (sym none)
+          let all : own_of o t ≡ t = sym (append-nil (own_of o t)) ∙ ap (λ x. own_of o t ++ x) (sym none)
           ∙ own_whole in
-          absurd (both_ways (ends_in_line (own_of t)) off
-          (ap ends_in_line all ∙ trailing_ends (λ h. let no : c ∷ r ≡ [] = h in cc) on trailing))
+          absurd (both_ways (ends_in_line o (own_of o t)) off
+          (ap (ends_in_line o) all ∙ trailing_ends (λ h. let no : c ∷ r ≡ [] = h in cc) on trailing))
 
-      at : (x : Text) → blank_lines_at_end t ≡ x → (blank_lines_at_end t ≡ []) × (r ≡ [])
+      at : (x : Text) → blank_lines_at_end o t ≡ x → (blank_lines_at_end o t ≡ []) × (r ≡ [])
       at [] is = (is, nothing_after r trailing is)
       at (c ∷ x) is =
-          absurd (both_ways (ends_in_line (own_of t)) off
-          (own_ends Ending.inside t (own_of t) (λ h. let no : c ∷ x ≡ [] = sym is ∙ h in cc) own_whole))
+          absurd (both_ways (ends_in_line o (own_of o t)) off
+          (own_ends o Ending.inside t (own_of o t) (λ h. let no : c ∷ x ≡ [] = sym is ∙ h in cc) own_whole))
 
   -- the line end there is written as one, but for a CR alone
-  ended : ends_in_line (own_of t) ≡ true
-      → is_text (line_end_at_end (own_of t)) (carriage_return ∷ []) ≡ false
-      → LinesEnd t r (line_end_at_end (own_of t))
+  ended : ends_in_line o (own_of o t) ≡ true
+      → is_text (line_end_at_end (own_of o t)) (carriage_return ∷ []) ≡ false
+      → LinesEnd o t r (line_end_at_end (own_of o t))
   ended ends apart =
-      by (line_end_at_end (own_of t)) (end_is (own_of t)) (line_end_at_end-rest (own_of t)) some apart
+      by (line_end_at_end (own_of o t)) (end_is (own_of o t)) (line_end_at_end-rest (own_of o t)) some apart
     where
-      some : line_end_at_end (own_of t) ≢ []
+      some : line_end_at_end (own_of o t) ≢ []
       some none =
-          let there : own_of t ≢ [] = λ h. false≢true (subst (λ x. ends_in_line x ≡ true) h ends) in
-          let is_end : is_line_end (last_or space (own_of t)) ≡ true =
-          line_last Ending.inside space (own_of t) (λ h. absurd (false≢true h)) ends in
-          let last : space ≡ last_or space (own_of t) =
-          sym (ap (last_or space) none) ∙ end_last space space (own_of t) there is_end in
+          let there : own_of o t ≢ [] = λ h. false≢true (subst (λ x. ends_in_line o x ≡ true) h ends) in
+          let is_end : is_line_end (last_or space (own_of o t)) ≡ true =
+          line_last o Ending.inside space (own_of o t) (λ h. absurd (false≢true h)) ends in
+          let last : space ≡ last_or space (own_of o t) =
+          sym (ap (last_or space) none) ∙ end_last space space (own_of o t) there is_end in
           false≢true (subst (λ c. is_line_end c ≡ true) (sym last) is_end)
 
-      by : (e : Text) → IsLineEnd e → front_of (own_of t) e ++ e ≡ own_of t → e ≢ []
-          → is_text e (carriage_return ∷ []) ≡ false → LinesEnd t r e
+      by : (e : Text) → IsLineEnd e → front_of (own_of o t) e ++ e ≡ own_of o t → e ≢ []
+          → is_text e (carriage_return ∷ []) ≡ false → LinesEnd o t r e
       by [] IsLineEnd.none whole some apart = absurd (some refl)
       by e IsLineEnd.lf whole some apart = LinesEnd.line_end whole IsNewLine.lf
       by e IsLineEnd.cr_lf whole some apart = LinesEnd.line_end whole IsNewLine.cr_lf
       by e IsLineEnd.cr whole some apart = absurd (false≢true (sym apart))
 
-  lines_end_there : is_text (end_of_lines (own_of t)) (carriage_return ∷ []) ≡ false
-      → LinesEnd t r (end_of_lines (own_of t))
-  lines_end_there apart = at (ends_in_line (own_of t)) refl apart
+  lines_end_there : is_text (end_of_lines o (own_of o t)) (carriage_return ∷ []) ≡ false
+      → LinesEnd o t r (end_of_lines o (own_of o t))
+  lines_end_there apart = at (ends_in_line o (own_of o t)) refl apart
     where
-      at : (b : Bool) → ends_in_line (own_of t) ≡ b
-          → is_text (if not b then [] else line_end_at_end (own_of t)) (carriage_return ∷ []) ≡ false
-          → LinesEnd t r (if not b then [] else line_end_at_end (own_of t))
+      at : (b : Bool) → ends_in_line o (own_of o t) ≡ b
+          → is_text (if not b then [] else line_end_at_end (own_of o t)) (carriage_return ∷ []) ≡ false
+          → LinesEnd o t r (if not b then [] else line_end_at_end (own_of o t))
       at true is apart = ended is apart
       at false is apart = let none = unended is in LinesEnd.nothing none.0 none.1
 
   -- the blank lines are a gap
-  blank_gap : {c : ℕ} → IsGap o c (blank_lines_at_end t) r
-  blank_gap = white_gap (blank_lines_at_end t) (blank_all Ending.inside t) (at r trailing)
+  blank_gap : {c : ℕ} → IsGap o c (blank_lines_at_end o t) r
+  blank_gap = white_gap (blank_lines_at_end o t) (blank_all o Ending.inside t) (at r trailing)
     where
-      at : (r : Text) → TrailingLines o t r → EndsThere r (last_or line_feed (blank_lines_at_end t))
+      at : (r : Text) → TrailingLines o t r → EndsThere r (last_or line_feed (blank_lines_at_end o t))
       at [] trailing = EndsThere.text refl
       at (c ∷ r) trailing =
-          EndsThere.line (line_last Ending.line line_feed (blank_lines_at_end t) (λ _. refl)
+          EndsThere.line (line_last o Ending.line line_feed (blank_lines_at_end o t) (λ _. refl)
           (lines_end (λ h. let no : c ∷ r ≡ [] = h in cc) (trailing_blank on trailing).are))
 
 -- a pair up to its trailing lines, and these
@@ -285,9 +291,9 @@ no_trailing {o} off (TrailingLines.lines on end more all) =
     absurd (both_ways o.enabled_indented_mutiline_value off on)
 
 -- the parts of what follows a pair's value, where values are multiline, and where they are in one line
-module _ (on : Bool) (p : PairPiece) where
+module _ (o : ParseOption) (on : Bool) (p : PairPiece) where
   abbrev lines_of : Text
-  lines_of = if on then blank_lines_at_end p.stretches.trailing_lines else after_line_end p.after
+  lines_of = if on then blank_lines_at_end o p.stretches.trailing_lines else after_line_end p.after
 
   abbrev gap_part : Text
   gap_part = if on then p.after else []
@@ -296,7 +302,7 @@ module _ (on : Bool) (p : PairPiece) where
   own_part = if on then front_of p.stretches.trailing_lines lines_of else front_of p.after lines_of
 
   abbrev end_part : Text
-  end_part = if on && not (ends_in_line own_part) then [] else line_end_at_end own_part
+  end_part = if on && not (ends_in_line o own_part) then [] else line_end_at_end own_part
 
   abbrev line_part : Text
   line_part = pair_line p.stretches ++ (if on then front_of own_part end_part else [])
@@ -347,18 +353,20 @@ pair_commented {o} {d} p r is g none apart =
             cut IsNewLine.lf g = gap_cut (LineEnd.lf {r = []}) g
             cut IsNewLine.cr_lf g = gap_cut (LineEnd.cr_lf {r = []}) g
 
-    many_lines : {e : Text} → o.enabled_indented_mutiline_value ≡ true → LinesEnd t (b ++ r) e
-        → Made (pair_line p.stretches ++ front_of (own_of t) e) (e ++ (blank_lines_at_end t ++ b))
+    many_lines : {e : Text} → o.enabled_indented_mutiline_value ≡ true → LinesEnd o t (b ++ r) e
+        → Made (pair_line p.stretches ++ front_of (own_of o t) e) (e ++ (blank_lines_at_end o t ++ b))
     many_lines on (LinesEnd.nothing empty last) =
         let parts = no_parts b r last in
-        let own : own_of t ≡ t =
-        sym (append-nil (own_of t)) ∙ ap (λ x. own_of t ++ x) (sym empty) ∙ blank_lines_at_end-rest t in
-        let front : front_of (own_of t) [] ≡ t = front_is (own_of t) [] (own_of t) (append-nil (own_of t))
+        let own : own_of o t ≡ t =
+        sym (append-nil (own_of o t)) ∙ ap (λ x. own_of o t ++ x) (sym empty)
+        ∙ blank_lines_at_end-rest o t in
+        let front : front_of (own_of o t) [] ≡ t =
+        front_is (own_of o t) [] (own_of o t) (append-nil (own_of o t))
         ∙ own in
-        let lines : pair_source p.stretches ++ b ≡ pair_line p.stretches ++ front_of (own_of t) [] =
+        let lines : pair_source p.stretches ++ b ≡ pair_line p.stretches ++ front_of (own_of o t) [] =
         ap (λ b. pair_source p.stretches ++ b) parts.0 ∙ append-nil (pair_source p.stretches)
         ∙ sym (line_then p.stretches) ∙ ap (λ x. pair_line p.stretches ++ x) (sym front) in
-        subst (Made (pair_line p.stretches ++ front_of (own_of t) []))
+        subst (Made (pair_line p.stretches ++ front_of (own_of o t) []))
         (sym (ap (λ x. x ++ b) empty ∙ parts.0))
         (CommentedOut.to_end parts.1 lines)
       where
@@ -366,10 +374,10 @@ pair_commented {o} {d} p r is g none apart =
         no_parts [] r h = (refl, h)
         no_parts (c ∷ b) r h = absurd (let no : c ∷ (b ++ r) ≡ [] = h in cc)
     many_lines on (LinesEnd.line_end {e} whole end) =
-        let lines = blank_lines_at_end t in
-        let own = front_of (own_of t) e in
+        let lines = blank_lines_at_end o t in
+        let own = front_of (own_of o t) e in
         let trailing : own ++ (e ++ lines) ≡ t =
-        sym (append_assoc own e lines) ∙ ap (λ x. x ++ lines) whole ∙ blank_lines_at_end-rest t in
+        sym (append_assoc own e lines) ∙ ap (λ x. x ++ lines) whole ∙ blank_lines_at_end-rest o t in
         let source : (pair_line p.stretches ++ own) ++ (e ++ lines) ≡ pair_source p.stretches =
         append_assoc (pair_line p.stretches) own (e ++ lines) ∙ ap (λ x. pair_line p.stretches ++ x) trailing
         ∙ line_then p.stretches in
@@ -384,7 +392,7 @@ pair_commented {o} {d} p r is g none apart =
         (gap_join (blank_gap on is.are_trailing) (subst (λ c. IsGap o c b r) last g))
 
     at : (on : Bool) → o.enabled_indented_mutiline_value ≡ on
-        → is_text (end_part on p) (carriage_return ∷ []) ≡ false
-        → Made (line_part on p) (end_part on p ++ (lines_of on p ++ gap_part on p))
+        → is_text (end_part o on p) (carriage_return ∷ []) ≡ false
+        → Made (line_part o on p) (end_part o on p ++ (lines_of o on p ++ gap_part o on p))
     at false off apart = one_line off (gap_ends p.after r (value_closes off is.gives) none apart)
     at true on apart = many_lines on (lines_end_there on is.are_trailing apart)

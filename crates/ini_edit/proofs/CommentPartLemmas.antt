@@ -1,7 +1,7 @@
 -- Comments put above a pair, as the code makes them: the last parts of what stands before the pair.
-use Rattle.std.proofs.Common.{◌≡◌, ◌≢◌, ◌∙◌, ◌<◌, ◌≤◌, ◌&&◌, ◌||◌, ℕ, Bool, true, false, not, List, [], ◌∷◌}
-use Rattle.std.proofs.Common.{◌++◌, None, Option, Some, ap, append-nil, arith, if◌then◌else◌, length, refl}
-use Rattle.std.proofs.Common.{subst, suc, sym, take, ◌-◌, append_assoc, drop}
+use Rattle.std.proofs.Common.{◌≡◌, ◌∙◌, ◌<◌, ◌≤◌, ◌&&◌, ◌||◌, ℕ, Bool, true, false, not, List, [], ◌∷◌}
+use Rattle.std.proofs.Common.{◌++◌, None, Some, ap, append-nil, arith, if◌then◌else◌, length, refl}
+use Rattle.std.proofs.Common.{suc, sym, take, ◌-◌, append_assoc, drop}
 use Rattle.std.proofs.lemmas.Bool.{cond-false, cond-true, false≢true, or_from, or_right}
 use Rattle.std.specs.List.{remove}
 use Rattle.std.specs.Str.{chars}
@@ -167,7 +167,7 @@ end_put_out e s {p} {i} at left is =
 
 -- a line end is what its lines end with
 pub line_end_rest : (o : ParseOption) (p : PairPiece) → IsRest (own_lines o p) (line_end_after o p)
-line_end_rest o p = by (o.enabled_indented_mutiline_value && not (ends_in_line (own_lines o p)))
+line_end_rest o p = by (o.enabled_indented_mutiline_value && not (ends_in_line o (own_lines o p)))
   where
     by : (b : Bool) → IsRest (own_lines o p) (if b then [] else line_end_at_end (own_lines o p))
     by true = none_rest (own_lines o p)

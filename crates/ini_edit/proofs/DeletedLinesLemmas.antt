@@ -98,21 +98,22 @@ end_last c d (e ∷ f ∷ t) some h =
     at false more = more
 
 -- the line end that goes before the blank lines, unless it goes with the pair
-abbrev pub kept_end : (goes : Bool) → (own : Text) → Text
-kept_end goes own =
-    if goes then [] else (if not (ends_in_line own) then [] else line_end_at_end own)
+abbrev pub kept_end : (o : ParseOption) (goes : Bool) → (own : Text) → Text
+kept_end o goes own =
+    if goes then [] else (if not (ends_in_line o own) then [] else line_end_at_end own)
 
 -- of the lines t after a value its own; and what stays of t, before the gap b, after a text of this last
 -- character
-abbrev pub own_of : Text → Text
-own_of t = front_of t (blank_lines_at_end t)
+abbrev pub own_of : (o : ParseOption) → Text → Text
+own_of o t = front_of t (blank_lines_at_end o t)
 
-abbrev pub staying : (last : ℕ) → (t b : Text) → Text
-staying last t b = kept_end (goes_after last (blank_lines_at_end t) b) (own_of t) ++ blank_lines_at_end t
+abbrev pub staying : (o : ParseOption) (last : ℕ) → (t b : Text) → Text
+staying o last t b =
+    kept_end o (goes_after last (blank_lines_at_end o t) b) (own_of o t) ++ blank_lines_at_end o t
 
-kept_is : (goes : Bool) (own : Text) → IsLineEnd (kept_end goes own)
-kept_is true own = IsLineEnd.none
-kept_is false own = at (not (ends_in_line own))
+kept_is : (o : ParseOption) (goes : Bool) (own : Text) → IsLineEnd (kept_end o goes own)
+kept_is o true own = IsLineEnd.none
+kept_is o false own = at (not (ends_in_line o own))
   where
     at : (b : Bool) → IsLineEnd (if b then [] else line_end_at_end own)
     at true = IsLineEnd.none
@@ -146,13 +147,14 @@ white_no_mark (c ∷ r) b all h = absurd (both_ways (is_blank_or_line_end c) (ma
     (and_parts (is_blank_or_line_end c) (list_all is_blank_or_line_end r) all).0)
 
 -- where a comment follows, what stays ends in column one if what was there did
-column_kept : (last d : ℕ) (own r b : Text) (goes : Bool) → goes_after last r b ≡ goes
-    → begins is_comment_mark b ≡ true → ends_in_line (own ++ r) ≡ true
-    → is_line_feed (last_or d (own ++ r)) ≡ true → is_line_feed (last_or last (kept_end goes own ++ r)) ≡ true
-column_kept last d own (c ∷ r) b goes is mark ends column =
-    subst (λ z. is_line_feed z ≡ true) (sym (last_or-append last (kept_end goes own) (c ∷ r)))
+column_kept : (o : ParseOption) (last d : ℕ) (own r b : Text) (goes : Bool) → goes_after last r b ≡ goes
+    → begins is_comment_mark b ≡ true → ends_in_line o (own ++ r) ≡ true
+    → is_line_feed (last_or d (own ++ r)) ≡ true
+    → is_line_feed (last_or last (kept_end o goes own ++ r)) ≡ true
+column_kept o last d own (c ∷ r) b goes is mark ends column =
+    subst (λ z. is_line_feed z ≡ true) (sym (last_or-append last (kept_end o goes own) (c ∷ r)))
     (subst (λ z. is_line_feed z ≡ true) (last_or-append d own (c ∷ r)) column)
-column_kept last d own [] b true is mark ends column =
+column_kept o last d own [] b true is mark ends column =
     let parts = and_parts (is_line_end last) (is_line_feed last || not (begins is_comment_mark b)) is in
     elim (or_cases (is_line_feed last) (not (begins is_comment_mark b)) parts.1) [
       | inl feed ↦ feed
@@ -160,69 +162,70 @@ column_kept last d own [] b true is mark ends column =
           absurd (both_ways (not (begins is_comment_mark b))
           (not_from_true (begins is_comment_mark b) mark) other)
     ]
-column_kept last d own [] b false is mark ends column =
-    let ends_own : ends_in_line own ≡ true = subst (λ t. ends_in_line t ≡ true) (append-nil own) ends in
+column_kept o last d own [] b false is mark ends column =
+    let ends_own : ends_in_line o own ≡ true = subst (λ t. ends_in_line o t ≡ true) (append-nil own) ends in
     let feed : is_line_feed (last_or d own) ≡ true =
     subst (λ t. is_line_feed (last_or d t) ≡ true) (append-nil own) column in
-    let some : own ≢ [] = λ is_none. false≢true (subst (λ t. ends_in_line t ≡ true) is_none ends_own) in
+    let some : own ≢ [] = λ is_none. false≢true (subst (λ t. ends_in_line o t ≡ true) is_none ends_own) in
     subst (λ t. is_line_feed (last_or last t) ≡ true)
-    (sym (append-nil (kept_end false own) ∙ ap (λ b. if not b then [] else line_end_at_end own) ends_own))
+    (sym (append-nil (kept_end o false own) ∙ ap (λ b. if not b then [] else line_end_at_end own) ends_own))
     (subst (λ z. is_line_feed z ≡ true)
     (sym (end_last last d own some (or_left (is_line_feed (last_or d own)) _ feed))) feed)
 
 -- the lines t after a multiline value, before the gap b and r
 module _ {o : ParseOption} (on : o.enabled_indented_mutiline_value ≡ true) {t : Text} (b r : Text)
     (trailing : TrailingLines o t (b ++ r)) (last : ℕ) where
-  own_whole : own_of t ++ blank_lines_at_end t ≡ t
-  own_whole = blank_lines_at_end-rest t
+  own_whole : own_of o t ++ blank_lines_at_end o t ≡ t
+  own_whole = blank_lines_at_end-rest o t
 
-  are_blank : AreBlank o (blank_lines_at_end t) (b ++ r)
+  are_blank : AreBlank o (blank_lines_at_end o t) (b ++ r)
   are_blank = trailing_blank on trailing
 
-  ends_there : EndsThere (b ++ r) (last_or line_feed (staying last t b))
+  ends_there : EndsThere (b ++ r) (last_or line_feed (staying o last t b))
   ends_there = at (b ++ r) refl
     where
       first : Text
-      first = kept_end (goes_after last (blank_lines_at_end t) b) (own_of t)
+      first = kept_end o (goes_after last (blank_lines_at_end o t) b) (own_of o t)
 
-      at : (x : Text) → b ++ r ≡ x → EndsThere (b ++ r) (last_or line_feed (staying last t b))
+      at : (x : Text) → b ++ r ≡ x → EndsThere (b ++ r) (last_or line_feed (staying o last t b))
       at [] is = EndsThere.text is
       at (c ∷ x) is =
           let some : b ++ r ≢ [] = λ is_none. (let other : c ∷ x ≡ [] = sym is ∙ is_none in cc) in
           EndsThere.line (subst (λ z. is_line_end z ≡ true)
-          (sym (last_or-append line_feed first (blank_lines_at_end t)))
-          (line_last Ending.line (last_or line_feed first) (blank_lines_at_end t)
-          (λ _. end_ends (kept_is (goes_after last (blank_lines_at_end t) b) (own_of t)))
+          (sym (last_or-append line_feed first (blank_lines_at_end o t)))
+          (line_last o Ending.line (last_or line_feed first) (blank_lines_at_end o t)
+          (λ _. end_ends (kept_is o (goes_after last (blank_lines_at_end o t) b) (own_of o t)))
           (lines_end some are_blank.are)))
 
   -- they are a gap
-  pub staying_gap : {c : ℕ} → IsGap o c (staying last t b) (b ++ r)
+  pub staying_gap : {c : ℕ} → IsGap o c (staying o last t b) (b ++ r)
   staying_gap =
       white_gap _
       (rw (
         list_all-append is_blank_or_line_end
-            (kept_end (goes_after last (blank_lines_at_end t) b) (own_of t)) (blank_lines_at_end t),
-        end_white (kept_is (goes_after last (blank_lines_at_end t) b) (own_of t)),
-        blank_all Ending.inside t,
+            (kept_end o (goes_after last (blank_lines_at_end o t) b) (own_of o t)) (blank_lines_at_end o t),
+        end_white (kept_is o (goes_after last (blank_lines_at_end o t) b) (own_of o t)),
+        blank_all o Ending.inside t,
       ) refl)
       ends_there
 
   -- they end in column one, where what follows must be there
   pub staying_column : (d : ℕ) → BeginsWithNo is_comment_mark r → BeginsWith is_comment_mark (b ++ r)
       → is_line_feed (last_or d t) ≡ true
-      → is_line_feed (last_or last (staying last t b)) ≡ true
+      → is_line_feed (last_or last (staying o last t b)) ≡ true
   staying_column d unmarked mark column =
-      column_kept last d (own_of t) (blank_lines_at_end t) b (goes_after last (blank_lines_at_end t) b) refl
+      column_kept o last d (own_of o t) (blank_lines_at_end o t) b
+      (goes_after last (blank_lines_at_end o t) b) refl
       (begins_here b r unmarked mark)
-      (subst (λ s. ends_in_line s ≡ true) (sym own_whole)
+      (subst (λ s. ends_in_line o s ≡ true) (sym own_whole)
       (trailing_ends (begins_some is_comment_mark (b ++ r) mark) on trailing))
       (subst (λ s. is_line_feed (last_or d s) ≡ true) (sym own_whole) column)
 
   -- after a line end they are lines of a value
   pub staying_lines : (d : ℕ) → is_line_end last ≡ true
       → (BeginsWith is_comment_mark (b ++ r) → is_line_feed (last_or d t) ≡ true)
-      → AreBlank o (staying last t b) (b ++ r)
-  staying_lines d starts column = at (goes_after last (blank_lines_at_end t) b) refl
+      → AreBlank o (staying o last t b) (b ++ r)
+  staying_lines d starts column = at (goes_after last (blank_lines_at_end o t) b) refl
     where
       ended : {e : Text} → IsLineEnd e → last_or d e ≡ last_or d t → is_line_feed (last_or d t) ≡ true
           → AreBlank o e (b ++ r)
@@ -244,24 +247,24 @@ module _ {o : ParseOption} (on : o.enabled_indented_mutiline_value ≡ true) {t 
           }
       ended IsLineEnd.cr same feed = absurd (false≢true (subst (λ z. is_line_feed z ≡ true) (sym same) feed))
 
-      at : (b' : Bool) → goes_after last (blank_lines_at_end t) b ≡ b'
-          → AreBlank o (kept_end b' (own_of t) ++ blank_lines_at_end t) (b ++ r)
+      at : (b' : Bool) → goes_after last (blank_lines_at_end o t) b ≡ b'
+          → AreBlank o (kept_end o b' (own_of o t) ++ blank_lines_at_end o t) (b ++ r)
       at true is = are_blank
       at false is =
-          let marked = not-false (begins is_comment_mark (blank_lines_at_end t ++ b))
+          let marked = not-false (begins is_comment_mark (blank_lines_at_end o t ++ b))
           (or_parts (is_line_feed last) _ (no_second (is_line_end last) _ is starts)).1 in
-          let parts = white_no_mark (blank_lines_at_end t) b (blank_all Ending.inside t) marked in
+          let parts = white_no_mark (blank_lines_at_end o t) b (blank_all o Ending.inside t) marked in
           let mark = begins_front is_comment_mark b r (begins_with is_comment_mark b parts.1) in
-          let whole : own_of t ≡ t =
-          sym (append-nil (own_of t))
-          ∙ ap (λ x. own_of t ++ x) (sym parts.0) ∙ own_whole in
+          let whole : own_of o t ≡ t =
+          sym (append-nil (own_of o t))
+          ∙ ap (λ x. own_of o t ++ x) (sym parts.0) ∙ own_whole in
           let ends = trailing_ends (begins_some is_comment_mark (b ++ r) mark) on trailing in
-          let some : t ≢ [] = λ is_none. false≢true (subst (λ s. ends_in_line s ≡ true) is_none ends) in
-          let is_end = line_last Ending.inside d t (λ inner. absurd (false≢true inner)) ends in
-          let kept : kept_end false (own_of t) ++ blank_lines_at_end t ≡ line_end_at_end t =
-          ap (λ x. kept_end false (own_of t) ++ x) parts.0
-          ∙ append-nil (kept_end false (own_of t))
-          ∙ ap (kept_end false) whole ∙ ap (λ c. if not c then [] else line_end_at_end t) ends in
+          let some : t ≢ [] = λ is_none. false≢true (subst (λ s. ends_in_line o s ≡ true) is_none ends) in
+          let is_end = line_last o Ending.inside d t (λ inner. absurd (false≢true inner)) ends in
+          let kept : kept_end o false (own_of o t) ++ blank_lines_at_end o t ≡ line_end_at_end t =
+          ap (λ x. kept_end o false (own_of o t) ++ x) parts.0
+          ∙ append-nil (kept_end o false (own_of o t))
+          ∙ ap (kept_end o false) whole ∙ ap (λ c. if not c then [] else line_end_at_end t) ends in
           subst (λ s. AreBlank o s (b ++ r)) (sym kept)
           (ended (end_is t) (end_last d d t some is_end) (column mark))
         where

@@ -69,7 +69,7 @@ module _ {o : ParseOption} (on : o.enabled_indented_mutiline_value ≡ true) {la
 
   -- what follows is read as before
   kept_agrees : Agree (last_or last (pair_source p) ∷ [])
-      (last_or last (staying last p.trailing_lines b) ∷ [])
+      (last_or last (staying o last p.trailing_lines b) ∷ [])
       (b ++ r)
   kept_agrees = record {
     line = λ m. no_begin is_blank (b ++ r) ((value_follows on there.is.gives).no_blank on) m;
@@ -78,20 +78,20 @@ module _ {o : ParseOption} (on : o.enabled_indented_mutiline_value ≡ true) {la
         (tail_column m));
   }
 
-  kept_gap : IsGap o last (staying last p.trailing_lines b ++ b) r
+  kept_gap : IsGap o last (staying o last p.trailing_lines b ++ b) r
   kept_gap =
       gap_join (staying_gap on b r there.is.are_trailing last)
       (gap_like (Agree-front r kept_agrees) there.is_gap)
 
-  kept_lines : is_line_end last ≡ true → AreBlank o (staying last p.trailing_lines b) (b ++ r)
+  kept_lines : is_line_end last ≡ true → AreBlank o (staying o last p.trailing_lines b) (b ++ r)
   kept_lines starts =
       staying_lines on b r there.is.are_trailing last (last_or last (before_tail p)) starts tail_column
 
   rest_agrees : Agree (last_or (last_or last (pair_source p)) b ∷ [])
-      (last_or last (staying last p.trailing_lines b ++ b) ∷ []) r
+      (last_or last (staying o last p.trailing_lines b ++ b) ∷ []) r
   rest_agrees =
       subst (λ z. Agree (last_or (last_or last (pair_source p)) b ∷ []) (z ∷ []) r)
-      (sym (last_or-append last (staying last p.trailing_lines b) b))
+      (sym (last_or-append last (staying o last p.trailing_lines b) b))
       (Agree-after b r kept_agrees)
 
 -- into the gap before it
@@ -100,10 +100,10 @@ pub multiline_to_gap : {o : ParseOption} (on : o.enabled_indented_mutiline_value
     → AreSpans o line_feed (xs ++ (gap a ∷ pair p key value ∷ gap b ∷ zs)) []
     → BeginsWithNo is_comment_mark (joined span_source zs ++ []) → StandsBefore o (xs ++ gap a ∷ [])
     → AreSpans o line_feed (xs ++ (gap (a ++
-    (staying (last_or line_feed (joined span_source (xs ++ gap a ∷ []))) p.trailing_lines b ++ b)) ∷ zs)) []
-multiline_to_gap on xs a b p key value zs whole unmarked stands =
+    (staying o (last_or line_feed (joined span_source (xs ++ gap a ∷ []))) p.trailing_lines b ++ b)) ∷ zs)) []
+multiline_to_gap {o} on xs a b p key value zs whole unmarked stands =
     let last = last_or line_feed (joined span_source (xs ++ gap a ∷ [])) in
-    let c = staying last p.trailing_lines b ++ b in
+    let c = staying o last p.trailing_lines b ++ b in
     let there = is_there zs (pair_and_rest xs a b p key value zs whole) in
     pair_to_gap xs a b p key value zs whole c stands (kept_gap on there unmarked)
     (subst (Agree (last_or (last_or last (pair_source p)) b ∷ []) (last_or last c ∷ []))
@@ -217,7 +217,7 @@ module _ {o : ParseOption} (on : o.enabled_indented_mutiline_value ≡ true) (xs
       ++ (pair q key_q value_q ∷ gap [] ∷ pair p key value ∷ gap b ∷ zs)) []
       → BeginsWithNo is_comment_mark (joined span_source zs ++ [])
       → AreSpans o line_feed (xs ++
-      (pair (with_lines (staying (last_of_pair xs q) p.trailing_lines b) q) key_q value_q ∷ gap b ∷ zs)) []
+      (pair (with_lines (staying o (last_of_pair xs q) p.trailing_lines b) q) key_q value_q ∷ gap b ∷ zs)) []
   multiline_to_pair whole unmarked =
       at (in_place-split span_source xs (pair q key_q value_q ∷ gap [] ∷ pair p key value ∷ gap b ∷ zs)
       whole).1
@@ -230,17 +230,17 @@ module _ {o : ParseOption} (on : o.enabled_indented_mutiline_value ≡ true) (xs
 
       at : AreSpans o c (pair q key_q value_q ∷ gap [] ∷ pair p key value ∷ gap b ∷ zs) []
           → AreSpans o line_feed (xs ++
-          (pair (with_lines (staying (last_of_pair xs q) p.trailing_lines b) q) key_q value_q ∷ gap b ∷ zs))
+          (pair (with_lines (staying o (last_of_pair xs q) p.trailing_lines b) q) key_q value_q ∷ gap b ∷ zs))
           []
       at (AreInPlace.more (IsSpan.is_pair before) (AreInPlace.more _ later)) =
           let there = is_there zs later in
-          let lines = staying (last_of_pair xs q) p.trailing_lines b in
+          let lines = staying o (last_of_pair xs q) p.trailing_lines b in
           let some : (pair_source p ++ (b ++ rest)) ++ [] ≢ [] =
           λ empty. key_some p.key p.separator (value_source p ++ (b ++ rest)) []
           (sym (ap (λ t. t ++ []) (append_assoc p.key (p.separator ∷ value_source p) (b ++ rest))) ∙ empty) in
           let ended : is_line_end (last_of_pair xs q) ≡ true =
           subst (λ z. is_line_end z ≡ true) (sym (tail_last c q))
-          (line_last Ending.inside (last_or c (before_tail q)) q.trailing_lines
+          (line_last o Ending.inside (last_or c (before_tail q)) q.trailing_lines
           (λ inner. absurd (false≢true inner))
           (trailing_ends some on before.are_trailing)) in
           let more = kept_lines on there unmarked ended in
@@ -274,10 +274,10 @@ module _ {o : ParseOption} (on : o.enabled_indented_mutiline_value ≡ true) (xs
         where
           ends : (lines : Text) → IsThere o (last_of_pair xs q) p key value b (rest ++ [])
               → Agree (last_or c (pair_source q ++ (pair_source p ++ (b ++ []))) ∷ [])
-              (last_or c (pair_source (with_lines (staying (last_of_pair xs q) p.trailing_lines b) q)
+              (last_or c (pair_source (with_lines (staying o (last_of_pair xs q) p.trailing_lines b) q)
               ++ (b ++ [])) ∷ []) rest
           ends lines there =
-              let kept = staying (last_of_pair xs q) p.trailing_lines b in
+              let kept = staying o (last_of_pair xs q) p.trailing_lines b in
               let old : last_or c (pair_source q ++ (pair_source p ++ (b ++ [])))
               ≡ last_or (last_or (last_of_pair xs q) (pair_source p)) b =
               ap (λ t. last_or c (pair_source q ++ (pair_source p ++ t))) (append-nil b)

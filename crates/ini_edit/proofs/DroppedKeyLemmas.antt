@@ -23,7 +23,7 @@ use Rattle.ini_edit.specs.Inside.Spans.{IsGap}
 use Rattle.ini_edit.specs.SourceLines.{after_blanks, dropped_key, is_in_comment}
 use Rattle.ini_edit.proofs.EmptyLineLemmas.{blank_or_end, blank_source_no_key, blanks_all, key_blank}
 use Rattle.ini_edit.proofs.EmptyLineLemmas.{nothing_no_key}
-use Rattle.ini_edit.proofs.EndingLemmas.{IsInner, inner_by}
+use Rattle.ini_edit.proofs.EndingLemmas.{no_feed_by}
 use Rattle.ini_edit.proofs.GapLemmas.{empty_front}
 use Rattle.ini_edit.proofs.SourceSetLemmas.{line_end_no_mark}
 
@@ -166,10 +166,10 @@ comment_last before (c ∷ s) all =
 mark_past : (before m : ℕ) (s : Text) → is_comment_mark m ≡ true
     → dropped_key false before (m ∷ s) ≡ dropped_key true m s
 mark_past before m s mark =
-    let inner : IsInner m = inner_by is_comment_mark m refl refl mark in
+    let no_feed = no_feed_by is_comment_mark m refl mark in
     one_past false before m s (no_blank_there before m s (comment_mark-apart m mark).0)
     ∙ ap (λ inside. dropped_key inside m s)
-    (and_from (is_comment_mark m) (not (is_line_feed m)) mark (ap not inner.no_line_feed))
+    (and_from (is_comment_mark m) (not (is_line_feed m)) mark (ap not no_feed))
 
 -- An element that gives nothing, before t: the key isn't in it; or it is the key, and nothing follows.
 data Passes (c : ℕ) (s t : Text) : Type 0 where

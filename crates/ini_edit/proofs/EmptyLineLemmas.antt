@@ -1,14 +1,16 @@
 -- Sources of blanks and line ends, which are no key, and texts that no backslash ends.
 use Rattle.std.proofs.Common.{◌≡◌, ◌≢◌, ◌∙◌, ◌||◌, ◌==◌, ℕ, Bool, true, false, not, eqb, List, [], ◌∷◌, ◌++◌, ap}
 use Rattle.std.proofs.Common.{append-nil, eqb-true, if◌then◌else◌, refl, subst, sym}
-use Rattle.std.proofs.lemmas.Bool.{and_from, and_parts, both_ways, false≢true, false_from_ne_true, or_left}
-use Rattle.std.proofs.lemmas.Bool.{or_right}
+use Rattle.std.proofs.lemmas.Bool.{and_from, and_left, and_parts, both_ways, false≢true, false_from_ne_true}
+use Rattle.std.proofs.lemmas.Bool.{or_left, or_right}
 use Rattle.std.specs.List.{list_all}
 use Rattle.ini_text.specs.Grammar.CharacterKinds.{BeginsWith, backslash, is_blank, is_line_end, line_feed}
 use Rattle.ini_text.specs.Grammar.CharacterKinds.{open_bracket}
 use Rattle.ini_text.specs.Grammar.Elements.{Element, Gap, Given}
 use Rattle.ini_text.specs.Grammar.Keys.{begins_indented_key}
 use Rattle.ini_text.specs.Inside.PlainTests.{begins}
+use Rattle.ini_text.specs.Options.Backslashes.{begins_escape}
+use Rattle.ini_text.specs.Options.ReadOptions.{backslash_of}
 use Rattle.ini_text.specs.declared.option.ParseOption.{ParseOption}
 use Rattle.ini_text.proofs.GrammarLemmas.KindLemmas.{comment_mark-apart}
 use Rattle.ini.specs.Texts.{Text}
@@ -84,10 +86,10 @@ nothing_no_key (Element.dropped_blanks i) some none key = some refl
 nothing_no_key (Element.dropped_key i begins stops) some none key = some refl
 
 -- only a backslash takes what follows it
-pub no_escape : (e : Ending) (X : List ℕ) (c : ℕ) → eqb c backslash ≡ false
-    → ending_from e (X ++ c ∷ []) ≢ Ending.escape
-no_escape e (x ∷ X) c h = no_escape (next_ending e x) X c h
-no_escape e [] c h = at e h
+pub no_escape : (o : ParseOption) (e : Ending) (X : List ℕ) (c : ℕ) → eqb c backslash ≡ false
+    → ending_from o e (X ++ c ∷ []) ≢ Ending.escape
+no_escape o e (x ∷ X) c h = no_escape o (next_ending o e x) X c h
+no_escape o e [] c h = at e h
   where
     by : (x y : Bool) → x ≡ false
         → (if x then Ending.escape else (if y then Ending.line else Ending.inside)) ≢ Ending.escape
@@ -95,10 +97,12 @@ no_escape e [] c h = at e h
     by false true h is = cc
     by false false h is = cc
 
-    at : (e : Ending) → eqb c backslash ≡ false → next_ending e c ≢ Ending.escape
+    at : (e : Ending) → eqb c backslash ≡ false → next_ending o e c ≢ Ending.escape
     at Ending.escape h is = cc
-    at Ending.inside h is = by (eqb c backslash) (eqb c line_feed) h is
-    at Ending.line h is = by (eqb c backslash) (eqb c line_feed) h is
+    at Ending.inside h is =
+        by (begins_escape (backslash_of o) c) (eqb c line_feed) (and_left (eqb c backslash) _ h) is
+    at Ending.line h is =
+        by (begins_escape (backslash_of o) c) (eqb c line_feed) (and_left (eqb c backslash) _ h) is
 
 pub no_backslash : (test : ℕ → Bool) (c : ℕ) → test backslash ≡ false → test c ≡ true
     → eqb c backslash ≡ false

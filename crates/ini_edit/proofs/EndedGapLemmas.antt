@@ -19,7 +19,7 @@ use Rattle.ini.specs.Texts.{Text}
 use Rattle.ini_edit.specs.Endings.{IsIndentedKey}
 use Rattle.ini_edit.specs.Inside.Spans.{IsGap}
 use Rattle.ini_edit.proofs.DroppedKeyLemmas.{AreKeyless}
-use Rattle.ini_edit.proofs.EndingLemmas.{IsInner, inner_by}
+use Rattle.ini_edit.proofs.EndingLemmas.{no_feed_by}
 use Rattle.ini_edit.proofs.GapLemmas.{empty_front, gap_join}
 use Rattle.ini_edit.proofs.GapPartLemmas.{all_last, no_blank_end}
 use Rattle.ini_edit.proofs.SectionTakenLemmas.{IsFeed}
@@ -37,10 +37,10 @@ blank_last c (d ∷ w) some all feed =
 comment_last : {X : Type 0} (m : ℕ) (s : Text) → is_comment_mark m ≡ true → list_all is_other s ≡ true
     → is_line_feed (last_or m s) ≡ true → X
 comment_last m s mark all feed =
-    let inner : IsInner m = inner_by is_comment_mark m refl refl mark in
+    let no_feed = no_feed_by is_comment_mark m refl mark in
     absurd (both_ways (is_line_feed (last_or m s))
     (not-true _ (all_last is_other m s (and_from (is_other m) (list_all is_other s)
-    (ap not inner.no_line_feed) all))) feed)
+    (ap not no_feed) all))) feed)
 
 no_bracket : {X : Type 0} (r : Text) → BeginsWithNo (λ c. c == open_bracket) (open_bracket ∷ r) → X
 no_bracket r h = absurd (false≢true (sym h))

@@ -1,8 +1,9 @@
 -- Elements after which a line may stand as it is: those that end with an LF that no backslash takes.
-use Rattle.std.proofs.Common.{◌≡◌, ◌≢◌, ℕ, Bool, true, false, not, List, [], ◌∷◌, ◌++◌, refl, sym, ap, ◌∙◌}
+use Rattle.std.proofs.Common.{◌≡◌, ◌≢◌, ℕ, true, false, not, List, [], ◌∷◌, ◌++◌, refl, sym, ap, ◌∙◌}
 use Rattle.std.proofs.Common.{append_assoc, append-nil}
 use Rattle.std.proofs.lemmas.Bool.{false≢true, both_ways, and_parts, not-true}
 use Rattle.std.specs.List.{list_all}
+use Rattle.ini_text.specs.Options.ReadOptions.{backslash_of}
 use Rattle.ini_text.specs.declared.option.ParseOption.{ParseOption}
 use Rattle.ini_text.specs.Grammar.CharacterKinds.{line_feed, open_bracket, is_blank, is_comment_mark}
 use Rattle.ini_text.specs.Grammar.CharacterKinds.{is_line_feed, is_separator, BeginsWith}
@@ -15,17 +16,18 @@ use Rattle.ini_text.proofs.LawLemmas.OneAheadLemmas.{Alike, EndedLine-before, Ke
 use Rattle.ini_text.proofs.PlainLemmas.PlainPairLemmas.{inline_blanks}
 use Rattle.ini_edit.specs.Endings.{Ending, IsIndentedKey, ending, ending_from}
 use Rattle.ini_edit.specs.Places.{Follows}
-use Rattle.ini_edit.proofs.EndingLemmas.{IsInner, column_ending, ending-after, ending-lead, ending-line}
+use Rattle.ini_edit.proofs.EndingLemmas.{column_ending, ending-after, ending-lead, ending-line}
 use Rattle.ini_edit.proofs.EndingLemmas.{ending-row, ending-white, inner_by, line_no_line}
+use Rattle.ini_edit.proofs.EndingLemmas.{no_feed_by}
 
 -- no text of blanks ends so, and no comment without LF
-pub ending-blanks : (b w : List ℕ) → BeginsWith is_blank w → list_all is_blank w ≡ true
-    → ending (b ++ w) ≡ Ending.inside
-ending-blanks b [] some all = absurd (false≢true (sym some))
-ending-blanks b (c ∷ w) some all =
+pub ending-blanks : (o : ParseOption) (b w : List ℕ) → BeginsWith is_blank w → list_all is_blank w ≡ true
+    → ending o (b ++ w) ≡ Ending.inside
+ending-blanks o b [] some all = absurd (false≢true (sym some))
+ending-blanks o b (c ∷ w) some all =
     let parts = and_parts (is_blank c) (list_all is_blank w) all in
-    ending-after Ending.line b c w (inner_by is_blank c refl refl some)
-    ∙ ap (ending_from Ending.inside) (sym (append-nil w)) ∙ ending-white w [] (inline_blanks w parts.1)
+    ending-after o Ending.line b c w (inner_by o is_blank c refl refl some)
+    ∙ ap (ending_from o Ending.inside) (sym (append-nil w)) ∙ ending-white o w [] (inline_blanks w parts.1)
 
 last_no_feed : (c : ℕ) (s : List ℕ) → is_line_feed c ≡ false → list_all (λ c. not (is_line_feed c)) s ≡ true
     → is_line_feed (last_or c s) ≡ false
@@ -38,33 +40,34 @@ last_no_feed c (d ∷ s) h all =
 pub comment_no_column : (b : List ℕ) (m : ℕ) (s : List ℕ) → is_comment_mark m ≡ true
     → list_all (λ c. not (is_line_feed c)) s ≡ true → is_column_one (b ++ m ∷ s) ≡ false
 comment_no_column b m s mark all =
-    let inner : IsInner m = inner_by is_comment_mark m refl refl mark in
-    ap is_line_feed (last_or-after line_feed m b s) ∙ last_no_feed m s inner.no_line_feed all
+    let no_feed = no_feed_by is_comment_mark m refl mark in
+    ap is_line_feed (last_or-after line_feed m b s) ∙ last_no_feed m s no_feed all
 
-comment_no_line : (b : List ℕ) (m : ℕ) (s : List ℕ) → is_comment_mark m ≡ true
-    → list_all (λ c. not (is_line_feed c)) s ≡ true → ending (b ++ m ∷ s) ≢ Ending.line
-comment_no_line b m s mark all h =
-    both_ways (is_column_one (b ++ m ∷ s)) (comment_no_column b m s mark all) (column_ending (b ++ m ∷ s) h)
+comment_no_line : (o : ParseOption) (b : List ℕ) (m : ℕ) (s : List ℕ) → is_comment_mark m ≡ true
+    → list_all (λ c. not (is_line_feed c)) s ≡ true → ending o (b ++ m ∷ s) ≢ Ending.line
+comment_no_line o b m s mark all h =
+    both_ways (is_column_one (b ++ m ∷ s)) (comment_no_column b m s mark all) (column_ending o (b ++ m ∷ s) h)
 
 -- a pair's source from its separator on
-pub ending-separator : (b k : List ℕ) (m : ℕ) (z : List ℕ) → is_separator m ≡ true
-    → ending (b ++ (k ++ m ∷ z)) ≡ ending_from Ending.inside z
-ending-separator b k m z h =
-    ap ending (sym (append_assoc b k (m ∷ z)))
-    ∙ ending-after Ending.line (b ++ k) m z (inner_by is_separator m refl refl h)
+pub ending-separator : (o : ParseOption) (b k : List ℕ) (m : ℕ) (z : List ℕ) → is_separator m ≡ true
+    → ending o (b ++ (k ++ m ∷ z)) ≡ ending_from o Ending.inside z
+ending-separator o b k m z h =
+    ap (ending o) (sym (append_assoc b k (m ∷ z)))
+    ∙ ending-after o Ending.line (b ++ k) m z (inner_by o is_separator m refl refl h)
 
-pub row_no_line : (b : List ℕ) {e : Bool} {s r v : List ℕ} → Str e bracketed_name_ends s r v
-    → ending (b ++ open_bracket ∷ s) ≡ Ending.inside
-row_no_line b {s = s} (Str.closed row h) =
-    ending-after Ending.line b open_bracket s (record { no_backslash = refl; no_line_feed = refl })
-    ∙ ap (ending_from Ending.inside) (sym (append-nil s)) ∙ ending-row [] refl row
-row_no_line b (Str.lone row h) = absurd (false≢true h)
+pub row_no_line : (o : ParseOption) (b : List ℕ) {s r v : List ℕ}
+    → Str (backslash_of o) bracketed_name_ends s r v
+    → ending o (b ++ open_bracket ∷ s) ≡ Ending.inside
+row_no_line o b {s = s} (Str.closed row h) =
+    ending-after o Ending.line b open_bracket s (record { no_backslash = refl; no_line_feed = refl })
+    ∙ ap (ending_from o Ending.inside) (sym (append-nil s)) ∙ ending-row o [] refl row
+row_no_line o b (Str.lone special row h) = absurd (false≢true h)
 
 -- after a character the text ends so, whether a line starts before it or not
-pub from_line : (t : List ℕ) → ending_from Ending.inside t ≡ Ending.line
-    → ending_from Ending.line t ≡ Ending.line
-from_line [] h = cc
-from_line (c ∷ t) h = h
+pub from_line : (o : ParseOption) (t : List ℕ) → ending_from o Ending.inside t ≡ Ending.line
+    → ending_from o Ending.line t ≡ Ending.line
+from_line o [] h = cc
+from_line o (c ∷ t) h = h
 
 pub line_end-some-after : {e : List ℕ} (z y : List ℕ) → LineEnd e y → (e ++ z) ≢ []
 line_end-some-after z y LineEnd.lf h = cc
@@ -74,37 +77,38 @@ line_end-some-after z y (LineEnd.cr n) h = cc
 module _ {o : ParseOption} {x : List ℕ} (follows : Follows o x) where
   -- a line end, and how what follows it ends
   pub LineEnd-ended : {e : List ℕ} (t r : List ℕ) → LineEnd e (t ++ r)
-      → ending_from Ending.inside (e ++ t) ≡ Ending.line
-      → LineEnd e (t ++ x) × (ending_from Ending.line t ≡ Ending.line)
+      → ending_from o Ending.inside (e ++ t) ≡ Ending.line
+      → LineEnd e (t ++ x) × (ending_from o Ending.line t ≡ Ending.line)
   LineEnd-ended t r LineEnd.lf h = (LineEnd.lf, h)
   LineEnd-ended t r LineEnd.cr_lf h = (LineEnd.cr_lf, h)
   LineEnd-ended [] r (LineEnd.cr n) h = cc
   LineEnd-ended (c ∷ t) r (LineEnd.cr n) h = (LineEnd.cr n, h)
 
   pub MoreLines-ended : {t r v : List ℕ} → o.enabled_indented_mutiline_value ≡ true → MoreLines o t r v
-      → ending_from Ending.line t ≡ Ending.line → MoreLines o t x v
+      → ending_from o Ending.line t ≡ Ending.line → MoreLines o t x v
   MoreLines-ended on (MoreLines.done n m) h = MoreLines.done (follows.no_blank on) (follows.no_line_end on)
   MoreLines-ended on (MoreLines.empty_lf m) h = MoreLines.empty_lf (MoreLines-ended on m h)
   MoreLines-ended on (MoreLines.empty_cr_lf m) h = MoreLines.empty_cr_lf (MoreLines-ended on m h)
   MoreLines-ended on (MoreLines.continued {w} {l} {e} {t} {r} b lead ln le m) h =
-      let is : ending_from Ending.inside (e ++ t) ≡ Ending.line =
+      let is : ending_from o Ending.inside (e ++ t) ≡ Ending.line =
       sym (ending-line (e ++ t) (line_end-some-after (t ++ r) (t ++ r) le) ln)
-      ∙ sym (ending-lead Ending.line w (l ++ (e ++ t)) b lead.white) ∙ h in
+      ∙ sym (ending-lead o Ending.line w (l ++ (e ++ t)) b lead.white) ∙ h in
       let end = LineEnd-ended t r le is in
       let n = EndedLine-before end.0 (record { lead = lead; line = ln; end = le }) in
       MoreLines.continued b n.lead n.line n.end (MoreLines-ended on m end.1)
   MoreLines-ended on (MoreLines.last {w} {l} b lead ln) h =
-      absurd (line_no_line ln (sym (ending-lead Ending.line w l b lead.white) ∙ h))
+      absurd (line_no_line ln (sym (ending-lead o Ending.line w l b lead.white) ∙ h))
 
-  pub Value-ended : {s r v : List ℕ} → Value o s r v → ending_from Ending.inside s ≡ Ending.line → Value o s x v
+  pub Value-ended : {s r v : List ℕ} → Value o s r v → ending_from o Ending.inside s ≡ Ending.line
+      → Value o s x v
   Value-ended (Value.one_line {w} {l} off lead ln) h =
-      absurd (line_no_line ln (sym (ending-white w l lead.white) ∙ h))
+      absurd (line_no_line ln (sym (ending-white o w l lead.white) ∙ h))
   Value-ended (Value.to_end {w} {l} on lead ln) h =
-      absurd (line_no_line ln (sym (ending-white w l lead.white) ∙ h))
+      absurd (line_no_line ln (sym (ending-white o w l lead.white) ∙ h))
   Value-ended (Value.lines {w} {l} {e} {t} {r} on lead ln le m) h =
-      let is : ending_from Ending.inside (e ++ t) ≡ Ending.line =
+      let is : ending_from o Ending.inside (e ++ t) ≡ Ending.line =
       sym (ending-line (e ++ t) (line_end-some-after (t ++ r) (t ++ r) le) ln)
-      ∙ sym (ending-white w (l ++ (e ++ t)) lead.white) ∙ h in
+      ∙ sym (ending-white o w (l ++ (e ++ t)) lead.white) ∙ h in
       let end = LineEnd-ended t r le is in
       let n = EndedLine-before end.0 (record { lead = lead; line = ln; end = le }) in
       Value.lines on n.lead n.line n.end (MoreLines-ended on m end.1)
@@ -112,22 +116,22 @@ module _ {o : ParseOption} {x : List ℕ} (follows : Follows o x) where
   -- an element that ends so stands before another text
   pub Element-ended : {b s r : List ℕ} {gives : List Given} → Element o b s r gives
       → (gives ≡ [] → ¬ IsIndentedKey s)
-      → ending (b ++ s) ≡ Ending.line → Element o b s x gives
+      → ending o (b ++ s) ≡ Ending.line → Element o b s x gives
   Element-ended (Element.gap (Gap.blank_line c i e)) whole h = Element.gap (Gap.blank_line c i e)
   Element-ended {b} (Element.gap (Gap.before_header {w = w} i)) whole h =
-      let no : Ending.inside ≡ Ending.line = sym (ending-blanks b w i.some i.blank) ∙ h in cc
+      let no : Ending.inside ≡ Ending.line = sym (ending-blanks o b w i.some i.blank) ∙ h in cc
   Element-ended (Element.gap (Gap.white w n)) whole h = Element.gap (Gap.white w n)
   Element-ended (Element.comment s one mark all) whole h = Element.comment s one mark all
   Element-ended {b} (Element.last_comment {m} {s} one mark all) whole h =
-      absurd (comment_no_line b m s mark all h)
+      absurd (comment_no_line o b m s mark all h)
   Element-ended (Element.header off str) whole h = Element.header off (Str-alike Alike.same str)
   Element-ended {b} (Element.bracketed_header on str i) whole h =
-      let no : Ending.inside ≡ Ending.line = sym (row_no_line b str) ∙ h in cc
+      let no : Ending.inside ≡ Ending.line = sym (row_no_line o b str) ∙ h in cc
   Element-ended {b} (Element.pair {k} {s} {m = m} front some sep given) whole h =
       Element.pair (KeyFront-alike Alike.same front) some sep
-      (Value-ended given (sym (ending-separator b k m s sep) ∙ h))
+      (Value-ended given (sym (ending-separator o b k m s sep) ∙ h))
   Element-ended {b} (Element.dropped_blanks {w} i) whole h =
-      let no : Ending.inside ≡ Ending.line = sym (ending-blanks b w i.some i.blank) ∙ h in cc
+      let no : Ending.inside ≡ Ending.line = sym (ending-blanks o b w i.some i.blank) ∙ h in cc
   Element-ended (Element.dropped_key {w} {s} i begins stops) whole h =
       absurd (whole refl (record
       { blanks = w; key = s; whole = refl; some = i.some; blank = i.blank; begins = begins }))

@@ -456,7 +456,7 @@ header_opens c (Element.bracketed_header on (Str.closed row closes) i) = inr (cl
         | inr none ↦ absurd (false≢true none)
       ])
     ]
-header_opens c (Element.bracketed_header on (Str.lone row text) i) = absurd (false≢true text)
+header_opens c (Element.bracketed_header on (Str.lone special row text) i) = absurd (false≢true text)
 
 pub begins_gap : (gap r : Text) → BeginsWith is_line_end (gap ++ r) → BeginsWithNo is_blank_or_line_end r
     → BeginsWith is_line_end gap

@@ -18,7 +18,7 @@ use Rattle.ini_text.proofs.LawLemmas.PieceLemmas.{last_or-append}
 use Rattle.ini.specs.Texts.{Text}
 use Rattle.ini_edit.specs.Inside.Spans.{IsGap}
 use Rattle.ini_edit.specs.SourceLines.{indentation_at_end}
-use Rattle.ini_edit.proofs.EndingLemmas.{IsInner, inner_by}
+use Rattle.ini_edit.proofs.EndingLemmas.{no_feed_by}
 use Rattle.ini_edit.proofs.GapLemmas.{empty_front}
 
 -- of two ways to part a text one goes further
@@ -96,9 +96,9 @@ no_comment : (y : ℕ) (k : Text) (x : ℕ) (more : Text) (m : ℕ) (s : Text)
     → m ∷ (s ++ line_feed ∷ []) ≡ y ∷ (k ++ x ∷ more) → is_comment_mark m ≡ true
     → list_all is_other s ≡ true → LineStarts (last_or y k) (x ∷ more) → ⊥
 no_comment y k x more m s is mark all (LineStarts.by_feed feed) =
-    let inner : IsInner m = inner_by is_comment_mark m refl refl mark in
+    let no_feed = no_feed_by is_comment_mark m refl mark in
     let before = all_before is_other (y ∷ k) (m ∷ s) x line_feed more is
-    (and_from (is_other m) (list_all is_other s) (ap not inner.no_line_feed) all) in
+    (and_from (is_other m) (list_all is_other s) (ap not no_feed) all) in
     both_ways (is_line_feed (last_or y k)) (not-true _ (all_last is_other y k before)) feed
 no_comment y k x more m s is mark all (LineStarts.before_no_feed end other) =
     let last : line_feed ≡ last_or x more =

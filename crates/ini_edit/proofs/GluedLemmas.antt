@@ -7,6 +7,8 @@ use Rattle.std.proofs.lemmas.Bool.{and_parts, and_from}
 use Rattle.std.specs.Char.{is_whitespace}
 use Rattle.std.specs.List.{list_all}
 use Rattle.std.specs.Str.{drop_trailing_whitespace}
+use Rattle.ini_text.specs.Options.Backslashes.{Backslash, is_special, reads_escapes}
+use Rattle.ini_text.specs.Options.ReadOptions.{backslash_of}
 use Rattle.ini_text.specs.declared.option.ParseOption.{ParseOption}
 use Rattle.ini_text.specs.declared.write.option.LineSeparator.{LineSeparator}
 use Rattle.ini_text.specs.declared.write.option.LineSeparator.TheVariants.{SystemDefault, CR, CRLF}
@@ -25,19 +27,20 @@ use Rattle.ini_text.proofs.PlainLemmas.PlainPairLemmas.{line_end-is}
 use Rattle.ini_edit.specs.Endings.{Ending, Closing, ending_from}
 use Rattle.ini_edit.specs.Places.{Follows}
 use Rattle.ini_edit.proofs.EndingLemmas.{ending-lead, ending-line, ending-quoted, ending-row, ending-white}
+use Rattle.ini_edit.proofs.EndingLemmas.{off_reads, on_reads}
 use Rattle.ini_edit.proofs.EndedLemmas.{line_end-some-after}
 use Rattle.ini_edit.proofs.InsertedLemmas.{line_end-closes}
 use Rattle.ini_edit.proofs.PadLemmas.{end_trimmed-white}
 use Rattle.ini_edit.proofs.ValueLemmas.{closes_no_inline, closes_no_mark}
 
-pub row-append : {e : Bool} {ends : Ends} {s v t w : List ℕ} → Row e ends s v → Row e ends t w
+pub row-append : {e : Backslash} {ends : Ends} {s v t w : List ℕ} → Row e ends s v → Row e ends t w
     → Row e ends (s ++ t) (v ++ w)
 row-append Row.none other = other
 row-append (Row.raw n inside rest) other = Row.raw n inside (row-append rest other)
-row-append {e} {ends} {t = t} {w = w} (Row.escape {p = p} {w = q} {s = s} {v = v} k rest) other =
+row-append {e} {ends} {t = t} {w = w} (Row.escape {p = p} {w = q} {s = s} {v = v} special k rest) other =
     subst (λ y. Row e ends y ((q ++ v) ++ w)) (sym (append_assoc p s t))
     (subst (λ y. Row e ends (p ++ (s ++ t)) y) (sym (append_assoc q v w))
-    (Row.escape k (row-append rest other)))
+    (Row.escape special k (row-append rest other)))
 
 module _ {o : ParseOption} where
   pub closing_inside : {c : List ℕ} → Closing o Ending.inside c → c ≡ []
@@ -52,8 +55,8 @@ module _ {o : ParseOption} where
   closing_escape (Closing.by_space off) = inr (off, refl)
 
   -- after a line end, and after its CR
-  pub closing_after : {c : List ℕ} (t : List ℕ) → Closing o (ending_from Ending.inside t) c
-      → Closing o (ending_from Ending.line t) c
+  pub closing_after : {c : List ℕ} (t : List ℕ) → Closing o (ending_from o Ending.inside t) c
+      → Closing o (ending_from o Ending.line t) c
   closing_after [] k = subst (Closing o Ending.line) (sym (closing_inside k)) Closing.after_line
   closing_after (x ∷ t) k = k
 
@@ -124,47 +127,50 @@ no_mark_after (c ∷ s) y z h = h
 
 module _ {o : ParseOption} {c : List ℕ} (y : List ℕ) (closes : Closes plain_ends y) where
   pub line_glued : {first : Bool} {l r v : List ℕ} → Line o first l r v
-      → Closing o (ending_from Ending.inside l) c
+      → Closing o (ending_from o Ending.inside l) c
       → Line o first (l ++ c) y v
   line_glued {first} {v = u} (Line.line {q = q} {p = p} {r = r} quoted plain (Str.closed row h)) k =
-      let is : ending_from Ending.inside (q ++ p) ≡ Ending.inside =
-      ending-quoted p quoted ∙ ap (ending_from Ending.inside) (sym (append-nil p))
-      ∙ ending-row [] refl row in
+      let is : ending_from o Ending.inside (q ++ p) ≡ Ending.inside =
+      ending-quoted p quoted ∙ ap (ending_from o Ending.inside) (sym (append-nil p))
+      ∙ ending-row o [] refl row in
       let none : c ≡ [] = closing_inside (subst (λ e. Closing o e c) is k) in
       subst (λ z. Line o first z y u) (sym (append-nil (q ++ p)) ∙ ap (λ z. (q ++ p) ++ z) (sym none))
       (Line.line quoted (λ on. no_mark_before p r y (plain on) closes) (Str.closed row closes))
   line_glued {first} (Line.line {q = q} {w = w} {quoted = some} quoted plain
-      (Str.lone {s = s} {v = v} row h)) k =
+      (Str.lone {s = s} {v = v} special row h)) k =
       let p = s ++ backslash ∷ [] in
-      let is : ending_from Ending.inside (q ++ p) ≡ Ending.escape =
-      ending-quoted p quoted ∙ ending-row (backslash ∷ []) refl row in
+      let is : ending_from o Ending.inside (q ++ p) ≡ Ending.escape =
+      ending-quoted p quoted ∙ ending-row o (backslash ∷ []) refl row
+      ∙ cond-true (is_special (backslash_of o)) Ending.escape _ special in
       let source : (x : ℕ) → q ++ (s ++ backslash ∷ (x ∷ [])) ≡ (q ++ p) ++ x ∷ [] = λ x.
       ap (λ z. q ++ z) (sym (append_assoc s (backslash ∷ []) (x ∷ []))) ∙ sym (append_assoc q p (x ∷ [])) in
       elim (closing_escape (subst (λ e. Closing o e c) is k)) [
         | inl (on, same) ↦
-            let slash : EscapeSequence o.enabled_escape (backslash ∷ (backslash ∷ [])) (backslash ∷ []) =
-            EscapeSequence.itself on (eqb-false backslash line_feed refl)
+            let slash : EscapeSequence (reads_escapes (backslash_of o)) (backslash ∷ (backslash ∷ []))
+            (backslash ∷ []) =
+            EscapeSequence.itself (on_reads o on) (eqb-false backslash line_feed refl)
             (eqb-false backslash letter_x refl) refl in
             subst (λ z. Line o first ((q ++ p) ++ z) y (w ++ plain_value first some (v ++ backslash ∷ [])))
             (sym same)
             (subst (λ z. Line o first z y (w ++ plain_value first some (v ++ backslash ∷ [])))
             (source backslash)
             (Line.line quoted (λ q. no_mark_after s (backslash ∷ []) y (plain q))
-            (Str.closed (row-append row (Row.escape slash Row.none)) closes)))
+            (Str.closed (row-append row (Row.escape special slash Row.none)) closes)))
         | inr (off, same) ↦
-            let kept : EscapeSequence o.enabled_escape (backslash ∷ (space ∷ []))
+            let kept : EscapeSequence (reads_escapes (backslash_of o)) (backslash ∷ (space ∷ []))
             (backslash ∷ (space ∷ [])) =
-            EscapeSequence.kept off (eqb-false space line_feed refl) in
+            EscapeSequence.kept (off_reads o off) (eqb-false space line_feed refl) in
             subst (λ z. Line o first ((q ++ p) ++ z) y (w ++ plain_value first some (v ++ backslash ∷ [])))
             (sym same)
             (subst (λ z. Line o first z y (w ++ plain_value first some (v ++ backslash ∷ []))) (source space)
             (subst (λ z. Line o first (q ++ (s ++ backslash ∷ (space ∷ []))) y (w ++ z))
             (value_with_space first some v)
             (Line.line quoted (λ q. no_mark_after s (space ∷ []) y (plain q))
-            (Str.closed (row-append row (Row.escape kept Row.none)) closes))))
+            (Str.closed (row-append row (Row.escape special kept Row.none)) closes))))
       ]
 
-  pub lead_glued : {w : List ℕ} (l r : List ℕ) → Lead w (l ++ r) → Closing o (ending_from Ending.inside l) c
+  pub lead_glued : {w : List ℕ} (l r : List ℕ) → Lead w (l ++ r)
+      → Closing o (ending_from o Ending.inside l) c
       → Lead w ((l ++ c) ++ y)
   lead_glued [] r lead k = record {
     white = lead.white;
@@ -294,7 +300,7 @@ module _ {o : ParseOption} (sep : LineSeparator) {x : List ℕ} (follows : Follo
         }
 
     pub ended_glued : {e : List ℕ} (t r v : List ℕ) → LineEnd e (t ++ r) → MoreLines o t r v
-        → Closing o (ending_from Ending.inside (e ++ t)) c → MoreGlued o t g x v → EndedGlued o e t r g x v
+        → Closing o (ending_from o Ending.inside (e ++ t)) c → MoreGlued o t g x v → EndedGlued o e t r g x v
     ended_glued t r v LineEnd.lf m k n = record {
       end = line_feed ∷ [];
       lines = t ++ g;
@@ -335,8 +341,8 @@ module _ {o : ParseOption} (sep : LineSeparator) {x : List ℕ} (follows : Follo
 
     -- how the lines after a line end end
     pub closing_lines : {e : List ℕ} (t y : List ℕ) → LineEnd e y
-        → Closing o (ending_from Ending.inside (e ++ t)) c
-        → Closing o (ending_from Ending.line t) c
+        → Closing o (ending_from o Ending.inside (e ++ t)) c
+        → Closing o (ending_from o Ending.line t) c
     closing_lines t y LineEnd.lf k = k
     closing_lines t y LineEnd.cr_lf k = k
     closing_lines t y (LineEnd.cr n) k = closing_after t k
@@ -356,7 +362,7 @@ module _ {o : ParseOption} (sep : LineSeparator) {x : List ℕ} (follows : Follo
         ap (λ y. w ++ (l ++ y)) h ∙ ap (λ y. w ++ y) (sym (append_assoc l z g))
         ∙ sym (append_assoc w (l ++ z) g)
 
-    pub more_glued : {t r v : List ℕ} → MoreLines o t r v → Closing o (ending_from Ending.line t) c
+    pub more_glued : {t r v : List ℕ} → MoreLines o t r v → Closing o (ending_from o Ending.line t) c
         → MoreGlued o t g x v
     more_glued (MoreLines.done n m) k =
         subst (λ z. MoreGlued o [] z x []) (nothing_before (closing_line k)) done_glued
@@ -379,9 +385,9 @@ module _ {o : ParseOption} (sep : LineSeparator) {x : List ℕ} (follows : Follo
           all = n.all;
         }
     more_glued (MoreLines.continued {w} {l} {e} {t} {r} {u} {v} b lead ln le m) k =
-        let following : Closing o (ending_from Ending.inside (e ++ t)) c =
+        let following : Closing o (ending_from o Ending.inside (e ++ t)) c =
         subst (λ z. Closing o z c)
-        (ending-lead Ending.line w (l ++ (e ++ t)) b lead.white
+        (ending-lead o Ending.line w (l ++ (e ++ t)) b lead.white
         ∙ ending-line (e ++ t) (line_end-some-after (t ++ r) (t ++ r) le) ln) k in
         let n = ended_glued t r v le m following (more_glued m (closing_lines t (t ++ r) le following)) in
         record {
@@ -397,8 +403,8 @@ module _ {o : ParseOption} (sep : LineSeparator) {x : List ℕ} (follows : Follo
           all = n.all;
         }
     more_glued (MoreLines.last {w} {l} {u} b lead ln) k =
-        let following : Closing o (ending_from Ending.inside l) c =
-        subst (λ z. Closing o z c) (ending-lead Ending.line w l b lead.white) k in
+        let following : Closing o (ending_from o Ending.inside l) c =
+        subst (λ z. Closing o z c) (ending-lead o Ending.line w l b lead.white) k in
         let new_lead = lead_glued (line_end sep ++ ([] ++ x)) closes l []
         (subst (Lead w) (sym (append-nil l)) lead) following in
         record {
@@ -413,12 +419,12 @@ module _ {o : ParseOption} (sep : LineSeparator) {x : List ℕ} (follows : Follo
         }
 
     -- a multiline value
-    pub lines_glued : {s r v : List ℕ} → Value o s r v → Closing o (ending_from Ending.inside s) c
+    pub lines_glued : {s r v : List ℕ} → Value o s r v → Closing o (ending_from o Ending.inside s) c
         → Value o (s ++ g) x v
     lines_glued (Value.one_line off lead ln) k = absurd (both_ways o.enabled_indented_mutiline_value off on)
     lines_glued (Value.to_end {w} {l} {v} _ lead ln) k =
-        let following : Closing o (ending_from Ending.inside l) c =
-        subst (λ z. Closing o z c) (ending-white w l lead.white) k in
+        let following : Closing o (ending_from o Ending.inside l) c =
+        subst (λ z. Closing o z c) (ending-white o w l lead.white) k in
         let new_lead = lead_glued (line_end sep ++ ([] ++ x)) closes l []
         (subst (Lead w) (sym (append-nil l)) lead) following in
         subst (λ z. Value o z x (without_outer_line_feeds v)) (seam w l)
@@ -427,9 +433,9 @@ module _ {o : ParseOption} (sep : LineSeparator) {x : List ℕ} (follows : Follo
         (Value.lines on new_lead (line_glued (line_end sep ++ ([] ++ x)) closes ln following)
         (line_end-is sep x) done))
     lines_glued (Value.lines {w} {l} {e} {t} {r} {u} {v} _ lead ln le m) k =
-        let following : Closing o (ending_from Ending.inside (e ++ t)) c =
+        let following : Closing o (ending_from o Ending.inside (e ++ t)) c =
         subst (λ z. Closing o z c)
-        (ending-white w (l ++ (e ++ t)) lead.white
+        (ending-white o w (l ++ (e ++ t)) lead.white
         ∙ ending-line (e ++ t) (line_end-some-after (t ++ r) (t ++ r) le) ln) k in
         let n = ended_glued t r v le m following (more_glued m (closing_lines t (t ++ r) le following)) in
         let same : without_outer_line_feeds (u ++ n.value) ≡ without_outer_line_feeds (u ++ v) =
@@ -443,11 +449,11 @@ module _ {o : ParseOption} (sep : LineSeparator) {x : List ℕ} (follows : Follo
 
 -- a value in one line
 pub line_value_glued : {o : ParseOption} {s r v c : List ℕ} (y : List ℕ) → Closes plain_ends y
-    → o.enabled_indented_mutiline_value ≡ false → Value o s r v → Closing o (ending_from Ending.inside s) c
+    → o.enabled_indented_mutiline_value ≡ false → Value o s r v → Closing o (ending_from o Ending.inside s) c
     → Value o (s ++ c) y v
 line_value_glued {o} {c = c} y h off (Value.one_line {w} {l} {r} {v} _ lead ln) k =
-    let following : Closing o (ending_from Ending.inside l) c =
-    subst (λ z. Closing o z c) (ending-white w l lead.white) k in
+    let following : Closing o (ending_from o Ending.inside l) c =
+    subst (λ z. Closing o z c) (ending-white o w l lead.white) k in
     subst (λ z. Value o z y v) (sym (append_assoc w l c))
     (Value.one_line off (lead_glued y h l r lead following) (line_glued y h ln following))
 line_value_glued {o} y h off (Value.to_end on lead ln) k =

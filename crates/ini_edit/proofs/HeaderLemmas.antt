@@ -1,6 +1,8 @@
 -- Headers: what begins with one, and one under another name, read where the old one was.
-use Rattle.std.proofs.Common.{◌≡◌, ◌==◌, Bool, true, List, [], ◌∷◌, ◌++◌, subst, refl, arith}
+use Rattle.std.proofs.Common.{◌≡◌, ◌==◌, true, List, [], ◌∷◌, ◌++◌, subst, refl}
 use Rattle.std.proofs.lemmas.Bool.{false≢true}
+use Rattle.ini_text.specs.Options.Backslashes.{Backslash}
+use Rattle.ini_text.specs.Options.ReadOptions.{backslash_of}
 use Rattle.ini_text.specs.declared.option.ParseOption.{ParseOption}
 use Rattle.ini_text.specs.declared.write.policy.EscapePolicy.{EscapePolicy}
 use Rattle.ini_text.specs.Escaping.EscapedTexts.{escaped}
@@ -40,9 +42,10 @@ header_bracket {name = name} is (Element.dropped_blanks i) =
 header_bracket {name = name} is (Element.dropped_key i begins stops) =
     absurd (let no : [] ≡ Header name ∷ [] = is in cc)
 
-pub str_closes : {e : Bool} {s r v : Text} → Str e bracketed_name_ends s r v → Closes bracketed_name_ends r
+pub str_closes : {e : Backslash} {s r v : Text} → Str e bracketed_name_ends s r v
+    → Closes bracketed_name_ends r
 str_closes (Str.closed row h) = h
-str_closes (Str.lone row h) = absurd (false≢true h)
+str_closes (Str.lone special row h) = absurd (false≢true h)
 
 pub plain_closes : (r : Text) → Closes bracketed_name_ends r → Closes plain_ends r
 plain_closes [] h = absurd (false≢true h)
@@ -54,9 +57,9 @@ module _ {o : ParseOption} (policy : EscapePolicy) (new : Text) (p : IsPlainName
       → Element o b (header_of policy new) r (Header new ∷ [])
   bracketed {b} {r} on closes =
       let all = all_read {o = o} policy new p.read_back in
-      let row : Row o.enabled_escape bracketed_name_ends (escaped policy new ++ close_bracket ∷ [])
+      let row : Row (backslash_of o) bracketed_name_ends (escaped policy new ++ close_bracket ∷ [])
       (new ++ close_bracket ∷ []) =
-      row_escaped new all (value_no_end all) (Row.raw (λ e. absurd (omega arith)) refl Row.none) in
+      row_escaped new all (value_no_end all) (Row.raw refl refl Row.none) in
       subst (λ n. Element o b (header_of policy new) r (Header n ∷ [])) p.is_trimmed
       (Element.bracketed_header on (Str.closed row closes)
       (record { blanks = []; blank = refl; whole = refl }))

@@ -2,17 +2,20 @@
 use Rattle.std.proofs.Common.{◌≡◌, ◌≢◌, ◌⊎◌, inl, inr, ◌∙◌, ℕ, Bool, true, false, not, ◌||◌, cond, eqb}
 use Rattle.std.proofs.Common.{eqb-true, List, [], ◌∷◌, ◌++◌}
 use Rattle.std.proofs.Common.{refl, sym, ap, subst, append_assoc, append-nil}
-use Rattle.std.proofs.lemmas.Bool.{and_parts, and_from, both_ways, cases_Bool, cond_both, false≢true}
+use Rattle.std.proofs.lemmas.Bool.{and_from, and_left, and_parts, both_ways, cases_Bool, cond_both, false≢true}
 use Rattle.std.proofs.lemmas.Bool.{false_from_ne_true}
 use Rattle.std.proofs.lemmas.Bool.{or_cases, or_left}
 use Rattle.std.specs.Char.{is_whitespace}
 use Rattle.std.specs.List.{list_all}
 use Rattle.std.specs.Str.{drop_trailing_whitespace}
+use Rattle.ini_text.specs.Options.Backslashes.{Backslash, is_special}
+use Rattle.ini_text.specs.Options.ReadOptions.{backslash_of}
 use Rattle.ini_text.specs.declared.option.ParseOption.{ParseOption}
 use Rattle.ini_text.specs.declared.write.policy.EscapePolicy.{EscapePolicy}
 use Rattle.ini_text.specs.Escaping.EscapedTexts.{escaped}
 use Rattle.ini_text.specs.Escaping.Policies.{is_escaped}
-use Rattle.ini_text.specs.Grammar.CharacterKinds.{open_bracket, is_blank, is_comment_mark, is_line_end}
+use Rattle.ini_text.specs.Grammar.CharacterKinds.{backslash, open_bracket, is_blank, is_comment_mark}
+use Rattle.ini_text.specs.Grammar.CharacterKinds.{is_line_end}
 use Rattle.ini_text.specs.Grammar.CharacterKinds.{is_separator, BeginsWith, BeginsWithNo}
 use Rattle.ini_text.specs.Grammar.Keys.{Indentation, KeyFront, begins_key, begins_indented_key}
 use Rattle.ini_text.specs.Grammar.Strings.{Row, Str, is_endpoint, key_ends}
@@ -24,17 +27,19 @@ use Rattle.ini_text.proofs.PlainLemmas.EscapedTextLemmas.{NoRawEnd, all_read, ro
 use Rattle.ini_text.proofs.PlainLemmas.PlainPairLemmas.{bare_begins, bare_indented, bare_unindented}
 use Rattle.ini_text.proofs.PlainLemmas.PlainPairLemmas.{no_white_no_line_end, separator_closes}
 use Rattle.ini_text.proofs.PlainLemmas.PlainTrimLemmas.{skip_none, trimmed_begins, trimmed_end}
+use Rattle.ini_edit.proofs.EndingLemmas.{apart_by}
 use Rattle.ini_edit.specs.Places.{Follows}
 use Rattle.ini_edit.specs.Renamed.{HasEdges, IsPlainBareKey}
 use Rattle.ini_edit.proofs.KeyEdgeLemmas.{end_trimmed-before_white, skip_all_white}
 
 -- white space before a row of pieces of a key stands for itself
-white_row : {escapes : Bool} {s v : List ℕ} (w : List ℕ) → list_all is_whitespace w ≡ true
-    → Row escapes key_ends s v → Row escapes key_ends (w ++ s) (w ++ v)
+white_row : {b : Backslash} {s v : List ℕ} (w : List ℕ) → list_all is_whitespace w ≡ true
+    → Row b key_ends s v → Row b key_ends (w ++ s) (w ++ v)
 white_row [] h row = row
-white_row (c ∷ w) h row =
+white_row {b} (c ∷ w) h row =
     let parts = and_parts (is_whitespace c) (list_all is_whitespace w) h in
-    Row.raw (λ e. false≢true (subst (λ z. is_whitespace z ≡ true) e parts.0)) (no_end parts.0)
+    Row.raw (and_left (eqb c backslash) (is_special b) (apart_by is_whitespace c backslash refl parts.0))
+    (no_end parts.0)
     (white_row w parts.1 row)
   where
     no_end : is_whitespace c ≡ true → is_endpoint key_ends c ≡ false
@@ -103,10 +108,10 @@ module _ {o : ParseOption} {policy : EscapePolicy} {key : List ℕ} (plain : IsP
     | inr i ↦ i.end_is_trimmed
   ]
 
-  key_row : Row o.enabled_escape key_ends source (key ++ pad)
+  key_row : Row (backslash_of o) key_ends source (key ++ pad)
   key_row =
       row_escaped key (all_read {o = o} policy key plain.read_back) (key_no_end policy key bare.no_separator)
-      (subst (λ z. Row o.enabled_escape key_ends z z) (append-nil pad) (white_row pad white_pad Row.none))
+      (subst (λ z. Row (backslash_of o) key_ends z z) (append-nil pad) (white_row pad white_pad Row.none))
 
   -- after white space, where keys don't keep it
   trimmed_key : (x : List ℕ) → o.enabled_preserve_key_leading_whitespace ≡ false

@@ -83,7 +83,7 @@ off_not_ended o p off nothing =
     let own : own_lines o p ≡ [] =
     cond-false multi _ _ off ∙ ap (front_of p.after) lines ∙ ap (λ t. front_of t []) nothing in
     let line : line_end_after o p ≡ [] =
-    ap (λ own. cond (multi && not (ends_in_line own)) [] (line_end_at_end own)) own
+    ap (λ own. cond (multi && not (ends_in_line o own)) [] (line_end_at_end own)) own
     ∙ either (multi && true) in
     ap (λ l. not (is_empty l && is_empty (lines_after o p)) && is_column_one t) line
     ∙ ap (λ l. not (is_empty [] && is_empty l) && is_column_one t) lines
@@ -123,22 +123,22 @@ module _ {o : ParseOption} (sep : LineSeparator) (p : PairPiece) where
 
       -- at the text's end
       value_ends : {c : ℕ} → IsPair o c p.stretches p.key p.value [] → (tail p) ≢ []
-          → ending_from Ending.inside (value_source p.stretches) ≡ ending_from Ending.inside (tail p)
+          → ending_from o Ending.inside (value_source p.stretches) ≡ ending_from o Ending.inside (tail p)
       value_ends h more =
           let s = p.stretches in
           let own = s.raw_value ++ s.space_after in
           let text : value_source s ≡ (s.space_before ++ own) ++ (tail p) =
           ap (λ t. s.space_before ++ t) (sym (append_assoc s.raw_value s.space_after (tail p)))
           ∙ sym (append_assoc s.space_before own (tail p)) in
-          ap (ending_from Ending.inside) text
-          ∙ ending_from-append Ending.inside (s.space_before ++ own) (tail p)
-          ∙ ap (λ e. ending_from e (tail p))
-          (ending-white s.space_before own h.white_before
+          ap (ending_from o Ending.inside) text
+          ∙ ending_from-append o Ending.inside (s.space_before ++ own) (tail p)
+          ∙ ap (λ e. ending_from o e (tail p))
+          (ending-white o s.space_before own h.white_before
           ∙ own_ends (λ none. more (sym (append-nil (tail p)) ∙ none)) h.own_lines)
 
       -- the pair as it is, before another text
       as_it_is : {c : ℕ} → IsPair o c p.stretches p.key p.value [] → (tail p) ≢ []
-          → ending_from Ending.inside (tail p) ≡ Ending.line → IsPair o c p.stretches p.key p.value x
+          → ending_from o Ending.inside (tail p) ≡ Ending.line → IsPair o c p.stretches p.key p.value x
       as_it_is h more line = record {
         key_front = h.key_front;
         some = h.some;
@@ -151,7 +151,7 @@ module _ {o : ParseOption} (sep : LineSeparator) (p : PairPiece) where
         closed = h.closed;
       }
         where
-          at : {t : Text} → TrailingLines o t [] → ending_from Ending.inside t ≡ Ending.line
+          at : {t : Text} → TrailingLines o t [] → ending_from o Ending.inside t ≡ Ending.line
               → TrailingLines o t x
           at (TrailingLines.line off closes) line =
               absurd (both_ways o.enabled_indented_mutiline_value off on)
@@ -170,8 +170,8 @@ module _ {o : ParseOption} (sep : LineSeparator) (p : PairPiece) where
             let free = trailing_free on at_end.are_trailing in
             pair_more sep follows on at_end
             (subst (λ e. Closing o e []) (sym (value_ends at_end more))
-            (closing_nothing (ending_from Ending.inside (tail p)) (free_apart free)))
-            (closing_nothing (ending_from Ending.inside (tail p)) (free_apart free)) more
+            (closing_nothing (ending_from o Ending.inside (tail p)) (free_apart free)))
+            (closing_nothing (ending_from o Ending.inside (tail p)) (free_apart free)) more
         | inr there ↦ pair_longer on (feed_of sep) follows there h
       ]
 
@@ -231,11 +231,11 @@ module _ {o : ParseOption} (sep : LineSeparator) (p : PairPiece) where
               → ended_pair o p ≡ false
           nothing_ended none =
               let multi = o.enabled_indented_mutiline_value in
-              let lines : lines_after o p ≡ [] = cond-true multi _ _ on ∙ ap blank_lines_at_end none in
+              let lines : lines_after o p ≡ [] = cond-true multi _ _ on ∙ ap (blank_lines_at_end o) none in
               let own : own_lines o p ≡ [] =
               cond-true multi _ _ on ∙ ap (front_of (tail p)) lines ∙ ap (λ t. front_of t []) none in
               let line : line_end_after o p ≡ [] =
-              ap (λ own. cond (multi && not (ends_in_line own)) [] (line_end_at_end own)) own
+              ap (λ own. cond (multi && not (ends_in_line o own)) [] (line_end_at_end own)) own
               ∙ cond-true (multi && true) _ _ (and_from multi true on refl) in
               let t = p.stretches.trailing_lines in
               ap (λ l. not (is_empty l && is_empty (lines_after o p)) && is_column_one t) line

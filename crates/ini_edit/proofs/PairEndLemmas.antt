@@ -17,31 +17,31 @@ use Rattle.ini_edit.specs.Sources.{PairPiece}
 module _ (o : ParseOption) (p : PairPiece) where
   -- where values are multiline
   module _ (on : o.enabled_indented_mutiline_value ≡ true) where
-    pub lines_on : lines_after o p ≡ blank_lines_at_end p.stretches.trailing_lines
+    pub lines_on : lines_after o p ≡ blank_lines_at_end o p.stretches.trailing_lines
     lines_on = cond-true o.enabled_indented_mutiline_value _ _ on
 
     pub own_on : own_lines o p
-        ≡ front_of p.stretches.trailing_lines (blank_lines_at_end p.stretches.trailing_lines)
+        ≡ front_of p.stretches.trailing_lines (blank_lines_at_end o p.stretches.trailing_lines)
     own_on = cond-true o.enabled_indented_mutiline_value _ _ on
         ∙ ap (front_of p.stretches.trailing_lines) lines_on
 
     pub gap_on : gap_after o p ≡ p.after
     gap_on = cond-true o.enabled_indented_mutiline_value _ _ on
 
-    pub line_end_on : (own : Text) → own ≡ own_lines o p → ends_in_line own ≡ true
+    pub line_end_on : (own : Text) → own ≡ own_lines o p → ends_in_line o own ≡ true
         → line_end_after o p ≡ line_end_at_end own
     line_end_on own is ends =
-        ap (λ t. cond (o.enabled_indented_mutiline_value && not (ends_in_line t)) [] (line_end_at_end t))
+        ap (λ t. cond (o.enabled_indented_mutiline_value && not (ends_in_line o t)) [] (line_end_at_end t))
         (sym is)
-        ∙ cond-false (o.enabled_indented_mutiline_value && not (ends_in_line own)) _ _
-        (and_right o.enabled_indented_mutiline_value (not (ends_in_line own)) (ap not ends))
+        ∙ cond-false (o.enabled_indented_mutiline_value && not (ends_in_line o own)) _ _
+        (and_right o.enabled_indented_mutiline_value (not (ends_in_line o own)) (ap not ends))
 
-    pub no_line_end_on : (own : Text) → own ≡ own_lines o p → ends_in_line own ≡ false
+    pub no_line_end_on : (own : Text) → own ≡ own_lines o p → ends_in_line o own ≡ false
         → line_end_after o p ≡ []
     no_line_end_on own is ends =
-        ap (λ t. cond (o.enabled_indented_mutiline_value && not (ends_in_line t)) [] (line_end_at_end t))
+        ap (λ t. cond (o.enabled_indented_mutiline_value && not (ends_in_line o t)) [] (line_end_at_end t))
         (sym is)
-        ∙ ap (λ b. cond (b && not (ends_in_line own)) [] (line_end_at_end own)) on
+        ∙ ap (λ b. cond (b && not (ends_in_line o own)) [] (line_end_at_end own)) on
         ∙ ap (λ b. cond (not b) [] (line_end_at_end own)) ends
 
     pub ended_on : (line_end raw : Text) {own : Text} → raw ≡ closed_value o p
@@ -65,9 +65,9 @@ module _ (o : ParseOption) (p : PairPiece) where
 
     pub line_end_off : (own : Text) → own ≡ own_lines o p → line_end_after o p ≡ line_end_at_end own
     line_end_off own is =
-        ap (λ t. cond (o.enabled_indented_mutiline_value && not (ends_in_line t)) [] (line_end_at_end t))
+        ap (λ t. cond (o.enabled_indented_mutiline_value && not (ends_in_line o t)) [] (line_end_at_end t))
         (sym is)
-        ∙ ap (λ b. cond (b && not (ends_in_line own)) [] (line_end_at_end own)) off
+        ∙ ap (λ b. cond (b && not (ends_in_line o own)) [] (line_end_at_end own)) off
 
     pub ended_off : (line_end raw : Text) {own : Text} → raw ≡ closed_value o p
         → own ≡ ended_lines o line_end p
@@ -90,31 +90,32 @@ module _ (o : ParseOption) (p : PairPiece) where
 
   -- a value whose last backslash takes nothing stays
   pub closed_not : (is_empty p.stretches.trailing_lines && (is_empty p.after
-      && is_escape (ending p.stretches.raw_value))) ≡ false
+      && is_escape (ending o p.stretches.raw_value))) ≡ false
       → closed_value o p ≡ p.stretches.raw_value
   closed_not apart = cond-false _ _ _ apart
 
   pub closed_by_one : (is_empty p.stretches.trailing_lines && (is_empty p.after
-      && is_escape (ending p.stretches.raw_value))) ≡ true
+      && is_escape (ending o p.stretches.raw_value))) ≡ true
       → closed_value o p ≡ p.stretches.raw_value ++ (cond o.enabled_escape backslash space) ∷ []
   closed_by_one all = cond-true _ _ _ all
 
 -- the line end after a value, by its parts
-abbrev line_end_of_parts : Bool → (lines gap : Text) → Text
-line_end_of_parts on lines gap =
-    let after = cond on (blank_lines_at_end lines) (after_line_end gap) in
+abbrev line_end_of_parts : (o : ParseOption) → Bool → (lines gap : Text) → Text
+line_end_of_parts o on lines gap =
+    let after = cond on (blank_lines_at_end o lines) (after_line_end gap) in
     let own = cond on (front_of lines after) (front_of gap after) in
-    cond (on && not (ends_in_line own)) [] (line_end_at_end own)
+    cond (on && not (ends_in_line o own)) [] (line_end_at_end own)
 
-some_part : (on : Bool) (lines gap : Text) (escape : Bool) → is_empty (line_end_of_parts on lines gap) ≡ false
+some_part : (o : ParseOption) (on : Bool) (lines gap : Text) (escape : Bool)
+    → is_empty (line_end_of_parts o on lines gap) ≡ false
     → (is_empty lines && (is_empty gap && escape)) ≡ false
-some_part true [] [] escape some = absurd (false≢true (sym some))
-some_part false [] [] escape some = absurd (false≢true (sym some))
-some_part on [] (c ∷ gap) escape some = refl
-some_part on (c ∷ lines) gap escape some = refl
+some_part o true [] [] escape some = absurd (false≢true (sym some))
+some_part o false [] [] escape some = absurd (false≢true (sym some))
+some_part o on [] (c ∷ gap) escape some = refl
+some_part o on (c ∷ lines) gap escape some = refl
 
 pub closed_ended : (o : ParseOption) (p : PairPiece) → is_empty (line_end_after o p) ≡ false
     → closed_value o p ≡ p.stretches.raw_value
 closed_ended o p some =
-    closed_not o p (some_part o.enabled_indented_mutiline_value p.stretches.trailing_lines p.after
-    (is_escape (ending p.stretches.raw_value)) some)
+    closed_not o p (some_part o o.enabled_indented_mutiline_value p.stretches.trailing_lines p.after
+    (is_escape (ending o p.stretches.raw_value)) some)

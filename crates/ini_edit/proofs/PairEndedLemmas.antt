@@ -55,11 +55,11 @@ module _ {o : ParseOption} where
 
 -- no backslash is alone after a line end
 pub end_closes : {o : ParseOption} (e : Ending) (t : Text) → is_line_end (last_or 0 t) ≡ true
-    → Closing o (ending_from e t) []
-end_closes e [] h = absurd (let no : false ≡ true = h in cc)
-end_closes e (c ∷ t) h = closing_nothing (ending_from e (c ∷ t)) (apart e c t h)
+    → Closing o (ending_from o e t) []
+end_closes {o} e [] h = absurd (let no : false ≡ true = h in cc)
+end_closes {o} e (c ∷ t) h = closing_nothing (ending_from o e (c ∷ t)) (apart e c t h)
   where
     apart : (e : Ending) (c : ℕ) (t : Text) → is_line_end (last_or c t) ≡ true
-        → ending_from e (c ∷ t) ≢ Ending.escape
-    apart e c [] h = no_escape e [] c (no_backslash is_line_end c refl h)
-    apart e c (d ∷ t) h = apart (next_ending e c) d t h
+        → ending_from o e (c ∷ t) ≢ Ending.escape
+    apart e c [] h = no_escape o e [] c (no_backslash is_line_end c refl h)
+    apart e c (d ∷ t) h = apart (next_ending o e c) d t h

@@ -20,7 +20,7 @@ use Rattle.ini_edit.proofs.SectionTakenLemmas.{longer_begins, longer_value, with
 
 module _ {o : ParseOption} (sep : LineSeparator) {x : Text} (follows : Follows o x)
     (on : o.enabled_indented_mutiline_value ≡ true) where
-  pub trailing_more : {t r : Text} → TrailingLines o t r → Closing o (ending_from Ending.inside t) []
+  pub trailing_more : {t r : Text} → TrailingLines o t r → Closing o (ending_from o Ending.inside t) []
       → TrailingLines o (t ++ line_end sep) x
   trailing_more (TrailingLines.line off closes) k =
       absurd (both_ways o.enabled_indented_mutiline_value off on)
@@ -38,8 +38,8 @@ module _ {o : ParseOption} (sep : LineSeparator) {x : Text} (follows : Follows o
 
   -- a pair with one more line end
   pub pair_more : {c : ℕ} {p : Stretches} {key value r : Text} → IsPair o c p key value r
-      → Closing o (ending_from Ending.inside (value_source p)) []
-      → Closing o (ending_from Ending.inside p.trailing_lines) [] → p.trailing_lines ≢ []
+      → Closing o (ending_from o Ending.inside (value_source p)) []
+      → Closing o (ending_from o Ending.inside p.trailing_lines) [] → p.trailing_lines ≢ []
       → IsPair o c (with_trailing (p.trailing_lines ++ line_end sep) p) key value x
   pair_more {c} {p} {key} {value} h k trailing some =
       let l = line_end sep in

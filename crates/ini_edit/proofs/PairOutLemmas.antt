@@ -1,14 +1,12 @@
 -- A pair of a section made comments: the sections are those of a text, as before.
-use Rattle.std.proofs.Common.{◌≡◌, ◌≢◌, ◌∙◌, ◌==◌, ◌&&◌, ◌||◌, ℕ, Bool, true, false, not, List, [], ◌∷◌, ◌++◌}
+use Rattle.std.proofs.Common.{◌≡◌, ◌∙◌, ◌==◌, ◌&&◌, ◌||◌, ℕ, Bool, true, false, not, List, [], ◌∷◌, ◌++◌}
 use Rattle.std.proofs.Common.{None, Option, Some, ap, append_assoc, append-nil, eqb-true, if◌then◌else◌, refl}
 use Rattle.std.proofs.Common.{subst, sym}
-use Rattle.std.proofs.lemmas.Bool.{and_parts, both_ways, false≢true, not-false, not-true, or_parts}
+use Rattle.std.proofs.lemmas.Bool.{and_parts, false≢true, not-false}
 use Rattle.std.specs.List.{list_all}
 use Rattle.std.specs.Prelude.{is_some}
 use Rattle.ini_text.specs.Grammar.CharacterKinds.{BeginsWith, BeginsWithNo, carriage_return, is_line_end}
 use Rattle.ini_text.specs.Grammar.CharacterKinds.{is_line_feed, line_feed, open_bracket, semicolon, space}
-use Rattle.ini_text.specs.Grammar.Elements.{Element, Header}
-use Rattle.ini_text.specs.Grammar.Keys.{KeyFront}
 use Rattle.ini_text.specs.Grammar.Places.{Stretches, pair_source, value_source}
 use Rattle.ini_text.specs.Grammar.Positions.{last_or}
 use Rattle.ini_text.specs.Laws.PieceLaws.{Agree}
@@ -18,18 +16,18 @@ use Rattle.ini_text.proofs.LawLemmas.PieceLemmas.{last_or-append}
 use Rattle.ini.specs.Texts.{Text, is_text}
 use Rattle.ini_edit.specs.Inside.InPlace.{AreInPlace}
 use Rattle.ini_edit.specs.Inside.SourceEnds.{IsPlaceAt}
-use Rattle.ini_edit.specs.Inside.Spans.{AreSections, AreSpans, BeginGeneral, IsGap, IsPair, IsSpan, Span, gap}
+use Rattle.ini_edit.specs.Inside.Spans.{AreSections, AreSpans, BeginGeneral, IsPair, IsSpan, Span, gap}
 use Rattle.ini_edit.specs.Inside.Spans.{opening, pair, pairs_spans, sections_spans, span_source}
 use Rattle.ini_edit.specs.SourceEdits.{with_pairs}
 use Rattle.ini_edit.specs.SourceEditsComments.{marked, pair_commented_out, pair_lines}
 use Rattle.ini_edit.specs.SourceEditsDelete.{gap_after, line_end_after, lines_after, rest_put, with_rest}
 use Rattle.ini_edit.specs.SourceLines.{is_empty}
-use Rattle.ini_edit.specs.SourcePlaces.{Place, exchanged, gap_of, gap_put, last_before_gap, last_before_pair}
-use Rattle.ini_edit.specs.SourcePlaces.{last_before_section, text_up_to, with_end}
+use Rattle.ini_edit.specs.SourcePlaces.{Place, exchanged, gap_of, gap_put, last_before_pair}
+use Rattle.ini_edit.specs.SourcePlaces.{last_before_section, with_end}
 use Rattle.ini_edit.specs.Sources.{PairPiece, SectionPiece, joined}
 use Rattle.ini_edit.proofs.AheadLemmas.{key_follows}
 use Rattle.ini_edit.proofs.CommentLineLemmas.{mark_may_follow}
-use Rattle.ini_edit.proofs.CommentOutLemmas.{CommentedOut, IsOut, comment_of, commented_is, pair_commented}
+use Rattle.ini_edit.proofs.CommentOutLemmas.{IsOut, comment_of, commented_is, pair_commented}
 use Rattle.ini_edit.proofs.CommentPutLemmas.{no_end_begins, pair_then}
 use Rattle.ini_edit.proofs.CommentSectionLemmas.{Ended, ended}
 use Rattle.ini_edit.proofs.GapLemmas.{gaps_joined}

@@ -39,7 +39,7 @@ module _ {o : ParseOption} where
     white_after = white_after h.space_after;
     are_trailing = h.trailing_lines;
     own_lines = h.raw_value;
-    closed = closed_space h.space_after;
+    closed = closed_space o h.space_after;
   }
 
   placed_span : {c : ℕ} {r : Text} (x : Span) → IsPlacedSpan o c x r → IsSpan o c x r

@@ -38,7 +38,8 @@ use Rattle.ini_edit.specs.Sources.{PairPiece, SectionPiece, joined}
 use Rattle.ini_edit.proofs.AheadLemmas.{value_follows}
 use Rattle.ini_edit.proofs.BlankLineLemmas.{Passes, line_last, passes_white, trailing_blank}
 use Rattle.ini_edit.proofs.ClosedLemmas.{own_ends}
-use Rattle.ini_edit.proofs.ClosedPairLemmas.{closed_is, closing_of, ending_from-append, pair_ended, stays_open}
+use Rattle.ini_edit.proofs.ClosedPairLemmas.{closed_is, closing_of, ending_from-append, pair_ended}
+use Rattle.ini_edit.proofs.ClosedPairLemmas.{stays_open}
 use Rattle.ini_edit.proofs.DeletedLinesLemmas.{end_last}
 use Rattle.ini_edit.proofs.EndingLemmas.{ending-white}
 use Rattle.ini_edit.proofs.GapLemmas.{gap_like, no_gap, spans_column}
@@ -79,11 +80,12 @@ no_both test [] h none = false≢true (sym h)
 no_both test (c ∷ x) h none = both_ways (test c) none h
 
 -- lines that end have a line end at their end
-end_some : (t : Text) → t ≢ [] → ends_in_line t ≡ true → is_empty (line_end_at_end t) ≡ false
-end_some t some ends = at (line_end_at_end t) (end_last 0 0 t some last)
+end_some : (o : ParseOption) (t : Text) → t ≢ [] → ends_in_line o t ≡ true
+    → is_empty (line_end_at_end t) ≡ false
+end_some o t some ends = at (line_end_at_end t) (end_last 0 0 t some last)
   where
     last : is_line_end (last_or 0 t) ≡ true
-    last = line_last Ending.inside 0 t (λ h. absurd (false≢true h)) ends
+    last = line_last o Ending.inside 0 t (λ h. absurd (false≢true h)) ends
 
     at : (e : Text) → last_or 0 e ≡ last_or 0 t → is_empty e ≡ false
     at [] same = absurd (false≢true (ap is_line_end same ∙ last))
@@ -118,27 +120,28 @@ module _ (o₀ : ParseOption) (sep : LineSeparator) where
 
     abbrev lines_with : Text → Text
     lines_with own =
-        own ++ (if is_empty (if not (ends_in_line own) then [] else line_end_at_end own) then end else [])
+        own ++ (if is_empty (if not (ends_in_line o own) then [] else line_end_at_end own) then end else [])
 
     kept_value : t ≢ [] → closed_value o p ≡ p.stretches.raw_value
     kept_value some = stays_open o p (ap (λ b. b && is_empty p.after) (not_empty t some))
 
-    cut_lines : (front : Text) → front ≢ [] → t ≡ front ++ blank_lines_at_end t → ends_in_line front ≡ true
+    cut_lines : (front : Text) → front ≢ [] → t ≡ front ++ blank_lines_at_end o t
+        → ends_in_line o front ≡ true
         → ended_lines o end p ≡ front
     cut_lines front some whole ends =
-        ap lines_with (front_is front (blank_lines_at_end t) t (sym whole))
+        ap lines_with (front_is front (blank_lines_at_end o t) t (sym whole))
         ∙ ap (λ b. front ++ (if is_empty (if not b then [] else line_end_at_end front) then end else
         [])) ends
-        ∙ ap (λ b. front ++ (if b then end else [])) (end_some front some ends)
+        ∙ ap (λ b. front ++ (if b then end else [])) (end_some o front some ends)
         ∙ append-nil front
 
-    glued_lines : blank_lines_at_end t ≡ [] → ends_in_line t ≡ false → ended_lines o end p ≡ t ++ end
+    glued_lines : blank_lines_at_end o t ≡ [] → ends_in_line o t ≡ false → ended_lines o end p ≡ t ++ end
     glued_lines none inside =
-        ap lines_with (front_is t (blank_lines_at_end t) t (ap (λ b. t ++ b) none ∙ append-nil t))
+        ap lines_with (front_is t (blank_lines_at_end o t) t (ap (λ b. t ++ b) none ∙ append-nil t))
         ∙ ap (λ b. t ++ (if is_empty (if not b then [] else line_end_at_end t) then end else [])) inside
 
     no_lines : t ≡ [] → ended_lines o end p ≡ end
-    no_lines none = ap (λ z. lines_with (front_of z (blank_lines_at_end z))) none
+    no_lines none = ap (λ z. lines_with (front_of z (blank_lines_at_end o z))) none
 
     -- the pair with its line ended, before what may follow it
     module _ {c : ℕ} {r : Text} (is : IsPair o c p.stretches p.key p.value r) (x : Text)
@@ -152,24 +155,24 @@ module _ (o₀ : ParseOption) (sep : LineSeparator) where
 
       -- up to its trailing lines the value is passed
       passed : t ≢ [] → (z : Text)
-          → (blank_lines_from Ending.inside (value_source (with_trailing z)) ≡ blank_lines_at_end z)
-          × (is_line_from Ending.inside (value_source (with_trailing z)) ≡ ends_in_line z)
+          → (blank_lines_from o Ending.inside (value_source (with_trailing z)) ≡ blank_lines_at_end o z)
+          × (is_line_from o Ending.inside (value_source (with_trailing z)) ≡ ends_in_line o z)
       passed some z =
           let own = p.stretches.raw_value ++ p.stretches.space_after in
-          let one : Passes p.stretches.space_before (own ++ z) =
-          passes_white p.stretches.space_before is.white_before in
+          let one : Passes o p.stretches.space_before (own ++ z) =
+          passes_white o p.stretches.space_before is.white_before in
           let two = own_passes (some_more t r some) is.own_lines z in
           let seam : value_source (with_trailing z) ≡ p.stretches.space_before ++ (own ++ z) =
           simp append_assoc in (
-            ap (blank_lines_from Ending.inside) seam ∙ one.blank ∙ two.blank,
-            ap (is_line_from Ending.inside) seam ∙ one.line ∙ two.line,
+            ap (blank_lines_from o Ending.inside) seam ∙ one.blank ∙ two.blank,
+            ap (is_line_from o Ending.inside) seam ∙ one.line ∙ two.line,
           )
 
-      ended_cut : (front : Text) → front ≢ [] → t ≡ front ++ blank_lines_at_end t
-          → ends_in_line front ≡ true
+      ended_cut : (front : Text) → front ≢ [] → t ≡ front ++ blank_lines_at_end o t
+          → ends_in_line o front ≡ true
           → TrailingLines o front x → IsPair o c (with_trailing front) p.key p.value x
       ended_cut front some whole ends trailing =
-          let b = blank_lines_at_end t in
+          let b = blank_lines_at_end o t in
           let there : t ≢ [] = λ none. some_more front b some (sym whole ∙ none) in
           let seam : value_source p.stretches ≡ value_source (with_trailing front) ++ b =
           ap (λ z. value_source (with_trailing z)) whole ∙ simp append_assoc in
@@ -191,17 +194,17 @@ module _ (o₀ : ParseOption) (sep : LineSeparator) where
             closed = is.closed;
           }
 
-      ended_glued : t ≢ [] → Closing o (ending_from Ending.inside t) [] → TrailingLines o (t ++ end) x
+      ended_glued : t ≢ [] → Closing o (ending_from o Ending.inside t) [] → TrailingLines o (t ++ end) x
           → IsPair o c (with_trailing (t ++ end)) p.key p.value x
       ended_glued some closing trailing =
           let own = p.stretches.raw_value ++ p.stretches.space_after in
           let source : value_source p.stretches ≡ p.stretches.space_before ++ (own ++ t) =
           simp append_assoc in
-          let ends : ending_from Ending.inside (value_source p.stretches) ≡ ending_from Ending.inside t =
-          ap (ending_from Ending.inside) source
-          ∙ ending-white p.stretches.space_before (own ++ t) is.white_before
-          ∙ ending_from-append Ending.inside own t
-          ∙ ap (λ e. ending_from e t) (own_ends (some_more t r some) is.own_lines) in
+          let ends : ending_from o Ending.inside (value_source p.stretches) ≡ ending_from o Ending.inside t =
+          ap (ending_from o Ending.inside) source
+          ∙ ending-white o p.stretches.space_before (own ++ t) is.white_before
+          ∙ ending_from-append o Ending.inside own t
+          ∙ ap (λ e. ending_from o e t) (own_ends (some_more t r some) is.own_lines) in
           let seam : value_source p.stretches ++ end ≡ value_source (with_trailing (t ++ end)) =
           simp append_assoc in
           let alike : Alike (t ++ r) ((t ++ end) ++ x) =
@@ -245,18 +248,18 @@ module _ (o₀ : ParseOption) (sep : LineSeparator) where
 
           at : TrailingCut o t r → IsEnded
           at (TrailingCut.cut front some whole ends are) =
-              let b = blank_lines_at_end t in
+              let b = blank_lines_at_end o t in
               let there : t ≢ [] = λ none. some_more front b some (sym whole ∙ none) in
               ended_so raw front (kept_value there) (cut_lines front some whole ends)
               (ended_cut front some whole ends (are x follows))
-              (λ d. line_last Ending.inside d front (λ h. absurd (false≢true h)) ends)
+              (λ d. line_last o Ending.inside d front (λ h. absurd (false≢true h)) ends)
           at (TrailingCut.unended some none empty inside closing are) =
               ended_so raw (t ++ end) (kept_value some) (glued_lines none inside)
               (ended_glued some closing (are sep x follows))
               (λ d. ap is_line_end (last_or-append d t end)
               ∙ feed_ends (last_or (last_or d t) end) (end_feed sep (last_or d t)))
           at (TrailingCut.nothing none empty) =
-              ended_so (raw ++ closing_of o (ending raw)) end (closed_is o p none (nothing_after empty))
+              ended_so (raw ++ closing_of o (ending o raw)) end (closed_is o p none (nothing_after empty))
               (no_lines none) (pair_ended is none sep x refl follows)
               (λ d. feed_ends (last_or d end) (end_feed sep d))
 
@@ -274,7 +277,7 @@ module _ (o₀ : ParseOption) (sep : LineSeparator) {policy : EscapePolicy} {key
     o₁ = many_lines o₀
 
     abbrev blank : Text
-    blank = blank_lines_at_end p.stretches.trailing_lines
+    blank = blank_lines_at_end o₁ p.stretches.trailing_lines
 
     abbrev lines : Text
     lines = line_end sep ++ blank
@@ -342,7 +345,7 @@ module _ (o₀ : ParseOption) (sep : LineSeparator) {policy : EscapePolicy} {key
                   let feed = spans_column (gap gap_text ∷ zs) (AreInPlace.more (IsSpan.is_gap g) rest) m in
                   feed ∙ sym (ap is_line_feed (last_made cs)
                   ∙ ends_feed _ cs blank (front_of p.stretches.trailing_lines blank)
-                  (sym (blank_lines_at_end-rest p.stretches.trailing_lines))
+                  (sym (blank_lines_at_end-rest o₁ p.stretches.trailing_lines))
                   (ap is_line_feed (source_last c p.stretches) ∙ feed));
             } in
             in_place-exchanged span_source spans_local xs

@@ -47,9 +47,9 @@ use Rattle.ini_edit.proofs.SourceSpanLemmas.{gap_put_in, last_of_gap, spans_afte
 pub pair_ends_line : {o : ParseOption} {c : ℕ} {p : Stretches} {key value r : Text}
     → o.enabled_indented_mutiline_value ≡ true → r ≢ [] → IsPair o c p key value r
     → is_line_end (last_or c (pair_source p)) ≡ true
-pair_ends_line {c = c} {p = p} on some is =
+pair_ends_line {o = o} {c = c} {p = p} on some is =
     ap is_line_end (tail_last c p)
-    ∙ line_last Ending.inside (last_or c (before_tail p)) p.trailing_lines
+    ∙ line_last o Ending.inside (last_or c (before_tail p)) p.trailing_lines
     (λ inner. absurd (false≢true inner))
     (trailing_ends some on is.are_trailing)
 

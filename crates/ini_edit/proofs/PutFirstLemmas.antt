@@ -10,6 +10,7 @@ use Rattle.ini_text.specs.Grammar.Places.{pair_source}
 use Rattle.ini_text.specs.Grammar.Positions.{last_or}
 use Rattle.ini_text.specs.Grammar.Strings.{Closes, Str, bracketed_name_ends}
 use Rattle.ini_text.specs.Laws.PieceLaws.{Agree}
+use Rattle.ini_text.specs.Options.ReadOptions.{backslash_of}
 use Rattle.ini_text.specs.declared.option.ParseOption.{ParseOption}
 use Rattle.ini_text.proofs.LawLemmas.OneAheadLemmas.{Alike, Str-alike}
 use Rattle.ini_text.proofs.LawLemmas.PieceLemmas.{last_or-append}
@@ -86,9 +87,9 @@ header_closed {o} {x = x} begins is (Element.bracketed_header on str i) =
         by false false h = h
 
     closed : {s r v : Text} (x : Text) → BeginsWith is_line_end x
-        → Str o.enabled_escape bracketed_name_ends s r v → Str o.enabled_escape bracketed_name_ends s x v
+        → Str (backslash_of o) bracketed_name_ends s r v → Str (backslash_of o) bracketed_name_ends s x v
     closed x begins (Str.closed row h) = Str.closed row (closes x begins)
-    closed x begins (Str.lone row h) = absurd (false≢true h)
+    closed x begins (Str.lone special row h) = absurd (false≢true h)
 header_closed begins is (Element.pair front some sep given) = absurd (cc (is))
 header_closed begins is (Element.dropped_blanks i) = absurd (cc (is))
 header_closed begins is (Element.dropped_key i starts stops) = absurd (cc (is))

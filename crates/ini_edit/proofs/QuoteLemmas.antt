@@ -2,12 +2,14 @@
 use Rattle.std.proofs.Common.{◌≡◌, ◌≢◌, ◌∙◌, inl, inr, ℕ, Bool, true, false, not, ◌&&◌, ◌||◌, eqb, [], ◌∷◌}
 use Rattle.std.proofs.Common.{◌++◌, refl, sym, ap, subst, append_assoc, append-nil, eq-eqb, eqb-true, ne_eqb}
 use Rattle.std.proofs.Common.{Some, None}
-use Rattle.std.proofs.lemmas.Bool.{and_from, and_parts, and_right, both_ways, cases_Bool, cond-false}
-use Rattle.std.proofs.lemmas.Bool.{cond-true, false_from_ne_true, or_cases, or_left, or_parts}
+use Rattle.std.proofs.lemmas.Bool.{and_from, and_left, and_parts, and_right, both_ways, cases_Bool}
+use Rattle.std.proofs.lemmas.Bool.{cond-false, cond-true, false_from_ne_true, or_cases, or_left, or_parts}
 use Rattle.std.proofs.lemmas.List.{append_cancel_right}
 use Rattle.std.proofs.lemmas.Option.{cond_some}
 use Rattle.std.specs.Char.{is_digit}
 use Rattle.std.specs.List.{list_all}
+use Rattle.ini_text.specs.Options.Backslashes.{begins_escape, is_special}
+use Rattle.ini_text.specs.Options.ReadOptions.{backslash_of}
 use Rattle.ini_text.specs.declared.option.ParseOption.{ParseOption}
 use Rattle.ini_text.specs.declared.write.policy.EscapePolicy.{EscapePolicy}
 use Rattle.ini_text.specs.Grammar.CharacterKinds.{backslash, is_inline_white, is_quote_mark, plus}
@@ -67,7 +69,7 @@ module _ {o : ParseOption} {policy : EscapePolicy} {value : Text}
     is_trimmed = is.is_trimmed;
   }
     where
-      string : Str o.enabled_escape (quote_ends m) (escaped policy value) (m ∷ []) value
+      string : Str (backslash_of o) (quote_ends m) (escaped policy value) (m ∷ []) value
       string = Str.closed (is.quoted m none) (or_left (eqb m m) false (eq-eqb m m refl))
 
       part : Quoted o (written_in policy (m ∷ []) value) (value ++ []) true
@@ -105,32 +107,38 @@ quote_for (KeepsQuote.kept stands none) = IsQuoteFor.mark stands.on stands.mark 
 quote_for (KeepsQuote.none all) = IsQuoteFor.empty
 
 -- what follows the mark that ends a row of pieces
-module _ (m : ℕ) (mark : is_quote_mark m ≡ true) where
-  past : (c : ℕ) (t : Text) → eqb c m ≡ false → eqb c backslash ≡ false
-      → after_quote_mark m false (c ∷ t) ≡ after_quote_mark m false t
+module _ (o : ParseOption) (m : ℕ) (mark : is_quote_mark m ≡ true) where
+  past : (c : ℕ) (t : Text) → eqb c m ≡ false → begins_escape (backslash_of o) c ≡ false
+      → after_quote_mark o m false (c ∷ t) ≡ after_quote_mark o m false t
   past c t no_mark no_backslash = rw (no_mark, no_backslash) refl
 
   -- a backslash takes a character
-  past_two : (c : ℕ) (t : Text) → after_quote_mark m false (backslash ∷ c ∷ t) ≡ after_quote_mark m false t
-  past_two c t =
-      rw (mark_no_backslash m mark, and_right (eqb c m) false refl, and_right (eqb c backslash) false refl)
-      refl
+  past_two : is_special (backslash_of o) ≡ true → (c : ℕ) (t : Text)
+      → after_quote_mark o m false (backslash ∷ c ∷ t) ≡ after_quote_mark o m false t
+  past_two special c t =
+      cond-false (eqb backslash m && true) _ _ (and_left (eqb backslash m) true (mark_no_backslash m mark))
+      ∙ ap (λ taken. after_quote_mark o m taken (c ∷ t))
+      (and_from (is_special (backslash_of o)) true special refl)
+      ∙ cond-false (eqb c m && false) _ _ (and_right (eqb c m) false refl)
+      ∙ ap (λ taken. after_quote_mark o m taken t)
+      (and_right (begins_escape (backslash_of o) c) false refl)
 
   past_digit : (c : ℕ) (t : Text) → is_digit c 16 ≡ true
-      → after_quote_mark m false (c ∷ t) ≡ after_quote_mark m false t
+      → after_quote_mark o m false (c ∷ t) ≡ after_quote_mark o m false t
   past_digit c t h = past c t
       (ne_eqb c m (λ q. no_digit (subst (λ x. is_digit x 16 ≡ true) q h)))
-      (ne_eqb c backslash (λ q. let z = subst (λ x. is_digit x 16 ≡ true) q h in cc))
+      (and_left (eqb c backslash) (is_special (backslash_of o))
+      (ne_eqb c backslash (λ q. let z = subst (λ x. is_digit x 16 ≡ true) q h in cc)))
     where
       no_digit : is_digit m 16 ≡ true → ⊥
       no_digit = of_mark (λ m. is_digit m 16 ≡ true → ⊥) (λ h. cc) (λ h. cc) m mark
 
   past_first_digit : (c : ℕ) (t : Text) → (is_digit c 16 || eqb c plus) ≡ true
-      → after_quote_mark m false (c ∷ t) ≡ after_quote_mark m false t
+      → after_quote_mark o m false (c ∷ t) ≡ after_quote_mark o m false t
   past_first_digit c t h = elim (or_cases (is_digit c 16) (eqb c plus) h) [
     | inl q ↦ past_digit c t q
     | inr q ↦
-        subst (λ x. after_quote_mark m false (x ∷ t) ≡ after_quote_mark m false t)
+        subst (λ x. after_quote_mark o m false (x ∷ t) ≡ after_quote_mark o m false t)
         (sym (eqb-true c plus q))
         (past plus t no_plus refl)
   ]
@@ -138,43 +146,45 @@ module _ (m : ℕ) (mark : is_quote_mark m ≡ true) where
       no_plus : eqb plus m ≡ false
       no_plus = of_mark (λ m. eqb plus m ≡ false) refl refl m mark
 
-  past_escape : {escapes : Bool} {p w : Text} → EscapeSequence escapes p w → (t : Text)
-      → after_quote_mark m false (p ++ t) ≡ after_quote_mark m false t
+  past_escape : is_special (backslash_of o) ≡ true → {escapes : Bool} {p w : Text}
+      → EscapeSequence escapes p w → (t : Text)
+      → after_quote_mark o m false (p ++ t) ≡ after_quote_mark o m false t
   unfolding spelled
-  past_escape EscapeSequence.folded t = past_two _ t
-  past_escape (EscapeSequence.named on named) t = past_two _ t
-  past_escape (EscapeSequence.coded {a} {b} {c} {d} {v} on h) t =
+  past_escape special EscapeSequence.folded t = past_two special _ t
+  past_escape special (EscapeSequence.named on named) t = past_two special _ t
+  past_escape special (EscapeSequence.coded {a} {b} {c} {d} {v} on h) t =
       let all_d = and_parts _ _ (and_parts _ _ (cond_some _ _ v h).0).0 in
       let all_c = and_parts _ _ all_d.0 in
       let all_b = and_parts _ _ all_c.0 in
-      past_two _ (a ∷ b ∷ c ∷ d ∷ t) ∙ past_first_digit a (b ∷ c ∷ d ∷ t) all_b.0
+      past_two special _ (a ∷ b ∷ c ∷ d ∷ t) ∙ past_first_digit a (b ∷ c ∷ d ∷ t) all_b.0
       ∙ past_digit b (c ∷ d ∷ t) all_b.1 ∙ past_digit c (d ∷ t) all_c.1 ∙ past_digit d t all_d.1
-  past_escape (EscapeSequence.itself on feed x none) t = past_two _ t
-  past_escape (EscapeSequence.kept off feed) t = past_two _ t
+  past_escape special (EscapeSequence.itself on feed x none) t = past_two special _ t
+  past_escape special (EscapeSequence.kept off feed) t = past_two special _ t
 
-  at_mark : (t : Text) → after_quote_mark m false (m ∷ t) ≡ Some t
+  at_mark : (t : Text) → after_quote_mark o m false (m ∷ t) ≡ Some t
   at_mark t = cond-true (eqb m m && true) _ _ (and_from (eqb m m) true (eq-eqb m m refl) refl)
 
-  pub after_row : {escapes : Bool} {s v : Text} → Row escapes (quote_ends m) s v → (t : Text)
-      → after_quote_mark m false (s ++ m ∷ t) ≡ Some t
+  pub after_row : {s v : Text} → Row (backslash_of o) (quote_ends m) s v → (t : Text)
+      → after_quote_mark o m false (s ++ m ∷ t) ≡ Some t
   after_row Row.none t = at_mark t
   after_row (Row.raw {c} {s} n ends row) t =
-      past c (s ++ m ∷ t) (or_parts (eqb c m) false ends).0 (ne_eqb c backslash n) ∙ after_row row t
-  after_row (Row.escape {p} {s = s} piece row) t =
-      ap (after_quote_mark m false) (append_assoc p s (m ∷ t)) ∙ past_escape piece (s ++ m ∷ t)
+      past c (s ++ m ∷ t) (or_parts (eqb c m) false ends).0 n ∙ after_row row t
+  after_row (Row.escape {p} {s = s} special piece row) t =
+      ap (after_quote_mark o m false) (append_assoc p s (m ∷ t)) ∙ past_escape special piece (s ++ m ∷ t)
       ∙ after_row row t
 
 -- what follows goes on
-after_more : (m : ℕ) (taken : Bool) (t x pad : Text) → after_quote_mark m taken t ≡ Some x
-    → after_quote_mark m taken (t ++ pad) ≡ Some (x ++ pad)
-after_more m taken [] x pad h = absurd (let z : None ≡ Some x = h in cc)
-after_more m taken (c ∷ t) x pad h = elim (cases_Bool (eqb c m && not taken)) [
+after_more : (o : ParseOption) (m : ℕ) (taken : Bool) (t x pad : Text)
+    → after_quote_mark o m taken t ≡ Some x
+    → after_quote_mark o m taken (t ++ pad) ≡ Some (x ++ pad)
+after_more o m taken [] x pad h = absurd (let z : None ≡ Some x = h in cc)
+after_more o m taken (c ∷ t) x pad h = elim (cases_Bool (eqb c m && not taken)) [
   | inl here ↦
       let same : Some t ≡ Some x = sym (cond-true (eqb c m && not taken) _ _ here) ∙ h in
       cond-true (eqb c m && not taken) _ _ here ∙ ap (λ z. Some (z ++ pad)) (let e : t ≡ x = cc in e)
   | inr on ↦
       cond-false (eqb c m && not taken) _ _ on
-      ∙ after_more m (eqb c backslash && not taken) t x pad
+      ∙ after_more o m (begins_escape (backslash_of o) c && not taken) t x pad
       (sym (cond-false (eqb c m && not taken) _ _ on) ∙ h)
 ]
 
@@ -183,7 +193,7 @@ record BeginsPart (o : ParseOption) (m : ℕ) (x : Text) : Type 0 where
   pub content : Text
   pub given : Text
   pub following : Text
-  pub row : Row o.enabled_escape (quote_ends m) content given
+  pub row : Row (backslash_of o) (quote_ends m) content given
   pub whole : x ≡ content ++ m ∷ following
 
 line_part : {o : ParseOption} {first : Bool} {l r v : Text} → o.enabled_quote ≡ true → Line o first l r v
@@ -204,7 +214,7 @@ line_part {o} on (Line.line {p = p} (Quoted.part {m = n} {s} {v} {q} _ _ (Str.cl
       content = s;
       given = v;
       following = q ++ (p ++ z);
-      row = subst (λ y. Row o.enabled_escape (quote_ends y) s v) same row;
+      row = subst (λ y. Row (backslash_of o) (quote_ends y) s v) same row;
       whole = sym tails ∙ append_assoc s (n ∷ q) (p ++ z) ∙ ap (λ y. s ++ y ∷ (q ++ (p ++ z))) same;
     }
 
@@ -219,13 +229,13 @@ own_part on (OwnLines.more {l} {e} {t} {r} one ends more) m x mark is =
 -- a source that stands between two marks is one quoted part, and each such part stands so
 pub part_between : {o : ParseOption} {raw_value : Text} {m : ℕ} → o.enabled_quote ≡ true
     → IsOwnSource o raw_value
-    → IsBetweenQuoteMarks raw_value m → StandsInQuotes o raw_value m
+    → IsBetweenQuoteMarks o raw_value m → StandsInQuotes o raw_value m
 part_between {o} {raw_value} {m} on source between =
     let part = own_part on source.lines m (between.following ++ source.space_after) between.mark
     (ap (λ z. z ++ source.space_after) between.whole) in
-    let one = after_more m false between.following [] source.space_after between.ends in
-    let other : after_quote_mark m false (between.following ++ source.space_after) ≡ Some part.following =
-    ap (after_quote_mark m false) part.whole ∙ after_row m between.mark part.row part.following in
+    let one = after_more o m false between.following [] source.space_after between.ends in
+    let other : after_quote_mark o m false (between.following ++ source.space_after) ≡ Some part.following =
+    ap (after_quote_mark o m false) part.whole ∙ after_row o m between.mark part.row part.following in
     let both : Some source.space_after ≡ Some part.following = sym one ∙ other in
     let same : source.space_after ≡ part.following = cc in
     let whole : between.following ++ source.space_after ≡ (part.content ++ m ∷ []) ++ source.space_after =
@@ -243,22 +253,22 @@ part_between {o} {raw_value} {m} on source between =
           (append_cancel_right between.following (part.content ++ m ∷ []) source.space_after whole);
     }
 
-ends_string : {escapes : Bool} {m : ℕ} {s r v : Text} → is_quote_mark m ≡ true
-    → Str escapes (quote_ends m) s (m ∷ r) v → after_quote_mark m false (s ++ m ∷ []) ≡ Some []
-ends_string {m = m} mark (Str.closed row closes) = after_row m mark row []
+ends_string : (o : ParseOption) {m : ℕ} {s r v : Text} → is_quote_mark m ≡ true
+    → Str (backslash_of o) (quote_ends m) s (m ∷ r) v → after_quote_mark o m false (s ++ m ∷ []) ≡ Some []
+ends_string o {m = m} mark (Str.closed row closes) = after_row o m mark row []
 
 pub between_part : {o : ParseOption} {raw_value : Text} {m : ℕ} → StandsInQuotes o raw_value m
-    → IsBetweenQuoteMarks raw_value m
-between_part {m = m} part = record {
+    → IsBetweenQuoteMarks o raw_value m
+between_part {o = o} {m = m} part = record {
   mark = part.mark;
   following = part.content ++ m ∷ [];
   whole = part.whole;
-  ends = ends_string part.mark part.string;
+  ends = ends_string o part.mark part.string;
 }
 
-pub same_mark : {raw_value : Text} {m n : ℕ} → IsBetweenQuoteMarks raw_value m
-    → IsBetweenQuoteMarks raw_value n → m ≡ n
-same_mark {m = m} {n = n} one other =
+pub same_mark : (o : ParseOption) {raw_value : Text} {m n : ℕ} → IsBetweenQuoteMarks o raw_value m
+    → IsBetweenQuoteMarks o raw_value n → m ≡ n
+same_mark o {m = m} {n = n} one other =
     let both : m ∷ one.following ≡ n ∷ other.following = sym one.whole ∙ other.whole in
     cc
 
@@ -267,17 +277,17 @@ module _ {o : ParseOption} {raw_value value : Text} where
   pub off_none : o.enabled_quote ≡ false → KeepsQuote o raw_value value []
   off_none off = KeepsQuote.none (λ m part. absurd (both_ways o.enabled_quote off part.on))
 
-  pub bare_none : ((m : ℕ) → ¬ IsBetweenQuoteMarks raw_value m) → KeepsQuote o raw_value value []
+  pub bare_none : ((m : ℕ) → ¬ IsBetweenQuoteMarks o raw_value m) → KeepsQuote o raw_value value []
   bare_none none = KeepsQuote.none (λ m part. absurd (none m (between_part part)))
 
-  pub mark_none : {m : ℕ} → IsBetweenQuoteMarks raw_value m → has_quote_mark value m ≡ true
+  pub mark_none : {m : ℕ} → IsBetweenQuoteMarks o raw_value m → has_quote_mark value m ≡ true
       → KeepsQuote o raw_value value []
   mark_none between has =
       KeepsQuote.none
-      (λ n part. subst (λ x. has_quote_mark value x ≡ true) (same_mark between (between_part part)) has)
+      (λ n part. subst (λ x. has_quote_mark value x ≡ true) (same_mark o between (between_part part)) has)
 
   pub mark_kept : {m : ℕ} {quote : Text} → o.enabled_quote ≡ true → IsOwnSource o raw_value
-      → IsBetweenQuoteMarks raw_value m
+      → IsBetweenQuoteMarks o raw_value m
       → has_quote_mark value m ≡ false → quote ≡ m ∷ [] → KeepsQuote o raw_value value quote
   mark_kept on source between none is =
       subst (KeepsQuote o raw_value value) (sym is) (KeepsQuote.kept (part_between on source between) none)

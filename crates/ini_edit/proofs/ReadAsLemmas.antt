@@ -275,10 +275,11 @@ module _ {o : ParseOption} {source value : Text} where
   }
 
   -- no backslash at its end takes what follows
-  pub read_closed : IsReadAs o source value → ending source ≢ Ending.escape
+  pub read_closed : IsReadAs o source value → ending o source ≢ Ending.escape
   read_closed h e =
       let some : feed ≢ [] = λ same. cc in
-      let no : Ending.inside ≡ Ending.escape = sym (own_ends some (read_source h)) ∙ escape_inside source e in
+      let no : Ending.inside ≡ Ending.escape = sym (own_ends some (read_source h))
+      ∙ escape_inside o source e in
       cc
 
   pub read_starts : IsReadAs o source value → BeginsWithNo is_inline_white (source ++ feed)

@@ -19,7 +19,7 @@ use Rattle.ini_edit.specs.Inside.Spans.{IsGap}
 use Rattle.ini_edit.specs.SourceEditsSections.{section_rest}
 use Rattle.ini_edit.specs.SourceLines.{are_comments, comments_at_end, indentation_at_end}
 use Rattle.ini_edit.proofs.DroppedKeyLemmas.{dropped_off}
-use Rattle.ini_edit.proofs.EndingLemmas.{IsInner, inner_by}
+use Rattle.ini_edit.proofs.EndingLemmas.{no_feed_by}
 use Rattle.ini_edit.proofs.GapPartLemmas.{LineStarts, gap_nothing, gap_parts}
 use Rattle.ini_edit.proofs.SourceLineLemmas.{dropped_key-rest}
 use Rattle.ini_edit.proofs.SourceSetLemmas.{line_end_no_mark}
@@ -126,8 +126,8 @@ pub blanks_no_feed : (t : Text) → list_all is_blank t ≡ true → list_all (�
 blanks_no_feed [] h = refl
 blanks_no_feed (c ∷ t) h =
     let parts = and_parts (is_blank c) (list_all is_blank t) h in
-    let inner : IsInner c = inner_by is_blank c refl refl parts.0 in
-    and_from (not (is_line_feed c)) _ (ap not inner.no_line_feed) (blanks_no_feed t parts.1)
+    let no_feed = no_feed_by is_blank c refl parts.0 in
+    and_from (not (is_line_feed c)) _ (ap not no_feed) (blanks_no_feed t parts.1)
 
 -- What stays of a gap after this character, before a text: a gap, which begins a line if a blank or a
 -- comment begins it, the comment in column one.

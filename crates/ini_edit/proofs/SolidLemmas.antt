@@ -21,7 +21,7 @@ use Rattle.ini_edit.specs.SourceLines.{is_blank_or_line_end}
 use Rattle.ini_edit.specs.SourceLines.{from_last_solid, is_in_comment}
 use Rattle.ini_edit.proofs.DroppedKeyLemmas.{AreKeyless, blank_no_mark, no_comment_in, white_no_mark}
 use Rattle.ini_edit.proofs.DroppedKeyLemmas.{pieces_no_bracket}
-use Rattle.ini_edit.proofs.EndingLemmas.{IsInner, inner_by}
+use Rattle.ini_edit.proofs.EndingLemmas.{no_feed_by}
 use Rattle.ini_edit.proofs.GapLemmas.{empty_front}
 use Rattle.ini_edit.proofs.GapPartLemmas.{some_before}
 use Rattle.ini_edit.proofs.SourceSetLemmas.{line_end_no_mark}
@@ -100,7 +100,7 @@ module _ {o : ParseOption} where
             })
       ]
   passes {c} t (Element.comment {m = m} s one mark all) empty some other =
-      let inner : IsInner m = inner_by is_comment_mark m refl refl mark in
+      let no_feed = no_feed_by is_comment_mark m refl mark in
       let apart = comment_mark-apart m mark in
       let line = mark_no_end m mark in
       Passes.solid
@@ -109,7 +109,7 @@ module _ {o : ParseOption} where
       (cond-false (is_blank_or_line_end m) _ _ (neither (is_blank m) (is_line_end m) apart.0 line))
       ∙ ap (λ inside. option_or (from_last_solid inside (s ++ line_feed ∷ t))
       (Some (m ∷ (s ++ line_feed ∷ t))))
-      (and_from (is_comment_mark m) (not (is_line_feed m)) mark (ap not inner.no_line_feed))
+      (and_from (is_comment_mark m) (not (is_line_feed m)) mark (ap not no_feed))
       ∙ ap (λ x. option_or x (Some (m ∷ (s ++ line_feed ∷ t)))) (comment_past s t all)
       ∙ ap (λ z. option_or (from_last_solid false t) (Some (m ∷ z)))
       (sym (append_assoc s (line_feed ∷ []) t)))

@@ -1,6 +1,6 @@
 -- What a stable sort of lists comes to, where keys are texts.
 use Rattle.std.proofs.Common.{◌≡◌, ◌≢◌, ◌∙◌, ◌<◌, ◌+◌, ◌&&◌, ℕ, Bool, true, false, cond, not, is_lt}
-use Rattle.std.proofs.Common.{List, [], ◌∷◌, ap, ap₂, arith, get_or, length, map, refl, subst, sym}
+use Rattle.std.proofs.Common.{List, [], ◌∷◌, ap, ap₂, arith, length, map, refl, subst, sym}
 use Rattle.std.specs.Cmp.{IsStrictWeakOrder, nat_cmp_is}
 use Rattle.std.specs.Cmp.Lexicographic.{slice_cmp}
 use Rattle.std.specs.List.{filter}

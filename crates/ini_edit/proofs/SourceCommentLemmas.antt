@@ -1,6 +1,6 @@
 -- Comments put above a pair of a text in pieces, and a pair made comments: what the pieces are then.
 use Rattle.std.proofs.Common.{◌≡◌, ◌∙◌, ◌&&◌, ℕ, Bool, true, false, List, [], ◌∷◌, ◌++◌, None, Option, Some}
-use Rattle.std.proofs.Common.{ap, append-nil, get_or, if◌then◌else◌, map, refl, set, subst, sym, take}
+use Rattle.std.proofs.Common.{ap, append-nil, get_or, if◌then◌else◌, map, refl, set, subst, sym}
 use Rattle.std.proofs.lemmas.List.{map-append}
 use Rattle.std.specs.Option.{option_map}
 use Rattle.ini_text.specs.Options.WriteOptions.{line_end}
@@ -14,15 +14,13 @@ use Rattle.ini_text.specs.Grammar.CharacterKinds.{line_feed}
 use Rattle.ini_text.specs.Grammar.Positions.{last_or}
 use Rattle.ini_edit.specs.Inside.SourceEnds.{IsPairAt, IsPlaceAt, last_before}
 use Rattle.ini_edit.specs.Inside.Spans.{AreSections}
-use Rattle.ini_edit.specs.SourceEdits.{with_pairs}
-use Rattle.ini_edit.specs.SourceEditsAdd.{would_go_on}
 use Rattle.ini_edit.specs.SourceEditsAdded.{new_line_end}
 use Rattle.ini_edit.specs.SourceEditsComments.{IsCommentText, IsCommented, IsCommentedOut, comment_put}
-use Rattle.ini_edit.specs.SourceEditsComments.{comments_over, in_section, lines_of_comment}
+use Rattle.ini_edit.specs.SourceEditsComments.{lines_of_comment}
 use Rattle.ini_edit.specs.SourceEditsComments.{pair_commented_out}
 use Rattle.ini_edit.specs.SourceEditsDelete.{deleted_at, pair_taken_out, rest_put, with_rest}
 use Rattle.ini_edit.specs.SourceLines.{is_empty}
-use Rattle.ini_edit.specs.SourcePlaces.{PairPlace, Place, exchanged, gap_of, gap_put, is_nil}
+use Rattle.ini_edit.specs.SourcePlaces.{Place, exchanged, gap_put}
 use Rattle.ini_edit.specs.SourcePlaces.{last_before_section, edited_at, last_changed, pair_place}
 use Rattle.ini_edit.specs.SourcePlaces.{section_exchanged, with_end}
 use Rattle.ini_edit.specs.NewLines.{line_end_of}

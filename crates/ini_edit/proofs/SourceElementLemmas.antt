@@ -3,7 +3,6 @@ use Rattle.std.proofs.Common.{◌≡◌, ◌∙◌, ◌+◌, ◌||◌, ℕ, Bool
 use Rattle.std.proofs.Common.{ap, append_assoc, append-nil, arith, count_by, length, refl, sym}
 use Rattle.std.proofs.lemmas.Bool.{cond-false, cond-true}
 use Rattle.std.proofs.lemmas.List.{length-append}
-use Rattle.std.proofs.lemmas.List.Folds.{list_any-append}
 use Rattle.std.specs.List.{list_any}
 use Rattle.ini_text.specs.Grammar.CharacterKinds.{is_line_feed, line_feed}
 use Rattle.ini_text.specs.Grammar.Places.{Stretches, pair_source, value_source}

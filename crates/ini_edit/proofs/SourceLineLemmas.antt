@@ -13,6 +13,7 @@ use Rattle.ini_text.specs.Grammar.Positions.{last_or}
 use Rattle.ini_text.specs.Inside.PlainTests.{begins}
 use Rattle.ini_text.specs.Parsing.Fronts.{IsRest, front_of}
 use Rattle.ini_text.proofs.StringLemmas.FrontLemmas.{front_grows, front_is}
+use Rattle.ini_text.specs.declared.option.ParseOption.{ParseOption}
 use Rattle.ini_edit.specs.Endings.{Ending}
 use Rattle.ini_edit.specs.SourceLines.{is_blank_or_line_end}
 use Rattle.ini_edit.specs.SourceLines.{after_blank_lines, after_blanks, after_comment, after_comments}
@@ -112,14 +113,14 @@ blanks_at_end-rest [] = none_rest []
 blanks_at_end-rest (c ∷ cs) =
     all_or (list_all is_blank (c ∷ cs)) c cs (blanks_at_end cs) (blanks_at_end-rest cs)
 
-pub blank_lines_from-rest : (e : Ending) (t : Text) → IsRest t (blank_lines_from e t)
-blank_lines_from-rest e [] = none_rest []
-blank_lines_from-rest e (c ∷ cs) =
+pub blank_lines_from-rest : (o : ParseOption) (e : Ending) (t : Text) → IsRest t (blank_lines_from o e t)
+blank_lines_from-rest o e [] = none_rest []
+blank_lines_from-rest o e (c ∷ cs) =
     all_or (is_line e && list_all is_blank_or_line_end (c ∷ cs)) c cs
-    (blank_lines_from (next_line_end e c cs) cs) (blank_lines_from-rest (next_line_end e c cs) cs)
+    (blank_lines_from o (next_line_end o e c cs) cs) (blank_lines_from-rest o (next_line_end o e c cs) cs)
 
-pub blank_lines_at_end-rest : (t : Text) → IsRest t (blank_lines_at_end t)
-blank_lines_at_end-rest t = blank_lines_from-rest Ending.inside t
+pub blank_lines_at_end-rest : (o : ParseOption) (t : Text) → IsRest t (blank_lines_at_end o t)
+blank_lines_at_end-rest o t = blank_lines_from-rest o Ending.inside t
 
 pub dropped_key-rest : (inside : Bool) (before : ℕ) (t : Text) → IsRest t (dropped_key inside before t)
 dropped_key-rest inside before [] = none_rest []

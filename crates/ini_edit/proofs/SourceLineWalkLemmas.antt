@@ -9,6 +9,7 @@ use Rattle.ini.specs.Texts.{Text}
 use Rattle.ini_text.specs.Grammar.CharacterKinds.{is_blank, is_comment_mark, is_line_end, is_line_feed}
 use Rattle.ini_text.specs.Grammar.CharacterKinds.{line_feed, space, tab}
 use Rattle.ini_text.specs.Inside.PlainTests.{begins}
+use Rattle.ini_text.specs.declared.option.ParseOption.{ParseOption}
 use Rattle.ini_edit.specs.Endings.{Ending}
 use Rattle.ini_edit.specs.SourceLines.{is_blank_or_line_end}
 use Rattle.ini_edit.specs.SourceLines.{after_comment, after_comments, are_comments, blank_lines_from}
@@ -208,27 +209,26 @@ blanks_step blanks {c = c} {after = after} is new so_far =
     ∙ ap (blanks_so_far blanks) (sym is) ∙ so_far
 
 -- the blank lines at the end, where those from `lines` on go on to the rest, if `blank` says so
-abbrev pub blank_lines_so_far : Ending → (blank : Bool) → (lines rest : Text) → Text
-blank_lines_so_far e blank lines rest =
-    cond (blank && list_all is_blank_or_line_end rest) lines (blank_lines_from e rest)
+abbrev pub blank_lines_so_far : (o : ParseOption) → Ending → (blank : Bool) → (lines rest : Text) → Text
+blank_lines_so_far o e blank lines rest =
+    cond (blank && list_all is_blank_or_line_end rest) lines (blank_lines_from o e rest)
 
-pub blank_lines_more : (e : Ending) (blank : Bool) (c : ℕ) (lines after : Text)
-    → blank_lines_so_far e blank lines (c ∷ after)
-    ≡ blank_lines_so_far (next_line_end e c after)
+pub blank_lines_more : (o : ParseOption) (e : Ending) (blank : Bool) (c : ℕ) (lines after : Text)
+    → blank_lines_so_far o e blank lines (c ∷ after) ≡ blank_lines_so_far o (next_line_end o e c after)
     (is_blank_or_line_end c && (blank || is_line e))
     (cond (is_blank_or_line_end c && (not blank && is_line e)) (c ∷ after) lines) after
-blank_lines_more e blank c lines after = by blank (is_line e) (is_blank_or_line_end c)
+blank_lines_more o e blank c lines after = by blank (is_line e) (is_blank_or_line_end c)
   where
     by : (blank line m : Bool)
         → cond (blank && (m && list_all is_blank_or_line_end after)) lines
         (cond (line && (m && list_all is_blank_or_line_end after)) (c ∷ after)
-        (blank_lines_from (next_line_end e c after) after))
-        ≡ blank_lines_so_far (next_line_end e c after) (m && (blank || line))
+        (blank_lines_from o (next_line_end o e c after) after))
+        ≡ blank_lines_so_far o (next_line_end o e c after) (m && (blank || line))
         (cond (m && (not blank && line)) (c ∷ after) lines) after
     by true true true =
         elim (list_all is_blank_or_line_end after) as (λ b. cond b lines
-        (cond b (c ∷ after) (blank_lines_from (next_line_end e c after) after))
-        ≡ cond b lines (blank_lines_from (next_line_end e c after) after)) [
+        (cond b (c ∷ after) (blank_lines_from o (next_line_end o e c after) after))
+        ≡ cond b lines (blank_lines_from o (next_line_end o e c after) after)) [
           | true ↦ refl
           | false ↦ refl
         ]

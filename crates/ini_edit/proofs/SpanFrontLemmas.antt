@@ -1,5 +1,5 @@
 -- What stands before a place of a text in pieces stands there before other texts too.
-use Rattle.std.proofs.Common.{◌≡◌, ◌≢◌, ◌∙◌, ◌≤◌, ℕ, Bool, List, [], ◌∷◌, ◌++◌, None, Option}
+use Rattle.std.proofs.Common.{◌≡◌, ◌≢◌, ◌∙◌, ◌≤◌, ℕ, List, [], ◌∷◌, ◌++◌, None, Option}
 use Rattle.std.proofs.Common.{Some, ap, append-nil, arith, inl, inr, length, refl, subst, sym}
 use Rattle.std.proofs.lemmas.Bool.{false≢true}
 use Rattle.ini_text.specs.Grammar.CharacterKinds.{line_feed}
@@ -10,6 +10,7 @@ use Rattle.ini_text.specs.Grammar.Places.{pair_source}
 use Rattle.ini_text.specs.Grammar.Positions.{last_or}
 use Rattle.ini_text.specs.Grammar.Strings.{Str, bracketed_name_ends}
 use Rattle.ini_text.specs.Laws.PieceLaws.{BeginAlike}
+use Rattle.ini_text.specs.Options.Backslashes.{Backslash}
 use Rattle.ini_text.specs.declared.option.ParseOption.{ParseOption}
 use Rattle.ini_text.proofs.GrammarLemmas.ItemLemmas.{element-some}
 use Rattle.ini_text.proofs.LawLemmas.LocalLemmas.{Element-before}
@@ -101,7 +102,7 @@ spans_ahead follows {k} {r} xs front are = spans_follow follows xs (key_follows 
 no_text : {X : Type 0} {c : Text} → FollowsFront c [] → X
 no_text f = absurd (false≢true (sym f.some))
 
-no_bracketed : {X : Type 0} {c s v : Text} {e : Bool} (y : Text) → FollowsFront c y
+no_bracketed : {X : Type 0} {c s v : Text} {e : Backslash} (y : Text) → FollowsFront c y
     → Str e bracketed_name_ends s y v → X
 no_bracketed [] f str = no_text f
 no_bracketed (d ∷ y) f (Str.closed row h) = closes_no_line (d ∷ y) f.some h

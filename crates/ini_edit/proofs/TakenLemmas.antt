@@ -123,23 +123,23 @@ one_line_stays last b x unmarked = at (line_cut b)
         by false goes = subst (StaysOf last b x) same StaysOf.all
 
 -- what stays of the lines after a pair, where values are in lines of this kind
-abbrev kept_lines : (multiline : Bool) → PairPiece → Text
-kept_lines multiline p =
-    if multiline then blank_lines_at_end p.stretches.trailing_lines else after_line_end p.after
+abbrev kept_lines : (o : ParseOption) (multiline : Bool) → PairPiece → Text
+kept_lines o multiline p =
+    if multiline then blank_lines_at_end o p.stretches.trailing_lines else after_line_end p.after
 
 abbrev gap_there : (multiline : Bool) → PairPiece → Text
 gap_there multiline p = if multiline then p.after else []
 
-abbrev own_there : (multiline : Bool) → PairPiece → Text
-own_there multiline p =
-    if multiline then front_of p.stretches.trailing_lines (kept_lines multiline p)
-    else front_of p.after (kept_lines multiline p)
+abbrev own_there : (o : ParseOption) (multiline : Bool) → PairPiece → Text
+own_there o multiline p =
+    if multiline then front_of p.stretches.trailing_lines (kept_lines o multiline p)
+    else front_of p.after (kept_lines o multiline p)
 
-abbrev taken_by : (multiline : Bool) → (last : ℕ) → PairPiece → Text
-taken_by multiline last p =
-    (if goes_after last (kept_lines multiline p) (gap_there multiline p) then []
-    else (if multiline && not (ends_in_line (own_there multiline p)) then []
-    else line_end_at_end (own_there multiline p))) ++ kept_lines multiline p
+abbrev taken_by : (o : ParseOption) (multiline : Bool) → (last : ℕ) → PairPiece → Text
+taken_by o multiline last p =
+    (if goes_after last (kept_lines o multiline p) (gap_there multiline p) then []
+    else (if multiline && not (ends_in_line o (own_there o multiline p)) then []
+    else line_end_at_end (own_there o multiline p))) ++ kept_lines o multiline p
 
 abbrev taken : ParseOption → (last : ℕ) → PairPiece → Text
 taken o last p = (if goes_with_line_end o last p then [] else line_end_after o p) ++ lines_after o p
@@ -166,15 +166,15 @@ module _ (o : ParseOption) (p : PairPiece) (zs : List Span)
       (taken o (last_or line_feed (joined span_source (xs ++ gap a ∷ []))) p ++ gap_after o p)) ∷ zs)) []
   to_gap xs a whole stands = elim (cases_Bool o.enabled_indented_mutiline_value) [
     | inl on ↦
-        subst (λ m. AreSpans o line_feed (xs ++ (gap (a ++ (taken_by m last p ++ gap_there m p)) ∷ zs)) [])
+        subst (λ m. AreSpans o line_feed (xs ++ (gap (a ++ (taken_by o m last p ++ gap_there m p)) ∷ zs)) [])
         (sym on)
         (multiline_to_gap on xs a p.after p.stretches p.key p.value zs whole
         (subst (BeginsWithNo is_comment_mark) (sym (append-nil (joined span_source zs))) unmarked) stands)
     | inr off ↦
-        subst (λ m. AreSpans o line_feed (xs ++ (gap (a ++ (taken_by m last p ++ gap_there m p)) ∷ zs)) [])
+        subst (λ m. AreSpans o line_feed (xs ++ (gap (a ++ (taken_by o m last p ++ gap_there m p)) ∷ zs)) [])
         (sym off)
         (subst (λ c. AreSpans o line_feed (xs ++ (gap (a ++ c) ∷ zs)) [])
-        (sym (append-nil (taken_by false last p)))
+        (sym (append-nil (taken_by o false last p)))
         (spans_deleted off xs a p.after p.stretches p.key p.value zs whole
         (one_line_stays last p.after (joined span_source zs) unmarked)))
   ]
@@ -251,10 +251,10 @@ module _ (o : ParseOption) (p : PairPiece) (zs : List Span)
           (with_lines (taken o last p) q.stretches) q.key q.value
           ∷ gap (a ++ gap_after o p) ∷ zs)) []) (sym is)
           (subst (λ m. AreSpans o line_feed (xs ++ (pair
-          (with_lines (taken_by m last p) q.stretches) q.key q.value
+          (with_lines (taken_by o m last p) q.stretches) q.key q.value
           ∷ gap (gap_there m p) ∷ zs)) []) (sym on)
           (subst (λ z. AreSpans o line_feed (xs ++ (pair
-          (with_lines (staying z p.stretches.trailing_lines p.after)
+          (with_lines (staying o z p.stretches.trailing_lines p.after)
           q.stretches) q.key q.value ∷ gap p.after ∷ zs)) []) same made)))
 
 -- no comment stands where a pair or a header does

@@ -2,7 +2,7 @@
 -- follow it.
 use Rattle.std.proofs.Common.{◌≡◌, ◌==◌, ◌∙◌, ◌||◌, ℕ, Bool, true, false, if◌then◌else◌, [], ◌∷◌, ◌++◌, ap}
 use Rattle.std.proofs.Common.{append_assoc, append-nil, refl, subst, sym}
-use Rattle.std.proofs.lemmas.Bool.{and_parts, both_ways, false≢true, or_from}
+use Rattle.std.proofs.lemmas.Bool.{and_parts, both_ways, cond-true, false≢true, or_from}
 use Rattle.std.proofs.lemmas.List.Folds.{list_all-append}
 use Rattle.std.specs.List.{list_all}
 use Rattle.ini_text.specs.Grammar.CharacterKinds.{BeginsWith, BeginsWithNo, backslash, carriage_return}
@@ -13,6 +13,8 @@ use Rattle.ini_text.specs.Grammar.Lines.{Line, Quoted, plain_value}
 use Rattle.ini_text.specs.Grammar.Strings.{Row, Str, plain_ends}
 use Rattle.ini_text.specs.Grammar.Values.{LineEnd, MoreLines}
 use Rattle.ini_text.specs.Grammar.WhiteSpace.{Lead}
+use Rattle.ini_text.specs.Options.Backslashes.{Backslash, is_special}
+use Rattle.ini_text.specs.Options.ReadOptions.{backslash_of}
 use Rattle.ini_text.specs.declared.option.ParseOption.{ParseOption}
 use Rattle.ini_text.proofs.LawLemmas.OneAheadLemmas.{EndedLine-before}
 use Rattle.ini_text.proofs.PlainLemmas.PlainPairLemmas.{inline_blanks, line_end_no_mark}
@@ -20,14 +22,14 @@ use Rattle.ini.specs.Texts.{Text}
 use Rattle.ini_edit.specs.Endings.{Ending}
 use Rattle.ini_edit.specs.SourceLines.{is_blank_or_line_end}
 use Rattle.ini_edit.specs.Places.{Follows}
-use Rattle.ini_edit.specs.SourceLines.{blank_lines_from, is_line_from}
+use Rattle.ini_edit.specs.SourceLines.{blank_lines_from, is_line, is_line_from}
 use Rattle.ini_edit.proofs.AheadLemmas.{no_line_feed}
 use Rattle.ini_edit.proofs.BlankLineLemmas.{Passes, not_all, passes_both}
 use Rattle.ini_edit.proofs.BlankLineLemmas.{passes_quoted, passes_row, passes_white, past_blank}
 use Rattle.ini_edit.proofs.BlankLineLemmas.{past_last, past_line}
 
 -- a line begins with no line end
-row_head : {e : Bool} {s v : Text} (c : ℕ) (l : Text) → Row e plain_ends s v → s ≡ c ∷ l
+row_head : {e : Backslash} {s v : Text} (c : ℕ) (l : Text) → Row e plain_ends s v → s ≡ c ∷ l
     → is_line_end c ≡ false
 row_head c l Row.none is = absurd (let no : [] ≡ c ∷ l = is in cc)
 row_head c l (Row.raw {c = d} {s = s} n inside rest) is =
@@ -38,7 +40,7 @@ row_head c l (Row.raw {c = d} {s = s} n inside rest) is =
     at true y h = h
     at false true h = h
     at false false h = h
-row_head c l (Row.escape {p = p} {s = s} k rest) is = at k is
+row_head c l (Row.escape {p = p} {s = s} special k rest) is = at k is
   where
     slash : (d : ℕ) (m : Text) → d ∷ m ≡ c ∷ l → d ≡ backslash → is_line_end c ≡ false
     slash d m same h =
@@ -52,12 +54,12 @@ row_head c l (Row.escape {p = p} {s = s} k rest) is = at k is
     at (EscapeSequence.itself on n m k) same = slash backslash _ same refl
     at (EscapeSequence.kept off n) same = slash backslash _ same refl
 
-string_head : {e : Bool} {s r v : Text} (c : ℕ) (l : Text) → Str e plain_ends s r v → s ≡ c ∷ l
+string_head : {e : Backslash} {s r v : Text} (c : ℕ) (l : Text) → Str e plain_ends s r v → s ≡ c ∷ l
     → is_line_end c ≡ false
 string_head c l (Str.closed row h) is = row_head c l row is
-string_head c l (Str.lone {s = s} row h) is = at s row is
+string_head c l (Str.lone {s = s} special row h) is = at s row is
   where
-    at : {e : Bool} {v : Text} (s : Text) → Row e plain_ends s v → s ++ backslash ∷ [] ≡ c ∷ l
+    at : {e : Backslash} {v : Text} (s : Text) → Row e plain_ends s v → s ++ backslash ∷ [] ≡ c ∷ l
         → is_line_end c ≡ false
     at [] row same =
         let one : backslash ≡ c = cc in
@@ -67,10 +69,10 @@ string_head c l (Str.lone {s = s} row h) is = at s row is
         subst (λ z. is_line_end z ≡ false) one (row_head d s row refl)
 
 -- nothing gives nothing
-row_nothing : {e : Bool} {s v : Text} → Row e plain_ends s v → s ≡ [] → v ≡ []
+row_nothing : {e : Backslash} {s v : Text} → Row e plain_ends s v → s ≡ [] → v ≡ []
 row_nothing Row.none is = refl
 row_nothing (Row.raw {c = c} {s = s} n inside rest) is = absurd (let no : c ∷ s ≡ [] = is in cc)
-row_nothing (Row.escape {s = s} k rest) is = absurd (at k is)
+row_nothing (Row.escape {s = s} special k rest) is = absurd (at k is)
   where
     at : {e : Bool} {p w : Text} → EscapeSequence e p w → p ++ s ≡ [] → ⊥
     at EscapeSequence.folded same = cc
@@ -109,27 +111,30 @@ module _ {o : ParseOption} where
   pub line_nothing : {s r u : Text} → Line o false s r u → s ≡ [] → u ≡ []
   line_nothing (Line.line {p = p} quoted plain str) is = at quoted str is
     where
-      of_string : {e : Bool} {s r v : Text} (some : Bool) → Str e plain_ends s r v → s ≡ []
+      of_string : {e : Backslash} {s r v : Text} (some : Bool) → Str e plain_ends s r v → s ≡ []
           → [] ++ plain_value false some v ≡ []
       of_string some (Str.closed row h) same = ap (λ v. plain_value false some v) (row_nothing row same)
-      of_string some (Str.lone {s = s} row h) same = absurd (at s same)
+      of_string some (Str.lone {s = s} special row h) same = absurd (at s same)
         where
           at : (s : Text) → s ++ backslash ∷ [] ≡ [] → ⊥
           at [] same = cc
           at (c ∷ s) same = cc
 
-      at : {q w v r : Text} {some : Bool} → Quoted o q w some → Str o.enabled_escape plain_ends p r v
+      at : {q w v r : Text} {some : Bool} → Quoted o q w some → Str (backslash_of o) plain_ends p r v
           → q ++ p ≡ [] → w ++ plain_value false some v ≡ []
       at Quoted.none str same = of_string false str same
       at (Quoted.part {m = m} {s = s} on mark _ rest) str same = absurd (cc)
 
-  pub line_inside : {first : Bool} {l v : Text} → Line o first l [] v → is_line_from Ending.inside l ≡ false
+  pub line_inside : {first : Bool} {l v : Text} → Line o first l [] v
+      → is_line_from o Ending.inside l ≡ false
   line_inside (Line.line {q} {p = p} quoted plain (Str.closed row h)) =
-      let all : Passes (q ++ p) [] = passes_both (passes_quoted quoted) (passes_row row) in
-      ap (is_line_from Ending.inside) (sym (append-nil (q ++ p))) ∙ all.line
-  line_inside (Line.line {q} quoted plain (Str.lone {s = s} row h)) =
-      let all : Passes (q ++ s) (backslash ∷ []) = passes_both (passes_quoted quoted) (passes_row row) in
-      ap (is_line_from Ending.inside) (sym (append_assoc q s (backslash ∷ []))) ∙ all.line
+      let all : Passes o (q ++ p) [] = passes_both o (passes_quoted quoted) (passes_row o row) in
+      ap (is_line_from o Ending.inside) (sym (append-nil (q ++ p))) ∙ all.line
+  line_inside (Line.line {q} quoted plain (Str.lone {s = s} special row h)) =
+      let all : Passes o (q ++ s) (backslash ∷ []) =
+      passes_both o (passes_quoted quoted) (passes_row o row) in
+      ap (is_line_from o Ending.inside) (sym (append_assoc q s (backslash ∷ []))) ∙ all.line
+      ∙ ap is_line (cond-true (is_special (backslash_of o)) Ending.escape Ending.inside special)
 
   -- after its lead a line that is there begins with neither a blank nor a line end
   pub solid_head : {w r u : Text} (c : ℕ) (l : Text) → Lead w ((c ∷ l) ++ r) → Line o false (c ∷ l) r u
@@ -165,13 +170,13 @@ module _ {o : ParseOption} where
 
 last_no_line : {o : ParseOption} {first : Bool} {v : Text} (c : ℕ) (w l : Text) → is_blank c ≡ true
     → list_all is_inline_white (c ∷ w) ≡ true → Line o first l [] v
-    → is_line_from Ending.line ((c ∷ w) ++ l) ≡ false
-last_no_line c w l some white ln =
-    let rest : Passes (c ∷ w) l = passes_white (c ∷ w) white in
+    → is_line_from o Ending.line ((c ∷ w) ++ l) ≡ false
+last_no_line {o} c w l some white ln =
+    let rest : Passes o (c ∷ w) l = passes_white o (c ∷ w) white in
     from_inside c (w ++ l) some ∙ rest.line ∙ line_inside ln
   where
     from_inside : (c : ℕ) (x : Text) → is_blank c ≡ true
-        → is_line_from Ending.line (c ∷ x) ≡ is_line_from Ending.inside (c ∷ x)
+        → is_line_from o Ending.line (c ∷ x) ≡ is_line_from o Ending.inside (c ∷ x)
     from_inside c x some = refl
 
 -- lines t that give v, without the lines b at their end
@@ -182,13 +187,13 @@ pub record LinesFront (o : ParseOption) (t v b : Text) : Type 0 where
   pub whole : t ≡ front ++ b
   pub is : v ≡ value ++ feeds
   pub all : list_all is_line_feed feeds ≡ true
-  pub ends : is_line_from Ending.line front ≡ true
+  pub ends : is_line_from o Ending.line front ≡ true
   pub are : (y : Text) → Follows o y → MoreLines o front y value
 
 -- lines are cut before those; or there are none, and the last line ends with the text
 pub data LinesCut (o : ParseOption) (t x v b : Text) : Type 0 where
   cut : LinesFront o t v b → LinesCut o t x v b
-  unended : b ≡ [] → x ≡ [] → is_line_from Ending.line t ≡ false → LinesCut o t x v b
+  unended : b ≡ [] → x ≡ [] → is_line_from o Ending.line t ≡ false → LinesCut o t x v b
 
 pub line_end_moved : {o : ParseOption} {e y : Text} (t r b front : Text)
     → o.enabled_indented_mutiline_value ≡ true
@@ -274,13 +279,13 @@ module _ {o : ParseOption} (on : o.enabled_indented_mutiline_value ≡ true) whe
   after_one {w} {l} {t = t} {r} some lead ln end (LinesCut.unended none nothing inside) =
       LinesCut.unended none nothing (past_line w l t r some lead.white ln end Ending.line ∙ inside)
 
-  pub lines_cut : {t x v : Text} → MoreLines o t x v → LinesCut o t x v (blank_lines_from Ending.line t)
+  pub lines_cut : {t x v : Text} → MoreLines o t x v → LinesCut o t x v (blank_lines_from o Ending.line t)
   lines_cut (MoreLines.done n m) = LinesCut.cut (all_cut (MoreLines.done n m) refl)
   lines_cut (MoreLines.empty_lf {t} more) =
-      all_or line_feed t (blank_lines_from Ending.line t) (MoreLines.empty_lf more) (after_feed
+      all_or line_feed t (blank_lines_from o Ending.line t) (MoreLines.empty_lf more) (after_feed
       (lines_cut more))
   lines_cut (MoreLines.empty_cr_lf {t} more) =
-      all_or carriage_return (line_feed ∷ t) (blank_lines_from Ending.line t) (MoreLines.empty_cr_lf more)
+      all_or carriage_return (line_feed ∷ t) (blank_lines_from o Ending.line t) (MoreLines.empty_cr_lf more)
       (after_return_feed (lines_cut more))
   lines_cut {x = x} (MoreLines.continued {w} {l} {e} {t} {r} {u} {v} some lead ln end more) =
       at w some lead.white (MoreLines.continued some lead ln end more)
@@ -288,9 +293,9 @@ module _ {o : ParseOption} (on : o.enabled_indented_mutiline_value ≡ true) whe
     where
       at : (w : Text) → BeginsWith is_blank w → list_all is_inline_white w ≡ true
           → MoreLines o (w ++ (l ++ (e ++ t))) r (line_feed ∷ (u ++ v))
-          → LinesCut o (w ++ (l ++ (e ++ t))) r (line_feed ∷ (u ++ v)) (blank_lines_from Ending.line t)
+          → LinesCut o (w ++ (l ++ (e ++ t))) r (line_feed ∷ (u ++ v)) (blank_lines_from o Ending.line t)
           → LinesCut o (w ++ (l ++ (e ++ t))) r (line_feed ∷ (u ++ v))
-          (blank_lines_from Ending.line (w ++ (l ++ (e ++ t))))
+          (blank_lines_from o Ending.line (w ++ (l ++ (e ++ t))))
       at [] some white whole later = absurd (false≢true (sym some))
       at (c ∷ w) some white whole later =
           all_or c (w ++ (l ++ (e ++ t))) _ whole
@@ -301,7 +306,7 @@ module _ {o : ParseOption} (on : o.enabled_indented_mutiline_value ≡ true) whe
     where
       at : (w : Text) → BeginsWith is_blank w → list_all is_inline_white w ≡ true
           → MoreLines o (w ++ l) [] (line_feed ∷ u)
-          → LinesCut o (w ++ l) [] (line_feed ∷ u) (blank_lines_from Ending.line (w ++ l))
+          → LinesCut o (w ++ l) [] (line_feed ∷ u) (blank_lines_from o Ending.line (w ++ l))
       at [] some white whole = absurd (false≢true (sym some))
       at (c ∷ w) some white whole =
           all_or c (w ++ l) _ whole

@@ -8,6 +8,7 @@ use Rattle.std.proofs.lemmas.Bool.{and_parts, both_ways, false≢true}
 use Rattle.std.proofs.lemmas.List.{append_cancel_left}
 use Rattle.std.proofs.lemmas.List.Folds.{list_all-append}
 use Rattle.std.specs.List.{list_all}
+use Rattle.ini_text.specs.Options.Backslashes.{Backslash}
 use Rattle.ini_text.specs.declared.option.ParseOption.{ParseOption}
 use Rattle.ini_text.specs.declared.error.ParseKind.{ParseKind}
 use Rattle.ini_text.specs.declared.parser.placed.Content.{Content}
@@ -107,16 +108,16 @@ no_escape c s r is apart same =
     absurd (false≢true (sym apart ∙ rw slash refl))
 
 -- a row up to the separator
-row_empty : {e : Bool} {s v rest : Text} (m : ℕ) (r : Text) → Row e key_ends s v
+row_empty : {e : Backslash} {s v rest : Text} (m : ℕ) (r : Text) → Row e key_ends s v
     → s ++ m ∷ r ≡ equals ∷ rest → (s ≡ []) × (v ≡ [])
 row_empty m r Row.none same = (refl, refl)
 row_empty m r (Row.raw {c} n inside row) same =
     let is : c ≡ equals = cc in
     absurd (both_ways (is_endpoint key_ends c) inside (rw is refl))
-row_empty {rest = rest} m r (Row.escape {p = p} {s = s} is row) same =
+row_empty {rest = rest} m r (Row.escape {p = p} {s = s} special is row) same =
     no_escape equals (s ++ m ∷ r) rest is refl (sym (append_assoc p s (m ∷ r)) ∙ same)
 
-row_key : {e : Bool} {s v r rest : Text} {m : ℕ} → Row e key_ends s v → is_endpoint key_ends m ≡ true
+row_key : {e : Backslash} {s v r rest : Text} {m : ℕ} → Row e key_ends s v → is_endpoint key_ends m ≡ true
     → s ++ m ∷ r ≡ tried_key ++ equals ∷ rest → (s ≡ tried_key) × (v ≡ tried_key) × (m ∷ r ≡ equals ∷ rest)
 row_key {m = m} Row.none ends same =
     let is : m ≡ 107 = cc in
@@ -129,7 +130,7 @@ row_key {r = r} {rest} {m} (Row.raw {c} {s} {v} n inside row) ends same =
       ap (λ z. c ∷ z) x.1 ∙ ap (λ z. z ∷ []) is,
       ap (λ z. z ++ m ∷ r) (sym x.0) ∙ more,
     )
-row_key {r = r} {rest} {m} (Row.escape {p = p} {s = s} is row) ends same =
+row_key {r = r} {rest} {m} (Row.escape {p = p} {s = s} special is row) ends same =
     no_escape 107 (s ++ m ∷ r) (equals ∷ rest) is refl (sym (append_assoc p s (m ∷ r)) ∙ same)
 
 blank_apart : {X : Type 0} (w y rest : Text) → BeginsWith is_blank w → w ++ y ≡ tried_key ++ equals ∷ rest → X

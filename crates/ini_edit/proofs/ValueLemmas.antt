@@ -154,4 +154,4 @@ module _ {o : ParseOption} (w pad : List ℕ) (white : list_all is_inline_white 
 pub line_closes : {o : ParseOption} {first : Bool} {l r v : List ℕ} → Line o first l r v
     → Closes plain_ends r
 line_closes (Line.line quoted plain (Str.closed row h)) = h
-line_closes (Line.line quoted plain (Str.lone row h)) = refl
+line_closes (Line.line quoted plain (Str.lone special row h)) = refl

@@ -1,14 +1,15 @@
 -- The test of a raw value holds exactly where a value is raw; which values are raw, and which aren't.
 use Rattle.std.proofs.Common.{◌≡◌, ◌≢◌, ℕ, Bool, true, false, not, ◌||◌, List, [], ◌∷◌, refl, sym}
 use Rattle.std.specs.Prelude.{codes}
-use Rattle.std.proofs.lemmas.Bool.{false≢true, true≢false}
+use Rattle.std.proofs.lemmas.Bool.{cond-true, false≢true, true≢false}
 use Rattle.std.proofs.lemmas.Bool.Decides.{Decides-and, Decides-like}
 use Rattle.std.specs.Bool.{Decides}
 use Rattle.std.specs.Cmp.Lexicographic.{bytes_decides}
 use Rattle.ini_text.specs.Grammar.CharacterKinds.{is_quote_mark, BeginsWithNo}
 use Rattle.ini_text.specs.Grammar.WhiteSpace.{trimmed}
 use Rattle.ini_text.specs.Inside.PlainTests.{begins, escapes_nothing}
-use Rattle.ini_text.specs.Options.ReadOptions.{without_escapes}
+use Rattle.ini_text.specs.Options.Backslashes.{is_special}
+use Rattle.ini_text.specs.Options.ReadOptions.{backslash_of, without_escapes}
 use Rattle.ini_text.specs.declared.option.ParseOption.{ParseOption}
 use Rattle.ini_text.specs.declared.write.policy.EscapePolicy.{EscapePolicy}
 use Rattle.ini_text.specs.declared.write.policy.EscapePolicy.TheVariants.{Nothing, Basics, BasicsUnicode}
@@ -69,7 +70,11 @@ raw_decides o policy value =
     (Decides-and _ _ (nothing_decides policy)
     (Decides-and _ _ (bytes_decides (trimmed value) value)
     (Decides-and _ _ (no_mark_decides o.enabled_quote value)
-    (Decides-and _ _ (itself _) (closed_decides (ending value)))))))
+    (Decides-and _ _ (itself _) (closed_decides (ending o value)))))))
+
+-- no escapes, and no backslash that takes anything
+abbrev with_raw_backslashes : ParseOption
+with_raw_backslashes = record without_escapes { enabled_raw_backslash = true }
 
 -- a folder of Windows
 folder : IsRawValue without_escapes Nothing (codes "C:\\new")
@@ -80,11 +85,21 @@ two_at_the_end : IsRawValue without_escapes Nothing (codes "C:\\new\\\\")
 two_at_the_end = (raw_decides without_escapes Nothing (codes "C:\\new\\\\")).0 refl
 
 -- one would take the line end, and so would the last of three
-one_at_the_end : (o : ParseOption) (policy : EscapePolicy) → ¬ IsRawValue o policy (codes "C:\\new\\")
-one_at_the_end o policy r = r.no_lone_backslash refl
+one_at_the_end : (o : ParseOption) (policy : EscapePolicy) → is_special (backslash_of o) ≡ true
+    → ¬ IsRawValue o policy (codes "C:\\new\\")
+one_at_the_end o policy special r =
+    r.no_lone_backslash
+    (rw special (cond-true (is_special (backslash_of o)) Ending.escape Ending.inside special))
 
-three_at_the_end : (o : ParseOption) (policy : EscapePolicy) → ¬ IsRawValue o policy (codes "C:\\\\\\")
-three_at_the_end o policy r = r.no_lone_backslash refl
+three_at_the_end : (o : ParseOption) (policy : EscapePolicy) → is_special (backslash_of o) ≡ true
+    → ¬ IsRawValue o policy (codes "C:\\\\\\")
+three_at_the_end o policy special r =
+    r.no_lone_backslash
+    (rw special (cond-true (is_special (backslash_of o)) Ending.escape Ending.inside special))
+
+-- a backslash that is a character like any other takes nothing
+raw_at_the_end : IsRawValue with_raw_backslashes Nothing (codes "C:\\new\\")
+raw_at_the_end = (raw_decides with_raw_backslashes Nothing (codes "C:\\new\\")).0 refl
 
 -- a line feed would end the value, and so would a carriage return
 two_lines : (o : ParseOption) (policy : EscapePolicy) → ¬ IsRawValue o policy (codes "a\\\nb")

@@ -16,9 +16,12 @@ use Rattle.ini_text.specs.Grammar.EscapeSequences.{EscapeSequence}
 use Rattle.ini_text.specs.Grammar.Strings.{Ends, Row, is_endpoint, plain_ends, quote_ends}
 use Rattle.ini_text.specs.Grammar.WhiteSpace.{trimmed}
 use Rattle.ini_text.specs.Laws.Plain.{IsPlainValue}
+use Rattle.ini_text.specs.Options.Backslashes.{begins_escape, is_special, reads_escapes}
+use Rattle.ini_text.specs.Options.ReadOptions.{backslash_of}
 use Rattle.ini_text.proofs.PlainLemmas.EscapedTextLemmas.{AllRead, NoRawEnd, all_read, row_escaped}
 use Rattle.ini_text.proofs.PlainLemmas.PlainLineLemmas.{row_of}
 use Rattle.ini_text.proofs.PlainLemmas.PlainPairLemmas.{value_no_end}
+use Rattle.ini_edit.proofs.EndingLemmas.{off_reads}
 use Rattle.ini_edit.specs.Endings.{Ending, ending, ending_from, next_ending}
 use Rattle.ini_edit.specs.Quotes.{has_quote_mark}
 use Rattle.ini_edit.specs.Writable.{IsRawValue, IsWritableValue}
@@ -28,10 +31,10 @@ use Rattle.ini_edit.specs.Writable.{IsRawValue, IsWritableValue}
 pub record IsReadAsWritten (o : ParseOption) (policy : EscapePolicy) (value : List ℕ) : Type 0 where
   pub is_trimmed : trimmed value ≡ value
   pub no_quote_mark : o.enabled_quote ≡ true → BeginsWithNo is_quote_mark value
-  pub row : {t v : List ℕ} → Row o.enabled_escape plain_ends t v
-      → Row o.enabled_escape plain_ends (escaped policy value ++ t) (value ++ v)
+  pub row : {t v : List ℕ} → Row (backslash_of o) plain_ends t v
+      → Row (backslash_of o) plain_ends (escaped policy value ++ t) (value ++ v)
   pub quoted : (m : ℕ) → has_quote_mark value m ≡ false
-      → Row o.enabled_escape (quote_ends m) (escaped policy value) value
+      → Row (backslash_of o) (quote_ends m) (escaped policy value) value
 
 -- a value without the mark, as it is written, up to that
 no_raw_mark : (policy : EscapePolicy) (value : List ℕ) (m : ℕ) → has_quote_mark value m ≡ false
@@ -45,7 +48,7 @@ no_raw_mark policy (c ∷ cs) m h =
 plain_written : {o : ParseOption} {policy : EscapePolicy} {value : List ℕ} → IsPlainValue o policy value
     → IsReadAsWritten o policy value
 plain_written {o} {policy} {value} plain =
-    let read : AllRead o.enabled_escape policy value = all_read {o = o} policy value plain.read_back in
+    let read : AllRead (backslash_of o) policy value = all_read {o = o} policy value plain.read_back in
     record {
       is_trimmed = plain.is_trimmed;
       no_quote_mark = plain.no_quote_mark;
@@ -58,16 +61,17 @@ abbrev NoEnd : Ends → List ℕ → Type 0
 NoEnd ends text = list_all (λ c. not (is_endpoint ends c)) text ≡ true
 
 -- a text of one line, in which no backslash at the end takes what follows, is a row that gives itself
-module _ {ends : Ends} {t v : List ℕ} (row : Row false ends t v) where
+module _ (o : ParseOption) {ends : Ends} {t v : List ℕ} (unread : reads_escapes (backslash_of o) ≡ false)
+    (row : Row (backslash_of o) ends t v) where
   raw_row : (value : List ℕ) → list_all (λ c. not (is_line_end c)) value ≡ true → NoEnd ends value
-      → ending_from Ending.inside value ≢ Ending.escape
-      → Row false ends (escaped Nothing value ++ t) (value ++ v)
+      → ending_from o Ending.inside value ≢ Ending.escape
+      → Row (backslash_of o) ends (escaped Nothing value ++ t) (value ++ v)
   raw_row [] lines apart closed = row
   raw_row (c ∷ []) lines apart closed =
       let end = (and_parts (not (is_endpoint ends c)) true apart).0 in
-      elim (cases_Bool (eqb c backslash)) [
-        | inl q ↦ absurd (closed (cond-true (eqb c backslash) Ending.escape _ q))
-        | inr q ↦ Row.raw (eqb-false c backslash q) (not-true _ end) row
+      elim (cases_Bool (begins_escape (backslash_of o) c)) [
+        | inl q ↦ absurd (closed (cond-true (begins_escape (backslash_of o) c) Ending.escape _ q))
+        | inr q ↦ Row.raw q (not-true _ end) row
       ]
   raw_row (c ∷ d ∷ ds) lines apart closed =
       let here = and_parts (not (is_line_end c)) (list_all (λ x. not (is_line_end x)) (d ∷ ds)) lines in
@@ -76,22 +80,24 @@ module _ {ends : Ends} {t v : List ℕ} (row : Row false ends t v) where
       (list_all (λ x. not (is_endpoint ends x)) (d ∷ ds)) apart in
       let ends_next = and_parts (not (is_endpoint ends d))
       (list_all (λ x. not (is_endpoint ends x)) ds) ends_here.1 in
-      elim (cases_Bool (eqb c backslash)) [
+      elim (cases_Bool (begins_escape (backslash_of o) c)) [
         | inl q ↦
-            let following : ending_from Ending.inside (c ∷ d ∷ ds) ≡ ending_from Ending.inside ds =
-            ap (λ e. ending_from (next_ending e d) ds) (cond-true (eqb c backslash) Ending.escape _ q) in
+            let parts = and_parts (eqb c backslash) (is_special (backslash_of o)) q in
+            let following : ending_from o Ending.inside (c ∷ d ∷ ds) ≡ ending_from o Ending.inside ds =
+            ap (λ e. ending_from o (next_ending o e d) ds)
+            (cond-true (begins_escape (backslash_of o) c) Ending.escape _ q) in
             subst
-            (λ x. Row false ends (x ∷ (d ∷ (escaped Nothing ds ++ t))) (x ∷ (d ∷ (ds ++ v))))
-            (sym (eqb-true c backslash q))
-            (Row.escape (EscapeSequence.kept refl (eqb-false d line_feed (no_line_feed d next.0)))
+            (λ x. Row (backslash_of o) ends (x ∷ (d ∷ (escaped Nothing ds ++ t))) (x ∷ (d ∷ (ds ++ v))))
+            (sym (eqb-true c backslash parts.0))
+            (Row.escape parts.1 (EscapeSequence.kept unread (eqb-false d line_feed (no_line_feed d next.0)))
             (raw_row ds next.1 ends_next.1 (λ e. closed (following ∙ e))))
         | inr q ↦
-            let inside : next_ending Ending.inside c ≡ Ending.inside =
-            cond-false (eqb c backslash) Ending.escape _ q
+            let inside : next_ending o Ending.inside c ≡ Ending.inside =
+            cond-false (begins_escape (backslash_of o) c) Ending.escape _ q
             ∙ cond-false (eqb c line_feed) Ending.line Ending.inside (no_line_feed c here.0) in
-            let following : ending_from Ending.inside (c ∷ d ∷ ds) ≡ ending_from Ending.inside (d ∷ ds) =
-            ap (λ e. ending_from e (d ∷ ds)) inside in
-            Row.raw (eqb-false c backslash q) (not-true _ ends_here.0)
+            let following : ending_from o Ending.inside (c ∷ d ∷ ds) ≡ ending_from o Ending.inside (d ∷ ds) =
+            ap (λ e. ending_from o e (d ∷ ds)) inside in
+            Row.raw q (not-true _ ends_here.0)
             (raw_row (d ∷ ds) here.1 ends_here.1 (λ e. closed (following ∙ e)))
       ]
     where
@@ -99,9 +105,10 @@ module _ {ends : Ends} {t v : List ℕ} (row : Row false ends t v) where
       no_line_feed c h = (or_parts (eqb c 0x0A) (eqb c 0x0D) (not-true (is_line_end c) h)).0
 
 -- at a text's front a line and the middle of one go on alike
-not_taken : (value : List ℕ) → ending value ≢ Ending.escape → ending_from Ending.inside value ≢ Ending.escape
-not_taken [] closed = λ e. cc
-not_taken (c ∷ cs) closed = closed
+not_taken : (o : ParseOption) (value : List ℕ) → ending o value ≢ Ending.escape
+    → ending_from o Ending.inside value ≢ Ending.escape
+not_taken o [] closed = λ e. cc
+not_taken o (c ∷ cs) closed = closed
 
 line_apart : (value : List ℕ) → list_all (λ c. not (is_line_end c)) value ≡ true → NoEnd plain_ends value
 line_apart [] h = refl
@@ -125,19 +132,19 @@ raw_written {o} {policy} {value} raw = record {
   is_trimmed = raw.is_trimmed;
   no_quote_mark = raw.no_quote_mark;
   row = λ {t} {v} row.
-      subst (λ p. Row o.enabled_escape plain_ends (escaped p value ++ t) (value ++ v)) (sym raw.unwritten)
-      (subst (λ x. Row x plain_ends (escaped Nothing value ++ t) (value ++ v)) (sym raw.unread)
-      (raw_row (subst (λ x. Row x plain_ends t v) raw.unread row) value raw.one_line
-      (line_apart value raw.one_line) (not_taken value raw.no_lone_backslash)));
+      subst (λ p. Row (backslash_of o) plain_ends (escaped p value ++ t) (value ++ v)) (sym raw.unwritten)
+      (raw_row o (off_reads o raw.unread) row value raw.one_line
+      (line_apart value raw.one_line) (not_taken o value raw.no_lone_backslash));
   quoted = λ m none.
-      let row : Row false (quote_ends m) (escaped Nothing value ++ []) (value ++ []) =
-      raw_row Row.none value raw.one_line (mark_apart m value none)
-      (not_taken value raw.no_lone_backslash) in
-      let alone : Row false (quote_ends m) (escaped Nothing value) value =
-      subst (λ x. Row false (quote_ends m) x value) (append-nil (escaped Nothing value))
-      (subst (λ x. Row false (quote_ends m) (escaped Nothing value ++ []) x) (append-nil value) row) in
-      subst (λ p. Row o.enabled_escape (quote_ends m) (escaped p value) value) (sym raw.unwritten)
-      (subst (λ x. Row x (quote_ends m) (escaped Nothing value) value) (sym raw.unread) alone);
+      let row : Row (backslash_of o) (quote_ends m) (escaped Nothing value ++ []) (value ++ []) =
+      raw_row o (off_reads o raw.unread) Row.none value raw.one_line (mark_apart m value none)
+      (not_taken o value raw.no_lone_backslash) in
+      let alone : Row (backslash_of o) (quote_ends m) (escaped Nothing value) value =
+      subst (λ x. Row (backslash_of o) (quote_ends m) x value) (append-nil (escaped Nothing value))
+      (subst (λ x. Row (backslash_of o) (quote_ends m) (escaped Nothing value ++ []) x)
+      (append-nil value) row) in
+      subst (λ p. Row (backslash_of o) (quote_ends m) (escaped p value) value) (sym raw.unwritten)
+      alone;
 }
 
 pub read_as_written : {o : ParseOption} {policy : EscapePolicy} {value : List ℕ}

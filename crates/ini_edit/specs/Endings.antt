@@ -4,6 +4,8 @@ use Rattle.std.specs.List.{list_all}
 use Rattle.ini_text.specs.Grammar.CharacterKinds.{backslash, line_feed, space, is_blank}
 use Rattle.ini_text.specs.Grammar.CharacterKinds.{BeginsWith}
 use Rattle.ini_text.specs.Grammar.Keys.{begins_indented_key}
+use Rattle.ini_text.specs.Options.Backslashes.{begins_escape}
+use Rattle.ini_text.specs.Options.ReadOptions.{backslash_of}
 use Rattle.ini_text.specs.declared.option.ParseOption.{ParseOption}
 
 -- a text's end: within a line; after a backslash that takes what follows it; or after an LF that no
@@ -13,21 +15,23 @@ pub data Ending : Type 0 where
   escape : Ending
   line : Ending
 
--- the end one character on
-abbrev pub next_ending : Ending → ℕ → Ending
-next_ending Ending.escape c = Ending.inside
-next_ending Ending.inside c =
-    if c == backslash then Ending.escape else (if c == line_feed then Ending.line else Ending.inside)
-next_ending Ending.line c =
-    if c == backslash then Ending.escape else (if c == line_feed then Ending.line else Ending.inside)
+-- the end one character on; a backslash that is a character like any other takes nothing
+abbrev pub next_ending : ParseOption → Ending → ℕ → Ending
+next_ending o Ending.escape c = Ending.inside
+next_ending o Ending.inside c =
+    if begins_escape (backslash_of o) c then Ending.escape
+    else (if c == line_feed then Ending.line else Ending.inside)
+next_ending o Ending.line c =
+    if begins_escape (backslash_of o) c then Ending.escape
+    else (if c == line_feed then Ending.line else Ending.inside)
 
-abbrev pub ending_from : Ending → List ℕ → Ending
-ending_from e [] = e
-ending_from e (c ∷ cs) = ending_from (next_ending e c) cs
+abbrev pub ending_from : ParseOption → Ending → List ℕ → Ending
+ending_from o e [] = e
+ending_from o e (c ∷ cs) = ending_from o (next_ending o e c) cs
 
 -- the end of a whole text, of which the first line starts at its front
-abbrev pub ending : List ℕ → Ending
-ending text = ending_from Ending.line text
+abbrev pub ending : ParseOption → List ℕ → Ending
+ending o text = ending_from o Ending.line text
 
 -- What goes before a line end after a text that ends so: a backslash is made one that stands for itself.
 -- With escapes off it takes a space, which no value keeps.

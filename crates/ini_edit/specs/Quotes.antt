@@ -4,6 +4,7 @@ use Rattle.std.specs.List.{list_any}
 use Rattle.ini_text.specs.Grammar.CharacterKinds.{is_quote_mark}
 use Rattle.ini_text.specs.Grammar.Strings.{Str, quote_ends}
 use Rattle.ini_text.specs.Escaping.EscapedTexts.{escaped}
+use Rattle.ini_text.specs.Options.ReadOptions.{backslash_of}
 use Rattle.ini_text.specs.declared.option.ParseOption.{ParseOption}
 use Rattle.ini_text.specs.declared.write.policy.EscapePolicy.{EscapePolicy}
 use Rattle.ini.specs.Texts.{Text}
@@ -29,7 +30,7 @@ pub record StandsInQuotes (o : ParseOption) (raw_value : Text) (m : ℕ) : Type 
   pub mark : is_quote_mark m ≡ true
   pub content : Text
   pub given : Text
-  pub string : Str o.enabled_escape (quote_ends m) content (m ∷ []) given
+  pub string : Str (backslash_of o) (quote_ends m) content (m ∷ []) given
   pub whole : raw_value ≡ m ∷ (content ++ m ∷ [])
 
 -- The quote in which a value is written in the place of one whose source is `own`: that in which the old one

@@ -30,7 +30,7 @@ module _ (o : ParseOption) where
   abbrev pub closed_value : PairPiece → Text
   closed_value p =
       if is_empty p.stretches.trailing_lines && (is_empty p.after
-      && is_escape (ending p.stretches.raw_value))
+      && is_escape (ending o p.stretches.raw_value))
       then p.stretches.raw_value ++ (if o.enabled_escape then backslash else space) ∷ []
       else p.stretches.raw_value
 

@@ -21,7 +21,7 @@ module _ (o : ParseOption) where
   -- that, which where values are in one line are the whole gap; and the gap.
   abbrev pub lines_after : PairPiece → Text
   lines_after p =
-      if o.enabled_indented_mutiline_value then blank_lines_at_end p.stretches.trailing_lines
+      if o.enabled_indented_mutiline_value then blank_lines_at_end o p.stretches.trailing_lines
       else after_line_end p.after
 
   abbrev pub gap_after : PairPiece → Text
@@ -34,7 +34,7 @@ module _ (o : ParseOption) where
 
   abbrev pub line_end_after : PairPiece → Text
   line_end_after p =
-      if o.enabled_indented_mutiline_value && not (ends_in_line (own_lines p)) then []
+      if o.enabled_indented_mutiline_value && not (ends_in_line o (own_lines p)) then []
       else line_end_at_end (own_lines p)
 
   -- Lines and a gap that stood elsewhere, after a pair: a multiline value takes lines that follow it.

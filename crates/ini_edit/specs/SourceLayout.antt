@@ -3,10 +3,12 @@
 use Rattle.std.specs.Prelude.{◌==◌, ◌&&◌, ◌||◌, ◌-◌, not, if◌then◌else◌, ℕ, zero, suc, max, nat_le}
 use Rattle.std.specs.Prelude.{Bool, true, false, List, [], ◌∷◌, ◌++◌, Option, None, Some, is_none, length}
 use Rattle.std.specs.Prelude.{replicate}
-use Rattle.ini_text.specs.Grammar.CharacterKinds.{backslash, carriage_return, line_feed, open_bracket, space}
+use Rattle.ini_text.specs.Grammar.CharacterKinds.{carriage_return, line_feed, open_bracket, space}
 use Rattle.ini_text.specs.Grammar.CharacterKinds.{is_blank, is_comment_mark, is_line_feed}
 use Rattle.ini_text.specs.Grammar.Positions.{last_or}
 use Rattle.ini_text.specs.Inside.PlainTests.{begins}
+use Rattle.ini_text.specs.Options.Backslashes.{begins_escape}
+use Rattle.ini_text.specs.Options.ReadOptions.{backslash_of}
 use Rattle.ini_text.specs.Options.WriteOptions.{line_end}
 use Rattle.ini_text.specs.Parsing.Fronts.{front_of}
 use Rattle.ini_text.specs.declared.option.ParseOption.{ParseOption}
@@ -61,9 +63,10 @@ abbrev pub one_more : (blank_lines : ℕ) → ℕ → ℕ
 one_more blank_lines n = if nat_le n blank_lines then suc n else n
 
 -- the blanks after a key whose source ends so; a backslash before them would take the first one
-abbrev pub pad_for : Option Style → (key pad : Text) → Text
-pad_for None key pad = pad
-pad_for (Some style) key pad = if last_or space key == backslash then pad else style.pad
+abbrev pub pad_for : ParseOption → Option Style → (key pad : Text) → Text
+pad_for o None key pad = pad
+pad_for o (Some style) key pad =
+    if begins_escape (backslash_of o) (last_or space key) then pad else style.pad
 
 abbrev pub separator_for : Option Style → ℕ → ℕ
 separator_for None separator = separator
@@ -97,8 +100,8 @@ abbrev pub aligned_key : (column : ℕ) → Text → Text
 aligned_key column key = key ++ replicate (column - length key) space
 
 -- a text takes no line end: it is empty, or a backslash would take that
-abbrev pub takes_no_end : Text → Bool
-takes_no_end text = is_empty text || last_or line_feed text == backslash
+abbrev pub takes_no_end : ParseOption → Text → Bool
+takes_no_end o text = is_empty text || begins_escape (backslash_of o) (last_or line_feed text)
 
 module _ (r : Rules) where
   -- The white space before what follows a gap, of so many line ends and then blanks: before a header that
@@ -139,7 +142,7 @@ module _ (r : Rules) where
       let own = after_blanks key in
       let bare = front_of own (blanks_at_end own) in
       indent_for r.indentation starts (front_of key own) own
-      ++ (bare ++ pad_for r.style bare (blanks_at_end own))
+      ++ (bare ++ pad_for r.option r.style bare (blanks_at_end own))
 
   -- a pair up to the end of its value, its separator in this column at least
   abbrev pub laid_pair : (starts : Bool) (column : ℕ) → PairPiece → Text
@@ -195,7 +198,7 @@ module _ (r : Rules) where
 
   -- what ends a text
   abbrev pub end_after : Text → Text
-  end_after text = if takes_no_end text then [] else r.line_end
+  end_after text = if takes_no_end r.option text then [] else r.line_end
 
 -- the text laid out
 abbrev pub laid_text : Layout → Pieces → Text

@@ -8,6 +8,7 @@ use Rattle.std.specs.Option.{option_or}
 use Rattle.ini_text.specs.Grammar.CharacterKinds.{carriage_return, is_blank, is_comment_mark, is_line_end}
 use Rattle.ini_text.specs.Grammar.CharacterKinds.{is_line_feed}
 use Rattle.ini_text.specs.Inside.PlainTests.{begins}
+use Rattle.ini_text.specs.declared.option.ParseOption.{ParseOption}
 use Rattle.ini.specs.Texts.{Text}
 use Rattle.ini_edit.specs.Endings.{Ending, next_ending}
 
@@ -90,11 +91,11 @@ abbrev pub ends_line : ℕ → Text → Bool
 ends_line c cs = is_line_feed c || (c == carriage_return && not (begins is_line_feed cs))
 
 -- how a value's text ends one character on: CR alone ends a line too
-abbrev pub next_line_end : Ending → ℕ → Text → Ending
-next_line_end Ending.escape c cs = Ending.inside
-next_line_end Ending.inside c cs =
-    if ends_line c cs then Ending.line else next_ending Ending.inside c
-next_line_end Ending.line c cs = if ends_line c cs then Ending.line else next_ending Ending.inside c
+abbrev pub next_line_end : ParseOption → Ending → ℕ → Text → Ending
+next_line_end o Ending.escape c cs = Ending.inside
+next_line_end o Ending.inside c cs =
+    if ends_line c cs then Ending.line else next_ending o Ending.inside c
+next_line_end o Ending.line c cs = if ends_line c cs then Ending.line else next_ending o Ending.inside c
 
 abbrev pub is_line : Ending → Bool
 is_line Ending.inside = false
@@ -103,22 +104,22 @@ is_line Ending.line = true
 
 -- Of the lines after a value the blank ones at the end: blanks and line ends alone, from a line's start on.
 -- No backslash takes the line end before them.
-abbrev pub blank_lines_from : Ending → Text → Text
-blank_lines_from e [] = []
-blank_lines_from e (c ∷ cs) =
+abbrev pub blank_lines_from : ParseOption → Ending → Text → Text
+blank_lines_from o e [] = []
+blank_lines_from o e (c ∷ cs) =
     if is_line e && list_all is_blank_or_line_end (c ∷ cs) then c ∷ cs
-    else blank_lines_from (next_line_end e c cs) cs
+    else blank_lines_from o (next_line_end o e c cs) cs
 
-abbrev pub blank_lines_at_end : Text → Text
-blank_lines_at_end text = blank_lines_from Ending.inside text
+abbrev pub blank_lines_at_end : ParseOption → Text → Text
+blank_lines_at_end o text = blank_lines_from o Ending.inside text
 
 -- a line ends where the lines of a value end
-abbrev pub is_line_from : Ending → Text → Bool
-is_line_from e [] = is_line e
-is_line_from e (c ∷ cs) = is_line_from (next_line_end e c cs) cs
+abbrev pub is_line_from : ParseOption → Ending → Text → Bool
+is_line_from o e [] = is_line e
+is_line_from o e (c ∷ cs) = is_line_from o (next_line_end o e c cs) cs
 
-abbrev pub ends_in_line : Text → Bool
-ends_in_line text = is_line_from Ending.inside text
+abbrev pub ends_in_line : ParseOption → Text → Bool
+ends_in_line o text = is_line_from o Ending.inside text
 
 -- The indented key that the text's end cuts short, of gaps and comments: where a line starts, and no comment
 -- goes on, blanks and then what is no line end.

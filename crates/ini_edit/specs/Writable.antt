@@ -23,7 +23,7 @@ pub record IsRawValue (o : ParseOption) (policy : EscapePolicy) (value : Text) :
   -- no character is LF or CR
   pub one_line : list_all (λ c. not (is_line_end c)) value ≡ true
   -- no backslash at its end takes what follows: the number of those at the end is even
-  pub no_lone_backslash : ending value ≢ Ending.escape
+  pub no_lone_backslash : ending o value ≢ Ending.escape
 
 -- a value that, written, is read back: a plain one, or a raw one
 abbrev pub IsWritableValue : ParseOption → EscapePolicy → Text → Type 0

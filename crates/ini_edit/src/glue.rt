@@ -4,7 +4,7 @@ ghost use Rattle.std.specs.Prelude.{◌≡◌, chars};
 ghost use Rattle.ini_edit.specs.Endings.{ending, next_ending};
 ghost use Rattle.ini_edit.specs.Inside.Lines.{ending_of};
 
-use ini_text::split_first;
+use ini_text::{ParseOption, split_first};
 
 // How a text ends: within a line, after a backslash that takes what follows, or after an LF that ends a
 // line.
@@ -16,25 +16,25 @@ pub(crate) enum TextEnd {
 }
 
 /// How a text ends.
-pub(crate) fn text_end(text: &str) -> TextEnd
-    ensures { ending_of result ≡ ending (chars text.now) }
+pub(crate) fn text_end(text: &str, read: ParseOption) -> TextEnd
+    ensures { ending_of result ≡ ending read (chars text.now) }
 {
     let mut end = TextEnd::Line;
     let mut rest = text;
     'characters: while let Some((c, after)) = split_first(rest) {
-        end = next_end(end, c);
+        end = next_end(end, c, read);
         rest = after;
     }
     end
 }
 
-pub(crate) fn next_end(end: TextEnd, c: char) -> TextEnd
-    ensures { ending_of result ≡ next_ending (ending_of end) c }
+pub(crate) fn next_end(end: TextEnd, c: char, read: ParseOption) -> TextEnd
+    ensures { ending_of result ≡ next_ending read (ending_of end) c }
 {
     match end {
         TextEnd::Escape => TextEnd::Inside,
         TextEnd::Inside | TextEnd::Line => {
-            if c == '\\' {
+            if c == '\\' && read.has_special_backslash() {
                 TextEnd::Escape
             } else if c == '\n' {
                 TextEnd::Line

@@ -15,7 +15,7 @@ pub(crate) fn kept_quote(raw_value: &str, value: &str, read: ParseOption) -> &'s
     if !read.enabled_quote {
         return "";
     }
-    let Some(mark) = quote_mark_around(raw_value) else {
+    let Some(mark) = quote_mark_around(raw_value, read) else {
         return "";
     };
     if has_quote_mark(value, mark) {
@@ -25,20 +25,20 @@ pub(crate) fn kept_quote(raw_value: &str, value: &str, read: ParseOption) -> &'s
 }
 
 // The mark between which a text stands.
-fn quote_mark_around(text: &str) -> Option<char>
-    ensures { MatchOption result ((m : ℕ) → ¬ IsBetweenQuoteMarks (chars text.now) m)
-        (IsBetweenQuoteMarks (chars text.now)) }
+fn quote_mark_around(text: &str, read: ParseOption) -> Option<char>
+    ensures { MatchOption result ((m : ℕ) → ¬ IsBetweenQuoteMarks read (chars text.now) m)
+        (IsBetweenQuoteMarks read (chars text.now)) }
 {
     let (mark, following) = split_first(text)?;
-    if is_quote_mark(mark) && ends_at_quote_mark(following, mark) {
+    if is_quote_mark(mark) && ends_at_quote_mark(following, mark, read) {
         return Some(mark);
     }
     None
 }
 
 // Whether the first mark that no backslash takes ends the text.
-fn ends_at_quote_mark(text: &str, mark: char) -> bool
-    ensures { (result ≡ true) ↔ (after_quote_mark mark false (chars text.now) ≡ Some []) }
+fn ends_at_quote_mark(text: &str, mark: char, read: ParseOption) -> bool
+    ensures { (result ≡ true) ↔ (after_quote_mark read mark false (chars text.now) ≡ Some []) }
 {
     let mut rest = text;
     let mut is_taken = false;
@@ -46,7 +46,7 @@ fn ends_at_quote_mark(text: &str, mark: char) -> bool
         if c == mark && !is_taken {
             return split_first(after).is_none();
         }
-        is_taken = c == '\\' && !is_taken;
+        is_taken = c == '\\' && read.has_special_backslash() && !is_taken;
         rest = after;
     }
     false

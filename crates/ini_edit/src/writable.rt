@@ -12,7 +12,7 @@ use ini_text::{EscapePolicy, ParseOption, is_plain_value, split_first};
 
 /// Whether a value can be written so that it is read back: it is plain; or escapes are neither read nor
 /// written, and it is trimmed, without a quote's mark at its front where quotes are read, without LF and CR,
-/// and with an even number of backslashes at its end.
+/// and with an even number of backslashes at its end, unless these are characters like any other.
 pub fn is_writable_value(value: &str, policy: EscapePolicy, read: ParseOption) -> bool
     ensures { IsTrue result ↔ IsWritableValue read policy (chars value.now) }
 {
@@ -27,7 +27,7 @@ fn is_raw_value(value: &str, policy: EscapePolicy, read: ParseOption) -> bool
         && is_trimmed(value)
         && (!read.enabled_quote || !begins_with_quote_mark(value))
         && is_one_line(value)
-        && !ends_in_lone_backslash(value)
+        && !ends_in_lone_backslash(value, read)
 }
 
 fn escapes_nothing(policy: EscapePolicy) -> bool
@@ -58,8 +58,8 @@ fn is_one_line(value: &str) -> bool
 }
 
 // Whether a backslash at the end takes what follows it.
-fn ends_in_lone_backslash(value: &str) -> bool
-    ensures { result ≡ not (is_closed (ending (chars value.now))) }
+fn ends_in_lone_backslash(value: &str, read: ParseOption) -> bool
+    ensures { result ≡ not (is_closed (ending read (chars value.now))) }
 {
-    matches!(text_end(value), TextEnd::Escape)
+    matches!(text_end(value, read), TextEnd::Escape)
 }

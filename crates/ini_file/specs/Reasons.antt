@@ -41,6 +41,7 @@ help_words helps.Reserved = codes "--policy Reserved"
 help_words helps.NoQuote = codes "--noquote"
 help_words helps.Brackets = codes "--brackets"
 help_words helps.Indent = codes "--indent"
+help_words helps.RawBackslash = codes "--raw-backslash"
 
 -- the policy with such an option, and how is read
 abbrev pub policy_with : Help → EscapePolicy → EscapePolicy
@@ -54,6 +55,7 @@ abbrev pub reading_with : Help → ParseOption → ParseOption
 reading_with helps.NoQuote o = record o { enabled_quote = false }
 reading_with helps.Brackets o = record o { enabled_brackets_in_section_names = true }
 reading_with helps.Indent o = record o { enabled_preserve_key_leading_whitespace = true }
+reading_with helps.RawBackslash o = record o { enabled_raw_backslash = true }
 reading_with _ o = o
 
 -- why characters aren't read back

@@ -131,4 +131,4 @@ outcome_of (file_refusal.Coding refused) = Coding refused
 abbrev pub usage_line : List ℕ
 usage_line =
     codes "usage: ini_file [--like NAME] [--noescape] [--noquote] [--multiline] [--indent] [--brackets] "
-    ++ codes "[--crlf] [--policy NAME] COMMAND [CHOICE].. [--] FILE [ARGUMENT]..\n"
+    ++ codes "[--raw-backslash] [--crlf] [--policy NAME] COMMAND [CHOICE].. [--] FILE [ARGUMENT]..\n"

@@ -14,7 +14,8 @@ abbrev pub kind_of : Word → Option Kind
 kind_of name =
     if bytes_eq name (codes "--noescape") || bytes_eq name (codes "--noquote")
     || bytes_eq name (codes "--multiline") || bytes_eq name (codes "--indent")
-    || bytes_eq name (codes "--brackets") || bytes_eq name (codes "--crlf") then Some Reading
+    || bytes_eq name (codes "--brackets") || bytes_eq name (codes "--raw-backslash")
+    || bytes_eq name (codes "--crlf") then Some Reading
     else if bytes_eq name (codes "--policy") then Some ReadingText
     else if bytes_eq name (codes "--existing") || bytes_eq name (codes "--all")
     || bytes_eq name (codes "--last") || bytes_eq name (codes "--origin")

@@ -111,6 +111,7 @@ fn read_alike(one: ParseOption, other: ParseOption) -> bool {
         && one.enabled_preserve_key_leading_whitespace
             == other.enabled_preserve_key_leading_whitespace
         && one.enabled_brackets_in_section_names == other.enabled_brackets_in_section_names
+        && one.enabled_raw_backslash == other.enabled_raw_backslash
 }
 
 // Tells of a file why its dialect isn't known, and answers the status.

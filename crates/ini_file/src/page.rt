@@ -93,6 +93,8 @@ Options, of reading and of writing:
   --multiline    a value goes on over indented lines
   --indent       white space before a key belongs to it
   --brackets     brackets may stand in names of sections
+  --raw-backslash
+                 with --noescape a backslash is a character like any other
   --crlf         written lines end with CR LF
   --policy NAME  which characters are written as escapes
   --encoding NAME

@@ -57,6 +57,8 @@ pub enum Help {
     Brackets,
     /// White space before a key is read.
     Indent,
+    /// A backslash is read as a character like any other.
+    RawBackslash,
 }
 
 impl Reason {
@@ -101,6 +103,7 @@ impl Help {
             Help::NoQuote => "--noquote",
             Help::Brackets => "--brackets",
             Help::Indent => "--indent",
+            Help::RawBackslash => "--raw-backslash",
         }
     }
 
@@ -126,6 +129,7 @@ impl Help {
             Help::NoQuote => read.enabled_quote = false,
             Help::Brackets => read.enabled_brackets_in_section_names = true,
             Help::Indent => read.enabled_preserve_key_leading_whitespace = true,
+            Help::RawBackslash => read.enabled_raw_backslash = true,
             _ => {}
         }
         read
@@ -133,7 +137,7 @@ impl Help {
 }
 
 /// The options that may help, each tried before the next.
-pub const HELPS: [Help; 7] = [
+pub const HELPS: [Help; 8] = [
     Help::Basics,
     Help::Nothing,
     Help::Unicode,
@@ -141,4 +145,5 @@ pub const HELPS: [Help; 7] = [
     Help::NoQuote,
     Help::Brackets,
     Help::Indent,
+    Help::RawBackslash,
 ];

@@ -41,9 +41,13 @@ pub fn kind_of(name: &str) -> Option<Kind>
     ensures { result ≡ kind_of name.now }
 {
     match name {
-        "--noescape" | "--noquote" | "--multiline" | "--indent" | "--brackets" | "--crlf" => {
-            Some(Kind::Reading)
-        }
+        "--noescape"
+        | "--noquote"
+        | "--multiline"
+        | "--indent"
+        | "--brackets"
+        | "--raw-backslash"
+        | "--crlf" => { Some(Kind::Reading) }
         "--policy" => Some(Kind::ReadingText),
         "--existing"
         | "--all"

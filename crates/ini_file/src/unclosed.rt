@@ -40,14 +40,13 @@ pub fn find_unclosed<'a>(element: &'a str, read: ParseOption) -> Unclosed<'a> {
     Unclosed { place, words }
 }
 
-// What stands after the first separator of a pair; a backslash takes the next character, where it begins an
-// escape.
+// What stands after the first separator of a pair.
 fn after_key(pair: &str, read: ParseOption) -> Option<&str> {
     let mut is_taken = false;
     for (at, c) in pair.char_indices() {
         if is_taken {
             is_taken = false;
-        } else if c == '\\' && read.enabled_escape {
+        } else if c == '\\' && read.has_special_backslash() {
             is_taken = true;
         } else if c == '=' || c == ':' {
             return pair.get(at.saturating_add(1)..);

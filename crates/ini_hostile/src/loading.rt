@@ -24,6 +24,7 @@ pub(crate) fn all_on() -> ParseOption {
         enabled_indented_mutiline_value: true,
         enabled_preserve_key_leading_whitespace: true,
         enabled_brackets_in_section_names: true,
+        enabled_raw_backslash: true,
     }
 }
 
@@ -54,6 +55,22 @@ fn each_request_of_loading_continued_lines_is_refused(rt: HostRuntime) {
     let (document, refused) = loaded_at_last(&rt, CONTINUED, multiline());
     assert!(rt; refused > 0);
     expect_shown(&rt, "loading continued lines", &document, CONTINUED_SHOWN);
+}
+
+#[test]
+fn each_request_of_loading_raw_backslashes_is_refused(rt: HostRuntime) {
+    let read = ParseOption {
+        enabled_escape: false,
+        ..all_on()
+    };
+    let (document, refused) = loaded_at_last(&rt, "p = \"C:\\\" x\\\nk\\=v\n", read);
+    assert!(rt; refused > 0);
+    expect_shown(
+        &rt,
+        "loading raw backslashes",
+        &document,
+        "general: <p|C:\\ x\\> <k\\|v> ",
+    );
 }
 
 /// A section of so many pairs has an index.

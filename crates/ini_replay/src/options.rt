@@ -18,10 +18,15 @@ fn flag(digit: u8) -> io::Result<bool> {
 }
 
 /// How a text is read, by five flags, each `0` or `1`: escapes, quotes, multiline values, kept indentation,
-/// brackets in names.
+/// brackets in names; a sixth, which may be left out, is that of raw backslashes.
 pub(crate) fn reading_of_flags(flags: &str) -> io::Result<ParseOption> {
-    let [escape, quote, multiline, indent, brackets] = flags.as_bytes() else {
+    let [escape, quote, multiline, indent, brackets, rest @ ..] = flags.as_bytes() else {
         return Err(invalid());
+    };
+    let raw = match rest {
+        [] => false,
+        [digit] => flag(*digit)?,
+        _ => return Err(invalid()),
     };
     Ok(ParseOption {
         enabled_escape: flag(*escape)?,
@@ -29,6 +34,7 @@ pub(crate) fn reading_of_flags(flags: &str) -> io::Result<ParseOption> {
         enabled_indented_mutiline_value: flag(*multiline)?,
         enabled_preserve_key_leading_whitespace: flag(*indent)?,
         enabled_brackets_in_section_names: flag(*brackets)?,
+        enabled_raw_backslash: raw,
     })
 }
 

@@ -3,5 +3,6 @@ pub mod DerivationLemmas
 pub mod WorkedTexts
 pub mod WorkedRefusals
 pub mod WorkedBrackets
+pub mod WorkedBackslashes
 pub mod EscapedSamples
 pub mod PlainSamples

@@ -1,6 +1,7 @@
 //! The options by which a text is read. This file knows no grammar.
 ghost use Rattle.std.specs.Prelude.{◌≡◌};
-ghost use Rattle.ini_text.specs.Options.ReadOptions.{default_parse_option};
+ghost use Rattle.ini_text.specs.Options.Backslashes.{is_special};
+ghost use Rattle.ini_text.specs.Options.ReadOptions.{backslash_of, default_parse_option};
 
 /// What the reader of a text allows.
 #[derive(Clone, Copy)]
@@ -17,9 +18,21 @@ pub struct ParseOption {
     /// Brackets may stand in the name of a section: its header goes up to the line's end, and the last
     /// closing bracket ends the name.
     pub enabled_brackets_in_section_names: bool,
+    /// Where escapes are off, a backslash is a character like any other, before LF too.
+    pub enabled_raw_backslash: bool,
 }
 
-/// Quotes and escapes are read; multiline values, kept indentation and brackets in names are off.
+impl ParseOption {
+    /// Whether a backslash takes the character after it along.
+    pub fn has_special_backslash(self) -> bool
+        ensures { result ≡ is_special (backslash_of self) }
+    {
+        self.enabled_escape || !self.enabled_raw_backslash
+    }
+}
+
+/// Quotes and escapes are read; multiline values, kept indentation, brackets in names and
+/// raw backslashes are off.
 impl Default for ParseOption {
     ghost is_default = { λ o. o ≡ default_parse_option };
 
@@ -30,6 +43,7 @@ impl Default for ParseOption {
             enabled_indented_mutiline_value: false,
             enabled_preserve_key_leading_whitespace: false,
             enabled_brackets_in_section_names: false,
+            enabled_raw_backslash: false,
         }
     }
 }

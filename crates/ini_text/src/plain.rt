@@ -100,7 +100,7 @@ fn is_end_trimmed(text: &str) -> bool
 fn is_read_back(text: &str, policy: EscapePolicy, read: ParseOption) -> bool
     ensures { result ≡ is_read_back read policy (chars text.now) }
 {
-    has_read_escapes(text, policy, read) || has_no_escapes(text, policy)
+    has_read_escapes(text, policy, read) || has_no_escapes(text, policy, read)
 }
 
 fn has_read_escapes(text: &str, policy: EscapePolicy, read: ParseOption) -> bool
@@ -129,16 +129,16 @@ fn is_read_escaped(c: char, policy: EscapePolicy) -> bool
     c != '\u{B}' && c != '\u{C}' && !(c >= '\u{10000}' && policy.should_escape(c))
 }
 
-fn has_no_escapes(text: &str, policy: EscapePolicy) -> bool
-    ensures { result ≡ has_no_escapes policy (chars text.now) }
+fn has_no_escapes(text: &str, policy: EscapePolicy, read: ParseOption) -> bool
+    ensures { result ≡ has_no_escapes read policy (chars text.now) }
 {
-    text.chars().all(|c| is_read_raw(c, policy))
+    text.chars().all(|c| is_read_raw(c, policy, read))
 }
 
-fn is_read_raw(c: char, policy: EscapePolicy) -> bool
-    ensures { result ≡ is_read_raw policy c }
+fn is_read_raw(c: char, policy: EscapePolicy, read: ParseOption) -> bool
+    ensures { result ≡ is_read_raw read policy c }
 {
-    !policy.should_escape(c) && c != '\\' && !is_line_end(c)
+    !policy.should_escape(c) && !(c == '\\' && read.has_special_backslash()) && !is_line_end(c)
 }
 
 fn has_no_close_bracket(name: &str) -> bool

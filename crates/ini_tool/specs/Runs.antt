@@ -117,5 +117,6 @@ status_of (Refused NoProgress) = 4
 -- what is reported of words that are none of the program's
 abbrev pub usage_line : List ℕ
 usage_line =
-    codes "usage: ini_tool [--noescape] [--noquote] [--multiline] [--indent] [--brackets] [--crlf] "
-    ++ codes "[--policy NAME] fmt|list|get KEY [SECTION]|set KEY VALUE [SECTION]|del KEY [SECTION]\n"
+    codes "usage: ini_tool [--noescape] [--noquote] [--multiline] [--indent] [--brackets] "
+    ++ codes "[--raw-backslash] [--crlf] [--policy NAME] "
+    ++ codes "fmt|list|get KEY [SECTION]|set KEY VALUE [SECTION]|del KEY [SECTION]\n"

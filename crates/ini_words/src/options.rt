@@ -86,6 +86,7 @@ impl Options {
             "--multiline" => options.reading.enabled_indented_mutiline_value = true,
             "--indent" => options.reading.enabled_preserve_key_leading_whitespace = true,
             "--brackets" => options.reading.enabled_brackets_in_section_names = true,
+            "--raw-backslash" => options.reading.enabled_raw_backslash = true,
             "--crlf" => options.line_separator = LineSeparator::CRLF,
             _ => return None,
         }

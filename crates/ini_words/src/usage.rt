@@ -8,7 +8,8 @@ macro_rules! usage_line {
         concat!(
             "usage: ",
             $program,
-            " [--noescape] [--noquote] [--multiline] [--indent] [--brackets] [--crlf] [--policy NAME] ",
+            " [--noescape] [--noquote] [--multiline] [--indent] [--brackets] [--raw-backslash] [--crlf]",
+            " [--policy NAME] ",
             $following,
             "\n",
         )

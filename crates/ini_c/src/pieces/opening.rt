@@ -35,6 +35,35 @@ fn opened(alloc: Global, bytes: &[u8], read: ParseOption) -> Result<Box<Kept>, E
     Ok(Box::new(alloc, Kept { document, text })?)
 }
 
+// Opens a text in pieces, in place of the one that is open, or tells C of the fault.
+pub(crate) fn open_into(
+    alloc: Global,
+    bytes: &[u8],
+    read: ParseOption,
+    text: &mut Text,
+    fault: &mut Fault,
+) -> u32
+    ensures opened { result ≡ ok → IsSomeAnd (pieces_of text.new) (IsOpened read (chars bytes.now)) }
+    ensures broken { result ≡ broken → IsStopAt read (chars bytes.now) fault.new }
+    ensures not_utf8 { result ≡ not_utf8 ↔ ¬ (IsUtf8 bytes.now) }
+    ensures statuses { IsTrue (is_among result (ok ∷ broken ∷ not_utf8 ∷ no_memory ∷ [])) }
+    ensures unchanged { ¬ (result ≡ ok) → pieces_of text.new ≡ pieces_of text.old }
+    ensures fault_stays { ¬ (result ≡ broken) → fault.new ≡ fault.old }
+{
+    match opened(alloc, bytes, read) {
+        Ok(kept) => {
+            text.put(alloc, kept);
+            OK
+        }
+        Err(Error::Parse(refused)) => {
+            tell(&refused, fault);
+            BROKEN
+        }
+        Err(Error::NotUtf8) => NOT_UTF8,
+        Err(_) => NO_MEMORY,
+    }
+}
+
 /// Opens a text in pieces, in place of the one that is open: parsed once, and copied, so that the bytes may
 /// go after the call.
 ///
@@ -56,18 +85,7 @@ pub extern "C" fn bigrosk_ini_text_open(
     ensures unchanged { ¬ (result ≡ ok) → pieces_of text.new ≡ pieces_of text.old }
     ensures fault_stays { ¬ (result ≡ broken) → fault.new ≡ fault.old }
 {
-    match opened(alloc, bytes, option.to_option()) {
-        Ok(kept) => {
-            text.put(alloc, kept);
-            OK
-        }
-        Err(Error::Parse(refused)) => {
-            tell(&refused, fault);
-            BROKEN
-        }
-        Err(Error::NotUtf8) => NOT_UTF8,
-        Err(_) => NO_MEMORY,
-    }
+    open_into(alloc, bytes, option.to_option(), text, fault)
 }
 
 /// Closes the text, which leaves none.

@@ -2,6 +2,7 @@
 use Rattle.std.specs.Prelude.{◌&&◌, ◌||◌, ◌==◌, not, Bool, true, false, [], ◌∷◌, ℕ, if◌then◌else◌}
 use Rattle.std.specs.Char.{is_whitespace}
 use Rattle.ini_text.specs.Grammar.CharacterKinds.{backslash, is_blank, line_feed}
+use Rattle.ini_text.specs.declared.option.ParseOption.{ParseOption}
 use Rattle.ini.specs.Texts.{Text}
 use Rattle.ini_check.specs.Traps.Keys.{begins_like_comment, is_meant}
 use Rattle.ini_check.specs.Traps.LexicalStates.{next_state}
@@ -22,19 +23,19 @@ closed mark after_text (c ∷ cs) =
     else c ∷ closed mark (not (is_whitespace c)) cs
 
 -- in a raw value the first quotes that aren't closed on their line are closed at its end
-abbrev pub with_quote_closed : Bool → LexicalState → Text → Text
-with_quote_closed quotes state [] = []
-with_quote_closed quotes state (c ∷ cs) =
-    if opens_unclosed quotes state (c ∷ cs) then c ∷ closed c true cs
-    else c ∷ with_quote_closed quotes (next_state quotes state c) cs
+abbrev pub with_quote_closed : ParseOption → LexicalState → Text → Text
+with_quote_closed o state [] = []
+with_quote_closed o state (c ∷ cs) =
+    if opens_unclosed o state (c ∷ cs) then c ∷ closed c true cs
+    else c ∷ with_quote_closed o (next_state o state c) cs
 
 -- in a raw value a character is put in after each backslash that joins lines
-abbrev pub with_lines_parted : ℕ → Bool → LexicalState → Text → Text
-with_lines_parted put quotes state [] = []
-with_lines_parted put quotes state (c ∷ cs) =
-    if joins_lines state (c ∷ cs)
-    then c ∷ put ∷ with_lines_parted put quotes (next_state quotes state c) cs
-    else c ∷ with_lines_parted put quotes (next_state quotes state c) cs
+abbrev pub with_lines_parted : ℕ → ParseOption → LexicalState → Text → Text
+with_lines_parted put o state [] = []
+with_lines_parted put o state (c ∷ cs) =
+    if joins_lines o state (c ∷ cs)
+    then c ∷ put ∷ with_lines_parted put o (next_state o state c) cs
+    else c ∷ with_lines_parted put o (next_state o state c) cs
 
 -- Of each line that begins like a comment the blanks at its front are taken out. Whether the text stands at
 -- a line's front, or among blanks that are taken out, the first two say.

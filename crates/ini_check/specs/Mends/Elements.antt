@@ -42,9 +42,9 @@ mended_key escapes _ key = key
 -- the raw value of a pair, with what stands after it: where escapes are read a backslash at a line's end is
 -- doubled, else a space is put in after it, which trimming takes
 abbrev pub mended_value : ParseOption → Trap → Text → Text
-mended_value o traps.UnclosedQuote value = with_quote_closed o.enabled_quote Front value
+mended_value o traps.UnclosedQuote value = with_quote_closed o Front value
 mended_value o traps.JoinedLine value =
-    with_lines_parted (if o.enabled_escape then backslash else space) o.enabled_quote Front value
+    with_lines_parted (if o.enabled_escape then backslash else space) o Front value
 mended_value o traps.Escape value =
     if o.enabled_escape then with_escapes_doubled false false value else value
 mended_value o _ value = value

@@ -2,9 +2,12 @@
 -- from there on.
 use Rattle.std.specs.Prelude.{◌&&◌, ◌||◌, ◌==◌, not, Bool, true, false, [], ◌∷◌, ℕ, nat_lt, if◌then◌else◌}
 use Rattle.std.specs.Char.{is_ascii_alphanumeric, is_whitespace}
-use Rattle.ini_text.specs.Grammar.CharacterKinds.{backslash, carriage_return, close_bracket, colon, equals}
+use Rattle.ini_text.specs.Grammar.CharacterKinds.{carriage_return, close_bracket, colon, equals}
 use Rattle.ini_text.specs.Grammar.CharacterKinds.{is_blank, is_comment_mark, is_line_end, line_feed}
 use Rattle.ini_text.specs.Grammar.CharacterKinds.{open_bracket}
+use Rattle.ini_text.specs.Options.Backslashes.{begins_escape}
+use Rattle.ini_text.specs.Options.ReadOptions.{backslash_of}
+use Rattle.ini_text.specs.declared.option.ParseOption.{ParseOption}
 use Rattle.ini.specs.Texts.{Text}
 use Rattle.ini_check.specs.Traps.LexicalStates.{is_outside}
 use Rattle.ini_check.specs.declared.lexical.LexicalState.{LexicalState}
@@ -22,9 +25,9 @@ is_line_taken [] = false
 is_line_taken (c ∷ cs) = c == line_feed || (c == carriage_return && begins_other cs)
 
 -- a backslash joins its line and the next, outside quotes
-abbrev pub joins_lines : LexicalState → Text → Bool
-joins_lines state [] = false
-joins_lines state (c ∷ cs) = is_outside state && (c == backslash && is_line_taken cs)
+abbrev pub joins_lines : ParseOption → LexicalState → Text → Bool
+joins_lines o state [] = false
+joins_lines o state (c ∷ cs) = is_outside state && (begins_escape (backslash_of o) c && is_line_taken cs)
 
 -- a character of a word: a letter or digit of ASCII, an underscore, or one beyond ASCII but for white space
 abbrev pub is_word_character : ℕ → Bool

@@ -3,6 +3,7 @@ use Rattle.std.specs.Prelude.{◌&&◌, ◌||◌, ◌==◌, not, Bool, true, fal
 use Rattle.std.specs.Char.{is_whitespace}
 use Rattle.ini_text.specs.Grammar.CharacterKinds.{hash, is_blank, is_comment_mark, is_inline_white}
 use Rattle.ini_text.specs.Grammar.CharacterKinds.{is_line_end, semicolon}
+use Rattle.ini_text.specs.declared.option.ParseOption.{ParseOption}
 use Rattle.ini.specs.Texts.{Text}
 use Rattle.ini_check.specs.Traps.LexicalStates.{is_outside, next_state}
 use Rattle.ini_check.specs.declared.lexical.LexicalState.{LexicalState}
@@ -25,11 +26,11 @@ first_line (c ∷ cs) = if is_line_end c then [] else c ∷ first_line cs
 
 -- a comment's mark stands after white space and outside quotes; whether the text stands after white space,
 -- `white` says
-abbrev pub has_mark_after_white : Bool → LexicalState → Bool → Text → Bool
-has_mark_after_white quotes state white [] = false
-has_mark_after_white quotes state white (c ∷ cs) =
+abbrev pub has_mark_after_white : ParseOption → LexicalState → Bool → Text → Bool
+has_mark_after_white o state white [] = false
+has_mark_after_white o state white (c ∷ cs) =
     (white && (is_outside state && is_comment_mark c))
-    || has_mark_after_white quotes (next_state quotes state c) (is_whitespace c) cs
+    || has_mark_after_white o (next_state o state c) (is_whitespace c) cs
 
 abbrev pub is_empty_or_white_first : Text → Bool
 is_empty_or_white_first [] = true
@@ -41,8 +42,8 @@ begins_like_note [] = false
 begins_like_note (c ∷ cs) = c == semicolon || (c == hash && is_empty_or_white_first cs)
 
 -- a comment's mark is part of the value, outside quotes
-abbrev pub has_comment_mark : Bool → Text → Bool
-has_comment_mark quotes value = begins_like_note value || has_mark_after_white quotes Front false value
+abbrev pub has_comment_mark : ParseOption → Text → Bool
+has_comment_mark o value = begins_like_note value || has_mark_after_white o Front false value
 
 -- white space that trimming takes, and that is neither a blank nor a line end
 abbrev pub is_odd_white : ℕ → Bool

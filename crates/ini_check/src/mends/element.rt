@@ -123,11 +123,10 @@ fn push_value(
     ensures { OnOk result (string_text out.new
         ≡ string_text out.old ++ mended_value read trap (chars value.now)) }
 {
-    let quotes = read.enabled_quote;
     match trap {
-        Trap::UnclosedQuote => push_quote_closed(out, quotes, value),
+        Trap::UnclosedQuote => push_quote_closed(out, read, value),
         Trap::JoinedLine => {
-            push_lines_parted(out, part_of_lines(read.enabled_escape), quotes, value)
+            push_lines_parted(out, part_of_lines(read.enabled_escape), read, value)
         }
         Trap::Escape if read.enabled_escape => push_escapes_doubled(out, false, value),
         _ => push_text(out, value),

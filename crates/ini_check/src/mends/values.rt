@@ -9,26 +9,26 @@ use crate::lower::push;
 use crate::mends::characters::push_closed;
 use crate::trap::lines::joins_lines;
 use crate::trap::quotes::opens_unclosed;
-use ini_text::split_first;
+use ini_text::{ParseOption, split_first};
 use std::alloc::AllocError;
 
 /// Appends a raw value in which the first quotes that aren't closed on their line are closed at its end.
 pub(crate) fn push_quote_closed(
     out: &mut String,
-    quotes: bool,
+    read: ParseOption,
     value: &str,
 ) -> Result<(), AllocError>
     ensures { OnOk result (string_text out.new
-        ≡ string_text out.old ++ with_quote_closed quotes Front (chars value.now)) }
+        ≡ string_text out.old ++ with_quote_closed read Front (chars value.now)) }
 {
     let mut state = LexicalState::Front;
     let mut rest = value;
     'characters: while let Some((c, after)) = split_first(rest) {
         push(out, c)?;
-        if opens_unclosed(quotes, state, rest) {
+        if opens_unclosed(read, state, rest) {
             return push_closed(out, c, after);
         }
-        state = state.next(quotes, c);
+        state = state.next(read, c);
         rest = after;
     }
     Ok(())
@@ -38,20 +38,20 @@ pub(crate) fn push_quote_closed(
 pub(crate) fn push_lines_parted(
     out: &mut String,
     put: char,
-    quotes: bool,
+    read: ParseOption,
     value: &str,
 ) -> Result<(), AllocError>
     ensures { OnOk result (string_text out.new
-        ≡ string_text out.old ++ with_lines_parted put quotes Front (chars value.now)) }
+        ≡ string_text out.old ++ with_lines_parted put read Front (chars value.now)) }
 {
     let mut state = LexicalState::Front;
     let mut rest = value;
     'characters: while let Some((c, after)) = split_first(rest) {
         push(out, c)?;
-        if joins_lines(state, rest) {
+        if joins_lines(read, state, rest) {
             push(out, put)?;
         }
-        state = state.next(quotes, c);
+        state = state.next(read, c);
         rest = after;
     }
     Ok(())

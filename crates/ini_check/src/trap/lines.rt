@@ -8,8 +8,8 @@ ghost use Rattle.ini_check.specs.Traps.Lines.{is_like_pair, is_line_front, is_li
 ghost use Rattle.ini_check.specs.Traps.Lines.{joins_lines};
 ghost use Rattle.ini_check.specs.Traps.Lines.{is_word_character};
 
-use crate::lexical::LexicalState;
-use ini_text::{is_blank, is_comment_mark, is_line_end, split_first};
+use crate::lexical::{LexicalState, takes_next};
+use ini_text::{ParseOption, is_blank, is_comment_mark, is_line_end, split_first};
 
 /// Whether a text begins with a line end that a backslash before it takes.
 pub(crate) fn is_line_taken(text: &str) -> bool
@@ -32,11 +32,11 @@ fn begins_other(text: &str) -> bool
 }
 
 /// Whether a backslash joins its line and the next.
-pub(crate) fn joins_lines(state: LexicalState, text: &str) -> bool
-    ensures { result ≡ joins_lines state (chars text.now) }
+pub(crate) fn joins_lines(read: ParseOption, state: LexicalState, text: &str) -> bool
+    ensures { result ≡ joins_lines read state (chars text.now) }
 {
     match split_first(text) {
-        Some((c, after)) => state.is_outside() && c == '\\' && is_line_taken(after),
+        Some((c, after)) => state.is_outside() && takes_next(read, c) && is_line_taken(after),
         None => false,
     }
 }

@@ -4,8 +4,8 @@ ghost use Rattle.ini_text.specs.Grammar.CharacterKinds.{is_quote_mark};
 ghost use Rattle.ini_check.specs.Traps.Quotes.{ends_with_first, is_half_quoted, is_text_after_quote};
 ghost use Rattle.ini_check.specs.Traps.Quotes.{is_white_to_line_end, leaves_line, opens_unclosed};
 
-use crate::lexical::LexicalState;
-use ini_text::{is_comment_mark, is_line_end, split_first};
+use crate::lexical::{LexicalState, takes_next};
+use ini_text::{ParseOption, is_comment_mark, is_line_end, split_first};
 
 /// Whether a character is a quote's mark.
 pub(crate) fn is_quote_mark(c: char) -> bool
@@ -15,18 +15,18 @@ pub(crate) fn is_quote_mark(c: char) -> bool
 }
 
 /// Whether a mark opens quotes that aren't closed on its line.
-pub(crate) fn opens_unclosed(quotes: bool, state: LexicalState, text: &str) -> bool
-    ensures { result ≡ opens_unclosed quotes state (chars text.now) }
+pub(crate) fn opens_unclosed(read: ParseOption, state: LexicalState, text: &str) -> bool
+    ensures { result ≡ opens_unclosed read state (chars text.now) }
 {
     let Some((c, after)) = split_first(text) else {
         return false;
     };
-    quotes && state.may_open() && is_quote_mark(c) && leaves_line(c, after)
+    read.enabled_quote && state.may_open() && is_quote_mark(c) && leaves_line(read, c, after)
 }
 
 // Whether a line ends before the quotes of this mark do.
-fn leaves_line(mark: char, text: &str) -> bool
-    ensures { result ≡ leaves_line mark false (chars text.now) }
+fn leaves_line(read: ParseOption, mark: char, text: &str) -> bool
+    ensures { result ≡ leaves_line read mark false (chars text.now) }
 {
     let mut escaped = false;
     let mut rest = text;
@@ -37,7 +37,7 @@ fn leaves_line(mark: char, text: &str) -> bool
         if c == mark && !escaped {
             return false;
         }
-        escaped = c == '\\' && !escaped;
+        escaped = takes_next(read, c) && !escaped;
         rest = after;
     }
     false
@@ -58,25 +58,25 @@ pub(crate) fn is_text_after_quote(state: LexicalState, text: &str) -> bool
 }
 
 /// Whether a value that no mark begins ends its line with one.
-pub(crate) fn is_half_quoted(quotes: bool, state: LexicalState, text: &str) -> bool
-    ensures { result ≡ is_half_quoted quotes state (chars text.now) }
+pub(crate) fn is_half_quoted(read: ParseOption, state: LexicalState, text: &str) -> bool
+    ensures { result ≡ is_half_quoted read state (chars text.now) }
 {
     let Some((c, _)) = split_first(text) else {
         return false;
     };
     match state {
         LexicalState::Front => {
-            quotes
+            read.enabled_quote
                 && !is_quote_mark(c)
-                && (ends_with_first('"', text) || ends_with_first('\'', text))
+                && (ends_with_first(read, '"', text) || ends_with_first(read, '\'', text))
         }
         _ => false,
     }
 }
 
 // Whether the first such mark of the line, which no backslash takes, ends it.
-fn ends_with_first(mark: char, text: &str) -> bool
-    ensures { result ≡ ends_with_first mark false (chars text.now) }
+fn ends_with_first(read: ParseOption, mark: char, text: &str) -> bool
+    ensures { result ≡ ends_with_first read mark false (chars text.now) }
 {
     let mut escaped = false;
     let mut rest = text;
@@ -87,7 +87,7 @@ fn ends_with_first(mark: char, text: &str) -> bool
         if is_line_end(c) {
             return false;
         }
-        escaped = c == '\\' && !escaped;
+        escaped = takes_next(read, c) && !escaped;
         rest = after;
     }
     false

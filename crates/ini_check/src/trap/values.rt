@@ -8,7 +8,7 @@ ghost use Rattle.ini_check.specs.Traps.Values.{is_empty_or_white_first, is_odd_w
 ghost use Rattle.ini_check.specs.declared.lexical.LexicalState.TheVariants.{Front};
 
 use crate::lexical::LexicalState;
-use ini_text::{is_blank, is_comment_mark, is_line_end, split_first};
+use ini_text::{ParseOption, is_blank, is_comment_mark, is_line_end, split_first};
 
 /// A value, with what stands after it, of what stands after the separator.
 pub(crate) fn value_of(source: &str) -> &str
@@ -25,15 +25,15 @@ pub(crate) fn value_of(source: &str) -> &str
 }
 
 /// Whether a comment mark is part of a value, outside quotes.
-pub(crate) fn has_comment_mark(quotes: bool, value: &str) -> bool
-    ensures { result ≡ has_comment_mark quotes (chars value.now) }
+pub(crate) fn has_comment_mark(read: ParseOption, value: &str) -> bool
+    ensures { result ≡ has_comment_mark read (chars value.now) }
 {
-    begins_like_note(value) || has_mark_after_white(quotes, value)
+    begins_like_note(value) || has_mark_after_white(read, value)
 }
 
 // Whether a comment mark stands after white space and outside quotes.
-fn has_mark_after_white(quotes: bool, value: &str) -> bool
-    ensures { result ≡ has_mark_after_white quotes Front false (chars value.now) }
+fn has_mark_after_white(read: ParseOption, value: &str) -> bool
+    ensures { result ≡ has_mark_after_white read Front false (chars value.now) }
 {
     let mut state = LexicalState::Front;
     let mut white = false;
@@ -43,7 +43,7 @@ fn has_mark_after_white(quotes: bool, value: &str) -> bool
             return true;
         }
         white = c.is_whitespace();
-        state = state.next(quotes, c);
+        state = state.next(read, c);
         rest = after;
     }
     false

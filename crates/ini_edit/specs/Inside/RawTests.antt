@@ -21,4 +21,4 @@ abbrev pub is_raw_value : ParseOption → EscapePolicy → Text → Bool
 is_raw_value o policy value =
     not o.enabled_escape && (escapes_nothing policy && (is_trimmed value
     && ((not o.enabled_quote || not (begins is_quote_mark value))
-    && (is_one_line value && is_closed (ending value)))))
+    && (is_one_line value && is_closed (ending o value)))))

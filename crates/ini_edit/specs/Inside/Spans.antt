@@ -38,7 +38,7 @@ module _ (o : ParseOption) where
     -- the raw value, and white space after it, are all of the value's own lines
     pub own_lines : OwnLines o (p.raw_value ++ p.space_after) (p.trailing_lines ++ r)
     -- no white space stands after a backslash that would take it
-    pub closed : ending p.raw_value ≡ Ending.escape → p.space_after ≡ []
+    pub closed : ending o p.raw_value ≡ Ending.escape → p.space_after ≡ []
 
   -- elements that give nothing
   pub record IsGap (c : ℕ) (source r : Text) : Type 0 where

@@ -20,7 +20,8 @@ ghost use Rattle.ini_edit.specs.SourceLines.{is_empty, is_in_comment, line_end_a
 use crate::glue::{TextEnd, next_end};
 use crate::text::begins_with_comment;
 use ini_text::{
-    LineSeparator, front_before, is_blank, is_comment_mark, is_line_end, split_first, split_last,
+    LineSeparator, ParseOption, front_before, is_blank, is_comment_mark, is_line_end, split_first,
+    split_last,
 };
 
 /// The last character of a text, and `before` where it is empty.
@@ -182,8 +183,8 @@ pub(crate) fn blanks_at_end(text: &str) -> &str
 
 /// The blank lines with which the lines after a value end: blanks and line ends alone, from a line's start
 /// on.
-pub(crate) fn blank_lines_at_end(text: &str) -> &str
-    ensures { chars result.now ≡ blank_lines_at_end (chars text.now) }
+pub(crate) fn blank_lines_at_end(text: &str, read: ParseOption) -> &str
+    ensures { chars result.now ≡ blank_lines_at_end read (chars text.now) }
 {
     let mut rest = text;
     let mut lines = text;
@@ -196,7 +197,7 @@ pub(crate) fn blank_lines_at_end(text: &str) -> &str
             lines = rest;
             is_blank_line = true;
         }
-        end = next_line_end(end, c, after);
+        end = next_line_end(end, c, after, read);
         rest = after;
     }
     if is_blank_line {
@@ -206,26 +207,26 @@ pub(crate) fn blank_lines_at_end(text: &str) -> &str
 }
 
 /// Whether a line ends where a value's text ends, of which no backslash takes the line end.
-pub(crate) fn ends_line(text: &str) -> bool
-    ensures { result ≡ ends_in_line (chars text.now) }
+pub(crate) fn ends_line(text: &str, read: ParseOption) -> bool
+    ensures { result ≡ ends_in_line read (chars text.now) }
 {
     let mut rest = text;
     let mut end = TextEnd::Inside;
     'characters: while let Some((c, after)) = split_first(rest) {
-        end = next_line_end(end, c, after);
+        end = next_line_end(end, c, after, read);
         rest = after;
     }
     matches!(end, TextEnd::Line)
 }
 
 // How a text ends one character on, where a CR with no LF after it ends a line too.
-fn next_line_end(end: TextEnd, c: char, after: &str) -> TextEnd
-    ensures { ending_of result ≡ next_line_end (ending_of end) c (chars after.now) }
+fn next_line_end(end: TextEnd, c: char, after: &str, read: ParseOption) -> TextEnd
+    ensures { ending_of result ≡ next_line_end read (ending_of end) c (chars after.now) }
 {
     if c == '\r' && !matches!(end, TextEnd::Escape) && !begins_with_line_feed(after) {
         return TextEnd::Line;
     }
-    next_end(end, c)
+    next_end(end, c, read)
 }
 
 /// Whether LF begins a text.

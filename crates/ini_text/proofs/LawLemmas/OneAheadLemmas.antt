@@ -2,6 +2,7 @@
 -- followed it.
 use Rattle.std.proofs.Common.{◌≤◌, ◌≡◌, ℕ, Bool, List, [], ◌∷◌, ◌++◌, length, refl, sym, ap, ◌∙◌, subst, append_assoc, append-nil, arith}
 use Rattle.std.proofs.lemmas.List.{append_cancel_left}
+use Rattle.ini_text.specs.Options.Backslashes.{Backslash}
 use Rattle.ini_text.specs.declared.option.ParseOption.{ParseOption}
 use Rattle.ini_text.specs.Grammar.CharacterKinds.{is_blank, is_inline_white, is_line_end, is_line_feed, is_quote_mark, BeginsWith, BeginsWithNo}
 use Rattle.ini_text.specs.Grammar.WhiteSpace.{Lead}
@@ -35,9 +36,10 @@ BeginsWithNo-alike test Alike.same h = h
 pub Lead-alike : {w r x : List ℕ} → Alike r x → Lead w r → Lead w x
 Lead-alike a lead = record { white = lead.white; ends = BeginsWithNo-alike is_inline_white a lead.ends }
 
-pub Str-alike : {e : Bool} {ends : Ends} {s r v x : List ℕ} → Alike r x → Str e ends s r v → Str e ends s x v
+pub Str-alike : {e : Backslash} {ends : Ends} {s r v x : List ℕ} → Alike r x
+    → Str e ends s r v → Str e ends s x v
 Str-alike Alike.same (Str.closed k h) = Str.closed k h
-Str-alike a (Str.lone k h) = elim a [ ]
+Str-alike a (Str.lone sp k h) = elim a [ ]
 
 pub LineEnd-alike : {e r x : List ℕ} → Alike r x → LineEnd e r → LineEnd e x
 LineEnd-alike a LineEnd.lf = LineEnd.lf

@@ -1,6 +1,7 @@
 -- A stop at a character stands, whatever follows.
 use Rattle.std.proofs.Common.{◌≤◌, ◌≡◌, ◌≢◌, ℕ, Bool, true, false, List, [], ◌∷◌, ◌++◌, length, refl, sym, ap, ◌∙◌, subst, append_assoc, append-nil, length-append, arith}
 use Rattle.std.proofs.lemmas.List.{append_cancel_left}
+use Rattle.ini_text.specs.Options.Backslashes.{Backslash}
 use Rattle.ini_text.specs.declared.option.ParseOption.{ParseOption}
 use Rattle.ini_text.specs.declared.error.ParseKind.{ParseKind}
 use Rattle.ini_text.specs.declared.error.ParseKind.TheVariants.{EndOfText, CrAlone}
@@ -28,11 +29,11 @@ EscapeStops-stands x n (EscapeStops.cut_in_unit u l) = absurd (n refl)
 EscapeStops-stands x n (EscapeStops.broken u l m) = (omega arith, EscapeStops.broken u l m)
 EscapeStops-stands x n (EscapeStops.unknown u l h) = (omega arith, EscapeStops.unknown u l h)
 
-StrStops-stands : {e : Bool} {ends : Ends} {s r : List ℕ} {k : ParseKind} (x : List ℕ) → k ≢ EndOfText
+StrStops-stands : {e : Backslash} {ends : Ends} {s r : List ℕ} {k : ParseKind} (x : List ℕ) → k ≢ EndOfText
     → StrStops e ends s r k
     → (1 ≤ length s) × StrStops e ends s x k
 StrStops-stands x n (StrStops.at_end row h) = absurd (n refl)
-StrStops-stands x n (StrStops.after_backslash row h) = absurd (n refl)
+StrStops-stands x n (StrStops.after_backslash sp row h) = absurd (n refl)
 StrStops-stands x n (StrStops.in_escape {s} {p = p} row on stops) =
     let y = EscapeStops-stands x n stops in (
       omega (

@@ -5,6 +5,7 @@ use Rattle.std.proofs.lemmas.List.{append_cancel_right}
 use Rattle.std.specs.Borrow.{Bor}
 use Rattle.std.specs.Char.{is_whitespace}
 use Rattle.std.specs.List.{list_all}
+use Rattle.ini_text.specs.Options.ReadOptions.{backslash_of}
 use Rattle.ini_text.specs.declared.option.ParseOption.{ParseOption}
 use Rattle.ini_text.specs.declared.error.Error.{Error}
 use Rattle.ini_text.specs.declared.error.Error.TheVariants as errors
@@ -100,19 +101,19 @@ indented_begins (c ∷ t) begins =
 
 -- after the blanks of its line a key is read as a string
 key_read : {o : ParseOption} {b k x key : List ℕ} {m : ℕ} → KeyFront o b k (m ∷ x) key
-    → (u : List ℕ) × (string o.enabled_escape key_ends (skipped is_blank (k ++ m ∷ x)) ≡ found u (m ∷ x))
+    → (u : List ℕ) × (string (backslash_of o) key_ends (skipped is_blank (k ++ m ∷ x)) ≡ found u (m ∷ x))
 key_read {o} {x = x} {m = m} (KeyFront.unindented {s} {v = v} begins str) = (
   v,
-  ap (string o.enabled_escape key_ends) (key_begins (s ++ m ∷ x) begins)
-      ∙ (string-reads o.enabled_escape key_ends refl).finds str,
+  ap (string (backslash_of o) key_ends) (key_begins (s ++ m ∷ x) begins)
+      ∙ (string-reads (backslash_of o) key_ends refl).finds str,
 )
 key_read {o} {x = x} {m = m} (KeyFront.indented {w} {s} {v = v} ind begins str) =
     let following : skipped is_blank ((w ++ s) ++ m ∷ x) ≡ s ++ m ∷ x =
     ap (skipped is_blank) (append_assoc w s (m ∷ x))
     ∙ (run-finds is_blank w (s ++ m ∷ x) ind.blank (indented_begins (s ++ m ∷ x) begins)).1 in (
       v,
-      ap (string o.enabled_escape key_ends) following
-          ∙ (string-reads o.enabled_escape key_ends refl).finds str,
+      ap (string (backslash_of o) key_ends) following
+          ∙ (string-reads (backslash_of o) key_ends refl).finds str,
     )
 
 -- what is read of a pair
@@ -122,7 +123,7 @@ pub record PairRead (o : ParseOption) (t r name : List ℕ) : Type 0 where
   pub k : List ℕ
   pub following : List ℕ
   pub v : List ℕ
-  pub key_is : string o.enabled_escape key_ends name ≡ found u (m ∷ following)
+  pub key_is : string (backslash_of o) key_ends name ≡ found u (m ∷ following)
   pub value_is : value o following ≡ found v r
   pub whole : k ++ m ∷ following ≡ t
 
@@ -139,7 +140,7 @@ read_of {o} {t} {r} {name} {v = v} name_is holds whole =
       following = p.x ++ r;
       v = v;
       key_is =
-          ap (string o.enabled_escape key_ends) (name_is ∙ ap (skipped is_blank) (sym at_t))
+          ap (string (backslash_of o) key_ends) (name_is ∙ ap (skipped is_blank) (sym at_t))
           ∙ (key_read p.front).1;
       value_is = (value-reads o).finds p.given;
       whole = at_t;
@@ -151,7 +152,7 @@ pair_read (b, s, key, v, holds, whole) name_is = read_of name_is holds whole
 
 module _ {o : ParseOption} {t r name : List ℕ} (p : PairRead o t r name) where
   module _ {out after_key : List ℕ}
-      (read : string o.enabled_escape key_ends name ≡ found out after_key) where
+      (read : string (backslash_of o) key_ends name ≡ found out after_key) where
     pub after_key_is : after_key ≡ p.m ∷ p.following
     after_key_is = found_rest (sym read ∙ p.key_is)
 
@@ -204,7 +205,7 @@ made_of key_s sep lead_s own pad tail_s =
 module _ {o : ParseOption} (t r : List ℕ)
     {name out after_key after start tail own pad key_s lead_s tail_s gives : List ℕ} {sep : ℕ}
     (name_is : name ≡ skipped is_blank t)
-    (read : string o.enabled_escape key_ends name ≡ found out after_key)
+    (read : string (backslash_of o) key_ends name ≡ found out after_key)
     (splits : after_key ≡ sep ∷ after) (h : HasTail o after start tail gives r)
     (key_cut : key_s ≡ front_of t after_key) (lead_cut : lead_s ≡ front_of after start)
     (own_cut : front_of start tail ≡ own ++ pad) (padded : SpaceAfter own pad)
@@ -381,7 +382,7 @@ module _ (o : ParseOption) (t : List ℕ) (rests : Rests) where
   header_rests (Err e) h = tt
 
   some_rests : {after_key : List ℕ} (r u : List ℕ)
-      → string o.enabled_escape key_ends (skipped is_blank t) ≡ found u after_key
+      → string (backslash_of o) key_ends (skipped is_blank t) ≡ found u after_key
       → (g : Option BorrowedItem) → HasValueRests o after_key rests g r → HasRests o t rests g r
   some_rests r u read None h = tt
   some_rests r u read (Some (items.Header name)) h = tt
@@ -390,7 +391,7 @@ module _ (o : ParseOption) (t : List ℕ) (rests : Rests) where
       (cow_text v) r) (sym h.0) (record { key = u; key_is = read; value_is = h.1 })
 
   pub value_rests : {after_key u : List ℕ}
-      → string o.enabled_escape key_ends (skipped is_blank t) ≡ found u after_key
+      → string (backslash_of o) key_ends (skipped is_blank t) ≡ found u after_key
       → (r : Result (Option BorrowedItem × Bor (List ℕ)) Stop)
       → IfOk r (λ p. HasValueRests o after_key rests p.0 (chars p.1.now))
       → IfOk r (λ p. HasRests o t rests p.0 (chars p.1.now))

@@ -1,11 +1,14 @@
 -- What is written for a character, read as a piece; and what is written for a text, read as a row of pieces.
 use Rattle.std.proofs.Common.{◌≡◌, ◌≢◌, inl, inr, ℕ, ◌+◌, ◌*◌, ◌/◌, ◌%◌, ◌<◌, Bool, true, false, not, ◌||◌, ◌&&◌, cond, eqb, ltb, eqb-true, eq-eqb, List, [], ◌∷◌, ◌++◌, refl, sym, subst, append_assoc, arith, Option, Some, None}
-use Rattle.std.proofs.lemmas.Bool.{cond_both, cond-true, eqb-false, leb-false, lt-ltb, or_left, or_right, or_parts, or_cases, and_parts, not-true, both_ways, false_from_ne_true}
+use Rattle.std.proofs.lemmas.Bool.{cond_both, cond-true, leb-false, lt-ltb, or_left, or_right, or_parts, or_cases, and_parts, not-true, both_ways, false_from_ne_true}
 use Rattle.std.proofs.lemmas.Str.{digit_value-digit_char}
 use Rattle.std.specs.Char.{digit_char, digit_value}
 use Rattle.std.specs.List.{list_all}
 use Rattle.std.specs.Str.{all_scalars}
 use lib.Utf8.{scalar}
+use Rattle.ini_text.specs.Options.Backslashes.{Backslash, Escape, is_special, reads_escapes, begins_escape}
+use Rattle.ini_text.specs.Options.ReadOptions.{backslash_of}
+use Rattle.ini_text.proofs.ReaderLemmas.StringReaderLemmas.{no-backslash}
 use Rattle.ini_text.specs.declared.option.ParseOption.{ParseOption}
 use Rattle.ini_text.specs.declared.write.policy.EscapePolicy.{EscapePolicy}
 use Rattle.ini_text.specs.declared.write.policy.EscapePolicy.TheVariants.{Nothing, Basics, BasicsUnicode, BasicsUnicodeExtended, Reserved, ReservedUnicode, ReservedUnicodeExtended, Everything}
@@ -110,26 +113,27 @@ basic-escaped ReservedUnicodeExtended c n h = or_left _ _ (or_left _ _ (or_left 
 basic-escaped Everything c n h = or_left _ _ (or_left _ _ (or_left _ _ h))
 
 -- a character is read back as itself: by its escape, or as it is
-pub record IsRead (escapes : Bool) (policy : EscapePolicy) (c : ℕ) : Type 0 where
-  pub by_escape : is_escaped policy c ≡ true → EscapeSequence escapes (escape c) (c ∷ [])
-  pub raw : is_escaped policy c ≡ false → c ≢ backslash
+pub record IsRead (escapes : Backslash) (policy : EscapePolicy) (c : ℕ) : Type 0 where
+  pub by_escape : is_escaped policy c ≡ true
+      → (is_special escapes ≡ true) × EscapeSequence (reads_escapes escapes) (escape c) (c ∷ [])
+  pub raw : is_escaped policy c ≡ false → begins_escape escapes c ≡ false
   pub no_line_end : is_escaped policy c ≡ false → is_line_end c ≡ false
 
-pub data AllRead (escapes : Bool) (policy : EscapePolicy) : List ℕ → Type 0 where
+pub data AllRead (escapes : Backslash) (policy : EscapePolicy) : List ℕ → Type 0 where
   none : AllRead escapes policy []
   more : {c : ℕ} {cs : List ℕ} → IsRead escapes policy c → AllRead escapes policy cs
       → AllRead escapes policy (c ∷ cs)
 
 module _ (policy : EscapePolicy) where
   read_escape : (c : ℕ) → policy ≢ Nothing → scalar c ≡ true → not (has_unread_letter c) ≡ true
-      → not (is_extended c && is_escaped policy c) ≡ true → IsRead true policy c
+      → not (is_extended c && is_escaped policy c) ≡ true → IsRead Escape policy c
   read_escape c n valid letter low = record {
     by_escape = λ h.
         let extended : is_extended c ≡ false =
         and_not (is_extended c) (is_escaped policy c) (not-true _ low) h in
-        escape-is c (leb-false 0x1_0000 c extended) valid (not-true _ letter);
-    raw = λ h e. both_ways (is_escaped policy c) h
-        (basic-escaped policy c n (or_left _ _ (or_left _ _ (eq-eqb c backslash e))));
+        (refl, escape-is c (leb-false 0x1_0000 c extended) valid (not-true _ letter));
+    raw = λ h. no-backslash Escape c (λ e. both_ways (is_escaped policy c) h
+        (basic-escaped policy c n (or_left _ _ (or_left _ _ (eq-eqb c backslash e)))));
     no_line_end =
         λ h. false_from_ne_true (is_line_end c)
         (λ e. both_ways (is_escaped policy c) h (basic-escaped policy c n (line_end_basic c e)));
@@ -145,19 +149,19 @@ module _ (policy : EscapePolicy) where
         | inr q ↦ let x = eqb-true c 0x0D q in lt-ltb c 0x20 (omega arith)
       ]))
 
-  read_raw : {escapes : Bool} (c : ℕ) → not (is_escaped policy c) ≡ true
-      → not (eqb c backslash || is_line_end c) ≡ true → IsRead escapes policy c
-  read_raw c n h =
-      let parts = or_parts (eqb c backslash) (is_line_end c) (not-true _ h) in
+  read_raw : {escapes : Backslash} (c : ℕ) → not (is_escaped policy c) ≡ true
+      → not (begins_escape escapes c || is_line_end c) ≡ true → IsRead escapes policy c
+  read_raw {escapes} c n h =
+      let parts = or_parts (begins_escape escapes c) (is_line_end c) (not-true _ h) in
       record {
         by_escape = λ e. absurd (both_ways (is_escaped policy c) (not-true _ n) e);
-        raw = λ _. eqb-false c backslash parts.0;
+        raw = λ _. parts.0;
         no_line_end = λ _. parts.1;
       }
 
   all_by_escapes : (text : List ℕ) → policy ≢ Nothing → all_scalars text ≡ true
       → list_all (λ c. not (has_unread_letter c)) text ≡ true
-      → list_all (λ c. not (is_extended c && is_escaped policy c)) text ≡ true → AllRead true policy text
+      → list_all (λ c. not (is_extended c && is_escaped policy c)) text ≡ true → AllRead Escape policy text
   all_by_escapes [] n valid letters low = AllRead.none
   all_by_escapes (c ∷ cs) n valid letters low =
       let v = and_parts (scalar c) (all_scalars cs) valid in
@@ -166,20 +170,21 @@ module _ (policy : EscapePolicy) where
       (list_all (λ c. not (is_extended c && is_escaped policy c)) cs) low in
       AllRead.more (read_escape c n v.0 l.0 e.0) (all_by_escapes cs n v.1 l.1 e.1)
 
-  all_raw : {escapes : Bool} (text : List ℕ) → list_all (λ c. not (is_escaped policy c)) text ≡ true
-      → list_all (λ c. not (eqb c backslash || is_line_end c)) text ≡ true → AllRead escapes policy text
+  all_raw : {escapes : Backslash} (text : List ℕ) → list_all (λ c. not (is_escaped policy c)) text ≡ true
+      → list_all (λ c. not (begins_escape escapes c || is_line_end c)) text ≡ true
+      → AllRead escapes policy text
   all_raw [] n h = AllRead.none
-  all_raw (c ∷ cs) n h =
+  all_raw {escapes} (c ∷ cs) n h =
       let m = and_parts (not (is_escaped policy c)) (list_all (λ c. not (is_escaped policy c)) cs) n in
-      let g = and_parts (not (eqb c backslash || is_line_end c))
-      (list_all (λ c. not (eqb c backslash || is_line_end c)) cs) h in
+      let g = and_parts (not (begins_escape escapes c || is_line_end c))
+      (list_all (λ c. not (begins_escape escapes c || is_line_end c)) cs) h in
       AllRead.more (read_raw c m.0 g.0) (all_raw cs m.1 g.1)
 
 pub all_read : {o : ParseOption} (policy : EscapePolicy) (text : List ℕ) → IsReadBack o policy text
-    → AllRead o.enabled_escape policy text
+    → AllRead (backslash_of o) policy text
 all_read policy text read = elim read.is_read [
   | inl e ↦
-      subst (λ x. AllRead x policy text) (sym e.escapes)
+      subst (λ x. AllRead x policy text) (sym (rw e.escapes refl))
       (all_by_escapes policy text e.escaping read.of_characters e.no_unread_letter e.no_extended)
   | inr n ↦ all_raw policy text n.no_escaped n.no_backslash
 ]
@@ -189,7 +194,7 @@ abbrev pub NoRawEnd : EscapePolicy → Ends → List ℕ → Type 0
 NoRawEnd policy ends text = list_all (λ c. not (is_endpoint ends c) || is_escaped policy c) text ≡ true
 
 -- an escaped text before a row of pieces
-pub row_escaped : {escapes : Bool} {policy : EscapePolicy} {ends : Ends} {t v : List ℕ} (text : List ℕ)
+pub row_escaped : {escapes : Backslash} {policy : EscapePolicy} {ends : Ends} {t v : List ℕ} (text : List ℕ)
     → AllRead escapes policy text → NoRawEnd policy ends text
     → Row escapes ends t v → Row escapes ends (escaped policy text ++ t) (text ++ v)
 row_escaped [] AllRead.none n row = row
@@ -199,7 +204,9 @@ row_escaped {escapes} {policy} {ends} {t} {v} (c ∷ cs) (AllRead.more one all) 
     let rest : Row escapes ends (escaped policy cs ++ t) (cs ++ v) = row_escaped cs all parts.1 row in
     cond_both (is_escaped policy c) (escape c) (c ∷ [])
     (λ p. Row escapes ends ((p ++ escaped policy cs) ++ t) (c ∷ (cs ++ v)))
-    (λ h. rw (append_assoc (escape c) (escaped policy cs) t) (Row.escape (one.by_escape h) rest))
+    (λ h.
+    rw (append_assoc (escape c) (escaped policy cs) t)
+    (Row.escape (one.by_escape h).0 (one.by_escape h).1 rest))
     (λ h. Row.raw (one.raw h) (raw_end (is_endpoint ends c) (is_escaped policy c) parts.0 h) rest)
   where
     raw_end : (x y : Bool) → (not x || y) ≡ true → y ≡ false → x ≡ false

@@ -1,6 +1,8 @@
 -- Headers as they are written, read back, with brackets in names and without them.
 use Rattle.std.proofs.Common.{◌≡◌, inl, inr, ℕ, Bool, true, cond, List, [], ◌∷◌, ◌++◌, refl, subst, arith}
 use Rattle.std.proofs.lemmas.Bool.{cases_Bool}
+use Rattle.ini_text.proofs.ReaderLemmas.StringReaderLemmas.{no-backslash}
+use Rattle.ini_text.specs.Options.Backslashes.{Backslash}
 use Rattle.ini_text.specs.declared.option.ParseOption.{ParseOption}
 use Rattle.ini_text.specs.declared.write.policy.EscapePolicy.{EscapePolicy}
 use Rattle.ini_text.specs.declared.write.option.LineSeparator.{LineSeparator}
@@ -28,11 +30,12 @@ line_ends_close w twice r = at w.line_separator twice
     at CR twice = refl
     at CRLF twice = refl
 
-bracketed_row : {escapes : Bool} {policy : EscapePolicy} (name : List ℕ) → AllRead escapes policy name
+bracketed_row : {escapes : Backslash} {policy : EscapePolicy} (name : List ℕ) → AllRead escapes policy name
     → Row escapes bracketed_name_ends (escaped policy name ++ close_bracket ∷ [])
     (name ++ close_bracket ∷ [])
-bracketed_row name all =
-    row_escaped name all (value_no_end all) (Row.raw (λ e. absurd (omega arith)) refl Row.none)
+bracketed_row {escapes} name all =
+    row_escaped name all (value_no_end all)
+    (Row.raw (no-backslash escapes close_bracket (λ e. absurd (omega arith))) refl Row.none)
 
 bracketed_element : {o : ParseOption} {b : List ℕ} (policy : EscapePolicy) (name : List ℕ) (w : WriteOption)
     (twice : Bool) (r : List ℕ) → o.enabled_brackets_in_section_names ≡ true → IsPlainName o policy name

@@ -2,6 +2,7 @@
 use Rattle.std.proofs.Common.{◌≡◌, ℕ, Bool, true, false, not, ◌||◌, cond, eqb, List, [], ◌∷◌, ◌++◌, refl, sym, ap, ◌∙◌, subst, append_assoc, append-nil}
 use Rattle.std.proofs.lemmas.Bool.{or_left, or_from, and_parts, and_from, not-true, both_ways}
 use Rattle.std.specs.List.{list_all}
+use Rattle.ini_text.specs.Options.Backslashes.{Backslash}
 use Rattle.ini_text.specs.declared.option.ParseOption.{ParseOption}
 use Rattle.ini_text.specs.declared.write.policy.EscapePolicy.{EscapePolicy}
 use Rattle.ini_text.specs.declared.write.option.LineSeparator.{LineSeparator}
@@ -99,7 +100,7 @@ name_no_end policy (c ∷ cs) h =
     (name_no_end policy cs parts.1)
 
 -- the row of an escaped text alone
-pub row_of : {escapes : Bool} {policy : EscapePolicy} {ends : Ends} (text : List ℕ)
+pub row_of : {escapes : Backslash} {policy : EscapePolicy} {ends : Ends} (text : List ℕ)
     → AllRead escapes policy text → NoRawEnd policy ends text → Row escapes ends (escaped policy text) text
 row_of {escapes} {policy} {ends} text all n =
     let row : Row escapes ends (escaped policy text ++ []) (text ++ []) = row_escaped text all n Row.none in

@@ -3,6 +3,9 @@ use Rattle.std.proofs.Common.{◌≡◌, ◌≢◌, ◌⊎◌, inl, inr, ℕ, Bo
 use Rattle.std.proofs.lemmas.Bool.{cond_both, cond-true, cond-false, or_left, or_right, or_from, or_cases, and_left, and_right, and_parts, and_from, both_ways, false_from_ne_true, cases_Bool}
 use Rattle.std.specs.Char.{is_whitespace}
 use Rattle.std.specs.List.{list_all}
+use Rattle.ini_text.proofs.ReaderLemmas.StringReaderLemmas.{no-backslash}
+use Rattle.ini_text.specs.Options.Backslashes.{Backslash}
+use Rattle.ini_text.specs.Options.ReadOptions.{backslash_of}
 use Rattle.ini_text.specs.declared.option.ParseOption.{ParseOption}
 use Rattle.ini_text.specs.declared.write.policy.EscapePolicy.{EscapePolicy}
 use Rattle.ini_text.specs.declared.write.policy.EscapePolicy.TheVariants.{Nothing, Basics, BasicsUnicode, BasicsUnicodeExtended, Reserved, ReservedUnicode, ReservedUnicodeExtended, Everything}
@@ -114,7 +117,7 @@ module _ {o : ParseOption} (policy : EscapePolicy) where
       absurd (both_ways o.enabled_indented_mutiline_value off on)
 
 -- blanks stand for themselves in a key
-blank_row : {escapes : Bool} (w : List ℕ) → list_all is_blank w ≡ true → Row escapes key_ends w w
+blank_row : {escapes : Backslash} (w : List ℕ) → list_all is_blank w ≡ true → Row escapes key_ends w w
 blank_row [] h = Row.none
 blank_row (c ∷ w) h =
     let parts = and_parts (is_blank c) (list_all is_blank w) h in
@@ -123,12 +126,12 @@ blank_row (c ∷ w) h =
           let e = eqb-true c 0x20 q in
           let no_end : is_endpoint key_ends c ≡ false =
           subst (λ x. is_endpoint key_ends x ≡ false) (sym e) refl in
-          Row.raw (λ s. absurd (omega arith)) no_end (blank_row w parts.1)
+          Row.raw (no-backslash _ _ (λ s. absurd (omega arith))) no_end (blank_row w parts.1)
       | inr q ↦
           let e = eqb-true c 0x09 q in
           let no_end : is_endpoint key_ends c ≡ false =
           subst (λ x. is_endpoint key_ends x ≡ false) (sym e) refl in
-          Row.raw (λ s. absurd (omega arith)) no_end (blank_row w parts.1)
+          Row.raw (no-backslash _ _ (λ s. absurd (omega arith))) no_end (blank_row w parts.1)
     ]
 
 pub separator_closes : (m : ℕ) → is_separator m ≡ true → is_endpoint key_ends m ≡ true
@@ -153,7 +156,7 @@ key_no_end policy (c ∷ cs) h =
 
 -- a bare key, and blanks after it, before a separator
 module _ {o : ParseOption} {policy : EscapePolicy} {key : List ℕ} (bare : IsBareKey o policy key)
-    (all : AllRead o.enabled_escape policy key) where
+    (all : AllRead (backslash_of o) policy key) where
   bare_end : end_trimmed key ≡ key
   bare_end = elim bare.is_trimmed [
     | inl t ↦ trimmed_end key t
@@ -161,7 +164,7 @@ module _ {o : ParseOption} {policy : EscapePolicy} {key : List ℕ} (bare : IsBa
   ]
 
   bare_string : (w r : List ℕ) (m : ℕ) → list_all is_blank w ≡ true → is_separator m ≡ true
-      → Str o.enabled_escape key_ends (escaped policy key ++ w) (m ∷ r) (key ++ w)
+      → Str (backslash_of o) key_ends (escaped policy key ++ w) (m ∷ r) (key ++ w)
   bare_string w r m blank sep =
       Str.closed (row_escaped key all (key_no_end policy key bare.no_separator) (blank_row w blank))
       (separator_closes m sep)
@@ -206,7 +209,7 @@ escaped-spaces policy (c ∷ spaces) key h =
     ap (λ p. p ++ escaped policy (spaces ++ key)) (cond-false (is_escaped policy c) (escape c) (c ∷ []) raw)
     ∙ ap (λ l. c ∷ l) (escaped-spaces policy spaces key parts.1)
 
-AllRead-after : {escapes : Bool} {policy : EscapePolicy} {key : List ℕ} (w : List ℕ)
+AllRead-after : {escapes : Backslash} {policy : EscapePolicy} {key : List ℕ} (w : List ℕ)
     → AllRead escapes policy (w ++ key) → AllRead escapes policy key
 AllRead-after [] all = all
 AllRead-after (c ∷ w) (AllRead.more one all) = AllRead-after w all
@@ -225,7 +228,7 @@ module _ {o : ParseOption} {policy : EscapePolicy} where
   spaced_front : {b key : List ℕ} (spaces w r : List ℕ) (m : ℕ) → is_column_one b ≡ true
       → o.enabled_preserve_key_leading_whitespace ≡ true
       → list_all (λ c. eqb c space) spaces ≡ true → IsBareKey o policy key
-      → AllRead o.enabled_escape policy key → list_all is_blank w ≡ true → is_separator m ≡ true
+      → AllRead (backslash_of o) policy key → list_all is_blank w ≡ true → is_separator m ≡ true
       → KeyFront o b (spaces ++ (escaped policy key ++ w)) (m ∷ r) (spaces ++ key)
   spaced_front [] w r m one kept all bare read blank sep = bare_front bare read w r m blank sep
   spaced_front {b} {key} (c ∷ spaces) w r m one kept all bare read blank sep =
@@ -246,7 +249,7 @@ module _ {o : ParseOption} {policy : EscapePolicy} where
       (KeyFront.indented ind begins (bare_string bare read w r m blank sep))
 
   pub key_front : {b key : List ℕ} (w r : List ℕ) (m : ℕ) → is_column_one b ≡ true → IsPlainKey o policy key
-      → AllRead o.enabled_escape policy key
+      → AllRead (backslash_of o) policy key
       → list_all is_blank w ≡ true → is_separator m ≡ true
       → KeyFront o b (escaped policy key ++ w) (m ∷ r) key
   key_front w r m one (IsPlainKey.bare bare) read blank sep = bare_front bare read w r m blank sep
@@ -262,7 +265,8 @@ module _ {o : ParseOption} {policy : EscapePolicy} where
   key_some (IsPlainKey.after_spaces {key} spaces kept off all bare) = some_after spaces key bare.some
 
 -- values
-pub value_no_end : {escapes : Bool} {policy : EscapePolicy} {value : List ℕ} → AllRead escapes policy value
+pub value_no_end : {escapes : Backslash} {policy : EscapePolicy} {value : List ℕ}
+    → AllRead escapes policy value
     → NoRawEnd policy plain_ends value
 value_no_end AllRead.none = refl
 value_no_end {policy = policy} (AllRead.more {c} one all) =
@@ -304,7 +308,7 @@ inline_blanks (c ∷ w) h =
 
 -- a plain value before a line end
 module _ {o : ParseOption} {policy : EscapePolicy} {value : List ℕ} (plain : IsPlainValue o policy value)
-    (all : AllRead o.enabled_escape policy value) where
+    (all : AllRead (backslash_of o) policy value) where
   pub value_line : (l : ℕ) (r : List ℕ) → is_line_end l ≡ true
       → Line o true (escaped policy value) (l ∷ r) value
   value_line l r h =
@@ -372,7 +376,7 @@ module _ (o : ParseOption) (w : WriteOption) (twice : Bool) (b key value r : Lis
   abbrev more_ends : List ℕ
   more_ends = cond twice end []
 
-  read_value : AllRead o.enabled_escape policy value
+  read_value : AllRead (backslash_of o) policy value
   read_value = all_read {o = o} policy value plain.plain_value.read_back
 
   -- a value before what is written of a pair

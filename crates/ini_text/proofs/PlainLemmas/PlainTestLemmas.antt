@@ -120,7 +120,7 @@ module _ (o : ParseOption) (policy : EscapePolicy) where
       (Decides-and _ _ (itself o.enabled_escape)
       (Decides-and _ _ (Decides-not _ (nothing_decides policy)) (all_and _ _ text)))
 
-  no_escapes_decides : (text : List ℕ) → Decides (has_no_escapes policy text) (HasNoEscapes policy text)
+  no_escapes_decides : (text : List ℕ) → Decides (has_no_escapes o policy text) (HasNoEscapes o policy text)
   no_escapes_decides text =
       Decides-like _ (λ e. record { no_escaped = e.0; no_backslash = e.1 })
       (λ n. (n.no_escaped, n.no_backslash)) (all_and _ _ text)

@@ -5,6 +5,8 @@ use Rattle.std.proofs.Math.Bool.{or-false}
 use Rattle.std.proofs.lemmas.Bool.{cases_Bool, cond-true, cond-false, and_parts, or_parts, not-true, not-false}
 use Rattle.std.specs.Char.{is_whitespace}
 use Rattle.std.specs.List.{list_all}
+use Rattle.ini_text.specs.Options.Backslashes.{Backslash}
+use Rattle.ini_text.specs.Options.ReadOptions.{backslash_of}
 use Rattle.ini_text.specs.declared.option.ParseOption.{ParseOption}
 use Rattle.ini_text.specs.declared.error.ParseKind.{ParseKind}
 use Rattle.ini_text.specs.declared.error.ParseKind.TheVariants.{EndOfText, InlineComment}
@@ -32,11 +34,11 @@ use Rattle.ini_text.proofs.ReaderLemmas.ValueReaderLemmas.{value-reads}
 use Rattle.ini_text.proofs.StringLemmas.FrontLemmas.{front_is}
 
 -- what follows a string that the text's end doesn't end begins with an endpoint
-endpoint_follows : {e : Bool} {ends : Ends} {s r v : List ℕ} → Str e ends s r v → ends.text ≡ false
+endpoint_follows : {e : Backslash} {ends : Ends} {s r v : List ℕ} → Str e ends s r v → ends.text ≡ false
     → (c : ℕ) × (t : List ℕ) × (r ≡ c ∷ t) × (is_endpoint ends c ≡ true)
 endpoint_follows {r = []} (Str.closed row h) n = let z : true ≡ false = sym h ∙ n in cc
 endpoint_follows {r = c ∷ t} (Str.closed row h) n = (c, t, refl, h)
-endpoint_follows (Str.lone row h) n = let z : true ≡ false = sym h ∙ n in cc
+endpoint_follows (Str.lone sp row h) n = let z : true ≡ false = sym h ∙ n in cc
 
 -- a string that meets the text's end leaves nothing
 escape_at_end : {s r : List ℕ} {k : ParseKind} → EscapeStops s r k → k ≡ EndOfText → r ≡ []
@@ -45,10 +47,10 @@ escape_at_end (EscapeStops.cut_in_unit units few) e = refl
 escape_at_end (EscapeStops.broken units few other) e = cc
 escape_at_end (EscapeStops.unknown units four none) e = cc
 
-stopped_at_end : {e : Bool} {ends : Ends} {s r : List ℕ} {k : ParseKind} → StrStops e ends s r k
+stopped_at_end : {e : Backslash} {ends : Ends} {s r : List ℕ} {k : ParseKind} → StrStops e ends s r k
     → k ≡ EndOfText → r ≡ []
 stopped_at_end (StrStops.at_end row h) e = refl
-stopped_at_end (StrStops.after_backslash row h) e = refl
+stopped_at_end (StrStops.after_backslash sp row h) e = refl
 stopped_at_end (StrStops.in_escape row on stop) e = escape_at_end stop e
 
 -- the key that a key front gives of its string
@@ -91,30 +93,30 @@ module _ (o : ParseOption) (b : List ℕ) where
   abbrev ElementSays : List ℕ → Answer Given → Type 0
   ElementSays t a = Says (Element o b) (ElementStops o b) t a
 
-  name-reads : IsReader (Str o.enabled_escape name_ends) (StrStops o.enabled_escape name_ends)
-      (string o.enabled_escape name_ends)
-  name-reads = string-reads o.enabled_escape name_ends refl
+  name-reads : IsReader (Str (backslash_of o) name_ends) (StrStops (backslash_of o) name_ends)
+      (string (backslash_of o) name_ends)
+  name-reads = string-reads (backslash_of o) name_ends refl
 
-  key-reads : IsReader (Str o.enabled_escape key_ends) (StrStops o.enabled_escape key_ends)
-      (string o.enabled_escape key_ends)
-  key-reads = string-reads o.enabled_escape key_ends refl
+  key-reads : IsReader (Str (backslash_of o) key_ends) (StrStops (backslash_of o) key_ends)
+      (string (backslash_of o) key_ends)
+  key-reads = string-reads (backslash_of o) key_ends refl
 
-  line-reads : IsReader (Str o.enabled_escape bracketed_name_ends)
-      (StrStops o.enabled_escape bracketed_name_ends) (string o.enabled_escape bracketed_name_ends)
-  line-reads = string-reads o.enabled_escape bracketed_name_ends refl
+  line-reads : IsReader (Str (backslash_of o) bracketed_name_ends)
+      (StrStops (backslash_of o) bracketed_name_ends) (string (backslash_of o) bracketed_name_ends)
+  line-reads = string-reads (backslash_of o) bracketed_name_ends refl
 
   -- what follows a string begins with an endpoint
-  key-separator : {s r v : List ℕ} → Str o.enabled_escape key_ends s r v
+  key-separator : {s r v : List ℕ} → Str (backslash_of o) key_ends s r v
       → (m : ℕ) × (x : List ℕ) × (r ≡ m ∷ x) × (is_separator m ≡ true)
   key-separator {r = []} (Str.closed k h) = cc
   key-separator {r = m ∷ x} (Str.closed k h) = (m, x, refl, rw (or-false (m == 0x3A)) at h)
-  key-separator (Str.lone k h) = cc
+  key-separator (Str.lone sp k h) = cc
 
-  name-bracket : {s r v : List ℕ} → Str o.enabled_escape name_ends s r v
+  name-bracket : {s r v : List ℕ} → Str (backslash_of o) name_ends s r v
       → (x : List ℕ) × (r ≡ close_bracket ∷ x)
   name-bracket {r = []} (Str.closed k h) = cc
   name-bracket {r = m ∷ x} (Str.closed k h) = (x, ap (λ y. y ∷ x) (eqb-true m 93 (rw or-false at h)))
-  name-bracket (Str.lone k h) = cc
+  name-bracket (Str.lone sp k h) = cc
 
   after_separator-sound : {k r : List ℕ} {m : ℕ} (key : List ℕ) → KeyFront o b k (m ∷ r) key
       → is_separator m ≡ true
@@ -133,8 +135,8 @@ module _ (o : ParseOption) (b : List ℕ) where
           (k ++ m ∷ s, ElementStops.in_value before (λ q. cc) sep stops, simp (append_assoc, h))
 
   pair_of_key-sound : (w : List ℕ) {s r v t : List ℕ} (key : List ℕ)
-      → ((x : List ℕ) → s ++ x ≡ t → Str o.enabled_escape key_ends s x v → KeyFront o b (w ++ s) x key)
-      → Str o.enabled_escape key_ends s r v → s ++ r ≡ t
+      → ((x : List ℕ) → s ++ x ≡ t → Str (backslash_of o) key_ends s x v → KeyFront o b (w ++ s) x key)
+      → Str (backslash_of o) key_ends s r v → s ++ r ≡ t
       → ElementSays (w ++ t) (after_separator o key (drop 1 r))
   pair_of_key-sound w {s} {r} {v} {t} key front str h =
       let x = key-separator str in
@@ -142,10 +144,10 @@ module _ (o : ParseOption) (b : List ℕ) where
       rw x.2 (subst (λ y. ElementSays y (after_separator o key x.1))
       (append_assoc w s (x.0 ∷ x.1) ∙ ap (λ y. w ++ y) whole)
       (after_separator-sound
-      key (front (x.0 ∷ x.1) whole (subst (λ y. Str o.enabled_escape key_ends s y v) x.2 str)) x.3))
+      key (front (x.0 ∷ x.1) whole (subst (λ y. Str (backslash_of o) key_ends s y v) x.2 str)) x.3))
 
   unindented_pair-sound : (t : List ℕ) → BeginsWith begins_key t → (a : Answer ℕ)
-      → StringSays o.enabled_escape key_ends t a → ElementSays t (pair_of_key o (trimmed_key o a))
+      → StringSays (backslash_of o) key_ends t a → ElementSays t (pair_of_key o (trimmed_key o a))
   unindented_pair-sound t begins (found v r) (s, str, h) =
       subst (λ k. ElementSays t (after_separator o k (drop 1 r)))
       (sym (key_value o.enabled_preserve_key_leading_whitespace v))
@@ -156,7 +158,7 @@ module _ (o : ParseOption) (b : List ℕ) where
       (s, ElementStops.in_key (subst (BeginsWith begins_key) (sym h) begins) stops, h)
 
   indented_pair-sound : (w t : List ℕ) → Indentation b w → BeginsWith begins_indented_key t → (a : Answer ℕ)
-      → StringSays o.enabled_escape key_ends t a
+      → StringSays (backslash_of o) key_ends t a
       → ElementSays (w ++ t) (indented_pair_of_key o (trimmed_key o (prepend (kept_blanks o w) a)))
   indented_pair-sound w t ind begins (found v r) (s, str, h) =
       subst (λ k. ElementSays (w ++ t) (after_separator o k (drop 1 r)))
@@ -169,12 +171,12 @@ module _ (o : ParseOption) (b : List ℕ) where
       whole : (w ++ s) ++ r ≡ w ++ t
       whole = append_assoc w s r ∙ ap (λ y. w ++ y) h
 
-      by : (k : ParseKind) → StrStops o.enabled_escape key_ends s r k
+      by : (k : ParseKind) → StrStops (backslash_of o) key_ends s r k
           → BeginsWith begins_indented_key (s ++ r) → ElementSays (w ++ t) (dropped_tail r k)
       by EndOfText stops begins =
           let none : r ≡ [] = stopped_at_end stops refl in
           let key = Element.dropped_key ind (rw (none, append-nil s) at begins)
-          (subst (λ y. StrStops o.enabled_escape key_ends s y EndOfText) none stops) in
+          (subst (λ y. StrStops (backslash_of o) key_ends s y EndOfText) none stops) in
           (w ++ s, subst (λ y. Element o b (w ++ s) y []) (sym none) key, whole)
       by k stops begins = (w ++ s, ElementStops.in_indented_key ind begins stops (λ q. cc), whole)
 
@@ -186,12 +188,12 @@ module _ (o : ParseOption) (b : List ℕ) where
     | inr n ↦ elim (cases_Bool (c == open_bracket)) [
       | inl q ↦ rw (eqb-true c 91 q) (w, Element.gap (Gap.before_header ind), refl)
       | inr m ↦ rw (n, m) (indented_pair-sound w (c ∷ cs) ind (rw (other, n, m) refl)
-          (string o.enabled_escape key_ends (c ∷ cs)) (key-reads.sound (c ∷ cs)))
+          (string (backslash_of o) key_ends (c ∷ cs)) (key-reads.sound (c ∷ cs)))
     ]
   ]
 
   header-sound : o.enabled_brackets_in_section_names ≡ false → (t : List ℕ) (a : Answer ℕ)
-      → StringSays o.enabled_escape name_ends t a
+      → StringSays (backslash_of o) name_ends t a
       → ElementSays (open_bracket ∷ t) (header (altered_answer (trimmed_at true) a))
   header-sound off t (stopped r k) (s, stops, h) =
       (open_bracket ∷ s, ElementStops.in_header off stops, ap (λ y. open_bracket ∷ y) h)
@@ -199,13 +201,13 @@ module _ (o : ParseOption) (b : List ℕ) where
       let x = name-bracket str in
       rw x.1 (
         open_bracket ∷ (s ++ close_bracket ∷ []),
-        Element.header off (subst (λ y. Str o.enabled_escape name_ends s y v) x.1 str),
+        Element.header off (subst (λ y. Str (backslash_of o) name_ends s y v) x.1 str),
         ap (λ y. open_bracket ∷ y)
             (append_assoc s (close_bracket ∷ []) x.0 ∙ ap (λ y. s ++ y) (sym x.1) ∙ h),
       )
 
   header_of_name-sound : {s r v t : List ℕ} → o.enabled_brackets_in_section_names ≡ true
-      → Str o.enabled_escape bracketed_name_ends s r v → s ++ r ≡ t → (name : Option (List ℕ))
+      → Str (backslash_of o) bracketed_name_ends s r v → s ++ r ≡ t → (name : Option (List ℕ))
       → name_in v ≡ name → ElementSays (open_bracket ∷ t) (header_of_name name r)
   header_of_name-sound {s} {r} {v} on str h (Some name) e =
       (open_bracket ∷ s, Element.bracketed_header on str (name_found v name e), ap (λ y. open_bracket ∷ y) h)
@@ -213,13 +215,13 @@ module _ (o : ParseOption) (b : List ℕ) where
       let (c, x, is, ends) = endpoint_follows str refl in
       rw is (
         open_bracket ∷ (s ++ c ∷ []),
-        ElementStops.no_header_end on (subst (λ y. Str o.enabled_escape bracketed_name_ends s y v) is str)
+        ElementStops.no_header_end on (subst (λ y. Str (backslash_of o) bracketed_name_ends s y v) is str)
             (no_name v e),
         ap (λ y. open_bracket ∷ y) (append_assoc s (c ∷ []) x ∙ ap (λ y. s ++ y) (sym is) ∙ h),
       )
 
   bracketed_header-sound : o.enabled_brackets_in_section_names ≡ true → (t : List ℕ) (a : Answer ℕ)
-      → StringSays o.enabled_escape bracketed_name_ends t a
+      → StringSays (backslash_of o) bracketed_name_ends t a
       → ElementSays (open_bracket ∷ t) (bracketed_header a)
   bracketed_header-sound on t (stopped r k) (s, stops, h) =
       (open_bracket ∷ s, ElementStops.in_bracketed_header on stops, ap (λ y. open_bracket ∷ y) h)
@@ -229,11 +231,11 @@ module _ (o : ParseOption) (b : List ℕ) where
   after_bracket-sound cs = elim (cases_Bool o.enabled_brackets_in_section_names) [
     | inl on ↦
         subst (ElementSays (open_bracket ∷ cs)) (sym (cond-true o.enabled_brackets_in_section_names _ _ on))
-        (bracketed_header-sound on cs (string o.enabled_escape bracketed_name_ends cs) (line-reads.sound cs))
+        (bracketed_header-sound on cs (string (backslash_of o) bracketed_name_ends cs) (line-reads.sound cs))
     | inr off ↦
         subst (ElementSays (open_bracket ∷ cs))
         (sym (cond-false o.enabled_brackets_in_section_names _ _ off))
-        (header-sound off cs (string o.enabled_escape name_ends cs) (name-reads.sound cs))
+        (header-sound off cs (string (backslash_of o) name_ends cs) (name-reads.sound cs))
   ]
 
   comment-sound : (c : ℕ) (s rest : List ℕ) → is_column_one b ≡ true → is_comment_mark c ≡ true
@@ -283,7 +285,7 @@ module _ (o : ParseOption) (b : List ℕ) where
         | inr m ↦ elim (cases_Bool (c == open_bracket)) [
           | inl q ↦ rw (eqb-true c 91 q) (after_bracket-sound cs)
           | inr k ↦ rw (n, x, m, k)
-              (unindented_pair-sound (c ∷ cs) (rw (x, m, k) refl) (string o.enabled_escape key_ends (c ∷ cs))
+              (unindented_pair-sound (c ∷ cs) (rw (x, m, k) refl) (string (backslash_of o) key_ends (c ∷ cs))
               (key-reads.sound (c ∷ cs)))
         ]
       ]
@@ -365,7 +367,7 @@ module _ (o : ParseOption) (b : List ℕ) where
       )
   element-finds (Element.dropped_blanks ind) = element-blanks [] ind tt
   element-finds (Element.dropped_key {w} {s} ind begins stops) =
-      let reads : string o.enabled_escape key_ends s ≡ stopped [] EndOfText =
+      let reads : string (backslash_of o) key_ends s ≡ stopped [] EndOfText =
       rw (append-nil s) at (key-reads.stops stops) in
       rw (append-nil (w ++ s), element-indented_pair s ind begins, reads)
 

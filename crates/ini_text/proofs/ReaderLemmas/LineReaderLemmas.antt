@@ -3,6 +3,8 @@
 use Rattle.std.proofs.Common.{◌≡◌, ℕ, Bool, true, ◌&&◌, ◌||◌, not, List, [], ◌∷◌, ◌++◌, ◌<◌, length, drop, Some, None, inl, inr, refl, sym, ap, ◌∙◌, subst, append_assoc, append-nil, length-append, arith, ne_eqb, eqb-true}
 use Rattle.std.proofs.Math.Bool.{or-false}
 use Rattle.std.proofs.lemmas.Bool.{cases_Bool, and_parts}
+use Rattle.ini_text.specs.Options.Backslashes.{Backslash}
+use Rattle.ini_text.specs.Options.ReadOptions.{backslash_of}
 use Rattle.ini_text.specs.declared.option.ParseOption.{ParseOption}
 use Rattle.ini_text.specs.declared.error.ParseKind.{ParseKind}
 use Rattle.ini_text.specs.Grammar.CharacterKinds.{is_quote_mark}
@@ -16,16 +18,16 @@ use Rattle.ini_text.proofs.ReaderLemmas.ReaderLemmas.{and_found, and_stopped, pr
 use Rattle.ini_text.proofs.ReaderLemmas.StringReaderLemmas.{StringSays, string-reads}
 
 -- what follows a string in quotes begins with their mark, and the string ends so before any text
-closed_by_mark : {e : Bool} {m : ℕ} {s r v : List ℕ} → Str e (quote_ends m) s r v
+closed_by_mark : {e : Backslash} {m : ℕ} {s r v : List ℕ} → Str e (quote_ends m) s r v
     → (t : List ℕ) × (r ≡ m ∷ t) × Str e (quote_ends m) s (m ∷ []) v
 closed_by_mark {r = []} (Str.closed row h) = cc
 closed_by_mark {e} {m = m} {s = s} {r = d ∷ r} {v = v} (Str.closed row h) =
     let same : d ≡ m = eqb-true d m (rw or-false at h) in
     (r, ap (λ x. x ∷ r) same, subst (λ x. Str e (quote_ends m) s (x ∷ []) v) same (Str.closed row h))
-closed_by_mark (Str.lone row h) = cc
+closed_by_mark (Str.lone sp row h) = cc
 
 -- a string before its mark
-Str-before : {e : Bool} {m : ℕ} {s v r : List ℕ} (t : List ℕ) → Str e (quote_ends m) s (m ∷ r) v
+Str-before : {e : Backslash} {m : ℕ} {s v r : List ℕ} (t : List ℕ) → Str e (quote_ends m) s (m ∷ r) v
     → Str e (quote_ends m) s (m ∷ t) v
 Str-before t (Str.closed k h) = Str.closed k h
 
@@ -34,14 +36,14 @@ LineSays o first t a = Says (Line o first) (LineStops o) t a
 
 module _ (o : ParseOption) where
   quote-reads : (m : ℕ) → is_quote_mark m ≡ true
-      → IsReader (Str o.enabled_escape (quote_ends m)) (StrStops o.enabled_escape (quote_ends m))
-      (string o.enabled_escape (quote_ends m))
-  quote-reads m h = string-reads o.enabled_escape (quote_ends m)
+      → IsReader (Str (backslash_of o) (quote_ends m)) (StrStops (backslash_of o) (quote_ends m))
+      (string (backslash_of o) (quote_ends m))
+  quote-reads m h = string-reads (backslash_of o) (quote_ends m)
       (rw (ne_eqb 92 m (λ q. let z = subst (λ x. is_quote_mark x ≡ true) (sym q) h in cc)) refl)
 
-  plain-reads : IsReader (Str o.enabled_escape plain_ends) (StrStops o.enabled_escape plain_ends)
-      (string o.enabled_escape plain_ends)
-  plain-reads = string-reads o.enabled_escape plain_ends refl
+  plain-reads : IsReader (Str (backslash_of o) plain_ends) (StrStops (backslash_of o) plain_ends)
+      (string (backslash_of o) plain_ends)
+  plain-reads = string-reads (backslash_of o) plain_ends refl
 
   opens_none : (t : List ℕ) → BeginsPlain o t → quote_at o t ≡ None
   opens_none [] h = refl
@@ -55,14 +57,14 @@ module _ (o : ParseOption) where
   data PartsStop : List ℕ → List ℕ → ParseKind → Type 0 where
     stop : {q w s r : List ℕ} {quoted : Bool} {m : ℕ} {kind : ParseKind} → Quoted o q w quoted
         → o.enabled_quote ≡ true → is_quote_mark m ≡ true
-        → StrStops o.enabled_escape (quote_ends m) s r kind → PartsStop (q ++ m ∷ s) r kind
+        → StrStops (backslash_of o) (quote_ends m) s r kind → PartsStop (q ++ m ∷ s) r kind
 
   abbrev PartSays : List ℕ → Step ℕ → Type 0
   PartSays t x = StepSays Parts PartsStop t x
 
   -- after a quoted part
   following : {m : ℕ} {s v : List ℕ} → o.enabled_quote ≡ true → is_quote_mark m ≡ true
-      → Str o.enabled_escape (quote_ends m) s (m ∷ []) v
+      → Str (backslash_of o) (quote_ends m) s (m ∷ []) v
       → (r : List ℕ) (a : Answer ℕ) → Says Parts PartsStop r a
       → Says Parts PartsStop (m ∷ (s ++ m ∷ r)) (prepend v a)
   following {m} {s} {v} on mark str r (found w x) (q, (quoted, plain), h) =
@@ -84,7 +86,7 @@ module _ (o : ParseOption) where
       )
 
   following-sound : (m : ℕ) (t : List ℕ) → o.enabled_quote ≡ true → is_quote_mark m ≡ true → (a : Answer ℕ)
-      → StringSays o.enabled_escape (quote_ends m) t a
+      → StringSays (backslash_of o) (quote_ends m) t a
       → PartSays (m ∷ t) (after_quoted a)
   following-sound m t on mark (stopped r k) (s, stops, h) =
       (m ∷ s, PartsStop.stop Quoted.none on mark stops, ap (λ y. m ∷ y) h)
@@ -98,7 +100,7 @@ module _ (o : ParseOption) where
   part-sound (c ∷ cs) = elim (cases_Bool (o.enabled_quote && is_quote_mark c)) [
     | inl h ↦
         let test = and_parts o.enabled_quote (is_quote_mark c) h in
-        rw h (following-sound c cs test.0 test.1 (string o.enabled_escape (quote_ends c) cs)
+        rw h (following-sound c cs test.0 test.1 (string (backslash_of o) (quote_ends c) cs)
         ((quote-reads c test.1).sound cs))
     | inr h ↦ rw h ([], (rw h Quoted.none, λ on. rw on at h), refl)
   ]
@@ -120,26 +122,26 @@ module _ (o : ParseOption) where
   following-mark (stopped r k) = refl
 
   module _ {after : List ℕ} {to : Ends} (t w : List ℕ) (opens : quote_at o t ≡ Some (to, after)) where
-    part-turn : parts o t ≡ and_then (λ r. parts o (drop 1 r)) (string o.enabled_escape to after)
-    part-turn = parts-turn t ∙ rw opens (following-mark (string o.enabled_escape to after))
+    part-turn : parts o t ≡ and_then (λ r. parts o (drop 1 r)) (string (backslash_of o) to after)
+    part-turn = parts-turn t ∙ rw opens (following-mark (string (backslash_of o) to after))
 
-    pub one_part : {v r : List ℕ} → prepend w (string o.enabled_escape to after) ≡ found v r
+    pub one_part : {v r : List ℕ} → prepend w (string (backslash_of o) to after) ≡ found v r
         → prepend w (parts o t) ≡ prepend v (parts o (drop 1 r))
     one_part h = ap (prepend w) part-turn ∙ then_found _ w _ h
 
     pub part_stops : {r : List ℕ} {k : ParseKind}
-        → prepend w (string o.enabled_escape to after) ≡ stopped r k → prepend w (parts o t) ≡ stopped r k
+        → prepend w (string (backslash_of o) to after) ≡ stopped r k → prepend w (parts o t) ≡ stopped r k
     part_stops h = ap (prepend w) part-turn ∙ then_stopped _ w _ h
 
-    pub part_shortens : {v r : List ℕ} → prepend w (string o.enabled_escape to after) ≡ found v r
+    pub part_shortens : {v r : List ℕ} → prepend w (string (backslash_of o) to after) ≡ found v r
         → length (drop 1 r) < length t
     part_shortens {r = r} h =
-        let (u, read, grown) = read_after w (string o.enabled_escape to after) h in
+        let (u, read, grown) = read_after w (string (backslash_of o) to after) h in
         let step : part o t ≡ more u (drop 1 r) = rw opens (ap after_quoted read) in
         shortens Parts PartsStop (part o) part-sound step
 
   pub line_plain : (t : List ℕ) → quote_at o t ≡ None
-      → line o true t ≡ altered_answer (trimmed_at true) (string o.enabled_escape plain_ends t)
+      → line o true t ≡ altered_answer (trimmed_at true) (string (backslash_of o) plain_ends t)
   unfolding line
   line_plain t none = rw (parts_end t none, none) (prepend-nil _)
 
@@ -163,7 +165,7 @@ module _ (o : ParseOption) where
   module _ (first : Bool) where
     plained-sound : {q w : List ℕ} {quoted : Bool} → Quoted o q w quoted → (r : List ℕ) → BeginsPlain o r
         → (a : Answer ℕ)
-        → StringSays o.enabled_escape plain_ends r a
+        → StringSays (backslash_of o) plain_ends r a
         → LineSays o first (q ++ r) (prepend w (altered_answer (plain_value first quoted) a))
     plained-sound {q} quoted r plain (found v x) (p, str, h) = (
       q ++ p,
@@ -180,7 +182,7 @@ module _ (o : ParseOption) where
         → LineSays o first t (and_then (plain_part o first (opens_quote o t)) a)
     line-by t (found w r) (q, (quoted, plain), h) =
         subst (λ y. LineSays o first y (and_then (plain_part o first (opens_quote o y)) (found w r))) h
-        (plained-sound quoted r plain (string o.enabled_escape plain_ends r) (plain-reads.sound r))
+        (plained-sound quoted r plain (string (backslash_of o) plain_ends r) (plain-reads.sound r))
     line-by t (stopped r k) (_, PartsStop.stop {q} {s} {m} quoted on mark stops, h) =
         (q ++ m ∷ s, LineStops.in_quotes quoted on mark stops, h)
 
@@ -227,14 +229,14 @@ module _ (o : ParseOption) where
         then_found _ old _ (read ∙ ap (prepend out) (parts_end rest none)) ∙ rw (append-nil out)
 
     pub line_stops : {r : List ℕ} {k : ParseKind}
-        → prepend out (string o.enabled_escape plain_ends rest) ≡ stopped r k
+        → prepend out (string (backslash_of o) plain_ends rest) ≡ stopped r k
         → prepend old (line o first t) ≡ stopped r k
     unfolding line
     line_stops h =
-        line-parts (opens_quote o t) ∙ rw (stopped_after out (string o.enabled_escape plain_ends rest) h)
+        line-parts (opens_quote o t) ∙ rw (stopped_after out (string (backslash_of o) plain_ends rest) h)
 
     pub line_read : {new end v : List ℕ} (quoted : Bool) → opens_quote o t ≡ (quoted || opens_quote o rest)
-        → string o.enabled_escape plain_ends rest ≡ found v end
+        → string (backslash_of o) plain_ends rest ≡ found v end
         → new ≡ out ++ trimmed_at (first && not quoted) v → prepend old (line o first t) ≡ found new end
     unfolding line
     line_read {end = end} quoted opens h grown =

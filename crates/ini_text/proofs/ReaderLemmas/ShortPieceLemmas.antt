@@ -7,6 +7,7 @@ use Rattle.std.proofs.Math.Seq.{drop-cons}
 use Rattle.std.specs.Char.{IsScalar}
 use Rattle.std.specs.List.{prefix_len}
 use lib.Count.{count_trailing_zeros}
+use Rattle.ini_text.specs.Options.Backslashes.{Escape}
 use Rattle.ini_text.specs.declared.lanes.Three.{Three}
 use Rattle.ini_text.specs.declared.parser.endpoints.Endpoints.{Endpoints}
 use Rattle.ini_text.specs.Grammar.CharacterKinds.{backslash, letter_x, line_feed}
@@ -78,20 +79,21 @@ module _ (to : Ends) where
   -- a backslash and the character after it
   pub pair_read : {t rest : List ℕ} {d v : ℕ} → t ≡ backslash ∷ d ∷ rest → d ≢ line_feed → d ≢ letter_x
       → v ≡ unwrap_or (control d) d
-      → string true to t ≡ prepend (v ∷ []) (string true to rest)
+      → string Escape to t ≡ prepend (v ∷ []) (string Escape to rest)
   pair_read {rest = rest} {d} two n m is =
-      string_pair true to two refl refl (rw (ne_eqb d 120 m) refl) ∙ rw (ne_eqb d 10 n, is) refl
+      string_pair Escape to refl two refl refl (rw (ne_eqb d 120 m) refl) ∙ rw (ne_eqb d 10 n, is) refl
 
   -- a code
   pub coded_read : {t ds rest : List ℕ} {v : ℕ} → t ≡ backslash ∷ letter_x ∷ ds
-      → coded_character ds ≡ found (v ∷ []) rest → string true to t ≡ prepend (v ∷ []) (string true to rest)
-  coded_read two is = string_coded true to two refl refl refl refl ∙ ap (and_then (string true to)) is
+      → coded_character ds ≡ found (v ∷ []) rest
+      → string Escape to t ≡ prepend (v ∷ []) (string Escape to rest)
+  coded_read two is = string_coded Escape to two refl refl refl refl ∙ ap (and_then (string Escape to)) is
 
 pub coded_shorter : {t ds rest v : List ℕ} → t ≡ backslash ∷ letter_x ∷ ds
     → coded_character ds ≡ found v rest
     → length rest < length t
 coded_shorter {ds = ds} two is =
-    coded_shortens true plain_ends [] two refl refl refl refl (prepend-nil (coded_character ds) ∙ is)
+    coded_shortens Escape plain_ends [] two refl refl refl refl (prepend-nil (coded_character ds) ∙ is)
 
 pub letter_escape : {t : List ℕ} {d v : ℕ} → BeginsWithTwo t 92 d → d ≢ line_feed → d ≢ letter_x
     → v ≡ unwrap_or (control d) d → IsEscape t v 2
@@ -163,7 +165,7 @@ short_piece ends t stop n v k u long within is following escape =
     let parts = split_chars t run stop n u cut refl following in
     let rest : drop k stop ≡ drop (n + k) t = ap (drop k) following ∙ drop-drop k n t in
     let read =
-    escape.read (ends_of ends) ∙ ap (λ x. prepend (v ∷ []) (string true (ends_of ends) (chars x))) rest in
+    escape.read (ends_of ends) ∙ ap (λ x. prepend (v ∷ []) (string Escape (ends_of ends) (chars x))) rest in
     record {
       within = within;
       few = escape.few;
@@ -172,10 +174,10 @@ short_piece ends t stop n v k u long within is following escape =
       cut = IsCharBoundary-from_rest t n k (omega arith)
           (subst (λ x. IsCharBoundary x k) following escape.cut);
       read =
-          string_run true (ends_of ends) (chars run) (chars stop) parts
+          string_run Escape (ends_of ends) (chars run) (chars stop) parts
           (run_chars plain t run n (raw_wide ends) u is refl)
           ∙ ap (prepend (chars run)) read
-          ∙ prepend-prepend (chars run) (v ∷ []) (string true (ends_of ends) (chars (drop (n + k) t)));
+          ∙ prepend-prepend (chars run) (v ∷ []) (string Escape (ends_of ends) (chars (drop (n + k) t)));
       shorter = omega (
         arith,
         escape.shorter,

@@ -10,7 +10,13 @@ use Rattle.ini_text.specs.declared.error.ParseKind.{ParseKind}
 use Rattle.ini_text.specs.declared.error.ParseKind.TheVariants.{EndOfText}
 use Rattle.ini_text.specs.Grammar.CharacterKinds.{backslash, line_feed, plus, letter_x, BeginsWithNo}
 use Rattle.ini_text.specs.Grammar.EscapeSequences.{control, spelled, EscapeSequence, Units, spelled_by, EscapeStops}
+use Rattle.ini_text.specs.Options.ReadOptions.{backslash_of}
+use Rattle.ini_text.specs.declared.option.ParseOption.{ParseOption}
+use Rattle.ini_text.specs.Options.Backslashes.{Backslash, Escape, Kept, Raw, is_special, reads_escapes, begins_escape}
 use Rattle.ini_text.specs.Grammar.Strings.{Ends, is_endpoint, Row, Closes, Str, StrStops}
+use Rattle.ini_text.specs.declared.parser.endpoints.Endpoints.{Endpoints}
+use Rattle.ini_text.specs.declared.parser.endpoints.Endpoints.TheVariants as endpoints
+use Rattle.ini_text.specs.Inside.Endpoints.{ends_of}
 use Rattle.ini_text.specs.Inside.Reading.{Answer, found, stopped, prepend, and_then, Step, more, ends, go_on}
 use Rattle.ini_text.specs.Inside.Scans.{is_raw}
 use Rattle.ini_text.specs.Inside.StringReader.{folded_unit, units, character, spelled_character, coded_character, value_after_backslash, as_step, escape, piece, string}
@@ -122,89 +128,127 @@ escape_of e c other = elim (cases_Bool (c == line_feed)) [
         value_of c (control c) refl n (λ same. let z : true ≡ false = rw (eq-eqb c 120 same) at other in cc)
     by false n other = EscapeSequence.kept refl n
 
-abbrev pub StringSays : Bool → Ends → List ℕ → Answer ℕ → Type 0
-StringSays e to t a = Says (Str e to) (StrStops e to) t a
+-- what reads escapes takes the next character along
+escape-special : (b : Backslash) → reads_escapes b ≡ true → is_special b ≡ true
+escape-special Escape on = refl
+escape-special Kept on = refl
+escape-special Raw on = on
 
-plain_parts : (to : Ends) (c : ℕ) → is_raw to c ≡ true → (c ≢ backslash) × (is_endpoint to c ≡ false)
-plain_parts to c h = let two = and_parts (not (c == backslash)) (not (is_endpoint to c)) h in
-    (eqb-false c 92 (not-true (c == backslash) two.0), not-true (is_endpoint to c) two.1)
+pub reads-escapes : (o : ParseOption) → reads_escapes (backslash_of o) ≡ o.enabled_escape
+reads-escapes o = elim (cases_Bool o.enabled_escape) [
+  | inl on ↦ rw on refl
+  | inr off ↦ elim (cases_Bool o.enabled_raw_backslash) [
+    | inl raw ↦ rw (off, raw) refl
+    | inr kept ↦ rw (off, kept) refl
+  ]
+]
 
-module _ (e : Bool) (to : Ends) where
+abbrev pub StringSays : Backslash → Ends → List ℕ → Answer ℕ → Type 0
+StringSays b to t a = Says (Str b to) (StrStops b to) t a
+
+-- a character that is no backslash begins no escape
+pub no-backslash : (b : Backslash) (c : ℕ) → c ≢ backslash → begins_escape b c ≡ false
+no-backslash b c n = rw (ne_eqb c 92 n) refl
+
+plain_parts : (b : Backslash) (to : Ends) (c : ℕ) → is_raw to c ≡ true
+    → (begins_escape b c ≡ false) × (is_endpoint to c ≡ false)
+plain_parts b to c h = let two = and_parts (not (c == backslash)) (not (is_endpoint to c)) h in
+    (rw (not-true (c == backslash) two.0) refl, not-true (is_endpoint to c) two.1)
+
+-- no string ends at a backslash
+pub no_backslash_ends : (e : Endpoints) → is_endpoint (ends_of e) backslash ≡ false
+no_backslash_ends endpoints.Name = refl
+no_backslash_ends endpoints.BracketedName = refl
+no_backslash_ends endpoints.Key = refl
+no_backslash_ends endpoints.DoubleQuotes = refl
+no_backslash_ends endpoints.SingleQuotes = refl
+no_backslash_ends endpoints.Plain = refl
+
+module _ (b : Backslash) (to : Ends) where
   no_control : (c x v : ℕ) → control x ≡ None → control c ≡ Some v → c ≢ x
   no_control c x v n h q = let z = subst (λ y. control y ≡ Some v) q h in cc
 
-  piece-escape : {p w : List ℕ} → EscapeSequence e p w → (t : List ℕ) → piece e to (p ++ t) ≡ more w t
+  piece-escape : {p w : List ℕ} → is_special b ≡ true → EscapeSequence (reads_escapes b) p w
+      → (t : List ℕ) → piece b to (p ++ t) ≡ more w t
   unfolding coded_character
-  piece-escape EscapeSequence.folded t = refl
-  piece-escape (EscapeSequence.named {c} {v} on h) t =
-      rw (ne_eqb c 120 (no_control c 120 v refl h), ne_eqb c 10 (no_control c 10 v refl h), on, h)
-  piece-escape (EscapeSequence.coded {a} {b} {c} {d} {v} on h) t =
-      rw (on, units-found (spelled-Units a b c d v h) 4 0 t (omega arith), h)
-  piece-escape (EscapeSequence.itself {c} on n m h) t = rw (ne_eqb c 120 m, ne_eqb c 10 n, on, h)
-  piece-escape (EscapeSequence.kept {c} off n) t = rw (ne_eqb c 10 n, off, and-false)
+  piece-escape sp EscapeSequence.folded t = rw sp refl
+  piece-escape sp (EscapeSequence.named {c} {v} on h) t =
+      rw (sp, ne_eqb c 120 (no_control c 120 v refl h), ne_eqb c 10 (no_control c 10 v refl h), on, h)
+  piece-escape sp (EscapeSequence.coded {a} {b = e} {c} {d} {v} on h) t =
+      rw (sp, on, units-found (spelled-Units a e c d v h) 4 0 t (omega arith), h)
+  piece-escape sp (EscapeSequence.itself {c} on n m h) t = rw (sp, ne_eqb c 120 m, ne_eqb c 10 n, on, h)
+  piece-escape sp (EscapeSequence.kept {c} off n) t = rw (sp, ne_eqb c 10 n, off, and-false)
 
-  piece-stops : {p r : List ℕ} {k : ParseKind} → e ≡ true → EscapeStops p r k
-      → piece e to (p ++ r) ≡ ends (stopped r k)
+  piece-stops : {p r : List ℕ} {k : ParseKind} → reads_escapes b ≡ true → EscapeStops p r k
+      → piece b to (p ++ r) ≡ ends (stopped r k)
   unfolding coded_character
   piece-stops on (EscapeStops.cut_short {us = us} x l) =
-      rw (on, units-found x 4 (suc (3 - length us)) [] (omega arith))
+      rw (escape-special b on, on, units-found x 4 (suc (3 - length us)) [] (omega arith))
   piece-stops on (EscapeStops.cut_in_unit {u} {us} x l) =
-      rw (append_assoc u, on, units-found x 4 (suc (3 - length us)) (backslash ∷ []) (omega arith))
+      rw (
+        append_assoc u,
+        escape-special b on,
+        on,
+        units-found x 4 (suc (3 - length us)) (backslash ∷ []) (omega arith),
+      )
   piece-stops on (EscapeStops.broken {u} {r} {us} {c} x l n) =
       rw (
         append_assoc u,
+        escape-special b on,
         on,
         units-found x 4 (suc (3 - length us)) (backslash ∷ c ∷ r) (omega arith),
         ne_eqb c 10 n,
       )
   piece-stops on (EscapeStops.unknown {u} {r} {us} x four h) =
-      rw (on, units-found x 4 0 r (omega arith), append-nil us, h)
+      rw (escape-special b on, on, units-found x 4 0 r (omega arith), append-nil us, h)
 
   abbrev PieceSays : List ℕ → Step ℕ → Type 0
-  PieceSays t x = StepSays (Str e to) (StrStops e to) t x
+  PieceSays t x = StepSays (Str b to) (StrStops b to) t x
 
-  row-append : {s v t w : List ℕ} → Row e to s v → Row e to t w → Row e to (s ++ t) (v ++ w)
+  row-append : {s v t w : List ℕ} → Row b to s v → Row b to t w → Row b to (s ++ t) (v ++ w)
   row-append Row.none other = other
   row-append (Row.raw n inside rest) other = Row.raw n inside (row-append rest other)
-  row-append {t = t} {w = w} (Row.escape {p = p} {w = q} {s = s} {v = v} k rest) other =
-      subst₂ (Row e to) (sym (append_assoc p s t)) (sym (append_assoc q v w))
-      (Row.escape k (row-append rest other))
+  row-append {t = t} {w = w} (Row.escape {p = p} {w = q} {s = s} {v = v} sp k rest) other =
+      subst₂ (Row b to) (sym (append_assoc p s t)) (sym (append_assoc q v w))
+      (Row.escape sp k (row-append rest other))
 
-  Str-append : {p w s r v : List ℕ} → Row e to p w → Str e to s r v → Str e to (p ++ s) r (w ++ v)
+  Str-append : {p w s r v : List ℕ} → Row b to p w → Str b to s r v → Str b to (p ++ s) r (w ++ v)
   Str-append k (Str.closed x h) = Str.closed (row-append k x) h
-  Str-append {p} {w} k (Str.lone {s} {v} x h) =
-      subst₂ (λ y z. Str e to y [] z) (append_assoc p s (backslash ∷ [])) (append_assoc w v (backslash ∷ []))
-      (Str.lone (row-append k x) h)
+  Str-append {p} {w} k (Str.lone {s} {v} sp x h) =
+      subst₂ (λ y z. Str b to y [] z) (append_assoc p s (backslash ∷ [])) (append_assoc w v (backslash ∷ []))
+      (Str.lone sp (row-append k x) h)
 
-  StrStops-append : {p w s r : List ℕ} {k : ParseKind} → Row e to p w → StrStops e to s r k
-      → StrStops e to (p ++ s) r k
+  StrStops-append : {p w s r : List ℕ} {k : ParseKind} → Row b to p w → StrStops b to s r k
+      → StrStops b to (p ++ s) r k
   StrStops-append k (StrStops.at_end x h) = StrStops.at_end (row-append k x) h
-  StrStops-append {p} k (StrStops.after_backslash {s} x h) =
-      subst (λ y. StrStops e to y [] EndOfText) (append_assoc p s (backslash ∷ []))
-      (StrStops.after_backslash (row-append k x) h)
+  StrStops-append {p} k (StrStops.after_backslash {s} sp x h) =
+      subst (λ y. StrStops b to y [] EndOfText) (append_assoc p s (backslash ∷ []))
+      (StrStops.after_backslash sp (row-append k x) h)
   StrStops-append {p} k (StrStops.in_escape {s} {p = q} {r} {kind} x on h) =
-      subst (λ y. StrStops e to y r kind) (append_assoc p s q) (StrStops.in_escape (row-append k x) on h)
+      subst (λ y. StrStops b to y r kind) (append_assoc p s q) (StrStops.in_escape (row-append k x) on h)
 
-  following : {p w : List ℕ} → Row e to p w → (r : List ℕ) (a : Answer ℕ) → StringSays e to r a
-      → StringSays e to (p ++ r) (prepend w a)
+  following : {p w : List ℕ} → Row b to p w → (r : List ℕ) (a : Answer ℕ) → StringSays b to r a
+      → StringSays b to (p ++ r) (prepend w a)
   following {p} {w} k r =
       prefixed p w r (λ s x v str. Str-append k str) (λ s x kind stops. StrStops-append k stops)
 
-  escaped : {p w : List ℕ} (r : List ℕ) → EscapeSequence e p w → length r < length (p ++ r)
+  escaped : {p w : List ℕ} (r : List ℕ) → is_special b ≡ true → EscapeSequence (reads_escapes b) p w
+      → length r < length (p ++ r)
       → PieceSays (p ++ r) (more w r)
-  escaped {p} {w} r k l =
-      (l, following (subst₂ (Row e to) (append-nil p) (append-nil w) (Row.escape k Row.none)) r)
+  escaped {p} {w} r sp k l =
+      (l, following (subst₂ (Row b to) (append-nil p) (append-nil w) (Row.escape sp k Row.none)) r)
 
-  character-sound : {u : List ℕ} {us : List (Option ℕ)} (r : List ℕ) → e ≡ true → Units u us
+  character-sound : {u : List ℕ} {us : List (Option ℕ)} (r : List ℕ) → reads_escapes b ≡ true → Units u us
       → length us ≡ 4 → (o : Option ℕ) → spelled_by us ≡ o
       → PieceSays (backslash ∷ letter_x ∷ (u ++ r)) (as_step (character o r))
   character-sound {u} r on x four (Some v) q =
-      escaped r (subst (λ b. EscapeSequence b (backslash ∷ letter_x ∷ u) (v ∷ [])) (sym on)
+      escaped r (escape-special b on)
+      (subst (λ e. EscapeSequence e (backslash ∷ letter_x ∷ u) (v ∷ [])) (sym on)
       (spelled-EscapeSequence x v q)) (omega (arith, length-append u r))
   character-sound {u} r on x four None q =
       (backslash ∷ letter_x ∷ u, StrStops.in_escape Row.none on (EscapeStops.unknown x four q), refl)
 
-  spelled_character-sound : e ≡ true → (t : List ℕ) (a : Answer (Option ℕ)) → UnitsSay t a
+  spelled_character-sound : reads_escapes b ≡ true → (t : List ℕ) (a : Answer (Option ℕ)) → UnitsSay t a
       → PieceSays (backslash ∷ letter_x ∷ t) (as_step (spelled_character a))
   spelled_character-sound on t (found us r) (u, x, four, h) =
       subst (λ y. PieceSays (backslash ∷ letter_x ∷ y) (as_step (spelled_character (found us r)))) h
@@ -212,103 +256,117 @@ module _ (e : Bool) (to : Ends) where
   spelled_character-sound on t (stopped r k) (u, x, h) =
       (backslash ∷ letter_x ∷ u, StrStops.in_escape Row.none on x, ap (λ y. backslash ∷ letter_x ∷ y) h)
 
-  escape-sound : (t : List ℕ) → PieceSays (backslash ∷ t) (escape e to t)
+  escape-sound : is_special b ≡ true → (t : List ℕ)
+      → PieceSays (backslash ∷ t) (escape (reads_escapes b) to t)
   unfolding coded_character
-  escape-sound [] = cond_both to.text _ _ (λ a. PieceSays t (ends a)) (λ h. (t, Str.lone Row.none h, refl))
-      (λ h. (t, StrStops.after_backslash Row.none h, refl))
+  escape-sound sp [] = cond_both to.text _ _ (λ a. PieceSays t (ends a))
+      (λ h. (t, Str.lone sp Row.none h, refl))
+      (λ h. (t, StrStops.after_backslash sp Row.none h, refl))
     where
       t : List ℕ
       t = backslash ∷ []
-  escape-sound (c ∷ cs) = elim (cases_Bool (c == letter_x && e)) [
+  escape-sound sp (c ∷ cs) = elim (cases_Bool (c == letter_x && reads_escapes b)) [
     | inl q ↦
-        let two = and_parts (c == letter_x) e q in
+        let two = and_parts (c == letter_x) (reads_escapes b) q in
         rw (q, eqb-true c 120 two.0)
         (spelled_character-sound two.1 cs (units 4 cs)
         (subst (UnitsSay cs) (prepend-nil (units 4 cs)) (units-sound 4 Units.none refl cs)))
-    | inr n ↦ rw n (escaped cs (escape_of e c n) (omega arith))
+    | inr n ↦ rw n (escaped cs sp (escape_of (reads_escapes b) c n) (omega arith))
   ]
 
-  piece-sound : (t : List ℕ) → PieceSays t (piece e to t)
+  piece-sound : (t : List ℕ) → PieceSays t (piece b to t)
   piece-sound [] = cond_both to.text _ _ (λ a. PieceSays [] (ends a))
       (λ h. ([], Str.closed Row.none h, refl)) (λ h. ([], StrStops.at_end Row.none h, refl))
-  piece-sound (c ∷ cs) = elim (cases_Bool (c == backslash)) [
-    | inl q ↦ rw (eqb-true c 92 q) (escape-sound cs)
+  piece-sound (c ∷ cs) = elim (cases_Bool (begins_escape b c)) [
+    | inl q ↦
+        let two = and_parts (c == backslash) (is_special b) q in
+        rw (q, eqb-true c 92 two.0) (escape-sound two.1 cs)
     | inr n ↦ elim (cases_Bool (is_endpoint to c)) [
       | inl h ↦ rw (n, h) ([], Str.closed Row.none h, refl)
-      | inr h ↦ rw (n, h) (omega arith, following (Row.raw (eqb-false c 92 n) h Row.none) cs)
+      | inr h ↦ rw (n, h) (omega arith, following (Row.raw n h Row.none) cs)
     ]
   ]
 
   -- a string's first piece
-  string-turn : (t : List ℕ) → string e to t ≡ go_on (string e to) (piece e to t)
+  string-turn : (t : List ℕ) → string b to t ≡ go_on (string b to) (piece b to t)
   unfolding string
-  string-turn t = turn (Str e to) (StrStops e to) (piece e to) piece-sound t
+  string-turn t = turn (Str b to) (StrStops b to) (piece b to) piece-sound t
 
-  Row-read : {s v : List ℕ} → Row e to s v → (r : List ℕ) → string e to (s ++ r) ≡ prepend v (string e to r)
-  Row-read Row.none r = sym (prepend-nil (string e to r))
+  Row-read : {s v : List ℕ} → Row b to s v → (r : List ℕ) → string b to (s ++ r) ≡ prepend v (string b to r)
+  Row-read Row.none r = sym (prepend-nil (string b to r))
   Row-read (Row.raw {c} {s} {v} n h x) r =
       string-turn (c ∷ (s ++ r))
-      ∙ rw (ne_eqb c 92 n, h)
-      (ap (prepend (c ∷ [])) (Row-read x r) ∙ prepend-prepend (c ∷ []) v (string e to r))
-  Row-read (Row.escape {p} {w} {s} {v} k x) r =
-      ap (string e to) (append_assoc p s r) ∙ string-turn (p ++ (s ++ r))
-      ∙ ap (go_on (string e to)) (piece-escape k (s ++ r))
-      ∙ ap (prepend w) (Row-read x r) ∙ prepend-prepend w v (string e to r)
+      ∙ rw (n, h)
+      (ap (prepend (c ∷ [])) (Row-read x r) ∙ prepend-prepend (c ∷ []) v (string b to r))
+  Row-read (Row.escape {p} {w} {s} {v} sp k x) r =
+      ap (string b to) (append_assoc p s r) ∙ string-turn (p ++ (s ++ r))
+      ∙ ap (go_on (string b to)) (piece-escape sp k (s ++ r))
+      ∙ ap (prepend w) (Row-read x r) ∙ prepend-prepend w v (string b to r)
 
-  run_row : (run : List ℕ) → list_all (is_raw to) run ≡ true → Row e to run run
+  run_row : (run : List ℕ) → list_all (is_raw to) run ≡ true → Row b to run run
   run_row [] h = Row.none
   run_row (c ∷ run) h =
       let two = and_parts (is_raw to c) (list_all (is_raw to) run) h in let plain =
-      plain_parts to c two.0 in Row.raw plain.0 plain.1 (run_row run two.1)
+      plain_parts b to c two.0 in Row.raw plain.0 plain.1 (run_row run two.1)
 
   -- characters that stand for themselves
   pub string_run : {t : List ℕ} (run rest : List ℕ) → t ≡ run ++ rest → list_all (is_raw to) run ≡ true
-      → string e to t ≡ prepend run (string e to rest)
-  string_run run rest whole h = ap (string e to) whole ∙ Row-read (run_row run h) rest
+      → string b to t ≡ prepend run (string b to rest)
+  string_run run rest whole h = ap (string b to) whole ∙ Row-read (run_row run h) rest
 
   pub string_at_end : {t : List ℕ} {text : Bool} → t ≡ [] → text ≡ to.text
-      → string e to t ≡ (if text then found [] t else stopped t EndOfText)
+      → string b to t ≡ (if text then found [] t else stopped t EndOfText)
   string_at_end none is = rw (none, is) (string-turn [])
 
   pub string_at_endpoint : {t cs : List ℕ} {c : ℕ} → t ≡ c ∷ cs → c ≢ backslash
-      → BeginsWithNo (is_raw to) t → string e to t ≡ found [] t
+      → BeginsWithNo (is_raw to) t → string b to t ≡ found [] t
   string_at_endpoint {cs = cs} {c} is n closes =
       let other : is_endpoint to c ≡ true =
       not-false (is_endpoint to c) (rw (is, ne_eqb c 92 n) at closes) in
       rw is (string-turn (c ∷ cs) ∙ rw (ne_eqb c 92 n, other))
 
-  pub string_at_backslash : {t cs : List ℕ} {c : ℕ} {text : Bool} → t ≡ c ∷ cs → c ≡ backslash → cs ≡ []
-      → text ≡ to.text
-      → string e to t ≡ (if text then found (backslash ∷ []) cs else stopped cs EndOfText)
-  string_at_backslash first b none is = rw (first, b, none, is) (string-turn (backslash ∷ []))
+  -- a backslash that is a character like any other
+  pub string_raw_backslash : {t cs : List ℕ} {c : ℕ} → is_special b ≡ false
+      → is_endpoint to backslash ≡ false
+      → t ≡ c ∷ cs → c ≡ backslash → string b to t ≡ prepend (backslash ∷ []) (string b to cs)
+  string_raw_backslash {cs = cs} off apart first is =
+      rw (first, is) (string-turn (backslash ∷ cs) ∙ rw (off, apart))
+
+  pub string_at_backslash : {t cs : List ℕ} {c : ℕ} {text : Bool} → is_special b ≡ true → t ≡ c ∷ cs
+      → c ≡ backslash → cs ≡ [] → text ≡ to.text
+      → string b to t ≡ (if text then found (backslash ∷ []) cs else stopped cs EndOfText)
+  string_at_backslash sp first at none is =
+      rw (first, at, none, is) (string-turn (backslash ∷ []) ∙ rw sp)
 
   -- a backslash and the character after it
-  pub string_pair : {t cs ds : List ℕ} {c d : ℕ} → t ≡ c ∷ cs → c ≡ backslash → cs ≡ d ∷ ds
-      → (d == letter_x && e) ≡ false
-      → string e to t ≡ prepend (value_after_backslash e d) (string e to ds)
-  string_pair {ds = ds} {d = d} first b next other =
-      rw (first, b, next) (string-turn (backslash ∷ d ∷ ds) ∙ rw other)
+  pub string_pair : {t cs ds : List ℕ} {c d : ℕ} → is_special b ≡ true → t ≡ c ∷ cs → c ≡ backslash
+      → cs ≡ d ∷ ds → (d == letter_x && reads_escapes b) ≡ false
+      → string b to t ≡ prepend (value_after_backslash (reads_escapes b) d) (string b to ds)
+  string_pair {ds = ds} {d = d} sp first at next other =
+      rw (first, at, next) (string-turn (backslash ∷ d ∷ ds) ∙ rw (sp, other))
 
-  pub string_coded : {t cs ds : List ℕ} {c d : ℕ} → t ≡ c ∷ cs → c ≡ backslash → cs ≡ d ∷ ds → e ≡ true
-      → d ≡ letter_x
-      → string e to t ≡ and_then (string e to) (coded_character ds)
-  string_coded {ds = ds} first b next on x =
-      rw (first, b, next, x) (string-turn (backslash ∷ letter_x ∷ ds) ∙ rw on (goes_on (coded_character ds)))
+  pub string_coded : {t cs ds : List ℕ} {c d : ℕ} → t ≡ c ∷ cs → c ≡ backslash → cs ≡ d ∷ ds
+      → reads_escapes b ≡ true → d ≡ letter_x
+      → string b to t ≡ and_then (string b to) (coded_character ds)
+  string_coded {ds = ds} first at next on x =
+      rw (first, at, next, x) (string-turn (backslash ∷ letter_x ∷ ds)
+      ∙ rw (escape-special b on, on) (goes_on (coded_character ds)))
     where
-      goes_on : (a : Answer ℕ) → go_on (string true to) (as_step a) ≡ and_then (string true to) a
+      goes_on : (a : Answer ℕ) → go_on (string b to) (as_step a) ≡ and_then (string b to) a
       goes_on (found v r) = refl
       goes_on (stopped r k) = refl
 
   pub coded_shortens : {t cs ds v r : List ℕ} {c d : ℕ} (w : List ℕ) → t ≡ c ∷ cs → c ≡ backslash
-      → cs ≡ d ∷ ds → e ≡ true → d ≡ letter_x
+      → cs ≡ d ∷ ds → reads_escapes b ≡ true → d ≡ letter_x
       → prepend w (coded_character ds) ≡ found v r → length r < length t
-  coded_shortens {t} {ds = ds} {r = r} w first b next on x h =
+  coded_shortens {t} {ds = ds} {r = r} w first at next on x h =
       let (u, read, grown) = read_after w (coded_character ds) h in
-      let step : piece e to t ≡ more u r = rw (first, b, next, x, on) (ap as_step read) in
-      shortens (Str e to) (StrStops e to) (piece e to) piece-sound step
+      let step : piece b to t ≡ more u r =
+      rw (first, at, next, x, escape-special b on, on) (ap as_step read) in
+      shortens (Str b to) (StrStops b to) (piece b to) piece-sound step
 
   module _ (apart : is_endpoint to backslash ≡ false) where
-    closed : (r : List ℕ) → Closes to r → string e to r ≡ found [] r
+    closed : (r : List ℕ) → Closes to r → string b to r ≡ found [] r
     closed [] h = string_at_end refl (sym h)
     closed (c ∷ r) h =
         string-turn (c ∷ r)
@@ -317,25 +375,25 @@ module _ (e : Bool) (to : Ends) where
           h,
         )
 
-    pub string-reads : IsReader (Str e to) (StrStops e to) (string e to)
+    pub string-reads : IsReader (Str b to) (StrStops b to) (string b to)
     unfolding string
     string-reads = record {
-      sound = reads (Str e to) (StrStops e to) (piece e to) piece-sound;
+      sound = reads (Str b to) (StrStops b to) (piece b to) piece-sound;
       finds = finds;
       stops = stops;
     }
       where
-        finds : {s r v : List ℕ} → Str e to s r v → string e to (s ++ r) ≡ found v r
+        finds : {s r v : List ℕ} → Str b to s r v → string b to (s ++ r) ≡ found v r
         finds {r = r} (Str.closed {v = v} x h) = and_found v (Row-read x r) (closed r h) (sym (append-nil v))
-        finds (Str.lone {s} {v} x h) =
+        finds (Str.lone {s} {v} sp x h) =
             rw (append_assoc s) (and_found v (Row-read x (backslash ∷ []))
-            (string_at_backslash refl refl refl (sym h)) refl)
+            (string_at_backslash sp refl refl refl (sym h)) refl)
 
-        stops : {s r : List ℕ} {k : ParseKind} → StrStops e to s r k → string e to (s ++ r) ≡ stopped r k
+        stops : {s r : List ℕ} {k : ParseKind} → StrStops b to s r k → string b to (s ++ r) ≡ stopped r k
         stops (StrStops.at_end {v = v} x h) = and_stopped v (Row-read x []) (string_at_end refl (sym h))
-        stops (StrStops.after_backslash {s} {v} x h) =
+        stops (StrStops.after_backslash {s} {v} sp x h) =
             rw (append_assoc s) (and_stopped v (Row-read x (backslash ∷ []))
-            (string_at_backslash refl refl refl (sym h)))
+            (string_at_backslash sp refl refl refl (sym h)))
         stops (StrStops.in_escape {s} {v} {p} {r} x on h) =
             rw (append_assoc s) (and_stopped v (Row-read x (p ++ r))
-            (string-turn (p ++ r) ∙ ap (go_on (string e to)) (piece-stops on h)))
+            (string-turn (p ++ r) ∙ ap (go_on (string b to)) (piece-stops on h)))

@@ -4,6 +4,7 @@ use Rattle.std.proofs.Common.{◌≡◌, ◌≢◌, ◌≤◌, ℕ, ◌<◌, Boo
 use Rattle.std.proofs.Math.Bool.{or-false}
 use Rattle.std.proofs.lemmas.Bool.{cases_Bool, cond-true, cond_both, and_parts, or_parts}
 use Rattle.std.specs.List.{list_all}
+use Rattle.ini_text.specs.Options.Backslashes.{Backslash}
 use Rattle.ini_text.specs.declared.option.ParseOption.{ParseOption}
 use Rattle.ini_text.specs.declared.error.ParseKind.{ParseKind}
 use Rattle.ini_text.specs.Grammar.CharacterKinds.{line_feed, carriage_return, is_blank, is_line_end, is_inline_white, BeginsWith, BeginsWithNo}
@@ -53,9 +54,9 @@ line_end-some LineEnd.lf = omega arith
 line_end-some LineEnd.cr_lf = omega arith
 line_end-some (LineEnd.cr n) = omega arith
 
-Str-closes : {e : Bool} {s r v : List ℕ} → Str e plain_ends s r v → Closes plain_ends r
+Str-closes : {e : Backslash} {s r v : List ℕ} → Str e plain_ends s r v → Closes plain_ends r
 Str-closes (Str.closed k h) = h
-Str-closes (Str.lone k h) = h
+Str-closes (Str.lone sp k h) = h
 
 pub Line-closes : {o : ParseOption} {first : Bool} {s r v : List ℕ} → Line o first s r v
     → Closes plain_ends r

@@ -5,7 +5,7 @@ use Rattle.std.specs.Prelude.{◌==◌, if◌then◌else◌, Option, Some, map}
 use Rattle.std.specs.Char.{is_whitespace}
 use Rattle.std.specs.List.{list_all}
 use Rattle.std.proofs.lemmas.List.{append-nil}
-use Rattle.std.proofs.lemmas.Bool.{and_parts, and_cases, eqb-false, not-true, false≢true, both_ways}
+use Rattle.std.proofs.lemmas.Bool.{and_parts, and_cases, and_left, and_right, eqb-false, not-true, false≢true, both_ways}
 use Rattle.ini_text.specs.Grammar.CharacterKinds.{backslash, equals, double_quote, open_bracket, close_bracket, is_blank, is_quote_mark, is_inline_white, BeginsWith, BeginsWithNo}
 use Rattle.ini_text.specs.Grammar.Positions.{starts_line}
 use Rattle.ini_text.specs.Grammar.WhiteSpace.{Lead, trimmed, end_trimmed}
@@ -14,6 +14,8 @@ use Rattle.ini_text.specs.Grammar.Strings.{Ends, is_endpoint, Row, Str, Closes, 
 use Rattle.ini_text.specs.Grammar.Lines.{Quoted, Line, BeginsPlain, plain_value}
 use Rattle.ini_text.specs.Grammar.Values.{Value, ValueStops}
 use Rattle.ini_text.specs.Grammar.Keys.{Indentation, begins_key, begins_indented_key, KeyFront}
+use Rattle.ini_text.specs.Options.Backslashes.{Backslash, Raw, is_special}
+use Rattle.ini_text.specs.Options.ReadOptions.{backslash_of}
 use Rattle.ini_text.specs.Grammar.Elements.{Given, Element, ElementStops, Gap}
 use Rattle.ini_text.specs.Grammar.Elements.Given.{Header, Pair}
 use Rattle.ini_text.specs.Grammar.Texts.{Reads, Derives, Stops}
@@ -90,26 +92,33 @@ closed_by ends [] h = h
 closed_by ends (c ∷ cs) h = h
 
 -- raw characters before a row
-pub raws_before : {escapes : Bool} {ends : Ends} {t v : List ℕ} (s : List ℕ)
-    → list_all (is_raw ends) s ≡ true → Row escapes ends t v → Row escapes ends (s ++ t) (s ++ v)
+pub raws_before : {b : Backslash} {ends : Ends} {t v : List ℕ} (s : List ℕ)
+    → list_all (is_raw ends) s ≡ true → Row b ends t v → Row b ends (s ++ t) (s ++ v)
 raws_before [] h row = row
-raws_before {ends = ends} (c ∷ s) h row =
+raws_before {b} {ends} (c ∷ s) h row =
     let parts = and_parts (is_raw ends c) (list_all (is_raw ends) s) h in
     let raw = and_parts (not (c == backslash)) (not (is_endpoint ends c)) parts.0 in
-    Row.raw (eqb-false c backslash (not-true (c == backslash) raw.0)) (not-true (is_endpoint ends c) raw.1)
-    (raws_before s parts.1 row)
+    Row.raw (and_left (c == backslash) (is_special b) (not-true (c == backslash) raw.0))
+    (not-true (is_endpoint ends c) raw.1) (raws_before s parts.1 row)
 
-pub raws : {escapes : Bool} {ends : Ends} (s : List ℕ) → list_all (is_raw ends) s ≡ true
-    → Row escapes ends s s
-raws {escapes} {ends} s h =
-    let row : Row escapes ends (s ++ []) (s ++ []) = raws_before s h Row.none in rw append-nil at row
+pub raws : {b : Backslash} {ends : Ends} (s : List ℕ) → list_all (is_raw ends) s ≡ true → Row b ends s s
+raws {b} {ends} s h =
+    let row : Row b ends (s ++ []) (s ++ []) = raws_before s h Row.none in rw append-nil at row
+
+-- where a backslash is a character like any other, all characters but endpoints are raw
+pub characters : {ends : Ends} (s : List ℕ) → list_all (λ c. not (is_endpoint ends c)) s ≡ true
+    → Row Raw ends s s
+characters [] h = Row.none
+characters {ends} (c ∷ s) h =
+    let parts = and_parts (not (is_endpoint ends c)) (list_all (λ e. not (is_endpoint ends e)) s) h in
+    Row.raw (and_right (c == backslash) false refl) (not-true (is_endpoint ends c) parts.0) (characters s parts.1)
 
 -- a string of raw characters
 abbrev pub is_raw_string : Ends → List ℕ → List ℕ → Bool
 is_raw_string ends s r = list_all (is_raw ends) s && closes ends r
 
-pub raw_string : {escapes : Bool} {ends : Ends} {r : List ℕ} (s : List ℕ) → is_raw_string ends s r ≡ true
-    → Str escapes ends s r s
+pub raw_string : {b : Backslash} {ends : Ends} {r : List ℕ} (s : List ℕ) → is_raw_string ends s r ≡ true
+    → Str b ends s r s
 raw_string {ends = ends} {r = r} s h = let parts = and_parts (list_all (is_raw ends) s) (closes ends r) h
     in Str.closed (raws s parts.0) (closed_by ends r parts.1)
 
@@ -152,7 +161,7 @@ begins_plain o cs h _ = begins_with_no is_quote_mark cs h
 -- a line without quotes
 pub unquoted_line : {o : ParseOption} {first : Bool} {s r v : List ℕ}
     → begins_no is_quote_mark (s ++ r) ≡ true
-    → Row o.enabled_escape plain_ends s v
+    → Row (backslash_of o) plain_ends s v
     → closes plain_ends r ≡ true → Line o first s r (plain_value first false v)
 unquoted_line {o} {s = s} {r = r} mark row close =
     Line.line Quoted.none (begins_plain o (s ++ r) mark) (Str.closed row (closed_by plain_ends r close))

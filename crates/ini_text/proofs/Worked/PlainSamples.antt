@@ -1,15 +1,17 @@
 -- Texts that are plain, and texts that aren't.
-use Rattle.std.proofs.Common.{◌≡◌, ◌≢◌, inl, inr, ℕ, Bool, true, false, not, ◌&&◌, eqb, eqb-true, List, [], ◌∷◌, refl, ap, sym, subst}
+use Rattle.std.proofs.Common.{◌≡◌, ◌≢◌, inl, inr, ℕ, Bool, true, false, not, ◌&&◌, ◌||◌, eqb, eqb-true, List, [], ◌∷◌, refl, ap, sym, subst}
 use Rattle.std.specs.Prelude.{codes}
 use Rattle.std.specs.List.{list_all}
 use Rattle.std.proofs.lemmas.Bool.{false≢true, true≢false, and_parts, and_from, and_right, not-true, or_cases, both_ways, false_from_ne_true}
-use Rattle.ini_text.specs.Options.ReadOptions.{default_parse_option}
+use Rattle.ini_text.specs.Options.Backslashes.{is_special}
+use Rattle.ini_text.specs.Options.ReadOptions.{backslash_of, default_parse_option}
 use Rattle.ini_text.specs.Laws.Plain.{HasReadEscapes, HasNoEscapes, IsBareKey, IsPlainKey, IsPlainName, IsPlainSeparator, IsPlainValue, IsReadBack, has_unread_letter}
 use Rattle.ini_text.specs.Escaping.Policies.{is_basic, is_escaped, is_extended}
 use Rattle.ini_text.specs.declared.option.ParseOption.{ParseOption}
 use Rattle.ini_text.specs.declared.write.policy.EscapePolicy.{EscapePolicy}
 use Rattle.ini_text.specs.declared.write.policy.EscapePolicy.TheVariants.{Nothing, Basics, Reserved, Everything}
 use Rattle.ini_text.proofs.PlainLemmas.EscapedTextLemmas.{basic-escaped}
+use Rattle.ini_text.proofs.Worked.WorkedBackslashes.{with_raw_backslashes}
 
 -- Where escapes are on and the policy isn't `Nothing`, a text that has no escapes and needs none is one
 -- whose escapes are read: so the two ways to be read back never mix in one document.
@@ -31,7 +33,7 @@ no_letter policy n c h =
     ]))))
 
 pub reads_none : (o : ParseOption) (policy : EscapePolicy) (text : List ℕ) → o.enabled_escape ≡ true
-    → policy ≢ Nothing → HasNoEscapes policy text → HasReadEscapes o policy text
+    → policy ≢ Nothing → HasNoEscapes o policy text → HasReadEscapes o policy text
 reads_none o policy text on n none = record {
   escapes = on;
   escaping = n;
@@ -56,8 +58,8 @@ spaced = record {
 }
 
 -- a text that needs no escapes, by any policy that escapes none of it
-letters : HasNoEscapes Basics (codes "a key")
-letters = record { no_escaped = refl; no_backslash = refl }
+letters : (o : ParseOption) → HasNoEscapes o Basics (codes "a key")
+letters o = record { no_escaped = refl; no_backslash = refl }
 
 -- a text with escapes that are read
 lines : HasReadEscapes default_parse_option Basics (codes "x\n\\y")
@@ -90,12 +92,23 @@ raw_emoji =
 surrogate : (o : ParseOption) (policy : EscapePolicy) → ¬ IsReadBack o policy (0xD800 ∷ [])
 surrogate o policy r = false≢true r.of_characters
 
--- a backslash that isn't escaped is read as the front of an escape
-raw_backslash : (o : ParseOption) → ¬ IsReadBack o Nothing (codes "a\\")
-raw_backslash o r = elim r.is_read [
+-- a backslash that isn't escaped takes the next character along, unless it is a character like any other
+raw_backslash : (o : ParseOption) → is_special (backslash_of o) ≡ true
+    → ¬ IsReadBack o Nothing (codes "a\\")
+raw_backslash o special r = elim r.is_read [
   | inl read ↦ read.escaping refl
-  | inr none ↦ false≢true none.no_backslash
+  | inr none ↦ false≢true (subst (λ x. (not (x || false) && true) ≡ true) special none.no_backslash)
 ]
+
+backslashes_that_stay : IsPlainValue with_raw_backslashes Nothing (codes "C:\\x\\")
+backslashes_that_stay = record {
+  is_trimmed = refl;
+  no_quote_mark = λ on. refl;
+  read_back = record {
+    of_characters = refl;
+    is_read = inr (record { no_escaped = refl; no_backslash = refl });
+  };
+}
 
 -- names
 -- a closing bracket stands in a name only where names may have brackets

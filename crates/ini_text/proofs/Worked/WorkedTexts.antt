@@ -4,6 +4,7 @@ use Rattle.std.specs.Prelude.{codes, ◌==◌, Some, None}
 use Rattle.std.specs.Char.{is_whitespace}
 use Rattle.std.specs.List.{list_all, list_any}
 use Rattle.std.proofs.lemmas.Bool.{false≢true, or_parts}
+use Rattle.ini_text.specs.Options.Backslashes.{Escape}
 use Rattle.ini_text.specs.Options.ReadOptions.{default_parse_option, without_escapes}
 use Rattle.ini_text.specs.Grammar.CharacterKinds.{backslash, line_feed, letter_x}
 use Rattle.ini_text.specs.Grammar.EscapeSequences.{control, EscapeSequence}
@@ -28,15 +29,15 @@ abbrev pub without_quotes : ParseOption
 without_quotes = record default_parse_option { enabled_quote = false }
 
 -- an escape before a row, named in the grammar or standing for its character
-named : {ends : Ends} {c v : ℕ} {s w : List ℕ} → control c ≡ Some v → Row true ends s w
-    → Row true ends (backslash ∷ c ∷ s) (v ∷ w)
-named e row = Row.escape (EscapeSequence.named refl e) row
+named : {ends : Ends} {c v : ℕ} {s w : List ℕ} → control c ≡ Some v → Row Escape ends s w
+    → Row Escape ends (backslash ∷ c ∷ s) (v ∷ w)
+named e row = Row.escape refl (EscapeSequence.named refl e) row
 
 itself : {ends : Ends} {c : ℕ} {s w : List ℕ} → (c == line_feed || c == letter_x) ≡ false
-    → control c ≡ None → Row true ends s w → Row true ends (backslash ∷ c ∷ s) (c ∷ w)
+    → control c ≡ None → Row Escape ends s w → Row Escape ends (backslash ∷ c ∷ s) (c ∷ w)
 itself {c = c} h e row =
     let parts = or_parts (c == line_feed) (c == letter_x) h in
-    Row.escape (EscapeSequence.itself refl (differs parts.0) (differs parts.1) e) row
+    Row.escape refl (EscapeSequence.itself refl (differs parts.0) (differs parts.1) e) row
 
 -- These characters are white space.
 pub white_space : list_all is_whitespace
@@ -93,7 +94,7 @@ escapes_by_name = derives (give (pair_of (codes "k") refl refl (one_line refl re
 pub continued_line : Derives without_escapes (codes "k=a\\\nb") (Pair (codes "k") (codes "ab") ∷ [])
 continued_line = derives (give (pair_of (codes "k") refl refl (one_line refl refl
     (unquoted_line refl (raws_before (codes "a") refl
-    (Row.escape EscapeSequence.folded (raws (codes "b") refl))) refl))) whole)
+    (Row.escape refl EscapeSequence.folded (raws (codes "b") refl))) refl))) whole)
 
 -- Kept, the indentation of a key belongs to it.
 pub key_with_kept_indentation : Derives with_kept_indentation (codes "# c\n  k=v")

@@ -10,6 +10,7 @@ use Rattle.ini_text.specs.Grammar.WhiteSpace.{trimmed}
 use Rattle.ini_text.specs.Grammar.Strings.{Str, StrStops, name_ends, bracketed_name_ends, key_ends}
 use Rattle.ini_text.specs.Grammar.Values.{Value, ValueStops}
 use Rattle.ini_text.specs.Grammar.Keys.{Indentation, begins_key, begins_indented_key, KeyFront}
+use Rattle.ini_text.specs.Options.ReadOptions.{backslash_of}
 use Rattle.ini_text.specs.declared.option.ParseOption.{ParseOption}
 use Rattle.ini_text.specs.declared.error.ParseKind.{ParseKind}
 use Rattle.ini_text.specs.declared.error.ParseKind.TheVariants.{EndOfText, HeaderEnd, InlineComment}
@@ -47,11 +48,11 @@ pub data Element (o : ParseOption) (b : List ℕ) : List ℕ → List ℕ → Li
       → list_all (λ c. not (is_line_feed c)) s ≡ true
       → Element o b (m ∷ s) [] []
   header : {s r v : List ℕ} → o.enabled_brackets_in_section_names ≡ false
-      → Str o.enabled_escape name_ends s (close_bracket ∷ r) v
+      → Str (backslash_of o) name_ends s (close_bracket ∷ r) v
       → Element o b (open_bracket ∷ (s ++ close_bracket ∷ [])) r (Header (trimmed v) ∷ [])
   -- with brackets in names a header goes up to its line end, and its last bracket ends the name
   bracketed_header : {s r v name : List ℕ} → o.enabled_brackets_in_section_names ≡ true
-      → Str o.enabled_escape bracketed_name_ends s r v → IsBracketed v name
+      → Str (backslash_of o) bracketed_name_ends s r v → IsBracketed v name
       → Element o b (open_bracket ∷ s) r (Header (trimmed name) ∷ [])
   pair : {k s r key v : List ℕ} {m : ℕ} → KeyFront o b k (m ∷ (s ++ r)) key → key ≢ []
       → is_separator m ≡ true → Value o s r v
@@ -59,25 +60,25 @@ pub data Element (o : ParseOption) (b : List ℕ) : List ℕ → List ℕ → Li
   -- blanks at the text's end, and an indented key that the text's end cuts short
   dropped_blanks : {w : List ℕ} → Indentation b w → Element o b w [] []
   dropped_key : {w s : List ℕ} → Indentation b w → BeginsWith begins_indented_key s
-      → StrStops o.enabled_escape key_ends s [] EndOfText
+      → StrStops (backslash_of o) key_ends s [] EndOfText
       → Element o b (w ++ s) [] []
 
 -- an element's source at whose end reading stops, before r
 pub data ElementStops (o : ParseOption) (b : List ℕ) : List ℕ → List ℕ → ParseKind → Type 0 where
   in_header : {s r : List ℕ} {kind : ParseKind} → o.enabled_brackets_in_section_names ≡ false
-      → StrStops o.enabled_escape name_ends s r kind → ElementStops o b (open_bracket ∷ s) r kind
+      → StrStops (backslash_of o) name_ends s r kind → ElementStops o b (open_bracket ∷ s) r kind
   in_bracketed_header : {s r : List ℕ} {kind : ParseKind} → o.enabled_brackets_in_section_names ≡ true
-      → StrStops o.enabled_escape bracketed_name_ends s r kind → ElementStops o b (open_bracket ∷ s) r kind
+      → StrStops (backslash_of o) bracketed_name_ends s r kind → ElementStops o b (open_bracket ∷ s) r kind
   -- no bracket ends the name, which is reported at the line end's first character
   no_header_end : {s r v : List ℕ} {c : ℕ} → o.enabled_brackets_in_section_names ≡ true
-      → Str o.enabled_escape bracketed_name_ends s (c ∷ r) v
+      → Str (backslash_of o) bracketed_name_ends s (c ∷ r) v
       → ((name : List ℕ) → ¬ IsBracketed v name)
       → ElementStops o b (open_bracket ∷ (s ++ c ∷ [])) r HeaderEnd
   in_key : {s r : List ℕ} {kind : ParseKind} → BeginsWith begins_key (s ++ r)
-      → StrStops o.enabled_escape key_ends s r kind → ElementStops o b s r kind
+      → StrStops (backslash_of o) key_ends s r kind → ElementStops o b s r kind
   -- the text's end is no fault in an indented key
   in_indented_key : {w s r : List ℕ} {kind : ParseKind} → Indentation b w
-      → BeginsWith begins_indented_key (s ++ r) → StrStops o.enabled_escape key_ends s r kind
+      → BeginsWith begins_indented_key (s ++ r) → StrStops (backslash_of o) key_ends s r kind
       → kind ≢ EndOfText → ElementStops o b (w ++ s) r kind
   no_key : {k r : List ℕ} {m : ℕ} → KeyFront o b k (m ∷ r) [] → is_separator m ≡ true
       → ElementStops o b (k ++ m ∷ []) r MissingKey

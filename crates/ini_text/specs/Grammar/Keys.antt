@@ -7,6 +7,7 @@ use Rattle.ini_text.specs.Grammar.CharacterKinds.{BeginsWith}
 use Rattle.ini_text.specs.Grammar.Positions.{starts_line}
 use Rattle.ini_text.specs.Grammar.WhiteSpace.{trimmed, end_trimmed}
 use Rattle.ini_text.specs.Grammar.Strings.{Str, key_ends}
+use Rattle.ini_text.specs.Options.ReadOptions.{backslash_of}
 use Rattle.ini_text.specs.declared.option.ParseOption.{ParseOption}
 
 -- the blanks with which a line begins after the front b, at least one
@@ -26,9 +27,9 @@ begins_indented_key c = not (is_blank c || is_line_end c || c == open_bracket)
 -- The source of a key before r, which begins with a separator, and the key. With kept indentation white
 -- space goes at the end alone.
 pub data KeyFront (o : ParseOption) (b : List ℕ) : List ℕ → List ℕ → List ℕ → Type 0 where
-  unindented : {s r v : List ℕ} → BeginsWith begins_key (s ++ r) → Str o.enabled_escape key_ends s r v
+  unindented : {s r v : List ℕ} → BeginsWith begins_key (s ++ r) → Str (backslash_of o) key_ends s r v
       → KeyFront o b s r (if o.enabled_preserve_key_leading_whitespace then end_trimmed v else trimmed v)
   indented : {w s r v : List ℕ} → Indentation b w → BeginsWith begins_indented_key (s ++ r)
-      → Str o.enabled_escape key_ends s r v
+      → Str (backslash_of o) key_ends s r v
       → KeyFront o b (w ++ s) r (if o.enabled_preserve_key_leading_whitespace then end_trimmed (w ++ v)
       else trimmed v)

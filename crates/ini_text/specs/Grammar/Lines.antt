@@ -3,6 +3,7 @@ use Rattle.std.specs.Prelude.{◌≡◌, ℕ, Bool, true, false, not, ◌&&◌, 
 use Rattle.ini_text.specs.Grammar.CharacterKinds.{is_quote_mark, BeginsWithNo}
 use Rattle.ini_text.specs.Grammar.WhiteSpace.{trimmed, end_trimmed}
 use Rattle.ini_text.specs.Grammar.Strings.{Str, StrStops, quote_ends, plain_ends}
+use Rattle.ini_text.specs.Options.ReadOptions.{backslash_of}
 use Rattle.ini_text.specs.declared.option.ParseOption.{ParseOption}
 use Rattle.ini_text.specs.declared.error.ParseKind.{ParseKind}
 
@@ -10,7 +11,7 @@ use Rattle.ini_text.specs.declared.error.ParseKind.{ParseKind}
 pub data Quoted (o : ParseOption) : List ℕ → List ℕ → Bool → Type 0 where
   none : Quoted o [] [] false
   part : {m : ℕ} {s v q w : List ℕ} {some : Bool} → o.enabled_quote ≡ true → is_quote_mark m ≡ true
-      → Str o.enabled_escape (quote_ends m) s (m ∷ []) v
+      → Str (backslash_of o) (quote_ends m) s (m ∷ []) v
       → Quoted o q w some → Quoted o (m ∷ (s ++ m ∷ q)) (v ++ w) true
 
 -- with quotes on, the plain part begins with no mark
@@ -24,14 +25,14 @@ plain_value first quoted v = if first && not quoted then trimmed v else end_trim
 -- the line of source s before r, with its value; `first` says that it is its value's first line
 pub data Line (o : ParseOption) (first : Bool) : List ℕ → List ℕ → List ℕ → Type 0 where
   line : {q w p r v : List ℕ} {quoted : Bool} → Quoted o q w quoted → BeginsPlain o (p ++ r)
-      → Str o.enabled_escape plain_ends p r v
+      → Str (backslash_of o) plain_ends p r v
       → Line o first (q ++ p) r (w ++ plain_value first quoted v)
 
 -- a line's source at whose end reading stops, before r
 pub data LineStops (o : ParseOption) : List ℕ → List ℕ → ParseKind → Type 0 where
   in_quotes : {q w s r : List ℕ} {quoted : Bool} {m : ℕ} {kind : ParseKind} → Quoted o q w quoted
       → o.enabled_quote ≡ true → is_quote_mark m ≡ true
-      → StrStops o.enabled_escape (quote_ends m) s r kind → LineStops o (q ++ m ∷ s) r kind
+      → StrStops (backslash_of o) (quote_ends m) s r kind → LineStops o (q ++ m ∷ s) r kind
   in_plain : {q w s r : List ℕ} {quoted : Bool} {kind : ParseKind} → Quoted o q w quoted
       → BeginsPlain o (s ++ r)
-      → StrStops o.enabled_escape plain_ends s r kind → LineStops o (q ++ s) r kind
+      → StrStops (backslash_of o) plain_ends s r kind → LineStops o (q ++ s) r kind

@@ -14,6 +14,7 @@ use Rattle.ini_text.specs.Inside.Scans.{run_of, skipped, trimmed_at}
 use Rattle.ini_text.specs.Inside.StringReader.{string}
 use Rattle.ini_text.specs.Inside.ValueReader.{value}
 use Rattle.ini_text.specs.Parsing.Items.{borrowed_item_of}
+use Rattle.ini_text.specs.Options.ReadOptions.{backslash_of}
 use Rattle.ini_text.specs.declared.error.ParseKind.{ParseKind}
 use Rattle.ini_text.specs.declared.error.ParseKind.TheVariants.{EndOfText, HeaderEnd, InlineComment}
 use Rattle.ini_text.specs.declared.error.ParseKind.TheVariants.{MissingKey}
@@ -52,8 +53,8 @@ bracketed_header (stopped r k) = stopped r k
 abbrev pub after_bracket : ParseOption → List ℕ → Answer Given
 after_bracket o cs =
     if o.enabled_brackets_in_section_names
-    then bracketed_header (string o.enabled_escape bracketed_name_ends cs)
-    else header (altered_answer (trimmed_at true) (string o.enabled_escape name_ends cs))
+    then bracketed_header (string (backslash_of o) bracketed_name_ends cs)
+    else header (altered_answer (trimmed_at true) (string (backslash_of o) name_ends cs))
 
 abbrev pub pair_of_value : List ℕ → Answer ℕ → Answer Given
 pair_of_value key (found v r) = found (Pair key v ∷ []) r
@@ -72,7 +73,7 @@ pair_of_key o (found key r) = after_separator o key (drop 1 r)
 pair_of_key o (stopped r k) = stopped r k
 
 abbrev pub unindented_pair : ParseOption → List ℕ → Answer Given
-unindented_pair o t = pair_of_key o (trimmed_key o (string o.enabled_escape key_ends t))
+unindented_pair o t = pair_of_key o (trimmed_key o (string (backslash_of o) key_ends t))
 
 -- the text's end is no fault in an indented key
 abbrev pub dropped_tail : List ℕ → ParseKind → Answer Given
@@ -89,7 +90,7 @@ kept_blanks o w = if o.enabled_preserve_key_leading_whitespace then w else []
 
 abbrev pub indented_pair : ParseOption → List ℕ → List ℕ → Answer Given
 indented_pair o w t =
-    indented_pair_of_key o (trimmed_key o (prepend (kept_blanks o w) (string o.enabled_escape key_ends t)))
+    indented_pair_of_key o (trimmed_key o (prepend (kept_blanks o w) (string (backslash_of o) key_ends t)))
 
 -- after the blanks w at a line's start
 abbrev pub after_blanks : ParseOption → List ℕ → List ℕ → Answer Given

@@ -6,6 +6,7 @@ use Rattle.ini_text.specs.Grammar.Strings.{Ends, quote_ends, plain_ends}
 use Rattle.ini_text.specs.Inside.Reading.{Answer, found, stopped, altered_answer, and_then, Step, more, ends}
 use Rattle.ini_text.specs.Inside.Reading.{read_by}
 use Rattle.ini_text.specs.Inside.StringReader.{string}
+use Rattle.ini_text.specs.Options.ReadOptions.{backslash_of}
 use Rattle.ini_text.specs.declared.option.ParseOption.{ParseOption}
 
 -- where the quoted part ends that begins here, and what follows its mark
@@ -22,7 +23,7 @@ after_quoted (stopped r k) = ends (stopped r k)
 
 abbrev pub part_of : ParseOption → List ℕ → Option (Ends × List ℕ) → Step ℕ
 part_of o t None = ends (found [] t)
-part_of o t (Some p) = after_quoted (string o.enabled_escape p.0 p.1)
+part_of o t (Some p) = after_quoted (string (backslash_of o) p.0 p.1)
 
 abbrev pub part : ParseOption → List ℕ → Step ℕ
 part o t = part_of o t (quote_at o t)
@@ -33,7 +34,7 @@ parts o t = read_by (part o) t
 
 abbrev pub plain_part : ParseOption → Bool → Bool → List ℕ → Answer ℕ
 plain_part o first quoted t =
-    altered_answer (plain_value first quoted) (string o.enabled_escape plain_ends t)
+    altered_answer (plain_value first quoted) (string (backslash_of o) plain_ends t)
 
 unfoldable pub line : ParseOption → Bool → List ℕ → Answer ℕ
 line o first t = and_then (plain_part o first (opens_quote o t)) (parts o t)

@@ -17,6 +17,7 @@ use Rattle.ini_text.specs.Inside.ValueReader.{more_lines, value}
 use Rattle.ini_text.specs.Parsing.Fronts.{front_of, IsRest}
 use Rattle.ini_text.specs.Parsing.Parser.{TellsRefusal, refusal_of}
 use Rattle.ini_text.specs.Parsing.Places.{StandsBetween, RefusesElement, stretches_of}
+use Rattle.ini_text.specs.Options.ReadOptions.{backslash_of}
 use Rattle.ini_text.specs.declared.error.Error.{Error}
 use Rattle.ini_text.specs.Parsing.Items.{cow_text}
 use Rattle.ini_text.specs.declared.option.ParseOption.{ParseOption}
@@ -68,7 +69,7 @@ HasLines o text rests r =
 -- the value's own lines stand between `start` and `tail`
 pub record ReadsPair (o : ParseOption) (text after_key start tail gives rest : List ℕ) : Type 0 where
   pub key : List ℕ
-  pub key_is : string o.enabled_escape key_ends (skipped is_blank text) ≡ found key after_key
+  pub key_is : string (backslash_of o) key_ends (skipped is_blank text) ≡ found key after_key
   pub value_is : HasTail o (drop 1 after_key) start tail gives rest
 
 -- where the value stands that was read

@@ -3,8 +3,10 @@ use Rattle.std.specs.Prelude.{ℕ, Bool, true, false, not, ◌&&◌, ◌||◌, �
 use Rattle.std.specs.Char.{is_whitespace}
 use Rattle.std.specs.List.{list_all}
 use Rattle.std.specs.Str.{bytes_eq}
-use Rattle.ini_text.specs.Grammar.CharacterKinds.{backslash, close_bracket, open_bracket, space, is_blank}
+use Rattle.ini_text.specs.Grammar.CharacterKinds.{close_bracket, open_bracket, space, is_blank}
 use Rattle.ini_text.specs.Grammar.CharacterKinds.{is_comment_mark, is_line_end, is_quote_mark, is_separator}
+use Rattle.ini_text.specs.Options.Backslashes.{begins_escape}
+use Rattle.ini_text.specs.Options.ReadOptions.{backslash_of}
 use Rattle.ini_text.specs.Laws.Plain.{has_unread_letter}
 use Rattle.ini_text.specs.Escaping.Policies.{is_escaped, is_extended}
 use Rattle.ini_text.specs.Inside.Scans.{skipped}
@@ -53,18 +55,18 @@ abbrev pub is_read_escaped : EscapePolicy → ℕ → Bool
 is_read_escaped policy c = not (has_unread_letter c) && not (is_extended c && is_escaped policy c)
 
 -- the character is written as it is, and read so
-abbrev pub is_read_raw : EscapePolicy → ℕ → Bool
-is_read_raw policy c = not (is_escaped policy c) && not (c == backslash || is_line_end c)
+abbrev pub is_read_raw : ParseOption → EscapePolicy → ℕ → Bool
+is_read_raw o policy c = not (is_escaped policy c) && not (begins_escape (backslash_of o) c || is_line_end c)
 
 abbrev pub has_read_escapes : ParseOption → EscapePolicy → List ℕ → Bool
 has_read_escapes o policy text =
     o.enabled_escape && (not (escapes_nothing policy) && list_all (is_read_escaped policy) text)
 
-abbrev pub has_no_escapes : EscapePolicy → List ℕ → Bool
-has_no_escapes policy text = list_all (is_read_raw policy) text
+abbrev pub has_no_escapes : ParseOption → EscapePolicy → List ℕ → Bool
+has_no_escapes o policy text = list_all (is_read_raw o policy) text
 
 abbrev pub is_read_back : ParseOption → EscapePolicy → List ℕ → Bool
-is_read_back o policy text = has_read_escapes o policy text || has_no_escapes policy text
+is_read_back o policy text = has_read_escapes o policy text || has_no_escapes o policy text
 
 abbrev pub has_no_close_bracket : List ℕ → Bool
 has_no_close_bracket name = list_all (λ c. not (c == close_bracket)) name

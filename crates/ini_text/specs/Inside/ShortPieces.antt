@@ -1,7 +1,8 @@
 -- Short pieces of a string, which are gathered in a block.
-use Rattle.std.specs.Prelude.{◌≡◌, ◌≤◌, ◌<◌, ◌+◌, ℕ, true, not, List, [], ◌∷◌, ◌++◌, take, drop, length}
+use Rattle.std.specs.Prelude.{◌≡◌, ◌≤◌, ◌<◌, ◌+◌, ℕ, not, List, [], ◌∷◌, ◌++◌, take, drop, length}
 use Rattle.std.specs.Prelude.{chars}
 use Rattle.std.specs.Str.{IsUtf8, IsCharBoundary}
+use Rattle.ini_text.specs.Options.Backslashes.{Escape}
 use Rattle.ini_text.specs.Grammar.Strings.{Ends}
 use Rattle.ini_text.specs.Inside.Lanes.{Tells}
 use Rattle.ini_text.specs.Inside.Reading.{prepend}
@@ -16,8 +17,8 @@ Sees to bits text = Tells (λ c. not (is_raw to c)) 16 bits text
 pub record IsEscape (text : List ℕ) (v n : ℕ) : Type 0 where
   pub few : n ≤ 6
   pub cut : IsCharBoundary text n
-  pub read : (to : Ends) → string true to (chars text)
-      ≡ prepend (v ∷ []) (string true to (chars (drop n text)))
+  pub read : (to : Ends) → string Escape to (chars text)
+      ≡ prepend (v ∷ []) (string Escape to (chars (drop n text)))
   pub shorter : length (chars (drop n text)) < length (chars text)
 
 -- at the text's front: a run of n bytes, and after it an escape of k bytes that stands for the character v
@@ -27,6 +28,6 @@ pub record IsShort (to : Ends) (text : List ℕ) (n v k : ℕ) : Type 0 where
   pub long : 16 ≤ length text
   pub run : IsUtf8 (take n text)
   pub cut : IsCharBoundary text (n + k)
-  pub read : string true to (chars text)
-      ≡ prepend (chars (take n text) ++ v ∷ []) (string true to (chars (drop (n + k) text)))
+  pub read : string Escape to (chars text)
+      ≡ prepend (chars (take n text) ++ v ∷ []) (string Escape to (chars (drop (n + k) text)))
   pub shorter : length (chars (drop (n + k) text)) < length (chars text)

@@ -3,6 +3,7 @@ use Rattle.std.specs.Prelude.{◌≡◌, ℕ, zero, suc, ◌==◌, ◌&&◌, Boo
 use Rattle.std.specs.Prelude.{Some, None, unwrap_or}
 use Rattle.ini_text.specs.Grammar.CharacterKinds.{backslash, letter_x, line_feed}
 use Rattle.ini_text.specs.Grammar.EscapeSequences.{control, spelled_by}
+use Rattle.ini_text.specs.Options.Backslashes.{Backslash, reads_escapes, begins_escape}
 use Rattle.ini_text.specs.Grammar.Strings.{Ends, is_endpoint}
 use Rattle.ini_text.specs.Inside.Reading.{Answer, found, stopped, and_then, Step, more, ends, read_by}
 use Rattle.ini_text.specs.declared.error.ParseKind.TheVariants.{EndOfText, BrokenEscape, UnknownCharacter}
@@ -55,16 +56,16 @@ escape e to [] = ends (at_end to (backslash ∷ []))
 escape e to (c ∷ cs) =
     if c == letter_x && e then as_step (coded_character cs) else more (value_after_backslash e c) cs
 
-abbrev pub piece : Bool → Ends → List ℕ → Step ℕ
-piece e to [] = ends (at_end to [])
-piece e to (c ∷ cs) =
-    if c == backslash then escape e to cs
+abbrev pub piece : Backslash → Ends → List ℕ → Step ℕ
+piece b to [] = ends (at_end to [])
+piece b to (c ∷ cs) =
+    if begins_escape b c then escape (reads_escapes b) to cs
     else if is_endpoint to c then ends (found [] (c ∷ cs))
     else more (c ∷ []) cs
 
-unfoldable pub string : Bool → Ends → List ℕ → Answer ℕ
-string e to t = read_by (piece e to) t
+unfoldable pub string : Backslash → Ends → List ℕ → Answer ℕ
+string b to t = read_by (piece b to) t
 
--- with escapes and without, the string at the front of a text is v, and r follows it
+-- whatever a backslash is, the string at the front of a text is v, and r follows it
 abbrev pub ReadsRaw : Ends → List ℕ → List ℕ → List ℕ → Type 0
-ReadsRaw to t v r = (e : Bool) → string e to t ≡ found v r
+ReadsRaw to t v r = (b : Backslash) → string b to t ≡ found v r

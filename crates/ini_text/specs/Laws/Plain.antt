@@ -3,9 +3,11 @@ use Rattle.std.specs.Prelude.{◌≡◌, ◌≢◌, ◌⊎◌, ℕ, Bool, true, 
 use Rattle.std.specs.Char.{is_whitespace}
 use Rattle.std.specs.List.{list_all}
 use Rattle.std.specs.Str.{all_scalars}
-use Rattle.ini_text.specs.Grammar.CharacterKinds.{backslash, close_bracket, open_bracket, space, is_blank}
+use Rattle.ini_text.specs.Grammar.CharacterKinds.{close_bracket, open_bracket, space, is_blank}
 use Rattle.ini_text.specs.Grammar.CharacterKinds.{is_comment_mark, is_line_end, is_quote_mark, is_separator}
 use Rattle.ini_text.specs.Grammar.CharacterKinds.{BeginsWith, BeginsWithNo}
+use Rattle.ini_text.specs.Options.Backslashes.{begins_escape}
+use Rattle.ini_text.specs.Options.ReadOptions.{backslash_of}
 use Rattle.ini_text.specs.Escaping.Policies.{is_escaped, is_extended}
 use Rattle.ini_text.specs.Grammar.WhiteSpace.{trimmed, end_trimmed}
 use Rattle.ini_text.specs.declared.option.ParseOption.{ParseOption}
@@ -41,11 +43,11 @@ pub record HasReadEscapes (o : ParseOption) (policy : EscapePolicy) (text : List
   pub no_extended : list_all (λ c. not (is_extended c && is_escaped policy c)) text ≡ true
 
 -- the text has no escapes and needs none
-pub record HasNoEscapes (policy : EscapePolicy) (text : List ℕ) : Type 0 where
+pub record HasNoEscapes (o : ParseOption) (policy : EscapePolicy) (text : List ℕ) : Type 0 where
   -- no character is escaped by the policy
   pub no_escaped : list_all (λ c. not (is_escaped policy c)) text ≡ true
-  -- no character is a backslash, LF or CR
-  pub no_backslash : list_all (λ c. not (c == backslash || is_line_end c)) text ≡ true
+  -- no character is LF, CR or a backslash, unless that is a character like any other
+  pub no_backslash : list_all (λ c. not (begins_escape (backslash_of o) c || is_line_end c)) text ≡ true
 
 -- The characters of the text are read back, each as itself. (Of two texts the one may be so by its escapes
 -- and the other without any; but where escapes are on and the policy isn't `Nothing`, a text that
@@ -54,7 +56,7 @@ pub record IsReadBack (o : ParseOption) (policy : EscapePolicy) (text : List ℕ
   -- it is made of characters, as each text that a program holds is: it has no surrogates
   pub of_characters : all_scalars text ≡ true
   -- its escapes are read, or it has none and needs none
-  pub is_read : HasReadEscapes o policy text ⊎ HasNoEscapes policy text
+  pub is_read : HasReadEscapes o policy text ⊎ HasNoEscapes o policy text
 
 -- the name of a section
 pub record IsPlainName (o : ParseOption) (policy : EscapePolicy) (name : List ℕ) : Type 0 where

@@ -1,8 +1,9 @@
 -- The options that are used where none are given.
-use Rattle.std.specs.Prelude.{true, false}
+use Rattle.std.specs.Prelude.{true, false, if◌then◌else◌}
+use Rattle.ini_text.specs.Options.Backslashes.{Backslash, Escape, Kept, Raw}
 use Rattle.ini_text.specs.declared.option.ParseOption.{ParseOption}
 
--- quotes and escapes on; multiline values, kept indentation and brackets in names off
+-- quotes and escapes on; multiline values, kept indentation, brackets in names and raw backslashes off
 abbrev pub default_parse_option : ParseOption
 default_parse_option = record {
   enabled_quote = true;
@@ -10,8 +11,16 @@ default_parse_option = record {
   enabled_indented_mutiline_value = false;
   enabled_preserve_key_leading_whitespace = false;
   enabled_brackets_in_section_names = false;
+  enabled_raw_backslash = false;
 }
 
 -- the same with escapes off
 abbrev pub without_escapes : ParseOption
 without_escapes = record default_parse_option { enabled_escape = false }
+
+-- what a backslash is: where escapes are on, raw backslashes change nothing
+abbrev pub backslash_of : ParseOption → Backslash
+backslash_of o =
+    if o.enabled_escape then Escape
+    else if o.enabled_raw_backslash then Raw
+    else Kept

@@ -6,6 +6,7 @@ ghost use Rattle.ini_text.specs.Inside.ElementReader.{after_bracket, bracketed_h
 ghost use Rattle.ini_text.specs.Inside.ElementReader.{header_of_name, name_in};
 ghost use Rattle.ini_text.specs.Inside.PlaceReader.{IsHeader};
 ghost use Rattle.ini_text.specs.Inside.Reading.{Gives, StopsBy, found};
+ghost use Rattle.ini_text.specs.Options.ReadOptions.{backslash_of};
 ghost use Rattle.ini_text.specs.Inside.StringReader.{string};
 
 use crate::error::ParseKind;
@@ -33,14 +34,7 @@ pub(crate) fn read_header<'a>(
     if read.enabled_brackets_in_section_names {
         return read_bracketed_header(alloc, scratch, text, read);
     }
-    let (name, rest) = read_trimmed(
-        alloc,
-        scratch,
-        text,
-        read.enabled_escape,
-        Endpoints::Name,
-        true,
-    )?;
+    let (name, rest) = read_trimmed(alloc, scratch, text, read, Endpoints::Name, true)?;
     Ok((Some(BorrowedItem::Header(name)), after_first(rest)))
 }
 
@@ -54,14 +48,14 @@ fn read_bracketed_header<'a>(
 ) -> Result<(Option<BorrowedItem<'a>>, &'a str), Stop<'a>>
     ensures header { IfOk result (λ p. IsHeader p.0) }
     ensures gives { Gives given result
-        (bracketed_header (string read.enabled_escape bracketed_name_ends (chars text.now))) }
+        (bracketed_header (string (backslash_of read) bracketed_name_ends (chars text.now))) }
 {
     if let Some((run, rest)) = split_raw(text, Endpoints::BracketedName) {
         let name = name_before(run, rest)?;
         return Ok((Some(BorrowedItem::Header(CowStr::Borrowed(name))), rest));
     }
     scratch.clear();
-    let rest = read_string(scratch, text, read.enabled_escape, Endpoints::BracketedName)?;
+    let rest = read_string(scratch, text, read, Endpoints::BracketedName)?;
     let name = name_before(scratch.as_str(), rest)?;
     let kept = String::from_str(alloc, name)?;
     Ok((Some(BorrowedItem::Header(CowStr::Owned(kept))), rest))

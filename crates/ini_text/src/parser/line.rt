@@ -41,14 +41,7 @@ pub(crate) fn read_first_line<'a>(
     ensures { Gives cow_text result (line read true (chars text.now)) }
 {
     match split_quote_mark(text, read) {
-        None => read_trimmed(
-            alloc,
-            scratch,
-            text,
-            read.enabled_escape,
-            Endpoints::Plain,
-            true,
-        ),
+        None => read_trimmed(alloc, scratch, text, read, Endpoints::Plain, true),
         Some(_) => {
             scratch.clear();
             let end = read_line(alloc, scratch, text, read, true)?;
@@ -74,12 +67,12 @@ pub(crate) fn read_line<'a>(
     let mut rest = text;
     let mut is_quoted = false;
     'parts: while let Some((ends, after)) = split_quote_mark(rest, read) {
-        let end = read_string(out, after, read.enabled_escape, ends)?;
+        let end = read_string(out, after, read, ends)?;
         rest = after_first(end);
         is_quoted = true;
     }
     let start = out.len();
-    let end = read_string(out, rest, read.enabled_escape, Endpoints::Plain)?;
+    let end = read_string(out, rest, read, Endpoints::Plain)?;
     trim_from(alloc, out, start, is_first && !is_quoted)?;
     Ok(end)
 }

@@ -9,6 +9,7 @@ ghost use Rattle.ini_text.specs.Grammar.Strings.{key_ends};
 ghost use Rattle.ini_text.specs.Inside.PlaceReader.{HasRests, HasValueRests, IsHeader};
 ghost use Rattle.ini_text.specs.Inside.Reading.{Answer, Gives, StopsBy, prepend};
 ghost use Rattle.ini_text.specs.Inside.Scans.{run_of, skipped};
+ghost use Rattle.ini_text.specs.Options.ReadOptions.{backslash_of};
 ghost use Rattle.ini_text.specs.Inside.StringReader.{string};
 ghost use Rattle.ini_text.specs.Parsing.Items.{cow_text};
 ghost use Rattle.ini_text.specs.declared.option.ParseOption.{ParseOption};
@@ -43,14 +44,7 @@ pub(crate) fn read_unindented<'a>(
         → IfOk result (λ p. HasRests read (chars text.now) rests.new p.0 (chars p.1.now)) }
 {
     let both = !read.enabled_preserve_key_leading_whitespace;
-    let (key, rest) = read_trimmed(
-        alloc,
-        scratch,
-        text,
-        read.enabled_escape,
-        Endpoints::Key,
-        both,
-    )?;
+    let (key, rest) = read_trimmed(alloc, scratch, text, read, Endpoints::Key, both)?;
     read_pair(alloc, scratch, rests, places, key, rest, read)
 }
 
@@ -95,20 +89,13 @@ fn read_indented_key<'a>(
     read: ParseOption,
 ) -> Result<(CowStr<'a>, &'a str), Stop<'a>>
     ensures { Gives cow_text result (trimmed_key read (prepend (kept_blanks read (chars blanks.now))
-        (string read.enabled_escape key_ends (chars text.now)))) }
+        (string (backslash_of read) key_ends (chars text.now)))) }
 {
     if !read.enabled_preserve_key_leading_whitespace {
-        return read_trimmed(
-            alloc,
-            scratch,
-            text,
-            read.enabled_escape,
-            Endpoints::Key,
-            true,
-        );
+        return read_trimmed(alloc, scratch, text, read, Endpoints::Key, true);
     }
     let mut key = String::from_str(alloc, blanks)?;
-    let rest = read_string(&mut key, text, read.enabled_escape, Endpoints::Key)?;
+    let rest = read_string(&mut key, text, read, Endpoints::Key)?;
     let key = trim(alloc, key, false)?;
     Ok((CowStr::Owned(key), rest))
 }

@@ -6,6 +6,8 @@ ghost use Rattle.ini_text.specs.Buffered.{buffered};
 ghost use Rattle.ini_text.specs.Inside.Endpoints.{ends_of};
 ghost use Rattle.ini_text.specs.Inside.Reading.{found, prepend};
 ghost use Rattle.ini_text.specs.Inside.ShortPieces.{IsEscape, IsShort, Sees};
+ghost use Rattle.ini_text.specs.Options.Backslashes.{Escape};
+ghost use Rattle.ini_text.specs.Options.ReadOptions.{backslash_of};
 ghost use Rattle.ini_text.specs.Inside.StringReader.{coded_character, string};
 ghost use Rattle.ini_text.specs.Parsing.Items.{string_text};
 ghost use Rattle.ini_text.specs.declared.lanes.TheConstants.{LANES};
@@ -13,6 +15,7 @@ ghost use Rattle.ini_text.specs.declared.parser.short.TheConstants.{BLOCK_LENGTH
 
 use crate::buffer::{Buffer, LONGEST_CHARACTER, place_char};
 use crate::lanes::{LANES, marks_ahead, place_lanes};
+use crate::option::ParseOption;
 use crate::parser::endpoints::Endpoints;
 use crate::parser::tables::{digit, letter_value};
 use crate::text::push_text;
@@ -34,15 +37,15 @@ const CODE: usize = 4;
 pub(crate) fn read_short<'a>(
     out: &mut String,
     text: &'a str,
-    escapes: bool,
+    read: ParseOption,
     ends: Endpoints,
 ) -> Result<&'a str, AllocError>
     ensures read { IfOk result (λ rest.
-        prepend (string_text out.old) (string escapes (ends_of ends) (chars text.now))
-        ≡ prepend (string_text out.new) (string escapes (ends_of ends) (chars rest.now))) }
+        prepend (string_text out.old) (string (backslash_of read) (ends_of ends) (chars text.now))
+        ≡ prepend (string_text out.new) (string (backslash_of read) (ends_of ends) (chars rest.now))) }
     ensures shorter { IfOk result (λ rest. length (chars rest.now) ≤ length (chars text.now)) }
 {
-    if !escapes {
+    if !read.enabled_escape {
         return Ok(text);
     }
     let mut block: Buffer<BLOCK_LENGTH> = Buffer::new();
@@ -66,8 +69,8 @@ impl Buffer<BLOCK_LENGTH> {
     #[inline(always)]
     fn push_pieces<'a>(&mut self, text: &'a str, ends: Endpoints) -> &'a str
         requires { buffered self.old ≡ [] }
-        ensures read { string true (ends_of ends) (chars text.now)
-            ≡ prepend (chars (buffered self.new)) (string true (ends_of ends) (chars result.now)) }
+        ensures read { string Escape (ends_of ends) (chars text.now)
+            ≡ prepend (chars (buffered self.new)) (string Escape (ends_of ends) (chars result.now)) }
         ensures shorter { length (chars result.now) ≤ length (chars text.now) }
     {
         let mut len = self.len;

@@ -3,10 +3,12 @@ ghost use Rattle.std.specs.Prelude.{◌≡◌, ◌∷◌, ◌++◌, [], chars, u
 ghost use Rattle.ini_text.specs.Inside.Endpoints.{ends_of};
 ghost use Rattle.ini_text.specs.Grammar.EscapeSequences.{control, spelled, spelled_by};
 ghost use Rattle.ini_text.specs.Inside.Reading.{prepend, Appends, Gives};
+ghost use Rattle.ini_text.specs.Options.ReadOptions.{backslash_of};
 ghost use Rattle.ini_text.specs.Inside.StringReader.{ReadsRaw, coded_character, string, unit, value_after_backslash};
 ghost use Rattle.ini_text.specs.Parsing.Items.{string_text};
 
 use crate::error::ParseKind;
+use crate::option::ParseOption;
 use crate::parser::endpoints::{Endpoints, split_run};
 use crate::parser::fault::Stop;
 use crate::parser::short::{read_short, split_coded};
@@ -40,11 +42,11 @@ pub(crate) fn split_raw(text: &str, ends: Endpoints) -> Option<(&str, &str)>
 pub(crate) fn read_string<'a>(
     out: &mut String,
     text: &'a str,
-    escapes: bool,
+    read: ParseOption,
     ends: Endpoints,
 ) -> Result<&'a str, Stop<'a>>
     ensures { Appends (string_text out.new) result
-        (prepend (string_text out.old) (string escapes (ends_of ends) (chars text.now))) }
+        (prepend (string_text out.old) (string (backslash_of read) (ends_of ends) (chars text.now))) }
 {
     let mut rest = text;
     'pieces: loop {
@@ -59,6 +61,11 @@ pub(crate) fn read_string<'a>(
         if c != '\\' {
             return Ok(next);
         }
+        if !read.has_special_backslash() {
+            push(out, '\\')?;
+            rest = after;
+            continue;
+        }
         let Some((d, following)) = split_first(after) else {
             if !ends.contains_text_end() {
                 return Err(Stop::new(ParseKind::EndOfText, ends.expected(), after));
@@ -66,13 +73,13 @@ pub(crate) fn read_string<'a>(
             push(out, '\\')?;
             return Ok(after);
         };
-        rest = if escapes && d == 'x' {
+        rest = if read.enabled_escape && d == 'x' {
             read_coded(out, following, ends)?
         } else {
-            push_escaped(out, d, escapes)?;
+            push_escaped(out, d, read.enabled_escape)?;
             following
         };
-        rest = read_short(out, rest, escapes, ends)?;
+        rest = read_short(out, rest, read, ends)?;
     }
 }
 

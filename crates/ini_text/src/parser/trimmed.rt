@@ -4,9 +4,11 @@ ghost use Rattle.std.specs.Prelude.{chars};
 ghost use Rattle.ini_text.specs.Inside.Endpoints.{ends_of};
 ghost use Rattle.ini_text.specs.Inside.Reading.{altered_answer, Gives};
 ghost use Rattle.ini_text.specs.Inside.Scans.{trimmed_at};
+ghost use Rattle.ini_text.specs.Options.ReadOptions.{backslash_of};
 ghost use Rattle.ini_text.specs.Inside.StringReader.{string};
 ghost use Rattle.ini_text.specs.Parsing.Items.{cow_text};
 
+use crate::option::ParseOption;
 use crate::parser::endpoints::Endpoints;
 use crate::parser::fault::Stop;
 use crate::parser::string::{read_string, split_raw};
@@ -21,19 +23,19 @@ pub(crate) fn read_trimmed<'a>(
     alloc: Global,
     scratch: &mut String,
     text: &'a str,
-    escapes: bool,
+    read: ParseOption,
     ends: Endpoints,
     both: bool,
 ) -> Result<(CowStr<'a>, &'a str), Stop<'a>>
     ensures { Gives cow_text result
-        (altered_answer (trimmed_at both) (string escapes (ends_of ends) (chars text.now))) }
+        (altered_answer (trimmed_at both) (string (backslash_of read) (ends_of ends) (chars text.now))) }
 {
     // Most strings are one run of the text: they are borrowed.
     if let Some((run, rest)) = split_raw(text, ends) {
         return Ok((CowStr::Borrowed(trimmed(run, both)), rest));
     }
     scratch.clear();
-    let rest = read_string(scratch, text, escapes, ends)?;
+    let rest = read_string(scratch, text, read, ends)?;
     let kept = String::from_str(alloc, trimmed(scratch.as_str(), both))?;
     Ok((CowStr::Owned(kept), rest))
 }

@@ -104,5 +104,9 @@ fn options_make_it_right(rt: HostRuntime) -> Result<(), Fail> {
         ("[C:\\temp]\npath = C:\\temp\na\\tb = 'tis", ""),
         ("p=C:\\\nq=1\n", "1:5 joined-line;"),
     ];
+    expect_traps(&rt, read, &rows)?;
+    read.enabled_quote = true;
+    read.enabled_raw_backslash = true;
+    let rows = [("p=C:\\\nq=1\n", ""), ("p=\"C:\\\"\nq=1\n", "")];
     expect_traps(&rt, read, &rows)
 }

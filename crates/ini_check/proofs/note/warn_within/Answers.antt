@@ -24,7 +24,7 @@ pub characters-preserved : goal.characters-preserved
 characters-preserved c =
     let x = c.in-Some.c in
     let cs = chars c.in-Some.after.now in
-    let splits = inner_splits c.args.quotes c.args.is_list c.characters.state c.next-state.result
+    let splits = inner_splits c.args.read c.args.is_list c.characters.state c.next-state.result
     (chars c.characters.rest.now) cs x c.trap_at-trap.result c.in-Some.ensures.characters
     c.trap_at-trap.ensures c.next-state.ensures in
     record {
@@ -33,7 +33,7 @@ characters-preserved c =
           (room_less (omega (arith, ap length c.in-Some.ensures.characters)) c.characters.invariant.room);
       warned = warned_step c.characters.invariant.warned x
           (λ b. warned_of b (x ∷ []) c.trap_at-trap.result)
-          (λ b. inner_warnings c.args.quotes c.args.is_list c.next-state.result b cs)
+          (λ b. inner_warnings c.args.read c.args.is_list c.next-state.result b cs)
           splits c.in_ok-warn_character.ensures.warned c.after-position.ensures.at;
     }
 
@@ -41,4 +41,4 @@ pub returns-clause-warned : goal.returns-clause-warned
 returns-clause-warned c =
     warned_end c.characters.invariant.warned
     (λ b.
-    ap (inner_warnings c.args.quotes c.args.is_list c.characters.state b) c.in_default.ensures.characters)
+    ap (inner_warnings c.args.read c.args.is_list c.characters.state b) c.in_default.ensures.characters)

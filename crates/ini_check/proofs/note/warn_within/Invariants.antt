@@ -15,6 +15,6 @@ invariant-characters l = record {
   text : shadow (Utf8 l.rest);
   room : HasRoom (length (chars l.rest)) l.position;
   warned : Warned l.fn.position l.position l.fn.warnings.items l.warnings.items
-      (λ b. inner_warnings l.fn.quotes l.fn.is_list Front b (chars l.fn.value))
-      (λ b. inner_warnings l.fn.quotes l.fn.is_list l.state b (chars l.rest));
+      (λ b. inner_warnings l.fn.read l.fn.is_list Front b (chars l.fn.value))
+      (λ b. inner_warnings l.fn.read l.fn.is_list l.state b (chars l.rest));
 }

@@ -13,11 +13,10 @@ returns-clause-warned c b at =
     let key = chars c.args.key.now in
     let f = b ++ space_of source in
     let v = chars c.value_of-value.result.now in
-    let quotes = c.args.read.enabled_quote in
     let old = c.args.warnings.now.items in
     let begins = c.over_space-begins.ensures.at b at in
     let ends = c.over_line.ensures f begins in
-    let inner : Bool → Text → List Warning = λ l x. inner_warnings quotes l Front f x in
+    let inner : Bool → Text → List Warning = λ l x. inner_warnings c.args.read l Front f x in
     let traps = value_traps c.args.read source in
     c.in_ok-warn_within.ensures.warned f begins
     ∙ ap (λ ws. ws ++ inner c.is_list-is_list.result v)

@@ -189,11 +189,11 @@ fn push_spaces(out: &mut String, count: usize) -> Result<(), Error>
 // The blanks after a key.
 fn pad_for<'t>(rules: &Rules<'t>, bare: &str, pad: &'t str) -> &'t str
     ensures { chars result.now
-        ≡ pad_for (rules_of rules.now).style (chars bare.now) (chars pad.now) }
+        ≡ pad_for (rules_of rules.now).option (rules_of rules.now).style (chars bare.now) (chars pad.now) }
 {
     match rules.style {
         Some(style) => {
-            if last_or(' ', bare) == '\\' {
+            if last_or(' ', bare) == '\\' && rules.read.has_special_backslash() {
                 pad
             } else {
                 style.pad

@@ -65,7 +65,7 @@ pub(crate) fn push_end(out: &mut String, rules: &Rules<'_>) -> Result<(), Error>
         ≡ string_text out.old ++ end_after (rules_of rules.now) (string_text out.old)) }
     ensures only { IsOkUnless result (Error.Memory alloc_error) }
 {
-    if takes_no_end(out.as_str()) {
+    if takes_no_end(out.as_str(), rules.read) {
         return Ok(());
     }
     push_text(out, rules.line_end.as_str())?;
@@ -73,8 +73,8 @@ pub(crate) fn push_end(out: &mut String, rules: &Rules<'_>) -> Result<(), Error>
 }
 
 // Whether a text is empty, or a backslash would take a line end after it.
-fn takes_no_end(text: &str) -> bool
-    ensures { result ≡ takes_no_end (chars text.now) }
+fn takes_no_end(text: &str, read: ParseOption) -> bool
+    ensures { result ≡ takes_no_end read (chars text.now) }
 {
-    is_empty(text) || last_or('\n', text) == '\\'
+    is_empty(text) || last_or('\n', text) == '\\' && read.has_special_backslash()
 }

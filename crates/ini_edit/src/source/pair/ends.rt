@@ -48,9 +48,9 @@ impl<'a> SourcePair<'a> {
     {
         if read.enabled_indented_mutiline_value {
             let trailing_lines = self.trailing_lines();
-            let lines = blank_lines_at_end(trailing_lines);
+            let lines = blank_lines_at_end(trailing_lines, read);
             let own = front_before(trailing_lines, lines);
-            let line_end = if ends_line(own) {
+            let line_end = if ends_line(own, read) {
                 line_end_at_end(own)
             } else {
                 ""
@@ -133,7 +133,7 @@ impl<'a> SourcePair<'a> {
             ≡ closed_value read self.now) }
         ensures only { IsOkUnless result (Error.Memory alloc_error) }
     {
-        if !self.takes_next() {
+        if !self.takes_next(read) {
             return Ok(None);
         }
         let mut raw_value = String::from_str(alloc, self.raw_value())?;
@@ -153,12 +153,12 @@ impl<'a> SourcePair<'a> {
     }
 
     // Whether the value's last backslash would take what follows the pair.
-    fn takes_next(&self) -> bool
+    fn takes_next(&self, read: ParseOption) -> bool
         ensures { result ≡ (is_empty self.now.stretches.trailing_lines && (is_empty self.now.after
-            && is_escape (ending self.now.stretches.raw_value))) }
+            && is_escape (ending read self.now.stretches.raw_value))) }
     {
         is_empty(self.trailing_lines())
-            && (is_empty(self.after()) && ends_in_escape(self.raw_value()))
+            && (is_empty(self.after()) && ends_in_escape(self.raw_value(), read))
     }
 
     /// The pair's last parts with lines and a gap after them, which stood elsewhere.
@@ -229,8 +229,8 @@ impl<'a> SourcePair<'a> {
 }
 
 // Whether a text ends in a backslash that takes what follows.
-fn ends_in_escape(text: &str) -> bool
-    ensures { result ≡ is_escape (ending (chars text.now)) }
+fn ends_in_escape(text: &str, read: ParseOption) -> bool
+    ensures { result ≡ is_escape (ending read (chars text.now)) }
 {
-    matches!(text_end(text), TextEnd::Escape)
+    matches!(text_end(text, read), TextEnd::Escape)
 }

@@ -3,7 +3,8 @@ use ini::{Error, Ini, ParseOption};
 use ini_edit::EditError;
 use std::alloc::Global;
 
-/// What a letter turns on: quotes, escapes, multiline values, kept indentation, brackets in names.
+/// What a letter turns on: quotes, escapes, multiline values, kept indentation, brackets in names, and raw
+/// backslashes.
 pub(crate) fn options_of(letters: &str) -> ParseOption {
     ParseOption {
         enabled_quote: letters.contains('q'),
@@ -11,6 +12,7 @@ pub(crate) fn options_of(letters: &str) -> ParseOption {
         enabled_indented_mutiline_value: letters.contains('m'),
         enabled_preserve_key_leading_whitespace: letters.contains('k'),
         enabled_brackets_in_section_names: letters.contains('b'),
+        enabled_raw_backslash: letters.contains('r'),
     }
 }
 

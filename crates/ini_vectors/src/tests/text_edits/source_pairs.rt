@@ -92,6 +92,7 @@ fn new_pairs_are_written_like_their_neighbours(rt: HostRuntime) -> Result<(), Fa
             ("add", "qe", "a|=||v|0", "[a]\n", "Key"),
             ("set", "qe", "a|k||v|0", "[a]\nj=\\", "[a]\nj=\\\\\nk=v\n"),
             ("set", "q", "a|k||v|0", "[a]\nj=\\", "[a]\nj=\\ \nk=v\n"),
+            ("set", "qr", "a|k||v|0", "[a]\nj=\\", "[a]\nj=\\\nk=v\n"),
         ],
     )
 }
@@ -113,6 +114,7 @@ fn pairs_go_with_their_line(rt: HostRuntime) -> Result<(), Fail> {
             ("delete", "qe", "-|k|||0", "x=y\rk=v\n#c", "x=y\r\n#c"),
             ("delete", "qe", "-|k|||0", "x=y\rk=v\rj=w", "x=y\rj=w"),
             ("delete", "qe", "-|k|||0", "j=1\nk=2", "j=1\n"),
+            ("delete", "qr", "-|k|||0", "k=1\\\nj=2", "j=2"),
             (
                 "delete",
                 "qem",

@@ -47,6 +47,7 @@ no_kept = record {
       enabled_indented_mutiline_value = false;
       enabled_preserve_key_leading_whitespace = false;
       enabled_brackets_in_section_names = false;
+      enabled_raw_backslash = false;
     };
     sections = [];
   };

@@ -12,6 +12,6 @@ decreases-characters l = length (chars l.rest)
 abbrev pub invariant-characters : goal.invariant-characters
 invariant-characters l = record {
   text : shadow (Utf8 l.rest);
-  made : string_text l.out ++ with_lines_parted l.put l.quotes l.state (chars l.rest)
-      ≡ string_text l.fn.out ++ with_lines_parted l.put l.quotes Front (chars l.value);
+  made : string_text l.out ++ with_lines_parted l.put l.read l.state (chars l.rest)
+      ≡ string_text l.fn.out ++ with_lines_parted l.put l.read Front (chars l.value);
 }

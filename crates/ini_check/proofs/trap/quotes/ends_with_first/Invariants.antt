@@ -10,6 +10,6 @@ decreases-characters l = length (chars l.rest)
 abbrev pub invariant-characters : goal.invariant-characters
 invariant-characters l = record {
   text : shadow (Utf8 l.rest);
-  ends : ends_with_first l.fn.mark l.escaped (chars l.rest)
-      ≡ ends_with_first l.fn.mark false (chars l.fn.text);
+  ends : ends_with_first l.fn.read l.fn.mark l.escaped (chars l.rest)
+      ≡ ends_with_first l.fn.read l.fn.mark false (chars l.fn.text);
 }

@@ -10,5 +10,6 @@ decreases-characters l = length (chars l.rest)
 abbrev pub invariant-characters : goal.invariant-characters
 invariant-characters l = record {
   text : shadow (Utf8 l.rest);
-  leaves : leaves_line l.fn.mark l.escaped (chars l.rest) ≡ leaves_line l.fn.mark false (chars l.fn.text);
+  leaves : leaves_line l.fn.read l.fn.mark l.escaped (chars l.rest)
+      ≡ leaves_line l.fn.read l.fn.mark false (chars l.fn.text);
 }

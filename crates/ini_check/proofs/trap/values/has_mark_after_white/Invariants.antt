@@ -11,6 +11,6 @@ decreases-characters l = length (chars l.rest)
 abbrev pub invariant-characters : goal.invariant-characters
 invariant-characters l = record {
   text : shadow (Utf8 l.rest);
-  mark : has_mark_after_white l.fn.quotes l.state l.white (chars l.rest)
-      ≡ has_mark_after_white l.fn.quotes Front false (chars l.fn.value);
+  mark : has_mark_after_white l.fn.read l.state l.white (chars l.rest)
+      ≡ has_mark_after_white l.fn.read Front false (chars l.fn.value);
 }

@@ -10,8 +10,8 @@ abbrev pub invariant-characters : goal.invariant-characters
 invariant-characters l = record {
   lines : shadow (Utf8 l.lines);
   rest : shadow (Utf8 l.rest);
-  so_far : blank_lines_so_far (ending_of l.end) l.is_blank_line (chars l.lines) (chars l.rest)
-      ≡ blank_lines_at_end (chars l.fn.text);
+  so_far : blank_lines_so_far l.fn.read (ending_of l.end) l.is_blank_line (chars l.lines) (chars l.rest)
+      ≡ blank_lines_at_end l.fn.read (chars l.fn.text);
 }
 
 abbrev pub decreases-characters : goal.decreases-characters

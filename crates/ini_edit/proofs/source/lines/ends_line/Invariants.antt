@@ -7,7 +7,8 @@ use Rattle.ini_edit.proofs.source.lines.ends_line.Given as goal
 
 abbrev pub invariant-characters : goal.invariant-characters
 invariant-characters l =
-    (is_line_from (ending_of l.end) (chars l.rest) ≡ ends_in_line (chars l.fn.text)) × shadow (Utf8 l.rest)
+    (is_line_from l.fn.read (ending_of l.end) (chars l.rest) ≡ ends_in_line l.fn.read (chars l.fn.text))
+    × shadow (Utf8 l.rest)
 
 abbrev pub decreases-characters : goal.decreases-characters
 decreases-characters l = length (chars l.rest)

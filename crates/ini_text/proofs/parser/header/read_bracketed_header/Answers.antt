@@ -1,4 +1,5 @@
 use Rattle.std.proofs.Common.{[], ◌∷◌, chars, sym, ap, ◌∙◌}
+use Rattle.ini_text.specs.Options.ReadOptions.{backslash_of}
 use Rattle.ini_text.specs.Grammar.Elements.{Header}
 use Rattle.ini_text.specs.Inside.ElementReader.{bracketed_header, name_in, header_of_name}
 use Rattle.ini_text.specs.Inside.Reading.{found}
@@ -7,11 +8,11 @@ use Rattle.ini_text.proofs.parser.header.read_bracketed_header.Goals as goal
 
 pub returns-in_err-name-clause-gives : goal.returns-in_err-name-clause-gives
 returns-in_err-name-clause-gives c = passed _ _ _ c.from_residual.ensures.1 c.in_err-name.ensures
-    (λ r k h. ap bracketed_header (c.in-Some.ensures c.args.read.enabled_escape) ∙ h)
+    (λ r k h. ap bracketed_header (c.in-Some.ensures (backslash_of c.args.read)) ∙ h)
 
 pub returns-in-Some-clause-gives : goal.returns-in-Some-clause-gives
 returns-in-Some-clause-gives c =
-    ap bracketed_header (c.in-Some.ensures c.args.read.enabled_escape) ∙ c.in_ok-name.ensures
+    ap bracketed_header (c.in-Some.ensures (backslash_of c.args.read)) ∙ c.in_ok-name.ensures
 
 pub returns-in_err-rest-clause-gives : goal.returns-in_err-rest-clause-gives
 returns-in_err-rest-clause-gives c = passed _ _ _ c.from_residual-in_err-rest.ensures.1 c.in_err-rest.ensures

@@ -1,4 +1,5 @@
 use Rattle.std.proofs.Common.{◌∙◌, ap, chars}
+use Rattle.ini_text.specs.Options.ReadOptions.{backslash_of}
 use Rattle.ini_text.specs.Grammar.Strings.{key_ends}
 use Rattle.ini_text.specs.Inside.StringReader.{string}
 use Rattle.ini_text.proofs.PlaceLemmas.PairLemmas.{unaltered, value_rests}
@@ -13,5 +14,5 @@ returns-in_err-key-clause-gives c =
 pub returns-clause-rests : goal.returns-clause-rests
 returns-clause-rests c =
     λ places. value_rests c.args.read (chars c.args.text.now) c.read_pair.new.rests
-    (ap (string c.args.read.enabled_escape key_ends) c.requires ∙ (unaltered _ _ c.in_ok-key.ensures).1)
+    (ap (string (backslash_of c.args.read) key_ends) c.requires ∙ (unaltered _ _ c.in_ok-key.ensures).1)
     c.read_pair.result (c.read_pair.ensures.rests places)

@@ -1,14 +1,16 @@
-use Rattle.std.proofs.Common.{◌≡◌, ◌==◌, ◌&&◌, ◌∙◌, false, refl, sym, ap, append-nil, ne_eqb, rules, ℕ, length, length-append, arith, ◌<◌, chars}
+use Rattle.std.proofs.Common.{◌≡◌, ◌==◌, ◌&&◌, ◌∙◌, ◌++◌, false, refl, sym, ap, append-nil, ne_eqb, rules, ℕ, length, length-append, arith, ◌<◌, chars}
 use Rattle.std.proofs.Math.Bool.{and-false}
+use Rattle.ini_text.specs.Options.Backslashes.{reads_escapes}
+use Rattle.ini_text.specs.Options.ReadOptions.{backslash_of}
 use Rattle.ini_text.specs.Grammar.CharacterKinds.{letter_x}
 use Rattle.ini_text.specs.Inside.Endpoints.{ends_of}
 use Rattle.ini_text.specs.Inside.Reading.{prepend}
-use Rattle.ini_text.specs.Inside.StringReader.{string}
+use Rattle.ini_text.specs.Inside.StringReader.{string, value_after_backslash}
 use Rattle.ini_text.specs.Parsing.Items.{string_text}
 use Rattle.ini_text.proofs.ReaderLemmas.ReaderLemmas.{and_more, and_found, and_stopped, then_found, then_stopped, passed}
-use Rattle.ini_text.proofs.ReaderLemmas.StringReaderLemmas.{string_run, string_at_end, string_at_endpoint, string_at_backslash, string_pair, string_coded, coded_shortens}
+use Rattle.ini_text.proofs.ReaderLemmas.StringReaderLemmas.{string_run, string_at_end, string_at_endpoint, string_at_backslash, string_raw_backslash, string_pair, string_coded, coded_shortens, reads-escapes, no_backslash_ends}
 use Rattle.ini_text.proofs.parser.string.read_string.Goals as goal
-use Rattle.ini_text.proofs.parser.string.read_string.Goals.{then-escapes+then-d-eq120+in_ok-rest, else-escapes+in_ok-push_escaped, else-escapes-via-then-escapes+else-d-eq120, else-escapes-via-else-escapes}
+use Rattle.ini_text.proofs.parser.string.read_string.Goals.{then-read+then-d-eq120+in_ok-rest, else-read+in_ok-push_escaped, else-read-via-then-read+else-d-eq120, else-read-via-else-read}
 
 pub pieces-init : goal.pieces-init
 pieces-init c = record { text = search rules; read = refl }
@@ -40,7 +42,9 @@ returns-then-not-contains_text_end c =
     rw c.new-then-not-contains_text_end.ensures
     (and_stopped _ (and_more _ _ _ c.pieces.invariant.read
     (string_run _ _ _ _ c.split_run.ensures.parts c.split_run.ensures.run) c.in_ok-push_text.ensures)
-    (string_at_backslash _ _ c.in-Some.ensures.characters c.if-c-ne92.false
+    (string_at_backslash _ _
+    (sym c.has_special_backslash.ensures ∙ c.if-not-has_special_backslash.false)
+    c.in-Some.ensures.characters c.if-c-ne92.false
     c.in_default-split_first.ensures.characters
     (sym c.if-not-contains_text_end.true ∙ c.contains_text_end-in_default-split_first.ensures)))
 
@@ -48,10 +52,12 @@ pub returns-in_default-split_first : goal.returns-in_default-split_first
 returns-in_default-split_first c =
     and_found _ (and_more _ _ _ c.pieces.invariant.read
     (string_run _ _ _ _ c.split_run.ensures.parts c.split_run.ensures.run) c.in_ok-push_text.ensures)
-    (string_at_backslash _ _ c.in-Some.ensures.characters c.if-c-ne92.false
+    (string_at_backslash _ _
+    (sym c.has_special_backslash.ensures ∙ c.if-not-has_special_backslash.false)
+    c.in-Some.ensures.characters c.if-c-ne92.false
     c.in_default-split_first.ensures.characters
     (sym c.if-not-contains_text_end.false ∙ c.contains_text_end-in_default-split_first.ensures))
-    c.in_ok-push.ensures
+    c.in_ok-push-2.ensures
 
 pub returns-in_err-rest : goal.returns-in_err-rest
 returns-in_err-rest c =
@@ -60,7 +66,7 @@ returns-in_err-rest c =
     (string_run _ _ _ _ c.split_run.ensures.parts c.split_run.ensures.run) c.in_ok-push_text.ensures
     ∙ ap (prepend (string_text c.push_text.new.out))
     (string_coded _ _ c.in-Some.ensures.characters c.if-c-ne92.false
-    c.in-Some-split_first.ensures.characters c.if-escapes.true c.if-d-eq120.true)
+    c.in-Some-split_first.ensures.characters (reads-escapes c.args.read ∙ c.if-read.true) c.if-d-eq120.true)
     ∙ then_stopped _ _ _ h
 
 pub pieces-preserved : goal.pieces-preserved
@@ -68,38 +74,56 @@ pieces-preserved c =
     let to = ends_of c.args.ends in
     let run = and_more _ _ _ c.pieces.invariant.read
     (string_run _ to _ _ c.split_run.ensures.parts c.split_run.ensures.run) c.in_ok-push_text.ensures in
-    let turned : prepend (string_text c.args.out.now) (string c.args.escapes to (chars c.args.text.now))
-    ≡ prepend (string_text c.if-escapes.out) (string c.args.escapes to (chars c.if-escapes.rest.now)) =
-    elim c.if-escapes.branch [
-      | then-escapes+then-d-eq120+in_ok-rest w ↦
+    let turned : prepend (string_text c.args.out.now)
+    (string (backslash_of c.args.read) to (chars c.args.text.now))
+    ≡ prepend (string_text c.if-read.out) (string (backslash_of c.args.read) to (chars c.if-read.rest.now)) =
+    elim c.if-read.branch [
+      | then-read+then-d-eq120+in_ok-rest w ↦
           rw (w.out-is, w.rest-is) (run
           ∙ ap (prepend (string_text c.push_text.new.out))
           (string_coded _ _ c.in-Some.ensures.characters c.if-c-ne92.false
-          c.in-Some-split_first.ensures.characters w.if-escapes.true w.if-d-eq120.true)
+          c.in-Some-split_first.ensures.characters (reads-escapes c.args.read ∙ w.if-read.true)
+          w.if-d-eq120.true)
           ∙ then_found _ _ _ w.in_ok-rest.ensures)
-      | else-escapes+in_ok-push_escaped w ↦
-          let other : (c.in-Some-split_first.d == letter_x && c.args.escapes)
-          ≡ false = elim w.else-escapes.branch [
-            | else-escapes-via-then-escapes+else-d-eq120 x ↦ rw (ne_eqb _ 120 x.if-d-eq120.false) refl
-            | else-escapes-via-else-escapes x ↦ rw (x.if-escapes.false, and-false) refl
-          ] in
+      | else-read+in_ok-push_escaped w ↦
+          let other : (c.in-Some-split_first.d == letter_x && reads_escapes (backslash_of c.args.read))
+          ≡ false = rw (reads-escapes c.args.read) (elim w.else-read.branch [
+            | else-read-via-then-read+else-d-eq120 x ↦ rw (ne_eqb _ 120 x.if-d-eq120.false) refl
+            | else-read-via-else-read x ↦ rw (x.if-read.false, and-false) refl
+          ]) in
           rw (w.out-is, w.rest-is) (and_more _ _ _ run
-          (string_pair _ _ c.in-Some.ensures.characters c.if-c-ne92.false
-          c.in-Some-split_first.ensures.characters other) w.in_ok-push_escaped.ensures)
+          (string_pair _ _
+          (sym c.has_special_backslash.ensures ∙ c.if-not-has_special_backslash.false)
+          c.in-Some.ensures.characters c.if-c-ne92.false
+          c.in-Some-split_first.ensures.characters other)
+          (w.in_ok-push_escaped.ensures
+          ∙ ap (λ e. string_text c.push_text.new.out ++ value_after_backslash e c.in-Some-split_first.d)
+          (sym (reads-escapes c.args.read))))
     ] in
     record { text = search rules; read = turned ∙ c.in_ok-rest-2.ensures.read }
+
+pub pieces-preserved-then-not-has_special_backslash : goal.pieces-preserved-then-not-has_special_backslash
+pieces-preserved-then-not-has_special_backslash c = record {
+  text = search rules;
+  read = and_more _ _ _ (and_more _ _ _ c.pieces.invariant.read
+      (string_run _ _ _ _ c.split_run.ensures.parts c.split_run.ensures.run) c.in_ok-push_text.ensures)
+      (string_raw_backslash _ _
+      (sym c.has_special_backslash.ensures ∙ c.if-not-has_special_backslash.true)
+      (no_backslash_ends c.args.ends) c.in-Some.ensures.characters c.if-c-ne92.false)
+      c.in_ok-push.ensures;
+}
 
 pub pieces-smaller : goal.pieces-smaller
 pieces-smaller c =
     let parts = ap length c.split_run.ensures.parts in
     let first = ap length c.in-Some.ensures.characters in
     let second = ap length c.in-Some-split_first.ensures.characters in
-    let shorter : length (chars c.if-escapes.rest.now)
-    < length (chars c.split_run.result.1.now) = elim c.if-escapes.branch [
-      | then-escapes+then-d-eq120+in_ok-rest w ↦
+    let shorter : length (chars c.if-read.rest.now)
+    < length (chars c.split_run.result.1.now) = elim c.if-read.branch [
+      | then-read+then-d-eq120+in_ok-rest w ↦
           rw w.rest-is (coded_shortens _ (ends_of c.args.ends) _ c.in-Some.ensures.characters
-          c.if-c-ne92.false c.in-Some-split_first.ensures.characters w.if-escapes.true
-          w.if-d-eq120.true w.in_ok-rest.ensures)
-      | else-escapes+in_ok-push_escaped w ↦ rw w.rest-is (omega (arith, first, second))
+          c.if-c-ne92.false c.in-Some-split_first.ensures.characters
+          (reads-escapes c.args.read ∙ w.if-read.true) w.if-d-eq120.true w.in_ok-rest.ensures)
+      | else-read+in_ok-push_escaped w ↦ rw w.rest-is (omega (arith, first, second))
     ] in
     omega (arith, shorter, c.in_ok-rest-2.ensures.shorter, parts, length-append {A = ℕ})

@@ -11,7 +11,7 @@ use Rattle.ini_edit.proofs.source.pair.SourcePair.end.Goals as goal
 pub front_before-own-requires : goal.front_before-own-requires
 front_before-own-requires c =
     let lines = chars c.trailing_lines-trailing_lines.result.now in
-    subst (IsRest lines) (sym c.blank_lines_at_end-lines.ensures) (blank_lines_at_end-rest lines)
+    subst (IsRest lines) (sym c.blank_lines_at_end-lines.ensures) (blank_lines_at_end-rest c.args.read lines)
 
 pub returns-then-read-clause-line_end : goal.returns-then-read-clause-line_end
 returns-then-read-clause-line_end c =
@@ -21,7 +21,7 @@ returns-then-read-clause-line_end c =
     let own_is : own ≡ own_lines o p =
     c.front_before-own.ensures
     ∙ ap (front_of (chars c.trailing_lines-trailing_lines.result.now)) c.blank_lines_at_end-lines.ensures
-    ∙ ap (λ t. front_of t (blank_lines_at_end t)) c.trailing_lines-trailing_lines.ensures
+    ∙ ap (λ t. front_of t (blank_lines_at_end o t)) c.trailing_lines-trailing_lines.ensures
     ∙ sym (own_on o p c.if-read.true) in
     elim c.if-ends_line.branch [
       | then-ends_line w ↦
