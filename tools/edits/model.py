@@ -183,7 +183,7 @@ class Reader:
         plain, solid = self.string(LINE_ENDS, may_end=True)
         plain = plain.strip(WHITE) if is_first and not self.parts else plain.rstrip(WHITE)
         own = self.text[behind : self.at].rstrip(INLINE_WHITE)
-        keeps = own.endswith("\\") and self.option.has_special_backslash()
+        keeps = own.endswith("\\")
         return quoted + plain, self.at if keeps else max(solid, behind)
 
     def value(self, pair):
