@@ -52,6 +52,9 @@ GIT = r"""
 """
 PYTHON = r"""
 [a]\nk=v
+[a]\nk = C:\\x\\\nj = v
+[a]\nk\\=x = v\nj = \\
+[a\\]\nk = "a\\"b"
 [a]\nk = v\n
 [a]\nk: v
 [a]\nK = v
