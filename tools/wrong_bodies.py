@@ -10,8 +10,9 @@ it stands. Then each of its edits is made, and the function that it changes is p
 in the whole crate. Only where the function is proved all the same, its module is tried, and last the whole crate.
 
 By default it takes every crate, and as many edits at a time as there are processors (N). It prints a line for each edit, and
-last how many were refused, how many were not, and how many couldn't be read. The status is 0 where all were refused. An EDIT
-that is named may stand in must-fail/ too.
+last how many were refused at a goal, how many by a name alone (a proof names what the edit took away, which says little of the
+contract: the edit is to keep that), how many were not, and how many couldn't be read. The status is 0 where all were refused at
+a goal. An EDIT that is named may stand in must-fail/ too.
 
 With --read nothing is proved: it prints the edits of both folders that can no longer be made, since a text that they replace
 doesn't stand in its file once. The status is 0 where there are none.
@@ -36,8 +37,8 @@ NO_ONE = re.compile(r"^rattle: error: (several functions are named|.* has no fun
 # What it says of a goal, and of a proof that is no longer one.
 GOAL = re.compile(r"^note: (src/\S+: (?:it is not proved that|`search` found no proof) .*)$", re.M)
 PROOF = re.compile(r"^(?:note: )?(?:\./)?(proofs/\S+:\d+:\d+: error.*)$", re.M)
-# A proof that names what the edit took away says little of the contract.
-NAMES = re.compile(r"(has no field|is not in scope|has no `|was not admitted)")
+# A proof that names what the edit took away says little of the contract, and one that depends on another that is refused nothing.
+NAMES = re.compile(r"(has no field|is not in scope|has no `|declarations? that depends? on)")
 
 
 class Bad(Exception):
@@ -105,18 +106,21 @@ def check(crate, *words):
 
 
 def judged(status, said):
-    """Why a check refuses an edit, or None where it is proved all the same."""
+    """How a check refuses an edit and why, or None where it is proved all the same."""
     if status == 0:
         return None
     if status != 1 or UNREADABLE.search(said):
         first = UNREADABLE.search(said)
         raise Bad(said[first.start() :].split("\n")[0][:160] if first else f"the check ended with status {status}")
-    goals = GOAL.findall(said) + [it for it in PROOF.findall(said) if not NAMES.search(it)]
-    return goals[0][:150] if goals else "only because a proof names what it took away"
+    proofs = PROOF.findall(re.sub(r"\n  (?=\S)", " ", said))  # with their further lines, which are indented
+    goals = GOAL.findall(said) + [it for it in proofs if not NAMES.search(it)]
+    if not goals + proofs:
+        raise Bad("it tells of no goal and no proof")
+    return ("refused", goals[0][:150]) if goals else ("by a name alone", proofs[0][:150])
 
 
 def tried(edit, crate):
-    """Makes the edit in a crate's copy, and takes it back. The answer is why it is refused, or None."""
+    """Makes the edit in a crate's copy, and takes it back. The answer is how it is refused and why, or None."""
     texts = made(edit, crate)
     were = {path: (crate / path).read_text(encoding="utf-8") for path in texts}
     try:
@@ -124,9 +128,9 @@ def tried(edit, crate):
             (crate / path).write_text(text, encoding="utf-8")
         for place in [it for path in texts for it in places(path, were[path], texts[path])]:
             status, said = check(crate, "--only", place)
-            why = None if NO_ONE.search(said) else judged(status, said)
-            if why:
-                return why
+            found = None if NO_ONE.search(said) else judged(status, said)
+            if found:
+                return found
         return judged(*check(crate))
     finally:
         for path, text in were.items():
@@ -187,7 +191,7 @@ def main(words):
     jobs = os.cpu_count() or 1
     if words[:1] == ["--jobs"]:
         jobs, words = int(words[1]), words[2:]
-    counts = {"refused": 0, "not refused": 0, "unread": 0}
+    counts = {"refused": 0, "by a name alone": 0, "not refused": 0, "unread": 0}
     with tempfile.TemporaryDirectory() as folder:
         seed = copy_of_tree(Path(folder) / "seed")
         link_work(TOP, seed)
@@ -206,8 +210,7 @@ def main(words):
             def one(edit):
                 room = rooms.get()
                 try:
-                    why = tried(edit, room / "crates" / name)
-                    return ("refused", why) if why else ("not refused", "it is proved all the same")
+                    return tried(edit, room / "crates" / name) or ("not refused", "it is proved all the same")
                 except Bad as why:
                     return "unread", str(why)
                 finally:
