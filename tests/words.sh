@@ -304,7 +304,7 @@ get types.ini n a --type int --default x|0|16384\n|
 END
     while IFS='~' read -r words told line caret; do
         fresh
-        printf '[a]\nb = yes\nn = 16kb\n\tm = -3\nl = 1\nl = "x" \n[a]\nk=\n[A]\nb=7\nr = ^root/x\n' | tr '^' '~' >types.ini
+        printf '[a]\nb = yes\nn = 16kb\n\tm = -3\nl = 1\nl = "x" \n[a]\nk=\n[A]\nb=7\nr = ^root/x\n[a]\nm=5s\n' | tr '^' '~' >types.ini
         # shellcheck disable=SC2086
         ends "no such value: $words" 2 '' "types.ini:$told
 $(printf "$line")
@@ -312,6 +312,7 @@ $(printf "$caret")" $words
     done <<'END'
 get types.ini n a --type int~3:5: expected a whole number, as 8080 or 16k~n = 16kb~    ^
 get types.ini m a --type size~4:6: expected a number of bytes, as 512 or 16k~\tm = -3~\t    ^
+get types.ini m a --last --type size~4:6: expected a number of bytes, as 512 or 16k~\tm = -3~\t    ^
 get types.ini b a --type float~2:5: expected a number, as 0.5~b = yes~    ^
 get types.ini b a --type duration~2:5: expected a span of time, as 90, 500ms or 1h~b = yes~    ^
 get types.ini l a --all --type int~6:5: expected a whole number, as 8080 or 16k~l = "x" ~    ^
