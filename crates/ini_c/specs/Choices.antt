@@ -42,7 +42,7 @@ options_there r = record {
 -- the options by which a text is read: one that the size doesn't reach is off
 abbrev pub reading_option : Reading → ParseOption
 reading_option r = record (options_there r) {
-  enabled_raw_backslash = nat_le 7 r.size && r.raw_backslash
+  enabled_raw_backslash = nat_le 7 r.size && r.raw_backslash;
 }
 
 -- the policy of a number
